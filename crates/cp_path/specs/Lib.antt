@@ -1,0 +1,5 @@
+pub mod Text
+pub mod Place
+pub mod Same
+pub mod Whole
+pub mod Spelling

@@ -1,0 +1,23 @@
+//! Names, labels, paths, places and values: what every other layer speaks of.
+#![tactic(auto)]
+
+mod fault;
+mod label;
+mod loc;
+mod name;
+mod path;
+mod text;
+mod value;
+mod whole;
+
+pub use fault::PathFault;
+pub use label::{LABEL_MAX, Label};
+pub use loc::{LOC_MAX, Loc};
+pub use name::{NAME_MAX, Name};
+pub use path::{LABELS_MAX, Path};
+pub use text::{Bytes, TEXT_MAX, Text};
+pub use value::Value;
+pub use whole::Whole;
+
+#[cfg(test)]
+mod tests;

@@ -1,0 +1,134 @@
+ghost use Rattle.std.specs.Prelude.{◌≡◌, ◌≤◌, ◌<◌, ◌↔◌, ◌⊎◌, ℕ, List, [], ◌∷◌, ◌++◌, length, IfOk, IfErr, OnOk, OnErr};
+ghost use Rattle.std.specs.declared.option.Option.TheVariants.{Some};
+
+use crate::fault::PathFault;
+use crate::label::Label;
+use std::alloc::{AllocError, Global};
+use std::cmp::Ordering;
+use std::marker::Model;
+
+/// The most labels of a path.
+pub const LABELS_MAX: usize = 64;
+
+/// The labels from a root down to a place, at most 64.
+#[derive(Drop)]
+pub struct Path {
+    labels: Vec<Label>,
+}
+
+impl Model for Path {
+    ghost use Rattle.std.specs.Prelude.{ℕ, ◌≤◌, List, length};
+
+    ghost Value = { List (List ℕ) };
+
+    ghost view = { λ a. a.labels.items };
+
+    ghost invariant = { λ a. length a.labels.items ≤ 64 };
+}
+
+impl Path {
+    /// The path of a root, which has no label.
+    pub fn root(alloc: Global) -> Path
+        ensures { result ≡ [] }
+    {
+        Path {
+            labels: Vec::new(alloc),
+        }
+    }
+
+    /// The path of these labels. Costs their bytes.
+    pub fn of(alloc: Global, labels: &[Label]) -> Result<Path, PathFault>
+        ensures value { IfOk result (λ p. p ≡ labels.now) }
+        ensures deep { (result ≡ Err PathFault.TooDeep) ↔ (64 < length labels.now) }
+        ensures faults { IfErr result (λ e. (e ≡ PathFault.TooDeep) ⊎ (e ≡ PathFault.Memory)) }
+    {
+        if labels.len() > LABELS_MAX {
+            return Err(PathFault::TooDeep);
+        }
+        Ok(Path {
+            labels: labels.to_vec(alloc)?,
+        })
+    }
+
+    pub fn labels(&self) -> &[Label]
+        ensures labels { result.now ≡ self.now }
+        ensures few { length self.now ≤ 64 }
+    {
+        self.labels.as_slice()
+    }
+
+    /// Goes one label further down. After an error the path is as it was.
+    pub fn push(&mut self, a: Label) -> Result<(), PathFault>
+        ensures ok { OnOk result (self.new ≡ self.old ++ a ∷ []) }
+        ensures err { OnErr result (self.new ≡ self.old) }
+        ensures deep { (result ≡ Err PathFault.TooDeep) ↔ (length self.old ≡ 64) }
+        ensures faults { IfErr result (λ e. (e ≡ PathFault.TooDeep) ⊎ (e ≡ PathFault.Memory)) }
+    {
+        if self.labels.len() >= LABELS_MAX {
+            return Err(PathFault::TooDeep);
+        }
+        match self.labels.push(a) {
+            Ok(()) => Ok(()),
+            Err(_) => Err(PathFault::Memory),
+        }
+    }
+}
+
+impl Clone for Path {
+    ghost is_clone = { λ p q. q ≡ p };
+
+    fn clone(&self) -> Result<Path, AllocError> {
+        Ok(Path {
+            labels: self.labels.clone()?,
+        })
+    }
+}
+
+impl PartialEq for Path {
+    ghost use Rattle.cp_path.specs.Place.{path_eq, path_eq_equiv};
+    ghost use Rattle.std.specs.Cmp.{partial_equiv_from_equiv};
+
+    ghost eq = { path_eq };
+
+    ghost laws = { partial_equiv_from_equiv path_eq_equiv };
+
+    fn eq(&self, other: &Path) -> bool {
+        self.labels == other.labels
+    }
+}
+
+impl Eq for Path {
+    ghost use Rattle.cp_path.specs.Place.{path_eq_equiv};
+
+    ghost laws = { path_eq_equiv };
+}
+
+impl PartialOrd for Path {
+    ghost use Rattle.cp_path.specs.Place.{path_cmp, path_po};
+    ghost use Rattle.std.specs.declared.option.Option.TheVariants.{Some};
+
+    ghost partial_cmp = { λ x y. Some (path_cmp x y) };
+
+    ghost laws = { path_po };
+
+    fn partial_cmp(&self, other: &Path) -> Option<Ordering> {
+        Some(self.cmp(other))
+    }
+}
+
+impl Ord for Path {
+    ghost use Rattle.cp_path.specs.Place.{path_cmp, path_total, path_ties};
+    ghost use Rattle.std.proofs.Common.{refl};
+
+    ghost cmp = { path_cmp };
+
+    ghost total = { path_total };
+
+    ghost matches_partial_cmp = { λ x y. refl };
+
+    ghost matches_eq = { path_ties };
+
+    fn cmp(&self, other: &Path) -> Ordering {
+        self.labels.cmp(&other.labels)
+    }
+}
