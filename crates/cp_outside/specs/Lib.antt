@@ -1,0 +1,4 @@
+pub mod Causes
+pub mod KnownBytes
+pub mod MemoryStates
+pub mod Sinks

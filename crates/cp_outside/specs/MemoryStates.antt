@@ -1,0 +1,46 @@
+-- What callers see of a source and a sink in memory.
+use Rattle.std.specs.Prelude.{ℕ, List, [], ◌++◌, drop}
+use Rattle.cp_outside.specs.Causes.{one_more}
+
+-- The bytes that are left, the numbers of the reads that fail, how many reads there were, and how many of them failed.
+pub record SourceState : Type 0 where
+  pub left : List ℕ
+  pub fails : List ℕ
+  pub calls : ℕ
+  pub faults : ℕ
+
+-- A source before its first read.
+abbrev pub new_source : List ℕ → List ℕ → SourceState
+new_source bytes fails = record { left = bytes; fails = fails; calls = 0; faults = 0 }
+
+-- A source after a read that moved n bytes.
+abbrev pub after_read : SourceState → ℕ → SourceState
+after_read s n = record s { left = drop n s.left; calls = one_more s.calls }
+
+-- A source after a read that failed.
+abbrev pub after_failed_read : SourceState → SourceState
+after_failed_read s = record s { calls = one_more s.calls; faults = one_more s.faults }
+
+-- The bytes that were taken, the numbers of the writes that fail, how many writes there were, how many failed, and how many were refused.
+pub record SinkState : Type 0 where
+  pub bytes : List ℕ
+  pub fails : List ℕ
+  pub calls : ℕ
+  pub faults : ℕ
+  pub refusals : ℕ
+
+-- A sink before its first write.
+abbrev pub new_sink : List ℕ → SinkState
+new_sink fails = record { bytes = []; fails = fails; calls = 0; faults = 0; refusals = 0 }
+
+-- A sink after a write that took these bytes.
+abbrev pub after_write : SinkState → List ℕ → SinkState
+after_write s bytes = record s { bytes = s.bytes ++ bytes; calls = one_more s.calls }
+
+-- A sink after a write that failed.
+abbrev pub after_failed_write : SinkState → SinkState
+after_failed_write s = record s { calls = one_more s.calls; faults = one_more s.faults; refusals = one_more s.refusals }
+
+-- A sink after a write for which it found no memory.
+abbrev pub after_refused_write : SinkState → SinkState
+after_refused_write s = record s { calls = one_more s.calls; refusals = one_more s.refusals }
