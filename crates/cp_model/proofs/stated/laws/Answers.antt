@@ -1,0 +1,34 @@
+use Rattle.cp_model.specs.Keyed as keyed
+use Rattle.cp_model.specs.Lookups.{get-replaced, get-without, find-below}
+use Rattle.cp_model.specs.Sums.{len-replaced, weight-replaced}
+use Rattle.cp_model.specs.Contents.{contents-applied}
+use Rattle.cp_model.specs.Kept.{tree-changed, tree-step, closed-step}
+use Rattle.cp_model.specs.Origins.{sound-step}
+use Rattle.cp_model.specs.Histories.{legal-tree}
+use Rattle.cp_model.specs.Effects.{working-step, read-rows_of, losses-rows_of}
+use Rattle.cp_model.specs.Pasts.{legal-pasts}
+use Rattle.cp_model.proofs.stated.laws.Goals as goal
+
+pub returns-clause-lookups : goal.returns-clause-lookups
+returns-clause-lookups c = record { replaced_at = get-replaced; without_at = get-without; below_at = find-below; alike = keyed.same_map }
+
+pub returns-clause-counts : goal.returns-clause-counts
+returns-clause-counts c = record { nodes = len-replaced; weights = weight-replaced }
+
+pub returns-clause-operations : goal.returns-clause-operations
+returns-clause-operations c = record { kept = tree-changed; contents_follow = contents-applied; step_kept = tree-step; step_closed = closed-step }
+
+pub returns-clause-origins : goal.returns-clause-origins
+returns-clause-origins c = sound-step
+
+pub returns-clause-histories : goal.returns-clause-histories
+returns-clause-histories c = legal-tree
+
+pub returns-clause-reading : goal.returns-clause-reading
+returns-clause-reading c = record {
+  effects = λ k t ss ops n w tree sources written accepted p e at. read-rows_of k t w (working-step t ss ops n w tree sources written accepted) p e at;
+  losses = losses-rows_of;
+}
+
+pub returns-clause-pasts : goal.returns-clause-pasts
+returns-clause-pasts c = legal-pasts

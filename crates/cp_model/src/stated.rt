@@ -1,0 +1,16 @@
+ghost use Rattle.cp_model.specs.Laws.{LookUps, Counts, OperationsKeepTrees, OriginsAreThere, HistoriesAreSound, RowsReadAsEffects, RecordsWalkBack};
+
+/// States laws of the definitions, and does nothing when it runs.
+///
+/// Whatever operations are accepted, look-ups after them are those of the tree before; a legal history keeps every
+/// tree within its limits, its places closed upwards and its origins in the tree before; and the records of all its
+/// steps, followed back from the last, give at each place the past that the replay gave it, in all four kinds.
+pub fn laws()
+    ensures lookups { LookUps }
+    ensures counts { Counts }
+    ensures operations { OperationsKeepTrees }
+    ensures origins { OriginsAreThere }
+    ensures histories { HistoriesAreSound }
+    ensures reading { RowsReadAsEffects }
+    ensures pasts { RecordsWalkBack }
+{}
