@@ -1,0 +1,2 @@
+mod Alphanumeric
+mod Digits

@@ -1,0 +1,11 @@
+//! The statements that a curator writes, and how the input is cut into them.
+#![tactic(auto)]
+
+mod cut;
+mod plain;
+mod stmt;
+mod token;
+
+pub use cut::{Cut, Mode, after, ends, is_blank, is_space};
+pub use plain::read_plain;
+pub use stmt::{Load, Stmt, StmtFault};
