@@ -1,0 +1,454 @@
+-- Worked examples: whole sessions over values, each with the text that it writes.
+use Rattle.std.specs.Prelude.{ℕ, ◌≡◌, ◌==◌, pos, List, [], ◌∷◌, ◌++◌, true, codes, flat_map, if◌then◌else◌}
+use Rattle.std.specs.declared.option.Option.TheVariants.{None, Some}
+use Prim.Native.String.{String}
+use Rattle.cp_path.specs.Place.{label_eq, child_place}
+use Rattle.cp_path.specs.declared.loc.Loc.{Loc}
+use Rattle.cp_path.specs.declared.value.Value.TheVariants.{Null, Whole, Text}
+use Rattle.cp_model.specs.Keyed as keyed
+use Rattle.cp_model.specs.Literals.{literal_rows, edge_rows}
+use Rattle.cp_model.specs.Tree.{Tree}
+use Rattle.cp_model.specs.declared.kind.Kind.{Kind}
+use Rattle.cp_model.specs.declared.kind.Kind.TheVariants as kind
+use Rattle.cp_model.specs.declared.literal.Literal.{Literal}
+use Rattle.cp_model.specs.declared.literal.Literal.TheVariants as literal
+use Rattle.cp_model.specs.declared.literal.LitEdge.{LitEdge}
+use Rattle.cp_model.specs.declared.op.Op.TheVariants.{Ins, Del, Copy}
+use Rattle.cp_model.specs.declared.query.Query.TheVariants as query
+use Rattle.cp_model.specs.declared.query.Form.TheVariants.{Json, Csv}
+use Rattle.cp_lang.specs.declared.stmt.Stmt.{Stmt}
+use Rattle.cp_lang.specs.declared.stmt.Stmt.TheVariants as stmt
+use Rattle.cp_reply.specs.Lines.{lines}
+use Rattle.cp_reply.specs.declared.reply.Why.TheVariants as why
+use Rattle.cp_session.specs.Session.{Setting, unread, Fetched, gives, withholds, fresh, replies_to_statements}
+
+-- ---- places, trees and statements in short
+
+-- into the first part
+abbrev pub onto_first : ℕ → List (List ℕ) → List (List ℕ)
+onto_first x [] = (x ∷ []) ∷ []
+onto_first x (w ∷ ws) = (x ∷ w) ∷ ws
+
+-- what stands between the slashes
+abbrev pub parts : List ℕ → List (List ℕ)
+parts [] = [] ∷ []
+parts (x ∷ xs) = if x == 47 then [] ∷ parts xs else onto_first x (parts xs)
+
+abbrev pub place_of : List (List ℕ) → Loc
+place_of [] = record { db = []; path = [] }
+place_of (name ∷ labels) = record { db = name; path = labels }
+
+-- the name and the labels that stand between the slashes, each as it is
+abbrev pub place : String → Loc
+place s = place_of (parts (codes s))
+
+abbrev pub whole : ℕ → Literal
+whole n = literal.Leaf (Whole (pos n))
+
+abbrev pub null : Literal
+null = literal.Leaf Null
+
+abbrev pub text : String → Literal
+text s = literal.Leaf (Text (codes s))
+
+abbrev pub edge : String → Literal → LitEdge
+edge a t = record { label = codes a; tree = t }
+
+abbrev pub node : List LitEdge → Literal
+node es = literal.Node (edge_rows es)
+
+abbrev pub tree : List LitEdge → Tree
+tree es = keyed.from_entries (literal_rows (node es))
+
+-- `ins {a : t} into p`
+abbrev pub ins : String → Literal → String → Stmt
+ins a t p = stmt.Op (Ins (place p) (codes a) t)
+
+-- `del a from p`
+abbrev pub del : String → String → Stmt
+del a p = stmt.Op (Del (codes a) (place p))
+
+-- `copy q into p`
+abbrev pub copy : String → String → Stmt
+copy q p = stmt.Op (Copy (place q) (place p))
+
+-- `load n json f`
+abbrev pub load : String → String → Stmt
+load n f = stmt.Load (record { name = codes n; form = Json; file = codes f })
+
+-- `load n csv f by k`
+abbrev pub load_by : String → String → String → Stmt
+load_by n f k = stmt.Load (record { name = codes n; form = Csv (Some (codes k)); file = codes f })
+
+abbrev pub src : String → Stmt
+src p = stmt.Ask (query.Src (place p))
+
+-- `src p/a`, where the label may have a slash
+abbrev pub src_below : String → String → Stmt
+src_below p a = stmt.Ask (query.Src (child_place (place p) (codes a)))
+
+abbrev pub hist : String → Stmt
+hist p = stmt.Ask (query.Hist (place p))
+
+abbrev pub mod_at : String → Stmt
+mod_at p = stmt.Ask (query.Mod (place p))
+
+abbrev pub trace : String → Stmt
+trace p = stmt.Ask (query.Trace (place p))
+
+abbrev pub from : String → Stmt
+from p = stmt.Ask (query.From (place p))
+
+-- `records t`
+abbrev pub records : ℕ → Stmt
+records t = stmt.Ask (query.Records (Some t))
+
+-- `records`
+abbrev pub all_records : Stmt
+all_records = stmt.Ask (query.Records None)
+
+abbrev pub stats : Stmt
+stats = stmt.Ask query.Stats
+
+abbrev pub show : String → Stmt
+show p = stmt.Show (place p)
+
+-- ---- the trees
+
+abbrev pub empty_tree : Tree
+empty_tree = tree []
+
+-- `{"c1":{"x":1,"y":3},"c3":{"x":0},"c5":{"x":9,"y":7}}`
+abbrev pub curated : Tree
+curated =
+    tree (edge "c1" (node (edge "x" (whole 1) ∷ edge "y" (whole 3) ∷ []))
+    ∷ edge "c3" (node (edge "x" (whole 0) ∷ []))
+    ∷ edge "c5" (node (edge "x" (whole 9) ∷ edge "y" (whole 7) ∷ [])) ∷ [])
+
+-- `{"a1":{"x":1,"y":2},"a2":{"x":3},"a3":{"x":7,"y":6}}`
+abbrev pub first_source : Tree
+first_source =
+    tree (edge "a1" (node (edge "x" (whole 1) ∷ edge "y" (whole 2) ∷ []))
+    ∷ edge "a2" (node (edge "x" (whole 3) ∷ []))
+    ∷ edge "a3" (node (edge "x" (whole 7) ∷ edge "y" (whole 6) ∷ [])) ∷ [])
+
+-- `{"b2":{"x":4},"b3":{"x":6,"y":5}}`
+abbrev pub second_source : Tree
+second_source = tree (edge "b2" (node (edge "x" (whole 4) ∷ [])) ∷ edge "b3" (node (edge "x" (whole 6) ∷ edge "y" (whole 5) ∷ [])) ∷ [])
+
+-- `{"x":{"a":8}}`
+abbrev pub small_source : Tree
+small_source = tree (edge "x" (node (edge "a" (whole 8) ∷ [])) ∷ [])
+
+-- `{"x":5}`
+abbrev pub one_leaf : Tree
+one_leaf = tree (edge "x" (whole 5) ∷ [])
+
+-- `{"l":[18446744073709551615,null]}`
+abbrev pub one_array : Tree
+one_array = tree (edge "l" (node (edge "0" (whole 18446744073709551615) ∷ edge "1" null ∷ [])) ∷ [])
+
+-- a row `g,s,c` of a table with the header `gene,symbol,chrom`, under its gene
+abbrev pub gene_row : String → String → String → LitEdge
+gene_row g s c = edge g (node (edge "chrom" (text c) ∷ edge "gene" (text g) ∷ edge "symbol" (text s) ∷ []))
+
+-- three rows of it
+abbrev pub genes : Tree
+genes = tree (gene_row "ENSG01" "BRCA1" "17" ∷ gene_row "ENSG02" "TP53" "17" ∷ gene_row "ENSG03" "EGFR" "7" ∷ [])
+
+-- ---- sessions
+
+abbrev pub file_named : List ℕ → Fetched
+file_named f =
+    if label_eq f (codes "s1.json") then gives first_source
+    else if label_eq f (codes "s2.json") then gives second_source
+    else if label_eq f (codes "s.json") then gives small_source
+    else if label_eq f (codes "x.json") then gives one_leaf
+    else if label_eq f (codes "l.json") then gives one_array
+    else if label_eq f (codes "g.csv") then gives genes
+    else withholds why.NoFile
+
+-- these files, no curator's name, and room for all
+abbrev pub setting : Setting
+setting =
+    record {
+      read = λ _. unread (why.Syntax 0);
+      fetch = λ l. file_named l.file;
+      fits = λ _ _ _. true;
+      has_room = λ _ _. true;
+      curator = [];
+    }
+
+-- all that a session writes which begins with this tree and is given these statements
+abbrev pub output : Kind → Tree → List Stmt → List ℕ
+output k t script = flat_map lines (replies_to_statements setting (fresh k t []) script)
+
+-- the lines, each with its line feed
+abbrev pub written : List String → List ℕ
+written texts = flat_map (λ s. codes s ++ 10 ∷ []) texts
+
+-- ---- copies and pastes from two sources, in each kind
+
+-- two sources are loaded, and ten operations curate the tree from them
+abbrev pub curation : List Stmt
+curation =
+    load "S1" "s1.json" ∷ load "S2" "s2.json"
+    ∷ del "c5" "T" ∷ copy "S1/a1/y" "T/c1/y" ∷ ins "c2" (node []) "T" ∷ copy "S1/a2" "T/c2"
+    ∷ ins "y" (node []) "T/c2" ∷ copy "S2/b3/y" "T/c2/y" ∷ copy "S1/a3" "T/c3"
+    ∷ ins "c4" (node []) "T" ∷ copy "S2/b2" "T/c4" ∷ ins "y" (whole 12) "T/c4" ∷ stmt.Commit ∷ []
+
+-- the naive kind numbers each operation and records each place that it touched; what a copy has replaced is in no past
+abbrev pub naive_kind_records_each_place : Type 0
+naive_kind_records_each_place =
+    output kind.N curated (curation ++ stats ∷ mod_at "T" ∷ show "T" ∷ [])
+    ≡ written ("loaded S1 9" ∷ "loaded S2 6" ∷ "committed 1..10"
+    ∷ "stats: kind n, tid 10, transactions 1, records 16, nodes 13, sources 2"
+    ∷ "mod T: 1 2 4 6 7 9 10"
+    ∷ "show T: {c1 : {x : 1, y : 2}, c2 : {x : 3, y : 5}, c3 : {x : 7, y : 6}, c4 : {x : 4, y : 12}}" ∷ [])
+
+-- the transactional kind has one number for the whole transaction, and records its net effect alone
+abbrev pub transactional_kind_records_net_effects : Type 0
+transactional_kind_records_net_effects =
+    output kind.T curated (curation ++ stats ∷ mod_at "T" ∷ [])
+    ≡ written ("loaded S1 9" ∷ "loaded S2 6" ∷ "committed 1"
+    ∷ "stats: kind t, tid 1, transactions 1, records 13, nodes 13, sources 2"
+    ∷ "mod T: 1" ∷ [])
+
+-- the hierarchical kind has ten records for ten operations, and answers as the naive one
+abbrev pub hierarchical_kind_has_fewer_records : Type 0
+hierarchical_kind_has_fewer_records =
+    output kind.H curated (curation ++ stats ∷ mod_at "T" ∷ [])
+    ≡ written ("loaded S1 9" ∷ "loaded S2 6" ∷ "committed 1..10"
+    ∷ "stats: kind h, tid 10, transactions 1, records 10, nodes 13, sources 2"
+    ∷ "mod T: 1 2 4 6 7 9 10" ∷ [])
+
+-- of each operation the hierarchical kind has one record: that of the place which the operation names
+abbrev pub hierarchical_kind_records_each_operation_once : Type 0
+hierarchical_kind_records_each_operation_once =
+    output kind.H curated (curation ++ all_records ∷ [])
+    ≡ written ("loaded S1 9" ∷ "loaded S2 6" ∷ "committed 1..10"
+    ∷ "1 D T/c5" ∷ "2 C T/c1/y S1/a1/y" ∷ "3 I T/c2" ∷ "4 C T/c2 S1/a2" ∷ "5 I T/c2/y" ∷ "6 C T/c2/y S2/b3/y"
+    ∷ "7 C T/c3 S1/a3" ∷ "8 I T/c4" ∷ "9 C T/c4 S2/b2" ∷ "10 I T/c4/y" ∷ "records: 10" ∷ [])
+
+-- the hierarchical-transactional kind has seven; T/c2/y has one although T/c2 does, since that would imply S1/a2/y
+abbrev pub implied_records_are_left_out : Type 0
+implied_records_are_left_out =
+    output kind.HT curated (curation ++ records 1 ∷ [])
+    ≡ written ("loaded S1 9" ∷ "loaded S2 6" ∷ "committed 1"
+    ∷ "1 C T/c1/y S1/a1/y" ∷ "1 C T/c2 S1/a2" ∷ "1 C T/c2/y S2/b3/y" ∷ "1 C T/c3 S1/a3" ∷ "1 C T/c4 S2/b2" ∷ "1 I T/c4/y" ∷ "1 D T/c5"
+    ∷ "records: 7" ∷ [])
+
+-- a trace ends in the source, at the start tree or at the insertion
+abbrev pub pasts_end_where_data_came_from : Type 0
+pasts_end_where_data_came_from =
+    output kind.T curated (curation ++ trace "T/c1/y" ∷ trace "T/c1/x" ∷ from "T/c2/x" ∷ src "T/c4/y" ∷ hist "T/c2/y" ∷ [])
+    ≡ written ("loaded S1 9" ∷ "loaded S2 6" ∷ "committed 1"
+    ∷ "trace T/c1/y: T/c1/y@1..1 < S1/a1/y"
+    ∷ "trace T/c1/x: T/c1/x@0..1 < start"
+    ∷ "from T/c2/x: S1/a2/x at 1"
+    ∷ "src T/c4/y: 1"
+    ∷ "hist T/c2/y: 1" ∷ [])
+
+pub record CopyPasteHolds : Type 0 where
+  pub naive : naive_kind_records_each_place
+  pub transactional : transactional_kind_records_net_effects
+  pub hierarchical : hierarchical_kind_has_fewer_records
+  pub hierarchical_records : hierarchical_kind_records_each_operation_once
+  pub hierarchical_transactional : implied_records_are_left_out
+  pub pasts : pasts_end_where_data_came_from
+
+-- ---- copies inside the tree, and of a whole source
+
+-- data that was copied to another place and deleted at the old one keeps its insertion
+abbrev pub moved_data_keeps_its_insertion : Type 0
+moved_data_keeps_its_insertion =
+    output kind.T empty_tree (ins "a" (whole 1) "T" ∷ stmt.Commit
+    ∷ ins "b" (node []) "T" ∷ copy "T/a" "T/b" ∷ del "a" "T" ∷ stmt.Commit
+    ∷ src "T/b" ∷ hist "T/b" ∷ trace "T/b" ∷ mod_at "T" ∷ from "T/b" ∷ [])
+    ≡ written ("committed 1" ∷ "committed 2"
+    ∷ "src T/b: 1" ∷ "hist T/b: 2" ∷ "trace T/b: T/b@2..2 < T/a@1..1 < new" ∷ "mod T: 1 2" ∷ "from T/b: T/a at 2" ∷ [])
+
+-- the same in the naive kind, where the copy has a number of its own
+abbrev pub naive_trace_numbers_each_operation : Type 0
+naive_trace_numbers_each_operation =
+    output kind.N empty_tree (ins "a" (whole 1) "T" ∷ stmt.Commit
+    ∷ ins "b" (node []) "T" ∷ copy "T/a" "T/b" ∷ del "a" "T" ∷ stmt.Commit
+    ∷ src "T/b" ∷ hist "T/b" ∷ trace "T/b" ∷ [])
+    ≡ written ("committed 1" ∷ "committed 2..4"
+    ∷ "src T/b: 1" ∷ "hist T/b: 3" ∷ "trace T/b: T/b@3..4 < T/a@1..2 < new" ∷ [])
+
+-- a node may be copied into a place below itself; the copy is of what stood there before
+abbrev pub node_is_copied_into_itself : Type 0
+node_is_copied_into_itself =
+    output kind.H curated (copy "T/c1" "T/c1/y" ∷ stmt.Commit ∷ records 1 ∷ show "T/c1" ∷ trace "T/c1/y/y" ∷ [])
+    ≡ written ("committed 1" ∷ "1 C T/c1/y T/c1" ∷ "records: 1"
+    ∷ "show T/c1: {x : 1, y : {x : 1, y : 3}}"
+    ∷ "trace T/c1/y/y: T/c1/y/y@1..1 < T/c1/y@0..0 < start" ∷ [])
+
+-- a source that replaces the whole tree has one record where the rest is implied
+abbrev pub whole_source_has_one_record : Type 0
+whole_source_has_one_record =
+    output kind.HT curated (load "S1" "s1.json" ∷ copy "S1" "T" ∷ stmt.Commit ∷ all_records ∷ hist "T" ∷ mod_at "T" ∷ [])
+    ≡ written ("loaded S1 9" ∷ "committed 1" ∷ "1 C T S1" ∷ "records: 1" ∷ "hist T: 1" ∷ "mod T: 1" ∷ [])
+
+-- and a record for each of its nine places where nothing is implied; what it replaced has none
+abbrev pub whole_source_in_full : Type 0
+whole_source_in_full =
+    output kind.T curated (load "S1" "s1.json" ∷ copy "S1" "T" ∷ stmt.Commit ∷ all_records ∷ hist "T" ∷ mod_at "T" ∷ [])
+    ≡ written ("loaded S1 9" ∷ "committed 1"
+    ∷ "1 C T S1" ∷ "1 C T/a1 S1/a1" ∷ "1 C T/a1/x S1/a1/x" ∷ "1 C T/a1/y S1/a1/y" ∷ "1 C T/a2 S1/a2" ∷ "1 C T/a2/x S1/a2/x"
+    ∷ "1 C T/a3 S1/a3" ∷ "1 C T/a3/x S1/a3/x" ∷ "1 C T/a3/y S1/a3/y" ∷ "records: 9"
+    ∷ "hist T: 1" ∷ "mod T: 1" ∷ [])
+
+pub record CopiesHold : Type 0 where
+  pub moved : moved_data_keeps_its_insertion
+  pub moved_naive : naive_trace_numbers_each_operation
+  pub into_itself : node_is_copied_into_itself
+  pub whole_source : whole_source_has_one_record
+  pub whole_source_full : whole_source_in_full
+
+-- ---- net effects
+
+-- a copy of a place onto itself takes a number and leaves no record, in each kind
+abbrev pub copy_onto_itself_leaves_no_record : Kind → Type 0
+copy_onto_itself_leaves_no_record k =
+    output k empty_tree (ins "a" (whole 1) "T" ∷ stmt.Commit ∷ copy "T/a" "T/a" ∷ stmt.Commit ∷ records 2 ∷ src "T/a" ∷ hist "T/a" ∷ [])
+    ≡ written ("committed 1" ∷ "committed 2" ∷ "records: 0" ∷ "src T/a: 1" ∷ "hist T/a: none" ∷ [])
+
+-- a place that was put aside and put back inside a copied node is recorded as kept, and its past is as it was
+abbrev pub kept_place_is_recorded : Type 0
+kept_place_is_recorded =
+    output kind.HT (tree (edge "r" (node (edge "a" (whole 5) ∷ [])) ∷ [])) (load "S" "s.json"
+    ∷ ins "tmp" (node []) "T" ∷ copy "T/r" "T/tmp" ∷ copy "S/x" "T/r" ∷ copy "T/tmp/a" "T/r/a" ∷ del "tmp" "T" ∷ stmt.Commit
+    ∷ records 1 ∷ hist "T/r/a" ∷ trace "T/r/a" ∷ show "T" ∷ [])
+    ≡ written ("loaded S 3" ∷ "committed 1"
+    ∷ "1 C T/r S/x" ∷ "1 K T/r/a" ∷ "records: 2"
+    ∷ "hist T/r/a: none" ∷ "trace T/r/a: T/r/a@0..1 < start" ∷ "show T: {r : {a : 5}}" ∷ [])
+
+-- a node that was put aside, changed and put back has a record of the change alone, in both transactional kinds
+abbrev pub round_trip_records_the_loss : Kind → Type 0
+round_trip_records_the_loss k =
+    output k (tree (edge "r" (node (edge "a" (whole 1) ∷ edge "b" (whole 2) ∷ [])) ∷ [])) (ins "tmp" (node []) "T" ∷ copy "T/r" "T/tmp" ∷ del "a" "T/tmp" ∷ copy "T/tmp" "T/r" ∷ del "tmp" "T" ∷ stmt.Commit
+    ∷ records 1 ∷ mod_at "T/r" ∷ [])
+    ≡ written ("committed 1" ∷ "1 D T/r/a" ∷ "records: 1" ∷ "mod T/r: 1" ∷ [])
+
+-- data that was made and given up within a transaction leaves no record
+abbrev pub temporary_data_leaves_no_record : Type 0
+temporary_data_leaves_no_record =
+    output kind.T empty_tree (ins "a" (whole 1) "T" ∷ del "a" "T" ∷ stmt.Commit ∷ src "T" ∷ hist "T" ∷ records 1 ∷ [])
+    ≡ written ("committed 1" ∷ "src T: none" ∷ "hist T: none" ∷ "records: 0" ∷ [])
+
+pub record NetEffectsHold : Type 0 where
+  pub onto_itself_naive : copy_onto_itself_leaves_no_record kind.N
+  pub onto_itself_transactional : copy_onto_itself_leaves_no_record kind.T
+  pub onto_itself_hierarchical : copy_onto_itself_leaves_no_record kind.H
+  pub onto_itself_hierarchical_transactional : copy_onto_itself_leaves_no_record kind.HT
+  pub kept : kept_place_is_recorded
+  pub round_trip_transactional : round_trip_records_the_loss kind.T
+  pub round_trip_hierarchical_transactional : round_trip_records_the_loss kind.HT
+  pub temporary : temporary_data_leaves_no_record
+
+-- ---- insertions of whole trees
+
+-- `ins {g : {loc : {chrom : "17"}, sym : "TP53"}} into T`
+abbrev pub gene : Stmt
+gene = ins "g" (node (edge "loc" (node (edge "chrom" (text "17") ∷ [])) ∷ edge "sym" (text "TP53") ∷ [])) "T"
+
+-- a tree that is inserted at once has one record where the rest is implied
+abbrev pub inserted_tree_has_one_record : Type 0
+inserted_tree_has_one_record =
+    output kind.H empty_tree (gene ∷ stmt.Commit ∷ records 1 ∷ src "T/g/loc/chrom" ∷ show "T" ∷ [])
+    ≡ written ("committed 1" ∷ "1 I T/g" ∷ "records: 1" ∷ "src T/g/loc/chrom: 1"
+    ∷ "show T: {g : {loc : {chrom : \"17\"}, sym : \"TP53\"}}" ∷ [])
+
+-- and a record for each of its places where nothing is implied
+abbrev pub inserted_tree_in_full : Type 0
+inserted_tree_in_full =
+    output kind.N empty_tree (gene ∷ stmt.Commit ∷ records 1 ∷ [])
+    ≡ written ("committed 1" ∷ "1 I T/g" ∷ "1 I T/g/loc" ∷ "1 I T/g/loc/chrom" ∷ "1 I T/g/sym" ∷ "records: 4" ∷ [])
+
+pub record InsertedTreesHold : Type 0 where
+  pub one_record : inserted_tree_has_one_record
+  pub full : inserted_tree_in_full
+
+-- ---- transactions
+
+-- the first refused operation fails the transaction, which then can only be ended and changes nothing
+abbrev pub failed_transaction_changes_nothing : Type 0
+failed_transaction_changes_nothing =
+    output kind.N empty_tree (ins "a" (whole 1) "T" ∷ del "z" "T" ∷ ins "b" (whole 2) "T" ∷ stmt.Commit ∷ show "T" ∷ [])
+    ≡ written ("refused: no label z in T" ∷ "refused: transaction failed at 2" ∷ "refused commit: failed at 2" ∷ "show T: {}" ∷ [])
+
+-- where no transaction is open there is nothing to commit, and an abort goes through
+abbrev pub empty_commit_is_refused : Type 0
+empty_commit_is_refused =
+    output kind.T empty_tree (stmt.Commit ∷ ins "a" (whole 1) "T" ∷ stmt.Commit ∷ stmt.Commit ∷ stmt.Abort ∷ [])
+    ≡ written ("refused commit: no operation" ∷ "committed 1" ∷ "refused commit: no operation" ∷ "aborted 0" ∷ [])
+
+-- a label stands once below its node
+abbrev pub label_is_inserted_once : Type 0
+label_is_inserted_once =
+    output kind.N empty_tree (ins "a" (whole 1) "T" ∷ ins "a" (whole 2) "T" ∷ stmt.Commit ∷ [])
+    ≡ written ("refused: label a is there in T" ∷ "refused commit: failed at 2" ∷ [])
+
+-- a query sees what is committed, and not the open transaction
+abbrev pub query_sees_what_is_committed : Type 0
+query_sees_what_is_committed =
+    output kind.N empty_tree (ins "a" (node []) "T" ∷ ins "b" (text "x") "T/a" ∷ src "T/a/b" ∷ stmt.Commit ∷ src "T/a/b" ∷ stmt.Abort ∷ [])
+    ≡ written ("refused: no place T/a/b" ∷ "committed 1..2" ∷ "src T/a/b: 2" ∷ "aborted 0" ∷ [])
+
+pub record TransactionsHold : Type 0 where
+  pub failed : failed_transaction_changes_nothing
+  pub empty : empty_commit_is_refused
+  pub label_there : label_is_inserted_once
+  pub committed : query_sees_what_is_committed
+
+-- ---- sources
+
+-- a row of a table is copied, and its trace ends in the table
+abbrev pub row_of_a_table_is_copied : Type 0
+row_of_a_table_is_copied =
+    output kind.T empty_tree (load_by "G" "g.csv" "gene" ∷ ins "tp53" (node []) "T" ∷ copy "G/ENSG02" "T/tp53" ∷ stmt.Commit
+    ∷ trace "T/tp53/symbol" ∷ show "T/tp53" ∷ [])
+    ≡ written ("loaded G 13" ∷ "committed 1"
+    ∷ "trace T/tp53/symbol: T/tp53/symbol@1..1 < G/ENSG02/symbol"
+    ∷ "show T/tp53: {chrom : \"17\", gene : \"ENSG02\", symbol : \"TP53\"}" ∷ [])
+
+-- the same in the naive kind; a row that isn't there can't be copied
+abbrev pub copied_row_has_to_be_there : Type 0
+copied_row_has_to_be_there =
+    output kind.N empty_tree (load_by "G" "g.csv" "gene" ∷ ins "tp53" (node []) "T" ∷ copy "G/ENSG02" "T/tp53" ∷ stmt.Commit
+    ∷ trace "T/tp53/symbol" ∷ copy "G/X" "T" ∷ [])
+    ≡ written ("loaded G 13" ∷ "committed 1..2"
+    ∷ "trace T/tp53/symbol: T/tp53/symbol@2..2 < G/ENSG02/symbol"
+    ∷ "refused: no origin G/X" ∷ [])
+
+-- a source is loaded once
+abbrev pub source_is_loaded_once : Type 0
+source_is_loaded_once =
+    output kind.N empty_tree (load "S" "x.json" ∷ load "S" "x.json" ∷ []) ≡ written ("loaded S 2" ∷ "refused load: source S is there" ∷ [])
+
+-- an array is a node whose labels are the numbers of its elements, and the greatest whole number is kept
+abbrev pub array_has_numbered_labels : Type 0
+array_has_numbered_labels =
+    output kind.N empty_tree (load "S" "l.json" ∷ show "S" ∷ []) ≡ written ("loaded S 4" ∷ "show S: {l : {0 : 18446744073709551615, 1 : null}}" ∷ [])
+
+pub record SourcesHold : Type 0 where
+  pub copied : row_of_a_table_is_copied
+  pub there : copied_row_has_to_be_there
+  pub once : source_is_loaded_once
+  pub array : array_has_numbered_labels
+
+-- ---- spellings
+
+-- a slash and a tilde in a label are escaped, the empty label and one with a space are quoted, and labels come in the order of their bytes
+abbrev pub labels_are_escaped_and_quoted : Type 0
+labels_are_escaped_and_quoted =
+    output kind.T empty_tree (ins "a/b" (whole 1) "T" ∷ ins "~" (whole 2) "T" ∷ ins "" (whole 3) "T" ∷ ins "x y" (whole 4) "T" ∷ stmt.Commit
+    ∷ src_below "T" "a/b" ∷ src_below "T" "~" ∷ src_below "T" "" ∷ src_below "T" "x y" ∷ show "T" ∷ [])
+    ≡ written ("committed 1"
+    ∷ "src T/a~1b: 1" ∷ "src T/~0: 1" ∷ "src T/: 1" ∷ "src \"T/x y\": 1"
+    ∷ "show T: {\"\" : 3, a~1b : 1, \"x y\" : 4, ~0 : 2}" ∷ [])
+
+pub record SpellingsHold : Type 0 where
+  pub labels : labels_are_escaped_and_quoted

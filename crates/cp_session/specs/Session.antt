@@ -1,0 +1,336 @@
+-- A session: what each cut of the input replies, and the state that it leaves.
+use Rattle.std.specs.Prelude.{ℕ, ◌+◌, ◌-◌, ◌==◌, List, [], ◌∷◌, ◌++◌, Bool, true, false, not, drop, length, map, is_some, if◌then◌else◌}
+use Rattle.std.specs.declared.option.Option.{Option}
+use Rattle.std.specs.declared.option.Option.TheVariants.{None, Some}
+use Rattle.cp_path.specs.declared.loc.Loc.{Loc}
+use Rattle.cp_model.specs.Place.{Path, Label, in_target}
+use Rattle.cp_model.specs.Keyed as keyed
+use Rattle.cp_model.specs.Subtrees.{below, is_there}
+use Rattle.cp_model.specs.Tree.{Tree, source, refusal}
+use Rattle.cp_model.specs.Step.{Outcome, done, refused, step, contents}
+use Rattle.cp_model.specs.Past.{tree_of}
+use Rattle.cp_model.specs.History.{Entry, start, load, commit, State, replay, steps_of, after_commit, most_ops, most_sources}
+use Rattle.cp_model.specs.Answers.{answer_to}
+use Rattle.cp_model.specs.declared.op.Op.{Op}
+use Rattle.cp_model.specs.declared.op.Op.TheVariants.{Ins, Del, Copy}
+use Rattle.cp_model.specs.declared.kind.Kind.{Kind}
+use Rattle.cp_model.specs.declared.record.Record.{Record}
+use Rattle.cp_model.specs.declared.row.Row.{Row}
+use Rattle.cp_model.specs.declared.row.Content.{Content}
+use Rattle.cp_model.specs.declared.stamp.Stamp.{Stamp}
+use Rattle.cp_model.specs.declared.query.Query.{Query}
+use Rattle.cp_model.specs.declared.query.Query.TheVariants as query
+use Rattle.cp_model.specs.declared.answer.Answer.{Answer}
+use Rattle.cp_model.specs.declared.refusal.Refusal.{Refusal}
+use Rattle.cp_model.specs.declared.refusal.Refusal.TheVariants as refusal
+use Rattle.cp_model.specs.declared.refusal.Cause.{Cause}
+use Rattle.cp_model.specs.declared.refusal.Cause.TheVariants.{Refused, Unread}
+use Rattle.cp_lang.specs.declared.cut.Cut.{Cut}
+use Rattle.cp_lang.specs.declared.cut.Cut.TheVariants.{Text, TooLong, Unfinished}
+use Rattle.cp_lang.specs.declared.stmt.Stmt.{Stmt}
+use Rattle.cp_lang.specs.declared.stmt.Stmt.TheVariants as stmt
+use Rattle.cp_lang.specs.declared.stmt.Load.{Load}
+use Rattle.cp_reply.specs.declared.reply.Of.TheVariants as of
+use Rattle.cp_reply.specs.declared.reply.Why.{Why}
+use Rattle.cp_reply.specs.declared.reply.Why.TheVariants as why
+use Rattle.cp_reply.specs.declared.reply.Reply.{Reply}
+use Rattle.cp_reply.specs.declared.reply.Reply.TheVariants as reply
+
+-- ---- what a session is run with
+
+-- what a text says: a statement, or why it is none
+pub data Reading : Type 0 where
+  says : Stmt → Reading
+  unread : Why → Reading
+
+-- what a source file gives: a tree, or why it gives none
+pub data Fetched : Type 0 where
+  gives : Tree → Fetched
+  withholds : Why → Fetched
+
+-- what the table leaves to whoever runs a session
+pub record Setting : Type 0 where
+  pub read : List ℕ → Reading
+  pub fetch : Load → Fetched
+  -- the entry of these operations and records is within the limit of an entry's bytes
+  pub fits : Stamp → List Op → List Record → Bool
+  -- the store has room for this source
+  pub has_room : List ℕ → Tree → Bool
+  pub curator : Label
+
+-- ---- states
+
+-- the open transaction: none, operations that were accepted, or the number of the one at which it failed
+pub data Opened : Type 0 where
+  closed : Opened
+  going : List Op → Opened
+  failed : ℕ → Cause → Opened
+
+-- the state of a session
+pub record Session : Type 0 where
+  pub history : List Entry
+  pub opened : Opened
+  -- the moments that the clock still tells
+  pub moments : List ℕ
+
+-- a reply, if there is one, and the next state
+pub record Turn : Type 0 where
+  pub reply : Option Reply
+  pub next : Session
+
+-- no reply
+abbrev pub silent : Session → Turn
+silent s = record { reply = None; next = s }
+
+-- a reply
+abbrev pub replies : Reply → Session → Turn
+replies r s = record { reply = Some r; next = s }
+
+-- the refusal of a statement
+abbrev pub refuses : Why → Session → Turn
+refuses w s = replies (reply.Refused of.Statement w) s
+
+-- the transaction becomes x
+abbrev pub with_opened : Session → Opened → Session
+with_opened s x = record { history = s.history; opened = x; moments = s.moments }
+
+-- the history gets one entry more
+abbrev pub with_entry : Session → Entry → Session
+with_entry s e = record { history = s.history ++ e ∷ []; opened = s.opened; moments = s.moments }
+
+-- ---- operations
+
+-- the operations that are held
+abbrev pub held : Opened → List Op
+held closed = []
+held (going ops) = ops
+held (failed n c) = []
+
+-- the place and the label that a refusal names
+abbrev pub why_refused : Op → Refusal → Why
+why_refused (Ins p a l) refusal.NoPlace = why.NoPlace p
+why_refused (Ins p a l) refusal.LabelThere = why.LabelThere a p
+why_refused (Ins p a l) refusal.NoLabel = why.NoLabel a p
+why_refused (Ins p a l) refusal.NotANode = why.NotANode p
+why_refused (Ins p a l) refusal.ReadOnly = why.ReadOnly p
+why_refused (Ins p a l) refusal.NoSource = why.NoSource p.db
+why_refused (Ins p a l) refusal.NoOrigin = why.NoOrigin p
+why_refused (Ins p a l) refusal.TooDeep = why.TooDeep
+why_refused (Ins p a l) refusal.TooMany = why.TooMany
+why_refused (Ins p a l) refusal.TooBig = why.TooBig
+why_refused (Ins p a l) refusal.TooManyOps = why.TooManyOps
+why_refused (Del a p) refusal.NoPlace = why.NoPlace p
+why_refused (Del a p) refusal.LabelThere = why.LabelThere a p
+why_refused (Del a p) refusal.NoLabel = why.NoLabel a p
+why_refused (Del a p) refusal.NotANode = why.NotANode p
+why_refused (Del a p) refusal.ReadOnly = why.ReadOnly p
+why_refused (Del a p) refusal.NoSource = why.NoSource p.db
+why_refused (Del a p) refusal.NoOrigin = why.NoOrigin p
+why_refused (Del a p) refusal.TooDeep = why.TooDeep
+why_refused (Del a p) refusal.TooMany = why.TooMany
+why_refused (Del a p) refusal.TooBig = why.TooBig
+why_refused (Del a p) refusal.TooManyOps = why.TooManyOps
+why_refused (Copy q p) refusal.NoPlace = why.NoPlace p
+why_refused (Copy q p) refusal.LabelThere = why.NoPlace p
+why_refused (Copy q p) refusal.NoLabel = why.NoPlace p
+why_refused (Copy q p) refusal.NotANode = why.NotANode p
+why_refused (Copy q p) refusal.ReadOnly = why.ReadOnly p
+why_refused (Copy q p) refusal.NoSource = why.NoSource q.db
+why_refused (Copy q p) refusal.NoOrigin = why.NoOrigin q
+why_refused (Copy q p) refusal.TooDeep = why.TooDeep
+why_refused (Copy q p) refusal.TooMany = why.TooMany
+why_refused (Copy q p) refusal.TooBig = why.TooBig
+why_refused (Copy q p) refusal.TooManyOps = why.TooManyOps
+
+-- the refusal of an operation on the working tree of the operations so far, if there is one
+abbrev pub refusal_on : State → Outcome → Op → Option Refusal
+refusal_on s (done k w) op = refusal s.sources (contents w) op
+refusal_on s (refused n r) op = Some r
+
+-- the refusal of an operation behind those that are held, if there is one
+abbrev pub refusal_after : State → List Op → Op → Option Refusal
+refusal_after s ops op =
+    if length ops == most_ops then Some refusal.TooManyOps else refusal_on s (step (tree_of s.tree) s.sources ops) op
+
+-- an operation that is refused fails the transaction, another is held
+abbrev pub decided : Session → List Op → Op → Option Refusal → Turn
+decided s ops op (Some r) = refuses (why_refused op r) (with_opened s (failed (length ops + 1) (Refused r)))
+decided s ops op None = silent (with_opened s (going (ops ++ op ∷ [])))
+
+-- a later operation of a failed transaction is refused too
+abbrev pub operated : Session → State → Op → Opened → Turn
+operated s t op (failed n c) = refuses (why.FailedAt n) s
+operated s t op closed = decided s [] op (refusal_after t [] op)
+operated s t op (going ops) = decided s ops op (refusal_after t ops op)
+
+-- a text that can't be read counts as an operation that is refused
+abbrev pub spoiled : Opened → Opened
+spoiled closed = failed 1 Unread
+spoiled (going ops) = failed (length ops + 1) Unread
+spoiled (failed n c) = failed n c
+
+-- the refusal of a text that can't be read
+abbrev pub not_read : Session → Why → Turn
+not_read s w = refuses w (with_opened s (spoiled s.opened))
+
+-- ---- commit and abort
+
+-- the next moment that the clock tells, and 0 where it tells none
+abbrev pub next_moment : List ℕ → ℕ
+next_moment [] = 0
+next_moment (m ∷ ms) = m
+
+-- no transaction is open after a refused commit
+abbrev pub refused_commit : Why → Session → Turn
+refused_commit w s = replies (reply.Refused of.Commit w) (with_opened s closed)
+
+-- the records of the last commit
+abbrev pub new_records : State → State → List Record
+new_records before after = drop (length before.rows) after.rows
+
+-- a moment was taken, and no transaction is open
+abbrev pub after_moment : Session → Session
+after_moment s = record { history = s.history; opened = closed; moments = drop 1 s.moments }
+
+-- the curator and the moment of a commit
+abbrev pub stamp_of : Setting → Session → Stamp
+stamp_of c s = record { curator = c.curator; moment = next_moment s.moments }
+
+-- the Tids of the commit, unless its entry is too large
+abbrev pub committed : Setting → Session → State → List Op → Turn
+committed c s t ops =
+    if c.fits (stamp_of c s) ops (new_records t (after_commit t ops))
+    then replies (reply.Committed (t.now + 1) (t.now + length (steps_of t.kind ops))) (with_entry (after_moment s) (commit (stamp_of c s) ops))
+    else replies (reply.Refused of.Commit why.TransactionTooLarge) (after_moment s)
+
+-- the table of commit
+abbrev pub committing : Setting → Session → State → Opened → Turn
+committing c s t closed = refused_commit why.NoOperation s
+committing c s t (failed n k) = refused_commit (why.FailedAt n) s
+committing c s t (going ops) = committed c s t ops
+
+-- the number of operations that are given up
+abbrev pub given_up : Opened → ℕ
+given_up closed = 0
+given_up (going ops) = length ops
+given_up (failed n c) = n - 1
+
+-- ---- load
+
+-- the refusal of a load
+abbrev pub refused_load : Why → Session → Turn
+refused_load w s = replies (reply.Refused of.Load w) s
+
+-- no transaction is open
+abbrev pub is_closed : Opened → Bool
+is_closed closed = true
+is_closed (going ops) = false
+is_closed (failed n c) = false
+
+-- the source is loaded, unless the store has no room
+abbrev pub fetched : Setting → Session → List ℕ → Fetched → Turn
+fetched c s n (withholds w) = refused_load w s
+fetched c s n (gives t) =
+    if c.has_room n t then replies (reply.Loaded n (keyed.len t)) (with_entry s (load n t)) else refused_load why.StoreTooLarge s
+
+-- the refusals of load in their order
+abbrev pub loading : Setting → Session → State → Load → Turn
+loading c s t l =
+    if not (is_closed s.opened) then refused_load why.TransactionOpen s
+    else if is_some (source t.sources l.name) then refused_load (why.SourceThere l.name) s
+    else if length t.sources == most_sources then refused_load why.TooManySources s
+    else fetched c s l.name (c.fetch l)
+
+-- ---- show and queries
+
+-- an entry of a tree as a row
+abbrev pub row_of : Path × Content → Row
+row_of e = record { path = e.0; content = e.1 }
+
+-- what stands at and below the place, if the tree and the place are there
+abbrev pub shown : Session → Loc → Option Tree → Turn
+shown s q None = refuses (why.NoSource q.db) s
+shown s q (Some t) = if is_there t q.path then replies (reply.Show q (map row_of (below q.path t))) s else refuses (why.NoPlace q) s
+
+-- the tree after operations
+abbrev pub outcome_tree : State → Outcome → Tree
+outcome_tree t (done k w) = contents w
+outcome_tree t (refused n r) = tree_of t.tree
+
+-- the working tree of a going transaction, else the committed one
+abbrev pub current_tree : State → Opened → Tree
+current_tree t closed = tree_of t.tree
+current_tree t (going ops) = outcome_tree t (step (tree_of t.tree) t.sources ops)
+current_tree t (failed n c) = tree_of t.tree
+
+-- the tree of the place's database
+abbrev pub showing : Session → State → Loc → Turn
+showing s t q = shown s q (if in_target q then Some (current_tree t s.opened) else source t.sources q.db)
+
+-- the place that a query names
+abbrev pub no_place_of : Query → Why
+no_place_of (query.Src q) = why.NoPlace q
+no_place_of (query.Hist q) = why.NoPlace q
+no_place_of (query.Mod q) = why.NoPlace q
+no_place_of (query.Trace q) = why.NoPlace q
+no_place_of (query.From q) = why.NoPlace q
+no_place_of (query.Records t) = why.NoOperation
+no_place_of query.Stats = why.NoOperation
+
+-- the answer, or that its place isn't there
+abbrev pub answered : Session → Query → Option Answer → Turn
+answered s q None = refuses (no_place_of q) s
+answered s q (Some a) = replies (reply.Answered q a) s
+
+-- ---- the table
+
+-- on the state that the history leads to
+abbrev pub turn_on : Setting → Session → State → Stmt → Turn
+turn_on c s t (stmt.Op op) = operated s t op s.opened
+turn_on c s t stmt.Commit = committing c s t s.opened
+turn_on c s t stmt.Abort = replies (reply.Aborted (given_up s.opened)) (with_opened s closed)
+turn_on c s t (stmt.Load l) = loading c s t l
+turn_on c s t (stmt.Ask q) = answered s q (answer_to t q)
+turn_on c s t (stmt.Show q) = showing s t q
+
+-- a history without a state answers nothing
+abbrev pub turn_by : Setting → Session → Option State → Stmt → Turn
+turn_by c s None x = silent s
+turn_by c s (Some t) x = turn_on c s t x
+
+-- what a text brings, by what it says
+abbrev pub turn_of : Setting → Session → Reading → Turn
+turn_of c s (says x) = turn_by c s (replay s.history) x
+turn_of c s (unread w) = not_read s w
+
+-- what each cut replies, and the state that it leaves
+unfoldable pub turn : Setting → Session → Cut → Turn
+turn c s (Text text) = turn_of c s (c.read text)
+turn c s TooLong = not_read s why.StatementTooLong
+turn c s (Unfinished text) = not_read s (why.Syntax (length text))
+
+-- ---- whole sessions
+
+-- one reply more, if there is one
+abbrev pub with_reply : Option Reply → List Reply → List Reply
+with_reply None rs = rs
+with_reply (Some r) rs = r ∷ rs
+
+-- the replies to cuts, in order
+unfoldable pub replies_to : Setting → Session → List Cut → List Reply
+replies_to c s [] = []
+replies_to c s (x ∷ xs) = with_reply (turn c s x).reply (replies_to c (turn c s x).next xs)
+
+-- the state behind them
+unfoldable pub session_after : Setting → Session → List Cut → Session
+session_after c s [] = s
+session_after c s (x ∷ xs) = session_after c (turn c s x).next xs
+
+-- a session on a history of its own, which has a start tree alone
+abbrev pub fresh : Kind → Tree → List ℕ → Session
+fresh k t moments = record { history = start k t ∷ []; opened = closed; moments = moments }
+
+-- the replies to statements that are handed over as values
+unfoldable pub replies_to_statements : Setting → Session → List Stmt → List Reply
+replies_to_statements c s [] = []
+replies_to_statements c s (x ∷ xs) = with_reply (turn_of c s (says x)).reply (replies_to_statements c (turn_of c s (says x)).next xs)
