@@ -1,0 +1,12 @@
+pub mod Numbers
+pub mod Plays
+pub mod Runs
+pub mod Tables
+pub mod Places
+pub mod Commits
+pub mod Statements
+pub mod Spelled
+pub mod Turns
+pub mod Beginning
+pub mod Agreement
+pub mod Whole

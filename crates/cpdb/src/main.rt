@@ -1,0 +1,33 @@
+//! The program: the real input and output, and the one call that does everything.
+#![tactic(auto)]
+
+mod end;
+mod host;
+mod run;
+mod session;
+mod stop;
+mod store;
+
+use host::{StdinSource, StdoutSink};
+use run::run_cpdb;
+use std::io::ErrorKind;
+use std::process::ExitCode;
+
+#[cfg(test)]
+mod tests;
+
+fn main(rt: HostRuntime) -> ExitCode {
+    let alloc = rt.alloc();
+    let args = match std::env::args(&rt) {
+        Ok(args) => args,
+        Err(fault) if fault.kind() == ErrorKind::OutOfMemory => return ExitCode::from(7),
+        Err(_) => return ExitCode::from(2),
+    };
+    let Ok(words) = args.collect::<Vec<String>>(alloc) else {
+        return ExitCode::from(7);
+    };
+    let mut input = StdinSource::new(rt.stdin());
+    let mut output = StdoutSink::new(rt.stdout());
+    let status = run_cpdb(alloc, words.as_slice(), &mut input, &mut output);
+    ExitCode::from(status.code)
+}

@@ -1,0 +1,182 @@
+ghost use Rattle.std.specs.Prelude.{◌≡◌, ◌⊎◌, ◌≤◌, ◌<◌, ◌+◌, ◌↔◌, ℕ, List, [], length, map, true, false, string_bytes, IfOk, IfErr};
+ghost use Rattle.cp_outside.specs.Causes.{Rose};
+ghost use Rattle.cpdb.specs.Words.{fits, most_input, most_piece};
+ghost use Rattle.cpdb.specs.Machine.{start};
+ghost use Rattle.cpdb.specs.Ends.{code_of, end_of};
+ghost use Rattle.cpdb.specs.Story.{WritesLast, Ran, Whole, IsShort, IsAnswer, HasCauses};
+ghost use Rattle.cpdb.specs.Turns.{WroteLast, Closes, RanFrom, Turned, status_of, status_or_done};
+
+use crate::end::{End, Status};
+use crate::session::Session;
+use crate::stop::Stop;
+use cp_outside::{Sink, Source, write_all};
+use std::alloc::Global;
+
+/// The most bytes of input that a call takes.
+const MOST_INPUT: u64 = 524_288;
+
+/// The most bytes that a read asks for.
+const MOST_PIECE: usize = 65_536;
+
+const USAGE: &[u8] =
+    b"usage: cpdb scratch KIND [JSON]\nusage: cpdb init STORE KIND [JSON]\nusage: cpdb run STORE [CURATOR]\nusage: cpdb commit STORE FILE [CURATOR]\nusage: cpdb load STORE NAME json FILE\nusage: cpdb load STORE NAME csv FILE [COLUMN]\nusage: cpdb query STORE STATEMENT\nusage: cpdb verify STORE\nusage: cpdb checkpoint STORE\nusage: cpdb gen SEED COUNT KIND\nusage: cpdb log STORE\n";
+
+fn fits(words: &[String]) -> bool
+    ensures { result ≡ fits (map string_bytes words.now) }
+{
+    match words {
+        [_, a, b] => {
+            let command = a.as_str() == "scratch";
+            let kind = b.as_str() == "n";
+            command && kind
+        }
+        _ => false,
+    }
+}
+
+/// Writes the last line. What becomes of it doesn't change how the call ends.
+fn last_line<O: Sink>(output: &mut O, line: &[u8])
+    ensures wrote { WritesLast (O.contents output.old) (O.contents output.new) (O.refusals output.old) (O.refusals output.new) [] line.now }
+    ensures later { O.faults output.old ≤ O.faults output.new }
+    ensures kept { O.refusals output.old ≤ O.refusals output.new }
+{
+    let _ = write_all(output, line);
+}
+
+/// How a session ends that a statement or the output stopped.
+fn stopped<O: Sink>(output: &mut O, stop: Stop) -> End
+    ensures status { result ≡ status_of stop }
+    ensures wrote { WroteLast (O.contents output.old) (O.contents output.new) (O.refusals output.old) (O.refusals output.new) stop }
+    ensures later { O.faults output.old ≤ O.faults output.new }
+    ensures kept { O.refusals output.old ≤ O.refusals output.new }
+{
+    match stop {
+        Stop::Refused => End::Refused,
+        Stop::Output => End::Output,
+        Stop::Full => End::Memory,
+        Stop::Memory => {
+            last_line(output, b"error: memory\n");
+            End::Memory
+        }
+    }
+}
+
+/// The input has ended.
+fn closing<O: Sink>(session: &mut Session, output: &mut O) -> End
+    ensures went { Closes session.old (O.contents output.old) (O.contents output.new) (O.refusals output.old) (O.refusals output.new) result }
+    ensures later { O.faults output.old ≤ O.faults output.new }
+    ensures kept { O.refusals output.old ≤ O.refusals output.new }
+    ensures blamed { result ≡ End.Output → Rose (O.faults output.old) (O.faults output.new) }
+{
+    match session.close(output) {
+        Ok(()) => End::Done,
+        Err(stop) => stopped(output, stop),
+    }
+}
+
+/// Takes the next piece of the input and runs the statements that end in it.
+fn turn<I: Source, O: Sink>(
+    session: &mut Session,
+    piece: &mut [u8],
+    input: &mut I,
+    output: &mut O,
+    before: u64,
+) -> Result<u64, End>
+    requires taken { before ≤ most_input }
+    requires room { 0 < length piece.old }
+    requires bounded { length piece.old ≤ most_piece }
+    ensures goes_on { IfOk result (λ n. (before < n) × (n ≤ most_input)
+        × Turned session.old session.new before n (I.left input.old) (I.left input.new) (O.contents output.old) (O.contents output.new)) }
+    ensures ends { IfErr result (λ end. RanFrom session.old before
+        (I.left input.old) (I.left input.new) (O.contents output.old) (O.contents output.new) (O.refusals output.old) (O.refusals output.new) end) }
+    ensures causes { HasCauses (I.faults input.old) (I.faults input.new) (O.faults output.old) (O.faults output.new) (status_or_done result) }
+    ensures kept { O.refusals output.old ≤ O.refusals output.new }
+{
+    let Ok(count) = input.read(piece) else {
+        last_line(output, b"error: input\n");
+        return Err(End::Input);
+    };
+    if count == 0 {
+        return Err(closing(session, output));
+    }
+    let now = before + count as u64;
+    if now > MOST_INPUT {
+        last_line(output, b"error: input too long\n");
+        return Err(End::TooLong);
+    }
+    match session.feed(&piece[..count], output) {
+        Ok(()) => Ok(now),
+        Err(stop) => Err(stopped(output, stop)),
+    }
+}
+
+/// Runs the session until it ends.
+fn session<I: Source, O: Sink>(
+    alloc: Global,
+    piece: &mut [u8],
+    input: &mut I,
+    output: &mut O,
+) -> End
+    requires room { 0 < length piece.old }
+    requires bounded { length piece.old ≤ most_piece }
+    ensures ran { RanFrom start 0 (I.left input.old) (I.left input.new)
+        (O.contents output.old) (O.contents output.new) (O.refusals output.old) (O.refusals output.new) result }
+    ensures causes { HasCauses (I.faults input.old) (I.faults input.new) (O.faults output.old) (O.faults output.new) result }
+{
+    let mut session = Session::new(alloc);
+    let mut taken = 0;
+    loop {
+        match turn(&mut session, piece, input, output, taken) {
+            Ok(now) => taken = now,
+            Err(end) => return end,
+        }
+    }
+}
+
+/// The session over the input, with room for a piece of it.
+fn scratch<I: Source, O: Sink>(alloc: Global, input: &mut I, output: &mut O) -> End
+    ensures ran { RanFrom start 0 (I.left input.old) (I.left input.new)
+        (O.contents output.old) (O.contents output.new) (O.refusals output.old) (O.refusals output.new) result }
+    ensures causes { HasCauses (I.faults input.old) (I.faults input.new) (O.faults output.old) (O.faults output.new) result }
+{
+    match vec![in alloc; 0u8; MOST_PIECE] {
+        Ok(mut piece) => session(alloc, &mut piece, input, output),
+        Err(_) => {
+            last_line(output, b"error: memory\n");
+            End::Memory
+        }
+    }
+}
+
+/// Everything that the program does: words, input and output to an exit status.
+///
+/// The words are those of the program's call, its name first. All lines go to the output, the usage text and errors
+/// included. A read asks for at most 65,536 bytes, and each line is written before the next statement is run.
+/// Status 0 says that all was done, 1 that a statement was refused, 2 that the words fit no row, 3 that the input
+/// failed, 4 that the output failed, 7 that memory ran out, 8 that more than 524,288 bytes of input came.
+pub fn run_cpdb<I: Source, O: Sink>(
+    alloc: Global,
+    words: &[String],
+    input: &mut I,
+    output: &mut O,
+) -> Status
+    ensures numbered { result.code ≡ code_of (end_of result.code) }
+    ensures ran { Ran (fits (map string_bytes words.now)) (I.left input.old) (I.left input.new)
+        (O.contents output.old) (O.contents output.new) (O.refusals output.old) (O.refusals output.new) (end_of result.code) }
+    ensures usage { (result.code ≡ 2) ↔ (fits (map string_bytes words.now) ≡ false) }
+    ensures whole { fits (map string_bytes words.now) ≡ true
+        → Whole (I.left input.old) (O.contents output.old) (O.contents output.new) (end_of result.code) }
+    ensures complete { fits (map string_bytes words.now) ≡ true → IsShort (I.left input.old)
+        → ¬ (Rose (I.faults input.old) (I.faults input.new)) → ¬ (Rose (O.faults output.old) (O.faults output.new))
+        → IsAnswer (end_of result.code) }
+    ensures causes { HasCauses (I.faults input.old) (I.faults input.new) (O.faults output.old) (O.faults output.new) (end_of result.code) }
+{
+    if !fits(words) {
+        last_line(output, USAGE);
+        return Status {
+            code: End::Usage.code(),
+        };
+    }
+    let end = scratch(alloc, input, output);
+    Status { code: end.code() }
+}
