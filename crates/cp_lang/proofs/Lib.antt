@@ -1,2 +1,3 @@
 mod Alphanumeric
 mod Digits
+mod Held

@@ -1,0 +1,122 @@
+ghost use Rattle.std.specs.Prelude.{◌≡◌, OnOk, [], ◌++◌, ◌∷◌};
+ghost use Rattle.std.specs.Option.{option_to_list};
+ghost use Rattle.cp_lang.specs.Cuts.{Scan, scan_start, scanned, rest_of};
+ghost use Rattle.cp_lang.specs.Held.{held_of, held_cut, grown, byte_cuts, byte_held, Begins};
+
+use crate::cut::{Cut, Mode, after, ends, is_space};
+use cp_path::Bytes;
+use std::alloc::{AllocError, Global};
+use std::marker::Model;
+use std::mem;
+
+/// The most bytes of a statement's text.
+pub const STATEMENT_MAX: usize = 1_048_576;
+
+/// Cuts input that comes in pieces into the texts of statements. Keeps the bytes since the last statement's end,
+/// 1,048,576 at most: of a longer text it keeps only whether it is white space alone.
+#[derive(Drop)]
+pub struct Cutter {
+    alloc: Global,
+    mode: Mode,
+    text: Vec<u8>,
+    blank: bool,
+    long: bool,
+}
+
+impl Model for Cutter {
+    ghost use Rattle.cp_lang.specs.Held.{Held};
+
+    ghost Value = { Held };
+
+    ghost view = { λ a. record { mode = a.mode; text = a.text.items; blank = a.blank; long = a.long } };
+}
+
+impl Cutter {
+    /// A cutter that stands at the start of the input. Allocates nothing.
+    pub fn new(alloc: Global) -> Cutter
+        ensures { result ≡ held_of scan_start }
+    {
+        Cutter {
+            alloc,
+            mode: Mode::Outside,
+            text: Vec::new(alloc),
+            blank: true,
+            long: false,
+        }
+    }
+
+    /// Puts a byte that ends no statement behind the text; lets go of a text that grows too long.
+    fn grow(&mut self, byte: u8) -> Result<(), AllocError>
+        ensures ok { OnOk result (self.new ≡ grown self.old byte) }
+    {
+        self.mode = after(self.mode, byte);
+        self.blank = self.blank && is_space(byte);
+        if self.long {
+            return Ok(());
+        }
+        if self.text.len() < STATEMENT_MAX {
+            self.text.push(byte)?;
+        } else {
+            self.text = Vec::new(self.alloc);
+            self.long = true;
+        }
+        Ok(())
+    }
+
+    /// Cuts the text out, which a byte has ended.
+    fn end(&mut self, out: &mut Vec<Cut>) -> Result<(), AllocError>
+        ensures ok { OnOk result ((out.new.items ≡ out.old.items ++ held_cut self.old) × (self.new ≡ held_of scan_start)) }
+        ensures front { Begins out.old.items out.new.items }
+    {
+        let ended = mem::replace(self, Cutter::new(self.alloc));
+        if ended.blank {
+            return Ok(());
+        }
+        let cut = if ended.long {
+            Cut::TooLong
+        } else {
+            Cut::Text(Bytes { items: ended.text })
+        };
+        out.push(cut)?;
+        Ok(())
+    }
+
+    /// Takes one byte.
+    fn byte(&mut self, byte: u8, out: &mut Vec<Cut>) -> Result<(), AllocError>
+        ensures ok { OnOk result ((out.new.items ≡ out.old.items ++ byte_cuts self.old byte) × (self.new ≡ byte_held self.old byte)) }
+        ensures front { Begins out.old.items out.new.items }
+    {
+        if ends(self.mode, byte) {
+            self.end(out)
+        } else {
+            self.grow(byte)
+        }
+    }
+
+    /// Puts the cuts that end in this piece of the input behind `out`. Costs the piece's bytes.
+    /// After an `Err` the cutter's place in the input is lost, and `out` holds some of the cuts behind what it held.
+    pub fn feed(&mut self, piece: &[u8], out: &mut Vec<Cut>) -> Result<(), AllocError>
+        ensures ok { OnOk result
+            ((s : Scan) → self.old ≡ held_of s
+            → (out.new.items ≡ out.old.items ++ (scanned s piece.now).cuts) × (self.new ≡ held_of (scanned s piece.now).scan)) }
+        ensures front { Begins out.old.items out.new.items }
+    {
+        for byte in piece {
+            self.byte(*byte, out)?;
+        }
+        Ok(())
+    }
+
+    /// What is left at the input's end, if it isn't white space alone. Allocates nothing.
+    pub fn rest(self) -> Option<Cut>
+        ensures { (s : Scan) → self ≡ held_of s → option_to_list result ≡ rest_of s }
+    {
+        if self.blank {
+            return None;
+        }
+        if self.long {
+            return Some(Cut::TooLong);
+        }
+        Some(Cut::Unfinished(Bytes { items: self.text }))
+    }
+}
