@@ -2,7 +2,7 @@
 use Rattle.std.specs.Prelude.{ℕ, ◌+◌, ◌≡◌, Bool, true, false, cond, ◌&&◌, ◌||◌, List, [], ◌∷◌, ◌++◌, length, sum_by, nat_lt, refl}
 use Rattle.std.specs.declared.option.Option.{Option}
 use Rattle.std.specs.declared.option.Option.TheVariants.{None, Some}
-use Rattle.std.specs.Option.{option_map}
+use Rattle.std.specs.Option.{option_map, unwrap_or}
 use Rattle.std.specs.declared.cmp.Ordering.{Ordering}
 use Rattle.std.specs.Ordering.{eq_by_cmp, ordering_then}
 use Rattle.std.specs.Cmp.{IsTotalOrder, IsEquivalence, IsPartialOrder, partial_order_from_agreeing_total}
@@ -103,6 +103,14 @@ abbrev pub parent : Path → Option Path
 parent [] = None
 parent (a ∷ []) = Some []
 parent (a ∷ b ∷ p) = option_map (λ r. a ∷ r) (parent (b ∷ p))
+
+-- the place without its last label
+abbrev pub parent_place : Loc → Option Loc
+parent_place q = option_map (λ p. record { db = q.db; path = p }) (parent q.path)
+
+-- where p lies once all of old lies at to
+abbrev pub moved : Loc → Loc → Loc → Loc
+moved p old to = below_place to (unwrap_or (strip old.path p.path) [])
 
 -- the last label, and the empty one at the root
 abbrev pub last_label : Path → Label

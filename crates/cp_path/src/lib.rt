@@ -6,9 +6,15 @@ mod label;
 mod loc;
 mod name;
 mod path;
+mod read;
+mod read_value;
+mod relate;
+mod scan;
+mod split;
 mod text;
 mod value;
 mod whole;
+mod write;
 
 pub use fault::PathFault;
 pub use label::{LABEL_MAX, Label};

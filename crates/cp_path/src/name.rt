@@ -33,13 +33,13 @@ impl Model for Name {
     ghost invariant = { λ a. is_name (string_bytes a.text) ≡ true };
 }
 
-fn is_letter(byte: u8) -> bool
+pub(crate) fn is_letter(byte: u8) -> bool
     ensures { result ≡ is_letter byte }
 {
     (b'A' <= byte && byte <= b'Z') || (b'a' <= byte && byte <= b'z')
 }
 
-fn is_name_byte(byte: u8) -> bool
+pub(crate) fn is_name_byte(byte: u8) -> bool
     ensures { result ≡ is_name_byte byte }
 {
     is_letter(byte) || (b'0' <= byte && byte <= b'9') || byte == b'_'

@@ -1,5 +1,6 @@
-ghost use Rattle.std.specs.Prelude.{◌≡◌, ◌≤◌, ◌<◌, ◌↔◌, ◌⊎◌, ℕ, List, [], ◌∷◌, ◌++◌, length, IfOk, IfErr, OnOk, OnErr};
+ghost use Rattle.std.specs.Prelude.{◌≡◌, ◌≤◌, ◌<◌, ◌+◌, ◌↔◌, ◌⊎◌, ℕ, List, [], ◌∷◌, ◌++◌, length, IfOk, IfErr, IfNone, OnOk, OnErr};
 ghost use Rattle.std.specs.declared.option.Option.TheVariants.{Some};
+ghost use Rattle.std.specs.Option.{option_to_list};
 
 use crate::fault::PathFault;
 use crate::label::Label;
@@ -71,6 +72,27 @@ impl Path {
             Ok(()) => Ok(()),
             Err(_) => Err(PathFault::Memory),
         }
+    }
+
+    /// These labels, and below them those.
+    #[tactic(auto, using(crate::proofs::Relating::none_more))]
+    pub(crate) fn joined(&self, labels: &[Label]) -> Result<Path, AllocError>
+        requires { length self.now + length labels.now ≤ 64 }
+        ensures { IfOk result (λ p. p ≡ self.now ++ labels.now) }
+    {
+        let Path { labels: mut all } = self.clone()?;
+        for label in labels {
+            all.push(label.clone()?)?;
+        }
+        Ok(Path { labels: all })
+    }
+
+    /// Takes the last label off, if there is one.
+    pub(crate) fn pop(&mut self) -> Option<Label>
+        ensures last { self.old ≡ self.new ++ option_to_list result }
+        ensures none { IfNone result (self.old ≡ []) }
+    {
+        self.labels.pop()
     }
 }
 

@@ -1,0 +1,87 @@
+ghost use Rattle.std.specs.Prelude.{◌≡◌, ◌≤◌, ◌<◌, ◌↔◌, ◌⊎◌, ◌+◌, ◌++◌, ◌&&◌, [], length, sum_by, true, IfOk, IfErr};
+ghost use Rattle.cp_path.specs.Place.{size, lies_below, parent_place, moved, below_place, strip};
+ghost use Rattle.std.specs.Option.{unwrap_or};
+
+use crate::fault::PathFault;
+use crate::label::Label;
+use crate::loc::{LOC_MAX, Loc};
+use crate::path::LABELS_MAX;
+use std::alloc::AllocError;
+
+impl Loc {
+    /// Whether this place lies at or below the other. Costs the other's size.
+    #[tactic(auto, using(crate::proofs::Relating::starts_with_lists))]
+    pub fn starts_with(&self, other: &Loc) -> bool
+        ensures { result ≡ lies_below self.now other.now }
+    {
+        self.db == other.db && self.path.labels().starts_with(other.path.labels())
+    }
+
+    /// The place without its last label, or none at a root. Costs the place's size.
+    #[tactic(auto, using(crate::proofs::Relating::parent_last))]
+    pub fn parent(&self) -> Result<Option<Loc>, AllocError>
+        ensures { IfOk result (λ place. place ≡ parent_place self.now) }
+    {
+        let mut path = self.path.clone()?;
+        match path.pop() {
+            None => Ok(None),
+            Some(_) => {
+                let db = self.db.clone()?;
+                Ok(Some(Loc { db, path }))
+            }
+        }
+    }
+
+    /// The place that this one becomes where `old`, at or above it, becomes `to`. `TooDeep` goes before
+    /// `PathTooLong`. Costs the sizes of the three.
+    pub fn rebase(&self, old: &Loc, to: &Loc) -> Result<Loc, PathFault>
+        requires { lies_below self.now old.now ≡ true }
+        ensures value { IfOk result (λ q. q ≡ moved self.now old.now to.now) }
+        ensures deep { (result ≡ Err PathFault.TooDeep) ↔ (64 < length (moved self.now old.now to.now).path) }
+        ensures long { (result ≡ Err PathFault.PathTooLong) ↔ ((length (moved self.now old.now to.now).path ≤ 64) × (1024 < size (moved self.now old.now to.now))) }
+        ensures faults { IfErr result (λ e. (e ≡ PathFault.TooDeep) ⊎ (e ≡ PathFault.PathTooLong) ⊎ (e ≡ PathFault.Memory)) }
+    {
+        to.below(self.after(old))
+    }
+
+    /// The labels that follow those of `old`.
+    #[tactic(auto, using(crate::proofs::Relating::starts_with_length, crate::proofs::Relating::below_starts, crate::proofs::Relating::strip_drop))]
+    fn after<'a>(&'a self, old: &Loc) -> &'a [Label]
+        requires { lies_below self.now old.now ≡ true }
+        ensures { result.now ≡ unwrap_or (strip old.now.path self.now.path) [] }
+    {
+        self.path.labels().split_at(old.path.labels().len()).1
+    }
+
+    /// The place below this one at these labels.
+    #[tactic(auto, using(crate::proofs::Relating::size_below, std::proofs::lemmas::Grind::common_steps))]
+    fn below(&self, labels: &[Label]) -> Result<Loc, PathFault>
+        ensures value { IfOk result (λ q. q ≡ below_place self.now labels.now) }
+        ensures deep { (result ≡ Err PathFault.TooDeep) ↔ (64 < length (below_place self.now labels.now).path) }
+        ensures long { (result ≡ Err PathFault.PathTooLong) ↔ ((length (below_place self.now labels.now).path ≤ 64) × (1024 < size (below_place self.now labels.now))) }
+        ensures faults { IfErr result (λ e. (e ≡ PathFault.TooDeep) ⊎ (e ≡ PathFault.PathTooLong) ⊎ (e ≡ PathFault.Memory)) }
+    {
+        if labels.len() > LABELS_MAX - self.path.labels().len() {
+            return Err(PathFault::TooDeep);
+        }
+        if self.size() + bytes_of(labels) > LOC_MAX as u32 {
+            return Err(PathFault::PathTooLong);
+        }
+        let db = self.db.clone()?;
+        let path = self.path.joined(labels)?;
+        Ok(Loc { db, path })
+    }
+}
+
+/// What these labels add to a place's size.
+fn bytes_of(labels: &[Label]) -> u32
+    requires { length labels.now ≤ 64 }
+    ensures bytes { result ≡ sum_by (λ a. length a + 1) labels.now }
+    ensures bound { result ≤ 16384 }
+{
+    let mut total = 0;
+    for label in labels {
+        total += label.as_str().len() as u32 + 1;
+    }
+    total
+}
