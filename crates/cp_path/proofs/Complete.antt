@@ -1,20 +1,20 @@
 -- Each spelling runs through, and each place where the scan stands goes on to a spelling.
-use Rattle.std.proofs.Common.{◌≡◌, ℕ, zero, suc, ◌+◌, ◌-◌, ◌<◌, ◌≤◌, ◌⊎◌, List, [], ◌∷◌, ◌++◌, Bool, true, false, ◌&&◌, ◌||◌, ◌==◌, nat_lt, not, length, take, drop, refl, ap, sym, ◌∙◌, arith, rules, cond, Option, Some, None, subst, append-nil, append_assoc, flat_map, inl, inr}
-use Rattle.std.proofs.lemmas.Bool.{and_parts, ltb-true, ltb-false, eqb-true, eq-eqb, ne_eqb}
+use Rattle.std.proofs.Common.{◌≡◌, ℕ, zero, suc, ◌<◌, ◌⊎◌, List, [], ◌∷◌, ◌++◌, Bool, true, false, ◌&&◌, ◌||◌, ◌==◌, nat_lt, not, length, take, refl, ap, sym, ◌∙◌, arith, cond, Option, Some, None, subst, append-nil, append_assoc, inl, inr}
+use Rattle.std.proofs.lemmas.Bool.{and_parts}
 use Rattle.std.proofs.Math.Seq.{take-length}
 use Rattle.std.proofs.lemmas.Bool.Decides.{nat_tests}
-use Rattle.std.specs.Option.{option_map, option_and_then}
+use Rattle.std.specs.Option.{option_and_then}
 use Rattle.std.specs.List.{slice_get}
 use Rattle.json.specs.Print.{escape_byte, escape, quoted}
 use Rattle.cp_path.specs.Text.{is_letter, is_name_byte}
-use Rattle.cp_path.specs.Spelling.{is_trigger, has_trigger, label_word, unless_quoted}
-use Rattle.cp_path.specs.Scan.{part_step, label_step, step, run, part_run, bare, inside, is_label, closes, ends, accepts, StopsAt}
+use Rattle.cp_path.specs.Spelling.{is_trigger, has_trigger, label_word}
+use Rattle.cp_path.specs.Scan.{part_step, step, run, part_run, bare, is_label, closes, ends, accepts, StopsAt}
 use Rattle.cp_path.specs.Reading.{Begins, IsBadAt}
 use Rattle.cp_path.specs.declared.scan.Part.{Part}
 use Rattle.cp_path.specs.declared.scan.Part.TheVariants as part
 use Rattle.cp_path.specs.declared.scan.Spot.{Spot}
 use Rattle.cp_path.specs.declared.scan.Spot.TheVariants as spot
-use Rattle.cp_path.proofs.Runs.{run_on, run_one, all_below, below, when, next_part, or_false, or_assoc, run_part}
+use Rattle.cp_path.proofs.Runs.{run_on, run_one, all_below, below, when, next_part, or_false, or_assoc}
 use Rattle.cp_path.proofs.Sound.{plain_escape, Spelt, seen, spelt}
 
 or_parts : (b c : Bool) → (b || c) ≡ false → (b ≡ false) × (c ≡ false)
@@ -167,10 +167,12 @@ cond_no true m n e = cc
 cond_no false m n e = refl
 
 bare_through : (d : Bool) (s p : Part) (x : ℕ) (r : List ℕ) → part_run d s (x ∷ r) ≡ Some p → ends p ≡ true → has_trigger (x ∷ r) ≡ false → Through d s (x ∷ r)
-bare_through d s p x r e h t =
-    (spot.Bare p,
-     ap (λ o. option_and_then (λ u. run d u r) o) (cond_no (x == 34) (Some (spot.Quoted s false)) (bare d s x) (not_quote x (or_parts (is_trigger x) (has_trigger r) t).0))
-     ∙ bares_run d s p (x ∷ r) e t, h)
+bare_through d s p x r e h t = (
+  spot.Bare p,
+  ap (λ o. option_and_then (λ u. run d u r) o) (cond_no (x == 34) (Some (spot.Quoted s false)) (bare d s x) (not_quote x (or_parts (is_trigger x) (has_trigger r) t).0))
+      ∙ bares_run d s p (x ∷ r) e t,
+  h,
+)
 
 pub through : (d : Bool) (s : Part) (w : List ℕ) → is_start s ≡ true → Spelt d s w → Through d s w
 through d s w i h = subst (Through d s) (sym h.4) (by h.0 h.1 h.2 h.3)
@@ -247,12 +249,15 @@ Stop d s w at t = ((at ≡ length w) × (accepts t ≡ false)) ⊎ ((x : ℕ) ×
 
 at_end : (d : Bool) (s : Part) (w : List ℕ) (at : ℕ) (t : Spot) → is_start s ≡ true → run d (spot.Start s) (take at w) ≡ Some t → at ≡ length w → accepts t ≡ false → IsBadAt (Spelt d s) w at
 at_end d s w at t i e l a =
-    let whole : take at w ≡ w = ap (λ n. take n w) l ∙ take-length w in
-    (λ k. let g = through d s w i k in
-        let same : Some t ≡ Some g.0 = sym e ∙ ap (run d (spot.Start s)) whole ∙ g.1 in
-        let both : t ≡ g.0 = cc in
-        let bad : false ≡ true = sym a ∙ ap accepts both ∙ g.2 in cc,
-     omega arith, begins d s t (take at w) e, λ n far near b. omega arith)
+    let whole : take at w ≡ w = ap (λ n. take n w) l ∙ take-length w in (
+      λ k. let g = through d s w i k in
+          let same : Some t ≡ Some g.0 = sym e ∙ ap (run d (spot.Start s)) whole ∙ g.1 in
+          let both : t ≡ g.0 = cc in
+          let bad : false ≡ true = sym a ∙ ap accepts both ∙ g.2 in cc,
+      omega arith,
+      begins d s t (take at w) e,
+      λ n far near b. omega arith,
+    )
 
 no_longer : (d : Bool) (s : Part) (w : List ℕ) (at x : ℕ) (t : Spot) → is_start s ≡ true → run d (spot.Start s) (take at w) ≡ Some t → slice_get w at ≡ Some x → step d t x ≡ None → (n : ℕ) → at < n → ¬ Begins (Spelt d s) (take n w)
 no_longer d s w at x t i e f g n far b =
@@ -263,9 +268,12 @@ no_longer d s w at x t i e f g n far b =
 
 inside_word : (d : Bool) (s : Part) (w : List ℕ) (at x : ℕ) (t : Spot) → is_start s ≡ true → run d (spot.Start s) (take at w) ≡ Some t → slice_get w at ≡ Some x → step d t x ≡ None → IsBadAt (Spelt d s) w at
 inside_word d s w at x t i e f g =
-    let short : at < length w = within w at x f in
-    (λ k. no_longer d s w at x t i e f g (length w) short ([], subst (Spelt d s) (sym (append-nil (take (length w) w) ∙ take-length w)) k),
-     omega arith, begins d s t (take at w) e, λ n far near b. no_longer d s w at x t i e f g n far b)
+    let short : at < length w = within w at x f in (
+      λ k. no_longer d s w at x t i e f g (length w) short ([], subst (Spelt d s) (sym (append-nil (take (length w) w) ∙ take-length w)) k),
+      omega arith,
+      begins d s t (take at w) e,
+      λ n far near b. no_longer d s w at x t i e f g n far b,
+    )
 
 -- where the scan stops, the word is bad there
 pub stops : (d : Bool) (s : Part) (w : List ℕ) (at : ℕ) → is_start s ≡ true → StopsAt d (spot.Start s) w at → IsBadAt (Spelt d s) w at

@@ -1,12 +1,11 @@
 -- A whole number's spelling is parsed as that number.
-use Rattle.std.proofs.Common.{◌≡◌, ℕ, suc, ◌+◌, ◌<◌, ◌≤◌, ◌^◌, List, [], ◌∷◌, length, ℤ, pos, negsuc, ◌≤ℤ◌, neg_ℤ, refl, ap, sym, ◌∙◌, arith, rules, subst, add-one, Result, Ok, Err, decimal, IfSome, IsSome, ◌↔◌, Option, Some, None, Bool, true, false}
+use Rattle.std.proofs.Common.{◌≡◌, ℕ, suc, ◌<◌, ◌≤◌, ◌^◌, List, ◌∷◌, ℤ, pos, negsuc, neg_ℤ, refl, ap, sym, ◌∙◌, arith, subst, add-one, Result, Ok, Err, decimal, IfSome, IsSome, ◌↔◌, Option, Some, None, true, false}
 use Rattle.std.proofs.lemmas.Fmt.{decimal_is_IsNumeral_wide}
 use Rattle.std.proofs.lemmas.Str.Parse.{parse_signed_digits, parse_signed_minus, numerals_by_value, tells_digits}
 use Rattle.std.proofs.lemmas.Result.{Ok-from_Ok_iff}
 use Rattle.std.proofs.lemmas.Int.{ints}
 use mir.Syntax.{w128}
-use Rattle.std.specs.Str.Parse.{ParsesSigned, digits_value, IsNumeral}
-use Rattle.std.specs.Result.{OkIff, result_ok}
+use Rattle.std.specs.Str.Parse.{ParsesSigned}
 use Rattle.cp_path.specs.Whole.{IsWhole}
 use Rattle.cp_path.specs.Spelling.{whole_text}
 

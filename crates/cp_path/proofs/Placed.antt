@@ -1,15 +1,14 @@
 -- The texts that the parts take from the beginning of a name are those of places.
-use Rattle.std.proofs.Common.{◌≡◌, ℕ, zero, suc, ◌+◌, ◌-◌, ◌<◌, ◌≤◌, ◌⊎◌, List, [], ◌∷◌, ◌++◌, Bool, true, false, ◌&&◌, ◌||◌, ◌==◌, nat_lt, nat_le, not, length, take, drop, get_or, refl, ap, sym, ◌∙◌, arith, rules, cond, Option, Some, None, subst, append-nil, append_assoc, flat_map, length-append}
-use Rattle.std.proofs.lemmas.Bool.{and_parts, ltb-true, ltb-false, lt-ltb, leb-true, le-leb, eqb-true, ne_eqb}
+use Rattle.std.proofs.Common.{◌≡◌, ℕ, ◌+◌, ◌<◌, ◌≤◌, List, [], ◌∷◌, ◌++◌, Bool, true, false, ◌&&◌, ◌||◌, ◌==◌, nat_lt, nat_le, length, refl, ap, sym, ◌∙◌, arith, cond, Option, Some, None, subst, append-nil, append_assoc, flat_map, length-append}
+use Rattle.std.proofs.lemmas.Bool.{and_parts, ltb-true, lt-ltb, leb-true, le-leb, eqb-true}
 use Rattle.std.proofs.lemmas.Bool.Decides.{nat_tests}
 use Rattle.std.proofs.lemmas.Grind.{flat_map-append}
-use Rattle.std.specs.Option.{option_map, option_and_then}
-use Rattle.std.specs.List.{list_all, slice_index}
-use Rattle.cp_path.specs.Text.{is_letter, is_digit, is_name_byte, is_name}
+use Rattle.std.specs.List.{list_all}
+use Rattle.cp_path.specs.Text.{is_letter, is_name_byte, is_name}
 use Rattle.cp_path.specs.Place.{Label, Path, child_place}
-use Rattle.cp_path.specs.Spelling.{escape_label_byte, escaped, raw_place, label_word, has_trigger, place_text}
+use Rattle.cp_path.specs.Spelling.{escaped, raw_place, label_word, place_text}
 use Rattle.cp_path.specs.Scan.{part_step, label_step, part_run, ends}
-use Rattle.cp_path.specs.Reading.{PlaceSpelled, SpellsPlace}
+use Rattle.cp_path.specs.Reading.{PlaceSpelled}
 use Rattle.cp_path.specs.declared.loc.Loc.{Loc}
 use Rattle.cp_path.specs.declared.scan.Part.{Part}
 use Rattle.cp_path.specs.declared.scan.Part.TheVariants as part
@@ -82,17 +81,17 @@ in_place x u r h e = part_split (x == 126) (Some part.Tilde) (cond ((x == 47) &&
 place_more : (p u : Part) (x : ℕ) (r : List ℕ) → AtPlace p r → part_step true p x ≡ Some u → AtPlace u (r ++ x ∷ [])
 place_more part.Begin u x r h e = part_split (is_letter x) (Some (part.Name 1)) None u e
     (λ f n. subst (λ v. AtPlace v (r ++ x ∷ [])) (same_part (part.Name 1) u n)
-        (subst (λ v. (is_name (v ++ x ∷ []) ≡ true) × (length (v ++ x ∷ []) ≡ 1)) (sym h) (name_of x [] (omega arith) f refl, refl)))
+    (subst (λ v. (is_name (v ++ x ∷ []) ≡ true) × (length (v ++ x ∷ []) ≡ 1)) (sym h) (name_of x [] (omega arith) f refl, refl)))
     (λ f n. no_part u n)
 place_more (part.Name m) u x r h e =
     let rest : Option Part = cond (nat_lt m 32 && is_name_byte x) (Some (part.Name (m + 1))) None in
     part_split (x == 47) (Some part.Label) rest u e
     (λ f n. subst (λ v. AtPlace v (r ++ x ∷ [])) (same_part part.Label u n) (slash (root_place r) r x h.0 (sym (append-nil r)) f))
     (λ f n. part_split (nat_lt m 32 && is_name_byte x) (Some (part.Name (m + 1))) None u n
-        (λ g k. let both = and_parts (nat_lt m 32) (is_name_byte x) g in
-            let short = ltb-true m 32 both.0 in
-            subst (λ v. AtPlace v (r ++ x ∷ [])) (same_part (part.Name (m + 1)) u k) (name_more r x h.0 (omega arith) both.1, omega (arith, length-append r (x ∷ []))))
-        (λ g k. no_part u k))
+    (λ g k. let both = and_parts (nat_lt m 32) (is_name_byte x) g in
+    let short = ltb-true m 32 both.0 in
+    subst (λ v. AtPlace v (r ++ x ∷ [])) (same_part (part.Name (m + 1)) u k) (name_more r x h.0 (omega arith) both.1, omega (arith, length-append r (x ∷ []))))
+    (λ g k. no_part u k))
 place_more part.Empty u x r h e = absurd h
 place_more part.Label u x r h e = in_place x u r h e
 place_more part.Tilde u x r h e = part_split ((x == 48) || (x == 49)) (Some part.Label) None u e

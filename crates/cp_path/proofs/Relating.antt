@@ -1,13 +1,11 @@
 -- Prefixes of places: what follows one, the last label, and sizes.
-use Rattle.std.proofs.Common.{◌≡◌, ℕ, suc, ◌+◌, ◌-◌, ◌<◌, ◌≤◌, List, [], ◌∷◌, ◌++◌, Bool, true, false, ◌&&◌, length, drop, take, refl, ap, sym, ◌∙◌, arith, rules, sum_by, cond, Option, Some, None, subst, append-nil, add_assoc}
-use Rattle.std.proofs.lemmas.Grind.{common_steps}
+use Rattle.std.proofs.Common.{◌≡◌, ◌+◌, ◌≤◌, [], ◌∷◌, ◌++◌, Bool, true, false, ◌&&◌, length, drop, refl, ap, arith, sum_by, cond, Some, append-nil}
 use Rattle.std.proofs.lemmas.List.Sums.{sum_by-append}
 use Rattle.std.proofs.lemmas.Bool.{and_parts}
-use Rattle.std.specs.Option.{option_map, option_to_list}
+use Rattle.std.specs.Option.{option_map}
 use Rattle.std.specs.List.{starts_with as list_starts_with}
-use Rattle.std.specs.Cmp.Lexicographic.{pointwise}
 use Rattle.cp_path.specs.Text.{text_eq}
-use Rattle.cp_path.specs.Place.{Label, Path, label_eq, strip, starts_with, lies_below, parent, parent_place, moved, size, below_place}
+use Rattle.cp_path.specs.Place.{Label, Path, label_eq, strip, starts_with, lies_below, parent, size, below_place}
 use Rattle.cp_path.specs.declared.loc.Loc.{Loc}
 
 pub none_more : (p : Path) → p ++ [] ≡ p

@@ -1,6 +1,6 @@
 -- Runs of the scan over words put together, and checks of finitely many bytes.
-use Rattle.std.proofs.Common.{◌≡◌, ℕ, zero, suc, ◌+◌, ◌<◌, ◌≤◌, ◌⊎◌, List, [], ◌∷◌, ◌++◌, Bool, true, false, ◌&&◌, ◌||◌, ◌==◌, nat_lt, not, length, take, drop, get_or, refl, ap, sym, ◌∙◌, arith, rules, cond, Option, Some, None, subst, append-nil, append_assoc}
-use Rattle.std.proofs.lemmas.Bool.{and_parts, ltb-true, ltb-false, eqb-true}
+use Rattle.std.proofs.Common.{◌≡◌, ℕ, zero, suc, ◌+◌, ◌<◌, ◌≤◌, List, [], ◌∷◌, ◌++◌, Bool, true, false, ◌&&◌, ◌||◌, nat_lt, not, length, take, get_or, refl, ap, sym, ◌∙◌, arith, cond, Option, Some, None, subst}
+use Rattle.std.proofs.lemmas.Bool.{and_parts, ltb-true, ltb-false}
 use Rattle.std.proofs.lemmas.List.{take_more}
 use Rattle.std.specs.Option.{option_map, option_and_then}
 use Rattle.cp_path.specs.Spelling.{is_trigger, has_trigger}

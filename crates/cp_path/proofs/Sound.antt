@@ -1,20 +1,20 @@
 -- Where the scan stands: what the word was so far, and the text that it spells.
-use Rattle.std.proofs.Common.{◌≡◌, ℕ, zero, suc, ◌+◌, ◌<◌, ◌≤◌, ◌⊎◌, List, [], ◌∷◌, ◌++◌, Bool, true, false, ◌&&◌, ◌||◌, ◌==◌, nat_lt, not, length, take, refl, ap, sym, ◌∙◌, arith, rules, cond, Option, Some, None, subst, append-nil, append_assoc, flat_map, length-append}
-use Rattle.std.proofs.lemmas.Bool.{and_parts, ltb-true, ltb-false, eqb-true, eq-eqb, ne_eqb}
+use Rattle.std.proofs.Common.{◌≡◌, ℕ, ◌+◌, ◌<◌, ◌≤◌, List, [], ◌∷◌, ◌++◌, Bool, true, false, ◌&&◌, ◌||◌, ◌==◌, nat_lt, not, length, refl, ap, sym, ◌∙◌, arith, cond, Option, Some, None, subst, append-nil, append_assoc, length-append}
+use Rattle.std.proofs.lemmas.Bool.{and_parts, ltb-false, eqb-true, ne_eqb}
 use Rattle.std.proofs.lemmas.Bool.Decides.{nat_tests}
 use Rattle.std.proofs.lemmas.Grind.{flat_map-append}
-use Rattle.std.specs.Option.{option_map, option_and_then}
+use Rattle.std.specs.Option.{option_map}
 use Rattle.std.specs.Char.{digit_value}
 use Rattle.json.specs.Print.{escape_byte, escape, quoted}
 use Rattle.cp_path.specs.Text.{text_eq, is_letter, is_name_byte}
 use Rattle.cp_path.specs.Same.{text_eq-same}
-use Rattle.cp_path.specs.Spelling.{is_trigger, has_trigger, label_word, unless_quoted}
-use Rattle.cp_path.specs.Scan.{part_step, label_step, step, run, part_run, bare, inside, escape_step, unicode_step, is_label, closes, ends, accepts, ends_low, ends_high, is_letter_escape}
+use Rattle.cp_path.specs.Spelling.{is_trigger, has_trigger, label_word}
+use Rattle.cp_path.specs.Scan.{part_step, label_step, step, run, part_run, bare, inside, escape_step, is_label, closes, ends, accepts, ends_low, ends_high, is_letter_escape}
 use Rattle.cp_path.specs.declared.scan.Part.{Part}
 use Rattle.cp_path.specs.declared.scan.Part.TheVariants as part
 use Rattle.cp_path.specs.declared.scan.Spot.{Spot}
 use Rattle.cp_path.specs.declared.scan.Spot.TheVariants as spot
-use Rattle.cp_path.proofs.Runs.{run-append, part_more, trigger_more, if_split, map_split, all_below, below, when, next_part, next_spot, part_run_one, or_false}
+use Rattle.cp_path.proofs.Runs.{part_more, trigger_more, if_split, map_split, all_below, below, when, next_part, next_spot, part_run_one, or_false}
 
 -- ---- bytes and their escapes, by trying each
 
@@ -119,12 +119,13 @@ label_pend d s pend w x h = (h.0, h.1, h.2, pend_more d s pend h.0 h.1 w x h.3)
 escape_done : (d : Bool) (s : Part) (pend : List ℕ) (p q : Part) (t : Bool) (w : List ℕ) (x c : ℕ)
     → Held d s pend p t w → pend ++ x ∷ [] ≡ escape_byte c → part_step d p c ≡ Some q → Held d s [] q (t || is_trigger c) (w ++ x ∷ [])
 escape_done d s pend p q t w x c h e g =
-    let r = h.0 in
-    (r ++ c ∷ [],
-     ap (λ v. v ++ x ∷ []) h.1
-     ∙ ap (λ v. 34 ∷ v) (append_assoc (escape r) pend (x ∷ []) ∙ ap (λ v. escape r ++ v) (e ∙ sym (append-nil (escape_byte c))) ∙ sym (flat_map-append escape_byte r (c ∷ [])) ∙ sym (append-nil (escape (r ++ c ∷ [])))),
-     part_more d s p q r c h.2 g,
-     trigger_more r c ∙ ap (λ b. b || is_trigger c) h.3)
+    let r = h.0 in (
+      r ++ c ∷ [],
+      ap (λ v. v ++ x ∷ []) h.1
+          ∙ ap (λ v. 34 ∷ v) (append_assoc (escape r) pend (x ∷ []) ∙ ap (λ v. escape r ++ v) (e ∙ sym (append-nil (escape_byte c))) ∙ sym (flat_map-append escape_byte r (c ∷ [])) ∙ sym (append-nil (escape (r ++ c ∷ [])))),
+      part_more d s p q r c h.2 g,
+      trigger_more r c ∙ ap (λ b. b || is_trigger c) h.3,
+    )
 
 label_takes : (d : Bool) (p : Part) (c : ℕ) → is_label p ≡ true → (c == 126) ≡ false → (c == 47) ≡ false → part_step d p c ≡ Some part.Label
 label_takes d part.Begin c h t s = cc
@@ -148,8 +149,8 @@ bare_seen : (d : Bool) (s p : Part) (x : ℕ) (u : Spot) (w : List ℕ) → part
 bare_seen d s p x u w e t h = if_split (is_trigger x) None (option_map spot.Bare (part_step d p x)) u h
     (λ f n. none_some u n)
     (λ f n. let q = map_split spot.Bare (part_step d p x) u n in
-        subst (λ v. Seen d s v (w ++ x ∷ [])) q.2
-        (part_more d s p q.0 w x e q.1, trigger_more w x ∙ ap (λ b. b || is_trigger x) t ∙ f, omega (arith, length-append w (x ∷ []))))
+    subst (λ v. Seen d s v (w ++ x ∷ [])) q.2
+    (part_more d s p q.0 w x e q.1, trigger_more w x ∙ ap (λ b. b || is_trigger x) t ∙ f, omega (arith, length-append w (x ∷ []))))
 
 inside_seen : (d : Bool) (s p : Part) (t : Bool) (x : ℕ) (u : Spot) (w : List ℕ) → Held d s [] p t w → inside d p t x ≡ Some u → Seen d s u (w ++ x ∷ [])
 inside_seen d s p t x u w h g =
@@ -158,18 +159,18 @@ inside_seen d s p t x u w h g =
     let second : Option Spot = cond (x == 92) (cond (is_label p) (Some (spot.Backslash t)) None) third in
     if_split (x == 34) (cond (closes p t) (Some spot.Ended) None) second u g
     (λ e n. if_split (closes p t) (Some spot.Ended) None u n
-        (λ k m. subst (λ v. Seen d s v (w ++ x ∷ [])) (some_same spot.Ended u m)
-            (h.0, p, ap (λ v. v ++ x ∷ []) h.1 ∙ ap (λ v. 34 ∷ v) (append_assoc (escape h.0) [] (x ∷ []) ∙ ap (λ y. escape h.0 ++ y ∷ []) (eqb-true x 34 e)), h.2, subst (λ b. closes p b ≡ true) (sym h.3) k))
-        (λ k m. none_some u m))
+    (λ k m. subst (λ v. Seen d s v (w ++ x ∷ [])) (some_same spot.Ended u m)
+    (h.0, p, ap (λ v. v ++ x ∷ []) h.1 ∙ ap (λ v. 34 ∷ v) (append_assoc (escape h.0) [] (x ∷ []) ∙ ap (λ y. escape h.0 ++ y ∷ []) (eqb-true x 34 e)), h.2, subst (λ b. closes p b ≡ true) (sym h.3) k))
+    (λ k m. none_some u m))
     (λ e n. if_split (x == 92) (cond (is_label p) (Some (spot.Backslash t)) None) third u n
-        (λ f m. if_split (is_label p) (Some (spot.Backslash t)) None u m
-            (λ k o. subst (λ v. Seen d s v (w ++ x ∷ [])) (some_same (spot.Backslash t) u o)
-                (p, k, subst (λ y. Held d s (y ∷ []) p t (w ++ x ∷ [])) (eqb-true x 92 f) (pend_more d s [] p t w x h)))
-            (λ k o. none_some u o))
-        (λ f m. if_split (nat_lt x 32) None plain u m
-            (λ l o. none_some u o)
-            (λ l o. let q = map_split (λ q. spot.Quoted q (t || is_trigger x)) (part_step d p x) u o in
-                subst (λ v. Seen d s v (w ++ x ∷ [])) q.2 (escape_done d s [] p q.0 t w x x h (sym (plain_escape x e f l)) q.1))))
+    (λ f m. if_split (is_label p) (Some (spot.Backslash t)) None u m
+    (λ k o. subst (λ v. Seen d s v (w ++ x ∷ [])) (some_same (spot.Backslash t) u o)
+    (p, k, subst (λ y. Held d s (y ∷ []) p t (w ++ x ∷ [])) (eqb-true x 92 f) (pend_more d s [] p t w x h)))
+    (λ k o. none_some u o))
+    (λ f m. if_split (nat_lt x 32) None plain u m
+    (λ l o. none_some u o)
+    (λ l o. let q = map_split (λ q. spot.Quoted q (t || is_trigger x)) (part_step d p x) u o in
+    subst (λ v. Seen d s v (w ++ x ∷ [])) q.2 (escape_done d s [] p q.0 t w x x h (sym (plain_escape x e f l)) q.1))))
 
 pend_to : (d : Bool) (s : Part) (pend w : List ℕ) (x y : ℕ) → HeldLabel d s pend w → (x == y) ≡ true → HeldLabel d s (pend ++ y ∷ []) (w ++ x ∷ [])
 pend_to d s pend w x y h e = subst (λ z. HeldLabel d s (pend ++ z ∷ []) (w ++ x ∷ [])) (eqb-true x y e) (label_pend d s pend w x h)
@@ -180,19 +181,19 @@ escape_seen d s p t x u w k h g =
     let second : Option Spot = cond (is_letter_escape x) (Some (spot.Quoted part.Label true)) third in
     if_split (x == 92) (Some (spot.Quoted part.Label t)) second u g
     (λ e n. subst (λ v. Seen d s v (w ++ x ∷ [])) (some_same (spot.Quoted part.Label t) u n)
-        (subst (λ b. Held d s [] part.Label b (w ++ x ∷ [])) (or_false t)
-        (escape_done d s (92 ∷ []) p part.Label t w x 92 h (ap (λ y. 92 ∷ y ∷ []) (eqb-true x 92 e) ∙ sym backslash_escape) (label_takes d p 92 k refl refl))))
+    (subst (λ b. Held d s [] part.Label b (w ++ x ∷ [])) (or_false t)
+    (escape_done d s (92 ∷ []) p part.Label t w x 92 h (ap (λ y. 92 ∷ y ∷ []) (eqb-true x 92 e) ∙ sym backslash_escape) (label_takes d p 92 k refl refl))))
     (λ e n. if_split (is_letter_escape x) (Some (spot.Quoted part.Label true)) third u n
-        (λ f m. subst (λ v. Seen d s v (w ++ x ∷ [])) (some_same (spot.Quoted part.Label true) u m)
-            (escape_written d s (92 ∷ []) w x (letter_byte x) (p, t, k, h) (letter_written x f)))
-        (λ f m. if_split (x == 117) (Some spot.Unicode) None u m
-            (λ l o. subst (λ v. Seen d s v (w ++ x ∷ [])) (some_same spot.Unicode u o) (pend_to d s (92 ∷ []) w x 117 (p, t, k, h) l))
-            (λ l o. none_some u o)))
+    (λ f m. subst (λ v. Seen d s v (w ++ x ∷ [])) (some_same (spot.Quoted part.Label true) u m)
+    (escape_written d s (92 ∷ []) w x (letter_byte x) (p, t, k, h) (letter_written x f)))
+    (λ f m. if_split (x == 117) (Some spot.Unicode) None u m
+    (λ l o. subst (λ v. Seen d s v (w ++ x ∷ [])) (some_same spot.Unicode u o) (pend_to d s (92 ∷ []) w x 117 (p, t, k, h) l))
+    (λ l o. none_some u o)))
 
 seen_step : (d : Bool) (s : Part) (t : Spot) (x : ℕ) (u : Spot) (w : List ℕ) → Seen d s t w → step d t x ≡ Some u → Seen d s u (w ++ x ∷ [])
 seen_step d s (spot.Start p) x u w h g = if_split (x == 34) (Some (spot.Quoted p false)) (bare d p x) u g
     (λ e n. subst (λ v. Seen d s v (w ++ x ∷ [])) (some_same (spot.Quoted p false) u n)
-        ([], ap (λ v. v ++ x ∷ []) h.0 ∙ ap (λ y. y ∷ []) (eqb-true x 34 e), ap (λ q. Some q) (sym h.1), refl))
+    ([], ap (λ v. v ++ x ∷ []) h.0 ∙ ap (λ y. y ∷ []) (eqb-true x 34 e), ap (λ q. Some q) (sym h.1), refl))
     (λ e n. bare_seen d s p x u w (ap (part_run d s) h.0 ∙ ap (λ q. Some q) (sym h.1)) (ap has_trigger h.0) n)
 seen_step d s (spot.Bare p) x u w h g = bare_seen d s p x u w h.0 h.1 g
 seen_step d s (spot.Quoted p t) x u w h g = inside_seen d s p t x u w h g
@@ -206,15 +207,15 @@ seen_step d s spot.Zero x u w h g = if_split (x == 48) (Some spot.Zeros) None u 
 seen_step d s spot.Zeros x u w h g = if_split (x == 48) (Some spot.Low) (cond (x == 49) (Some spot.High) None) u g
     (λ e n. subst (λ v. Seen d s v (w ++ x ∷ [])) (some_same spot.Low u n) (pend_to d s (92 ∷ 117 ∷ 48 ∷ 48 ∷ []) w x 48 h e))
     (λ e n. if_split (x == 49) (Some spot.High) None u n
-        (λ f m. subst (λ v. Seen d s v (w ++ x ∷ [])) (some_same spot.High u m) (pend_to d s (92 ∷ 117 ∷ 48 ∷ 48 ∷ []) w x 49 h f))
-        (λ f m. none_some u m))
+    (λ f m. subst (λ v. Seen d s v (w ++ x ∷ [])) (some_same spot.High u m) (pend_to d s (92 ∷ 117 ∷ 48 ∷ 48 ∷ []) w x 49 h f))
+    (λ f m. none_some u m))
 seen_step d s spot.Low x u w h g = if_split (ends_low x) (Some (spot.Quoted part.Label true)) None u g
     (λ e n. subst (λ v. Seen d s v (w ++ x ∷ [])) (some_same (spot.Quoted part.Label true) u n)
-        (escape_written d s (92 ∷ 117 ∷ 48 ∷ 48 ∷ 48 ∷ []) w x (digit_value x) h (low_written x e)))
+    (escape_written d s (92 ∷ 117 ∷ 48 ∷ 48 ∷ 48 ∷ []) w x (digit_value x) h (low_written x e)))
     (λ e n. none_some u n)
 seen_step d s spot.High x u w h g = if_split (ends_high x) (Some (spot.Quoted part.Label true)) None u g
     (λ e n. subst (λ v. Seen d s v (w ++ x ∷ [])) (some_same (spot.Quoted part.Label true) u n)
-        (escape_written d s (92 ∷ 117 ∷ 48 ∷ 48 ∷ 49 ∷ []) w x (digit_value x + 16) h (high_written x e)))
+    (escape_written d s (92 ∷ 117 ∷ 48 ∷ 48 ∷ 49 ∷ []) w x (digit_value x + 16) h (high_written x e)))
     (λ e n. none_some u n)
 seen_step d s spot.Ended x u w h g = none_some u g
 

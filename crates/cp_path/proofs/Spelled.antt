@@ -1,16 +1,11 @@
 -- The texts that the parts take are those of places and of labels.
-use Rattle.std.proofs.Common.{◌≡◌, ℕ, zero, suc, ◌+◌, ◌-◌, ◌<◌, ◌≤◌, ◌⊎◌, List, [], ◌∷◌, ◌++◌, Bool, true, false, ◌&&◌, ◌||◌, ◌==◌, nat_lt, nat_le, not, length, take, drop, get_or, refl, ap, sym, ◌∙◌, arith, rules, cond, Option, Some, None, subst, append-nil, append_assoc, flat_map, inl, inr, length-append}
-use Rattle.std.proofs.lemmas.Bool.{and_parts, ltb-true, ltb-false, lt-ltb, leb-true, eqb-true, ne_eqb}
-use Rattle.std.proofs.lemmas.Bool.Decides.{nat_tests}
+use Rattle.std.proofs.Common.{◌≡◌, ℕ, List, [], ◌∷◌, ◌++◌, Bool, true, false, ◌&&◌, ◌||◌, ◌==◌, refl, ap, sym, ◌∙◌, cond, Option, Some, None, subst, append-nil, append_assoc}
+use Rattle.std.proofs.lemmas.Bool.{eqb-true}
 use Rattle.std.proofs.lemmas.Grind.{flat_map-append}
-use Rattle.std.specs.Option.{option_map, option_and_then}
-use Rattle.std.specs.List.{list_all, slice_index}
-use Rattle.cp_path.specs.Text.{is_letter, is_name_byte, is_name}
-use Rattle.cp_path.specs.Place.{Label, Path, child_place}
-use Rattle.cp_path.specs.Spelling.{escape_label_byte, escaped, raw_place, label_word, label_text, place_text}
+use Rattle.cp_path.specs.Place.{Label}
+use Rattle.cp_path.specs.Spelling.{escape_label_byte, escaped, label_word, label_text}
 use Rattle.cp_path.specs.Scan.{part_step, label_step, part_run, ends, is_label}
 use Rattle.cp_path.specs.Reading.{LabelSpelled}
-use Rattle.cp_path.specs.declared.loc.Loc.{Loc}
 use Rattle.cp_path.specs.declared.scan.Part.{Part}
 use Rattle.cp_path.specs.declared.scan.Part.TheVariants as part
 use Rattle.cp_path.proofs.Runs.{part_run_on, next_part}
@@ -46,10 +41,11 @@ pub tilde : (pre r : List ℕ) (x : ℕ) → InLabel pre r → (x == 126) ≡ tr
 tilde pre r x h t = (h.0, ap (λ v. v ++ x ∷ []) h.1 ∙ append_assoc pre (escaped h.0) (x ∷ []) ∙ ap (λ y. pre ++ (escaped h.0 ++ y ∷ [])) (eqb-true x 126 t))
 
 untilde_with : (pre r : List ℕ) (x y c : ℕ) → InTilde pre r → (x == y) ≡ true → escape_label_byte c ≡ 126 ∷ y ∷ [] → InLabel pre (r ++ x ∷ [])
-untilde_with pre r x y c h e w =
-    (h.0 ++ c ∷ [],
-     ap (λ v. v ++ x ∷ []) h.1 ∙ append_assoc pre (escaped h.0 ++ 126 ∷ []) (x ∷ [])
-     ∙ ap (λ v. pre ++ v) (append_assoc (escaped h.0) (126 ∷ []) (x ∷ []) ∙ ap (λ z. escaped h.0 ++ (126 ∷ z ∷ [])) (eqb-true x y e) ∙ ap (λ v. escaped h.0 ++ v) (sym w) ∙ sym (one_more h.0 c)))
+untilde_with pre r x y c h e w = (
+  h.0 ++ c ∷ [],
+  ap (λ v. v ++ x ∷ []) h.1 ∙ append_assoc pre (escaped h.0 ++ 126 ∷ []) (x ∷ [])
+      ∙ ap (λ v. pre ++ v) (append_assoc (escaped h.0) (126 ∷ []) (x ∷ []) ∙ ap (λ z. escaped h.0 ++ (126 ∷ z ∷ [])) (eqb-true x y e) ∙ ap (λ v. escaped h.0 ++ v) (sym w) ∙ sym (one_more h.0 c)),
+)
 
 pub untilde : (pre r : List ℕ) (x : ℕ) → InTilde pre r → ((x == 48) || (x == 49)) ≡ true → InLabel pre (r ++ x ∷ [])
 untilde pre r x h e = by (x == 48) refl e
@@ -71,8 +67,8 @@ in_label : (x : ℕ) (q : Part) (r : List ℕ) → InLabel [] r → label_step f
 in_label x q r h e = part_split (x == 126) (Some part.Tilde) (cond ((x == 47) && true) None (Some part.Label)) q e
     (λ f n. subst (λ v. AtLabel v (r ++ x ∷ [])) (same_part part.Tilde q n) (tilde [] r x h f))
     (λ f n. part_split ((x == 47) && true) None (Some part.Label) q n
-        (λ g m. no_part q m)
-        (λ g m. subst (λ v. AtLabel v (r ++ x ∷ [])) (same_part part.Label q m) (grow [] r x h f (and_true (x == 47) g))))
+    (λ g m. no_part q m)
+    (λ g m. subst (λ v. AtLabel v (r ++ x ∷ [])) (same_part part.Label q m) (grow [] r x h f (and_true (x == 47) g))))
   where
     and_true : (b : Bool) → (b && true) ≡ false → b ≡ false
     and_true true k = k

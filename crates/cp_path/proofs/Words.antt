@@ -1,13 +1,12 @@
 -- What the reading of words rests on: the scan's answers, and the text in quotation marks.
-use Rattle.std.proofs.Common.{◌≡◌, ℕ, zero, suc, ◌+◌, ◌<◌, ◌≤◌, List, [], ◌∷◌, ◌++◌, Bool, true, false, ◌||◌, ◌==◌, nat_le, length, get_or, refl, ap, sym, ◌∙◌, arith, rules, cond, subst, append-nil, Option, Some, None, flat_map, Result, Ok, Err, MatchResult, MatchOption, IfErr}
-use Rattle.std.proofs.lemmas.Bool.{ne_eqb}
-use Rattle.std.specs.Option.{option_map, option_and_then}
+use Rattle.std.proofs.Common.{◌≡◌, ℕ, List, [], ◌∷◌, Bool, true, false, ◌||◌, get_or, refl, ap, sym, ◌∙◌, rules, cond, subst, append-nil, Option, Some, None, Result, Ok, Err, MatchResult, MatchOption, IfErr}
+use Rattle.std.specs.Option.{option_and_then}
 use Rattle.json.specs.Print.{quoted, print, print_from, ArePrintable}
 use Rattle.json.specs.Lex.{tokens}
 use Rattle.json.specs.Json as json
 use Rattle.json.specs.Token.{Token}
 use Rattle.json.proofs.Printed.Tokens.{tokens-print}
-use Rattle.serde_json.specs.Data.{Data, string}
+use Rattle.serde_json.specs.Data.{string}
 use Rattle.serde_json.specs.Read.{read, of_json, max_depth}
 use Rattle.cp_path.specs.Spelling.{is_trigger, has_trigger, label_word}
 use Rattle.cp_path.specs.Scan.{Accepts, StopsAt, place_from}

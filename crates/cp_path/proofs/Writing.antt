@@ -1,8 +1,8 @@
 -- Escaping a character's bytes, and a label's characters one by one.
-use Rattle.std.proofs.Common.{◌≡◌, ℕ, suc, ◌+◌, ◌<◌, ◌≤◌, ◌==◌, List, [], ◌∷◌, ◌++◌, Bool, true, false, length, get_or, refl, ap, sym, ◌∙◌, arith, rules, flat_map, append_assoc, append-nil, cond, lit<}
+use Rattle.std.proofs.Common.{◌≡◌, ℕ, suc, ◌<◌, List, [], ◌∷◌, ◌++◌, length, get_or, refl, ap, sym, ◌∙◌, arith, append_assoc, append-nil}
 use Rattle.std.proofs.lemmas.Bool.{ne_eqb}
-use Rattle.std.proofs.lemmas.Str.{encode_ascii, inside_one, encodes-append}
-use Rattle.std.proofs.lemmas.Grind.{flat_map-append, common_steps}
+use Rattle.std.proofs.lemmas.Str.{inside_one, encodes-append}
+use Rattle.std.proofs.lemmas.Grind.{flat_map-append}
 use Rattle.std.specs.Str.{encode_utf8_all}
 use Rattle.std.specs.Char.{encode_utf8}
 use Rattle.cp_path.specs.Spelling.{escape_label_byte, escaped}
@@ -19,9 +19,10 @@ plain_bytes (x ∷ xs) h =
 
 -- a character that is neither stands for itself
 pub plain_character : (c : ℕ) → ¬ (c ≡ 126) → ¬ (c ≡ 47) → escaped (encode_utf8 c) ≡ encode_utf8 c
-plain_character c t s = plain_bytes (encode_utf8 c) (λ k l.
-    (λ e. t (inside_one c [] (encode_utf8 c) k (sym (append-nil (encode_utf8 c))) l (omega arith) ∙ e),
-     λ e. s (inside_one c [] (encode_utf8 c) k (sym (append-nil (encode_utf8 c))) l (omega arith) ∙ e)))
+plain_character c t s = plain_bytes (encode_utf8 c) (λ k l. (
+  λ e. t (inside_one c [] (encode_utf8 c) k (sym (append-nil (encode_utf8 c))) l (omega arith) ∙ e),
+  λ e. s (inside_one c [] (encode_utf8 c) k (sym (append-nil (encode_utf8 c))) l (omega arith) ∙ e),
+))
 
 pub escaped_more : (cs : List ℕ) (c : ℕ) → escaped (encode_utf8_all (cs ++ c ∷ [])) ≡ escaped (encode_utf8_all cs) ++ escaped (encode_utf8 c)
 escaped_more cs c =

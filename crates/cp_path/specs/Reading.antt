@@ -1,6 +1,6 @@
 -- What a word is read as: places, labels and values by their spellings, and how far a word goes before no spelling begins so.
-use Rattle.std.specs.Prelude.{ℕ, ℤ, Bool, true, false, nat_lt, ◌≡◌, ◌≤◌, ◌<◌, ◌++◌, take, List, codes, length, Option, Some}
-use Rattle.serde_json.specs.Data.{Data, string}
+use Rattle.std.specs.Prelude.{ℕ, ℤ, Bool, true, false, nat_lt, ◌≡◌, ◌≤◌, ◌<◌, ◌++◌, take, List, codes, length, Some}
+use Rattle.serde_json.specs.Data.{string}
 use Rattle.serde_json.specs.Read.{read}
 use Rattle.cp_path.specs.Whole.{IsWhole}
 use Rattle.cp_path.specs.Text.{is_name}

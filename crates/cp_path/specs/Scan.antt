@@ -1,7 +1,7 @@
 -- The scan of a word, byte by byte.
-use Rattle.std.specs.Prelude.{ℕ, ◌+◌, ◌<◌, ◌≤◌, ◌≡◌, ◌⊎◌, Bool, true, false, not, ◌&&◌, ◌||◌, ◌==◌, nat_le, nat_lt, List, [], ◌∷◌, ◌++◌, take, length, slice_get, cond, if◌then◌else◌, Option, Some, None, option_map, option_and_then}
+use Rattle.std.specs.Prelude.{ℕ, ◌+◌, ◌≡◌, ◌⊎◌, Bool, true, false, not, ◌&&◌, ◌||◌, ◌==◌, nat_le, nat_lt, List, [], ◌∷◌, ◌++◌, take, length, slice_get, if◌then◌else◌, Option, Some, None, option_map, option_and_then}
 use Rattle.cp_path.specs.Text.{is_letter, is_name_byte}
-use Rattle.std.proofs.Common.{get_or, drop}
+use Rattle.std.specs.Prelude.{slice_index_or, drop}
 use Rattle.cp_path.specs.Spelling.{is_trigger}
 use Rattle.cp_path.specs.declared.loc.Loc.{Loc}
 use Rattle.cp_path.specs.declared.scan.Part.{Part}
@@ -128,4 +128,4 @@ unescaped x = if x == 48 then 126 else (if x == 49 then 47 else x)
 
 -- the place whose name is the first piece, and whose labels are the others
 abbrev pub place_from : List (List ℕ) → Loc
-place_from ps = record { db = get_or ps 0 []; path = drop 1 ps }
+place_from ps = record { db = slice_index_or ps 0 []; path = drop 1 ps }

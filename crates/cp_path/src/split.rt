@@ -68,7 +68,9 @@ pub(crate) fn split(alloc: Global, text: &str) -> Result<Vec<Text>, AllocError>
     };
     take_all(alloc, &mut splitter, text)?;
     let Splitter {
-        mut done, piece, ..
+        mut done,
+        piece,
+        ..
     } = splitter;
     done.push(Text { items: piece })?;
     Ok(done)

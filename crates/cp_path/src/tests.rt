@@ -130,3 +130,188 @@ fn values_are_told_apart(rt: HostRuntime) -> Result<(), Fail> {
     assert!(rt; Bytes::copy_of(alloc, b"ab")?.clone()?.as_slice() == b"ab".as_slice());
     Ok(())
 }
+
+/// The place's name and labels with `|` between, or why there is none.
+fn place_read(alloc: Global, word: &str) -> Result<String, PathFault> {
+    let place = match Loc::read(alloc, word) {
+        Ok(place) => place,
+        Err(fault) => return Ok(fault.to_string(alloc)?),
+    };
+    let mut line = String::from_str(alloc, place.db.as_str())?;
+    for label in place.path.labels() {
+        line.push('|')?;
+        line.push_str(label.as_str())?;
+    }
+    if place.text(alloc)?.as_str() != word {
+        line.push_str(" is written otherwise")?;
+    }
+    Ok(line)
+}
+
+/// The label behind a `|`, or why there is none.
+fn label_read(alloc: Global, word: &str) -> Result<String, PathFault> {
+    let label = match Label::read(alloc, word) {
+        Ok(label) => label,
+        Err(fault) => return Ok(fault.to_string(alloc)?),
+    };
+    let mut line = String::from_str(alloc, "|")?;
+    line.push_str(label.as_str())?;
+    if label.text(alloc)?.as_str() != word {
+        line.push_str(" is written otherwise")?;
+    }
+    Ok(line)
+}
+
+/// The value's spelling, or why there is none.
+fn value_read(alloc: Global, word: &str) -> Result<String, PathFault> {
+    match Value::read(alloc, word) {
+        Ok(value) => Ok(value.text(alloc)?),
+        Err(fault) => Ok(fault.to_string(alloc)?),
+    }
+}
+
+#[test]
+fn places_have_one_spelling(rt: HostRuntime) -> Result<(), Fail> {
+    let alloc = rt.alloc();
+    for (word, line) in [
+        ("T", "T"),
+        ("T/", "T|"),
+        ("T//", "T||"),
+        ("t1/x", "t1|x"),
+        ("T/a~1b", "T|a/b"),
+        ("T/~0", "T|~"),
+        ("T/~01", "T|~1"),
+        ("T/a\\b", "T|a\\b"),
+        ("T/\u{e9}", "T|\u{e9}"),
+        ("\"T/x y\"", "T|x y"),
+        ("\"T/12:30\"", "T|12:30"),
+        ("\"T/12:30/~0\\\\\"", "T|12:30|~\\"),
+        ("\"T/\\\"\"", "T|\""),
+        ("\"T/\\b\\f\\n\\r\\t\"", "T|\u{8}\u{c}\n\r\t"),
+        ("\"T/\\u001f\"", "T|\u{1f}"),
+        ("\"T/\\u0000\\u000b\"", "T|\u{0}\u{b}"),
+        ("\"T/\u{7f},\u{e9}\"", "T|\u{7f},\u{e9}"),
+        (
+            "abcdefghijklmnopqrstuvwxyz012345/a",
+            "abcdefghijklmnopqrstuvwxyz012345|a",
+        ),
+        ("", "bad escape at 0"),
+        ("1T", "bad escape at 0"),
+        ("/a", "bad escape at 0"),
+        ("T-", "bad escape at 1"),
+        ("abcdefghijklmnopqrstuvwxyz0123456", "bad escape at 32"),
+        ("T/~2", "bad escape at 3"),
+        ("T/a~", "bad escape at 4"),
+        ("T/~/a", "bad escape at 3"),
+        ("T/x y", "bad escape at 3"),
+        ("T/a\"", "bad escape at 3"),
+        ("\"T", "bad escape at 2"),
+        ("\"T\"", "bad escape at 2"),
+        ("\"T/ab\"", "bad escape at 5"),
+        ("\"T/a b", "bad escape at 6"),
+        ("\"T/a b\"x", "bad escape at 7"),
+        ("\"T/a b~\"", "bad escape at 7"),
+        ("\"T/\\u0041 \"", "bad escape at 7"),
+        ("\"T/\\u001F\"", "bad escape at 8"),
+        ("\"T/\\u0008\"", "bad escape at 8"),
+        ("\"T/\\u000a\"", "bad escape at 8"),
+        ("\"T/\\/ \"", "bad escape at 4"),
+        ("\"T/\n\"", "bad escape at 3"),
+        ("\"T\\n\"", "bad escape at 2"),
+    ] {
+        assert_eq!(rt; place_read(alloc, word)?.as_str(), line);
+    }
+    Ok(())
+}
+
+#[test]
+fn labels_and_values_are_read(rt: HostRuntime) -> Result<(), Fail> {
+    let alloc = rt.alloc();
+    for (word, line) in [
+        ("\"\"", "|"),
+        ("a~1b", "|a/b"),
+        ("into", "|into"),
+        ("\"x y\"", "|x y"),
+        ("", "bad escape at 0"),
+        ("a/b", "bad escape at 1"),
+        ("\"ab\"", "bad escape at 3"),
+        ("~2", "bad escape at 1"),
+    ] {
+        assert_eq!(rt; label_read(alloc, word)?.as_str(), line);
+    }
+    for (word, line) in [
+        ("null", "null"),
+        ("true", "true"),
+        ("false", "false"),
+        ("0", "0"),
+        ("-9223372036854775808", "-9223372036854775808"),
+        ("18446744073709551615", "18446744073709551615"),
+        ("\"\"", "\"\""),
+        ("\"a\\u0041\\/\"", "\"aA/\""),
+        ("-9223372036854775809", "bad value"),
+        ("18446744073709551616", "bad value"),
+        ("-0", "bad value"),
+        ("+1", "bad value"),
+        ("007", "bad value"),
+        ("1.0", "bad value"),
+        ("[]", "bad value"),
+        ("Null", "bad value"),
+        ("", "bad value"),
+        ("\"a", "bad value"),
+    ] {
+        assert_eq!(rt; value_read(alloc, word)?.as_str(), line);
+    }
+    Ok(())
+}
+
+/// `start`, then `piece` so many times.
+fn repeated(alloc: Global, start: &str, piece: &str, times: usize) -> Result<String, PathFault> {
+    let mut word = String::from_str(alloc, start)?;
+    for _ in 0..times {
+        word.push_str(piece)?;
+    }
+    Ok(word)
+}
+
+#[test]
+fn limits_are_read_in_their_order(rt: HostRuntime) -> Result<(), Fail> {
+    let alloc = rt.alloc();
+    for (start, piece, times, line) in [
+        ("T/", "x", 256, "label too long"),
+        ("T/a/a/a", "/x", 62, "place too deep"),
+        ("T/", "/xxxxxxxxxxxxxxx", 64, "place too deep"),
+        ("T", "/xxxxxxxxxxxxxxx", 64, "place too long"),
+        ("T/", "xxxx", 64, "label too long"),
+    ] {
+        let word = repeated(alloc, start, piece, times)?;
+        assert_eq!(rt; place_read(alloc, word.as_str())?.as_str(), line);
+    }
+    let full = repeated(alloc, "T/xxxxxxxxxxxxxx", "/xxxxxxxxxxxxxxx", 63)?;
+    assert!(rt; Loc::read(alloc, full.as_str())?.size() == 1024);
+    let long = repeated(alloc, "", "x", 256)?;
+    assert_eq!(rt;
+        label_read(alloc, long.as_str())?.as_str(),
+        "label too long"
+    );
+    Ok(())
+}
+
+#[test]
+fn places_move_with_those_above_them(rt: HostRuntime) -> Result<(), Fail> {
+    let alloc = rt.alloc();
+    let place = Loc::read(alloc, "T/a/b/c")?;
+    let old = Loc::read(alloc, "T/a")?;
+    let to = Loc::read(alloc, "S/x/y")?;
+    assert!(rt; place.starts_with(&old) && place.starts_with(&place));
+    assert!(rt;
+        !old.starts_with(&place)
+            && !place.starts_with(&Loc::read(alloc, "T/b")?)
+            && !place.starts_with(&Loc::read(alloc, "S")?)
+    );
+    assert!(rt; Loc::target(alloc)?.parent()?.is_none());
+    assert!(rt; matches!(place.parent()?, Some(parent) if parent == Loc::read(alloc, "T/a/b")?));
+    if place.starts_with(&old) {
+        assert_eq!(rt; place.rebase(&old, &to)?.text(alloc)?.as_str(), "S/x/y/b/c");
+    }
+    Ok(())
+}

@@ -1,4 +1,4 @@
-use Rattle.std.proofs.Common.{◌≡◌, ◌++◌, ◌∷◌, [], ap, sym, ◌∙◌, append-nil, false, string_bytes}
+use Rattle.std.proofs.Common.{◌++◌, [], ap, sym, ◌∙◌, append-nil, false, string_bytes}
 use Rattle.cp_path.specs.Scan.{pieces}
 use Rattle.cp_path.proofs.Pieces.{last_piece}
 use Rattle.cp_path.proofs.split.split.Goals as goal

@@ -1,4 +1,4 @@
-use Rattle.std.proofs.Common.{◌≡◌, ◌++◌, ◌∷◌, [], ap, sym, ◌∙◌, string_bytes}
+use Rattle.std.proofs.Common.{◌++◌, ap, ◌∙◌, string_bytes}
 use Rattle.std.specs.Char.{encode_utf8}
 use Rattle.cp_path.specs.Scan.{pieces}
 use Rattle.cp_path.proofs.Pieces.{split_step}

@@ -1,4 +1,4 @@
-use Rattle.std.proofs.Common.{◌≡◌, ◌++◌, ℕ, List, [], false, string_bytes}
+use Rattle.std.proofs.Common.{◌≡◌, ◌++◌, ℕ, List, string_bytes}
 use Rattle.std.specs.Str.{encode_utf8_all}
 use Rattle.cp_path.specs.Scan.{pieces}
 use Rattle.cp_path.proofs.split.take_all.Given as goal
