@@ -77,9 +77,21 @@ IsAnswer how.Output = ⊥
 IsAnswer how.Memory = ⊤
 IsAnswer how.TooLong = ⊥
 
--- The counts of faults of the input and the output never fall, and an end blames one of them only where its count rose.
+-- With the statuses 0 and 1 the count stayed.
+abbrev pub IsCalm : End → ℕ → ℕ → Type 0
+IsCalm how.Done before now = now ≡ before
+IsCalm how.Refused before now = now ≡ before
+IsCalm how.Usage before now = ⊤
+IsCalm how.Input before now = ⊤
+IsCalm how.Output before now = ⊤
+IsCalm how.Memory before now = ⊤
+IsCalm how.TooLong before now = ⊤
+
+-- The counts of faults of the input and the output never fall, and an end blames one of them only where its count rose; where all was done, or a statement was refused, neither has.
 pub record HasCauses (in_before in_now out_before out_now : ℕ) (status : End) : Type 0 where
   pub in_later : in_before ≤ in_now
   pub out_later : out_before ≤ out_now
   pub input : status ≡ how.Input → Rose in_before in_now
   pub output : status ≡ how.Output → Rose out_before out_now
+  pub in_calm : IsCalm status in_before in_now
+  pub out_calm : IsCalm status out_before out_now

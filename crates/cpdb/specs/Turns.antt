@@ -1,5 +1,5 @@
 -- What the steps of a session did to its output: for the program's own clauses.
-use Rattle.std.specs.Prelude.{◌≡◌, ◌⊎◌, ℕ, ◌≤◌, ◌+◌, List, [], length, take, true, false, Result, Ok, Err, ⊤, IsErrOf}
+use Rattle.std.specs.Prelude.{◌≡◌, ◌⊎◌, ℕ, ◌≤◌, ◌+◌, List, [], length, take, true, false, Result, Ok, Err, ⊤, OnOk, IsErrOf}
 use Rattle.std.specs.declared.option.Option.{Option}
 use Rattle.std.specs.Io.KnownBytes.{Appends, Consumes}
 use Rattle.cp_outside.specs.Causes.{Rose}
@@ -56,10 +56,13 @@ Carried (Refusal text) before after (Err Output) = TakesPart before after text
 Carried (Refusal text) before after (Err Full) = TakesPart before after text
 Carried (Refusal text) before after (Err Memory) = ⊥
 
--- The output is blamed only where its count rose, and it has refused a write where it stopped the session.
+-- The output is blamed only where its count rose, which stays where nothing failed; and it has refused a write where it
+-- stopped the session.
 pub record Blames (before now refusals_before refusals : ℕ) (result : Result ⊤ Stop) : Type 0 where
   pub later : before ≤ now
   pub output : IsErrOf result Output → Rose before now
+  pub steady : OnOk result (now ≡ before)
+  pub steady_refused : IsErrOf result Refused → now ≡ before
   pub kept : refusals_before ≤ refusals
   pub full : IsErrOf result Full → Rose refusals_before refusals
 

@@ -3,7 +3,7 @@ ghost use Rattle.cp_outside.specs.Causes.{Rose};
 ghost use Rattle.cpdb.specs.Words.{fits, most_input, most_piece};
 ghost use Rattle.cpdb.specs.Machine.{start};
 ghost use Rattle.cpdb.specs.Ends.{code_of, end_of};
-ghost use Rattle.cpdb.specs.Story.{WritesLast, Ran, Whole, IsShort, IsAnswer, HasCauses};
+ghost use Rattle.cpdb.specs.Story.{WritesLast, Ran, Whole, IsShort, IsAnswer, IsCalm, HasCauses};
 ghost use Rattle.cpdb.specs.Turns.{WroteLast, Closes, RanFrom, Turned, status_of, status_or_done};
 
 use crate::end::{End, Status};
@@ -48,6 +48,7 @@ fn stopped<O: Sink>(output: &mut O, stop: Stop) -> End
     ensures status { result ≡ status_of stop }
     ensures wrote { WroteLast (O.contents output.old) (O.contents output.new) (O.refusals output.old) (O.refusals output.new) stop }
     ensures later { O.faults output.old ≤ O.faults output.new }
+    ensures calm { IsCalm result (O.faults output.old) (O.faults output.new) }
     ensures kept { O.refusals output.old ≤ O.refusals output.new }
 {
     match stop {
@@ -66,6 +67,7 @@ fn closing<O: Sink>(session: &mut Session, output: &mut O) -> End
     ensures went { Closes session.old (O.contents output.old) (O.contents output.new) (O.refusals output.old) (O.refusals output.new) result }
     ensures later { O.faults output.old ≤ O.faults output.new }
     ensures kept { O.refusals output.old ≤ O.refusals output.new }
+    ensures calm { IsCalm result (O.faults output.old) (O.faults output.new) }
     ensures blamed { result ≡ End.Output → Rose (O.faults output.old) (O.faults output.new) }
 {
     match session.close(output) {

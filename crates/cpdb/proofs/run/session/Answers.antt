@@ -1,4 +1,4 @@
-use Rattle.std.proofs.Common.{subst, sym, arith}
+use Rattle.std.proofs.Common.{refl, subst, sym, arith}
 use Rattle.cpdb.specs.Machine.{start}
 use Rattle.cpdb.specs.Turns.{Turned}
 use Rattle.cpdb.proofs.Runs.{turned-none, turned-more, turned-ran}
@@ -11,8 +11,8 @@ loop-now-init g c =
     record {
       within = omega arith;
       turned = subst (λ s. Turned start s 0 0 l l b b) (sym c.new-session.ensures) (turned-none l b);
-      in_later = omega arith;
-      out_later = omega arith;
+      in_steady = refl;
+      out_steady = refl;
       kept = omega arith;
     }
 
@@ -23,8 +23,8 @@ loop-now-preserved g c =
     record {
       within = next.1;
       turned = turned-more start c.loop-now.session c.turn.new.session 0 c.loop-now.taken c.in-Ok.now _ _ _ _ _ _ i.turned next.2;
-      in_later = omega (arith, i.in_later, c.in-Ok.ensures.causes.in_later);
-      out_later = omega (arith, i.out_later, c.in-Ok.ensures.causes.out_later);
+      in_steady = omega (arith, i.in_steady, c.in-Ok.ensures.causes.in_calm);
+      out_steady = omega (arith, i.out_steady, c.in-Ok.ensures.causes.out_calm);
       kept = omega (arith, i.kept, c.in-Ok.ensures.kept);
     }
 

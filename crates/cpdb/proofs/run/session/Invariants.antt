@@ -1,4 +1,4 @@
-use Rattle.std.proofs.Common.{◌≤◌, ◌-◌}
+use Rattle.std.proofs.Common.{◌≡◌, ◌≤◌, ◌-◌}
 use Rattle.cpdb.specs.Words.{most_input}
 use Rattle.cpdb.specs.Machine.{start}
 use Rattle.cpdb.specs.Turns.{Turned}
@@ -11,7 +11,7 @@ abbrev pub invariant-loop-now : goal.invariant-loop-now
 invariant-loop-now g l = record {
   within : l.taken ≤ most_input;
   turned : Turned start l.session 0 l.taken (g.I.Source.left l.initial.input) (g.I.Source.left l.input) (g.O.Sink.contents l.initial.output) (g.O.Sink.contents l.output);
-  in_later : g.I.Source.faults l.initial.input ≤ g.I.Source.faults l.input;
-  out_later : g.O.Sink.faults l.initial.output ≤ g.O.Sink.faults l.output;
+  in_steady : g.I.Source.faults l.input ≡ g.I.Source.faults l.initial.input;
+  out_steady : g.O.Sink.faults l.output ≡ g.O.Sink.faults l.initial.output;
   kept : g.O.Sink.refusals l.initial.output ≤ g.O.Sink.refusals l.output;
 }

@@ -6,7 +6,7 @@ use Rattle.cpdb.proofs.Plays.{Fed-none, Fed-more, Fed-stopped, split_at}
 use Rattle.cpdb.proofs.session.Session.feed.Goals as goal
 
 pub loop-byte-init : goal.loop-byte-init
-loop-byte-init g c = record { went = Fed-none c.args.self.now (g.O.Sink.contents c.args.output.now); later = search rules; kept = search rules }
+loop-byte-init g c = record { went = Fed-none c.args.self.now (g.O.Sink.contents c.args.output.now); steady = search rules; kept = search rules }
 
 pub loop-byte-preserved : goal.loop-byte-preserved
 loop-byte-preserved g c =
@@ -17,7 +17,7 @@ loop-byte-preserved g c =
     record {
       went = subst (λ ys. Fed s ys c.push.new.self (g.O.Sink.contents c.args.output.now) (g.O.Sink.contents c.push.new.output) (Ok tt)) (sym (take_more xs l.byte-index 0 (omega arith)))
           (Fed-more s l.self c.push.new.self (take l.byte-index xs) b _ _ _ l.invariant.went c.in_ok-push.ensures.went);
-      later = omega (arith, l.invariant.later, c.in_ok-push.ensures.cause.later);
+      steady = omega (arith, l.invariant.steady, c.in_ok-push.ensures.cause.steady);
       kept = omega (arith, l.invariant.kept, c.in_ok-push.ensures.cause.kept);
     }
 
