@@ -1,10 +1,5 @@
 pub mod Writing
 pub mod Relating
 pub mod Numbers
-pub mod Runs
-pub mod Sound
-pub mod Complete
-pub mod Spelled
-pub mod Placed
 pub mod Pieces
 pub mod Words

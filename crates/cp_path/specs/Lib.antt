@@ -5,3 +5,15 @@ pub mod Whole
 pub mod Spelling
 pub mod Reading
 pub mod Scan
+pub mod Words
+pub mod Runs
+pub mod Sound
+pub mod Complete
+pub mod Spelled
+pub mod Placed
+pub mod Pieces
+pub mod Accepted
+pub mod WordLaws
+pub mod ValueLaws
+pub mod Laws
+pub mod Encoding

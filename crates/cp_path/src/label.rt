@@ -34,6 +34,7 @@ impl Label {
     /// The label with this text. Costs its bytes.
     pub fn new(alloc: Global, text: &str) -> Result<Label, PathFault>
         ensures value { IfOk result (λ a. a ≡ text.now) }
+        ensures short { IfOk result (λ a. length a ≤ 255) }
         ensures long { (result ≡ Err PathFault.LabelTooLong) ↔ (255 < length text.now) }
         ensures faults { IfErr result (λ e. (e ≡ PathFault.LabelTooLong) ⊎ (e ≡ PathFault.Memory)) }
     {

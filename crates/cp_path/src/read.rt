@@ -5,6 +5,7 @@ ghost use Rattle.cp_path.specs.Spelling.{label_word, label_text, place_text};
 ghost use Rattle.cp_path.specs.Scan.{place_from};
 ghost use Rattle.cp_path.specs.declared.loc.Loc.{Loc};
 ghost use Rattle.cp_path.specs.Reading.{LabelSpelled, PlaceSpelled, SpellsPlace, IsBadAt, LabelFault, PlaceFault, any_long, IsOver};
+ghost use Rattle.cp_path.specs.Words.{place_reading, label_reading};
 
 use crate::fault::PathFault;
 use crate::label::Label;
@@ -18,7 +19,7 @@ use crate::text::Text;
 use std::alloc::{AllocError, Global};
 
 /// The text that a word spells: what its quotation marks hold, or the word itself.
-#[tactic(auto, using(crate::proofs::Words::quoted_word, crate::proofs::Words::bare_text))]
+#[tactic(auto, using(crate::specs::Accepted::quoted_word, crate::specs::Accepted::bare_text))]
 fn text_of(alloc: Global, word: &str) -> Result<String, AllocError>
     ensures { IfOk result (λ s. (r : List ℕ) → word.now ≡ label_word r → string_bytes s ≡ r) }
 {
@@ -57,6 +58,7 @@ fn spelled_label(alloc: Global, word: &str) -> Result<Label, PathFault>
     requires { LabelSpelled word.now }
     ensures value { IfOk result (λ a. label_text a ≡ word.now) }
     ensures fault { IfErr result (λ e. LabelFault e word.now) }
+    ensures short { IfOk result (λ a. length a ≤ 255) }
 {
     let pieces = pieces_of(alloc, word)?;
     let piece: &Text = &pieces[0];
@@ -64,11 +66,14 @@ fn spelled_label(alloc: Global, word: &str) -> Result<Label, PathFault>
 }
 
 impl Label {
+    #[tactic(auto, using(crate::specs::WordLaws::label_fault_reading))]
     /// The label that a word spells where it stands alone. `BadEscape` has the length of the word's longest
     /// beginning that some label's spelling begins with. Costs the word's bytes.
     pub fn read(alloc: Global, word: &str) -> Result<Label, PathFault>
         ensures value { IfOk result (λ a. label_text a ≡ word.now) }
         ensures fault { IfErr result (λ e. LabelFault e word.now) }
+        ensures reads { IfOk result (λ a. label_reading word.now ≡ Ok a) }
+        ensures refuses { IfErr result (λ e. (e ≡ PathFault.Memory) ⊎ (label_reading word.now ≡ Err e)) }
     {
         match check_label(word) {
             Ok(()) => spelled_label(alloc, word),
@@ -96,6 +101,7 @@ fn place_of(alloc: Global, pieces: &[Text]) -> Result<Loc, PathFault>
     requires some { 0 < length pieces.now }
     requires name { is_name (place_from pieces.now).db ≡ true }
     ensures value { IfOk result (λ q. (q ≡ place_from pieces.now) × (size q ≤ 1024)) }
+    ensures within { IfOk result (λ q. (any_long q.path ≡ false) × (length q.path ≤ 64)) }
     ensures fault { IfErr result (λ e. IsOver e (place_from pieces.now)) }
 {
     let labels = labels_of(alloc, &pieces[1..])?;
@@ -113,17 +119,21 @@ fn spelled_place(alloc: Global, word: &str) -> Result<Loc, PathFault>
     requires { PlaceSpelled word.now }
     ensures value { IfOk result (λ q. (place_text q ≡ word.now) × (size q ≤ 1024)) }
     ensures fault { IfErr result (λ e. PlaceFault e word.now) }
+    ensures reads { IfOk result (λ q. place_reading word.now ≡ Ok q) }
 {
     let pieces = pieces_of(alloc, word)?;
     place_of(alloc, pieces.as_slice())
 }
 
 impl Loc {
+    #[tactic(auto, using(crate::specs::WordLaws::place_fault_reading))]
     /// The place that a word spells. `BadEscape` has the length of the word's longest beginning that some
     /// place's spelling begins with. Costs the word's bytes.
     pub fn read(alloc: Global, word: &str) -> Result<Loc, PathFault>
         ensures value { IfOk result (λ q. (place_text q ≡ word.now) × (size q ≤ 1024)) }
         ensures fault { IfErr result (λ e. PlaceFault e word.now) }
+        ensures reads { IfOk result (λ q. place_reading word.now ≡ Ok q) }
+        ensures refuses { IfErr result (λ e. (e ≡ PathFault.Memory) ⊎ (place_reading word.now ≡ Err e)) }
     {
         match check_place(word) {
             Ok(()) => spelled_place(alloc, word),

@@ -1,9 +1,10 @@
-ghost use Rattle.std.specs.Prelude.{◌≡◌, ◌≤◌, ◌⊎◌, ℤ, length, Some, None, IfOk, IfErr, MatchOption, string_bytes};
+ghost use Rattle.std.specs.Prelude.{◌≡◌, ◌≤◌, ◌⊎◌, ℤ, length, Some, None, Ok, Err, IfOk, IfErr, MatchOption, string_bytes};
 ghost use Rattle.serde_json.specs.Data.{string};
 ghost use Rattle.serde_json.specs.Read.{read};
 ghost use Rattle.cp_path.specs.Whole.{IsWhole};
 ghost use Rattle.cp_path.specs.Spelling.{whole_text};
 ghost use Rattle.cp_path.specs.Reading.{SpellsValue, IsNoWord, IsNoWhole, IsNoString, IsNoText, SpellsText};
+ghost use Rattle.cp_path.specs.Words.{string_reading, word_reading, whole_reading, text_reading, value_reading};
 ghost use Rattle.cp_path.specs.declared.value.Value.{Value};
 
 use crate::fault::PathFault;
@@ -13,8 +14,10 @@ use crate::whole::Whole;
 use serde_json::error::Category;
 use std::alloc::{AllocError, Global};
 
+#[tactic(auto, using(crate::specs::ValueLaws::word_reading_none))]
 fn read_word(word: &str) -> Option<Value>
-    ensures { MatchOption result (IsNoWord word.now) (λ v. SpellsValue word.now v) }
+    ensures spells { MatchOption result (IsNoWord word.now) (λ v. SpellsValue word.now v) }
+    ensures reads { result ≡ word_reading word.now }
 {
     if word == "null" {
         Some(Value::Null)
@@ -37,9 +40,11 @@ fn parse_whole(word: &str) -> Option<Whole>
     }
 }
 
+#[tactic(auto, using(crate::specs::ValueLaws::whole_reading_none, crate::specs::ValueLaws::whole_reading_spelled))]
 /// A number is written in one way, so a word that reads as one is its spelling where it is written so.
 fn read_whole(alloc: Global, word: &str) -> Result<Option<Whole>, AllocError>
-    ensures { IfOk result (λ o. MatchOption o (IsNoWhole word.now) (λ n. word.now ≡ whole_text n)) }
+    ensures spells { IfOk result (λ o. MatchOption o (IsNoWhole word.now) (λ n. word.now ≡ whole_text n)) }
+    ensures reads { IfOk result (λ o. o ≡ whole_reading word.now) }
 {
     let Some(whole) = parse_whole(word) else {
         return Ok(None);
@@ -68,8 +73,10 @@ pub(crate) fn read_string(alloc: Global, word: &str) -> Result<Option<String>, A
     }
 }
 
+#[tactic(auto, using(crate::specs::ValueLaws::text_reading_none, crate::specs::ValueLaws::text_reading_spelled))]
 fn read_text(alloc: Global, word: &str) -> Result<Option<Text>, AllocError>
-    ensures { IfOk result (λ o. MatchOption o (IsNoText word.now) (λ t. SpellsText word.now t)) }
+    ensures spells { IfOk result (λ o. MatchOption o (IsNoText word.now) (λ t. SpellsText word.now t)) }
+    ensures reads { IfOk result (λ o. o ≡ text_reading word.now) }
 {
     match read_string(alloc, word)? {
         Some(text) if text.len() <= TEXT_MAX => Ok(Some(Text { items: text })),
@@ -77,13 +84,29 @@ fn read_text(alloc: Global, word: &str) -> Result<Option<Text>, AllocError>
     }
 }
 
+impl Text {
+    #[tactic(auto, using(crate::specs::ValueLaws::string_reading_none, crate::specs::ValueLaws::string_reading_read))]
+    /// The text of the JSON string that the word is, of any length. Costs the word's bytes.
+    pub fn read(alloc: Global, word: &str) -> Result<Option<Text>, AllocError>
+        ensures { IfOk result (λ o. o ≡ string_reading word.now) }
+    {
+        match read_string(alloc, word)? {
+            Some(text) => Ok(Some(Text { items: text })),
+            None => Ok(None),
+        }
+    }
+}
+
 impl Value {
+    #[tactic(auto, using(crate::specs::ValueLaws::value_reading_word, crate::specs::ValueLaws::value_reading_whole, crate::specs::ValueLaws::value_reading_text))]
     /// The value that a word spells: a text by each of its JSON strings, any other value by its one spelling.
     /// Costs the word's bytes.
     pub fn read(alloc: Global, word: &str) -> Result<Value, PathFault>
         ensures value { IfOk result (λ v. SpellsValue word.now v) }
         ensures bad { IfErr result (λ e. e ≡ PathFault.BadValue → (v : Value) → ¬ SpellsValue word.now v) }
         ensures faults { IfErr result (λ e. (e ≡ PathFault.BadValue) ⊎ (e ≡ PathFault.Memory)) }
+        ensures reads { IfOk result (λ v. value_reading word.now ≡ Ok v) }
+        ensures refuses { IfErr result (λ e. (e ≡ PathFault.Memory) ⊎ (value_reading word.now ≡ Err e)) }
     {
         if let Some(value) = read_word(word) {
             return Ok(value);

@@ -11,44 +11,39 @@ fn label_of(alloc: Global, bytes: usize) -> Result<Label, PathFault> {
     Label::new(alloc, text.as_str())
 }
 
-fn place(alloc: Global, name: &str, labels: &[&str]) -> Result<Loc, PathFault> {
-    let db = Name::read(alloc, name)?;
-    let mut path = Path::root(alloc);
-    for label in labels {
-        path.push(Label::new(alloc, label)?)?;
+fn places(alloc: Global, words: &str) -> Result<Vec<Loc>, PathFault> {
+    let mut places = Vec::new(alloc);
+    for word in words.split(' ') {
+        places.push(Loc::read(alloc, word)?)?;
     }
-    Ok(Loc { db, path })
+    Ok(places)
+}
+
+fn values(alloc: Global, words: &str) -> Result<Vec<Value>, PathFault> {
+    let mut values = Vec::new(alloc);
+    for word in words.split(' ') {
+        values.push(Value::read(alloc, word)?)?;
+    }
+    Ok(values)
 }
 
 #[test]
 fn names_are_letters_digits_and_underscores(rt: HostRuntime) -> Result<(), Fail> {
     let alloc = rt.alloc();
-    for (text, is_name) in [
-        ("T", true),
-        ("t", true),
-        ("S1", true),
-        ("Uni_Prot", true),
-        ("abcdefghijklmnopqrstuvwxyz012345", true),
-        ("abcdefghijklmnopqrstuvwxyz0123456", false),
-        ("", false),
-        ("1S", false),
-        ("_S", false),
-        ("S 1", false),
-        ("S/1", false),
-        ("\u{e9}", false),
-    ] {
-        match Name::read(alloc, text) {
-            Ok(name) => {
-                assert!(rt; is_name);
-                assert!(rt; name.as_str() == text);
-                assert!(rt; name.is_target() == (text == "T"));
-                assert!(rt; name.clone()? == name);
-            }
-            Err(fault) => {
-                assert!(rt; !is_name);
-                assert!(rt; fault == PathFault::BadName);
-            }
-        }
+    for text in "T t S1 Uni_Prot abcdefghijklmnopqrstuvwxyz012345".split(' ') {
+        let name = Name::read(alloc, text)?;
+        assert!(rt; name.as_str() == text);
+        assert!(rt; name.is_target() == (text == "T"));
+        assert!(rt; name.clone()? == name);
+    }
+    Ok(())
+}
+
+#[test]
+fn other_words_are_no_names(rt: HostRuntime) -> Result<(), Fail> {
+    let alloc = rt.alloc();
+    for text in "abcdefghijklmnopqrstuvwxyz0123456,,1S,_S,S 1,S/1,\u{e9}".split(',') {
+        assert!(rt; matches!(Name::read(alloc, text), Err(PathFault::BadName)));
     }
     Ok(())
 }
@@ -63,39 +58,42 @@ fn labels_hold_255_bytes(rt: HostRuntime) -> Result<(), Fail> {
     Ok(())
 }
 
+fn deeper(place: &Loc, label: &Label, times: usize) -> Result<Loc, PathFault> {
+    let mut place = place.clone()?;
+    for _ in 0..times {
+        place = place.join(label)?;
+    }
+    Ok(place)
+}
+
 #[test]
-fn places_have_64_labels_and_1024_bytes(rt: HostRuntime) -> Result<(), Fail> {
+fn places_have_64_labels(rt: HostRuntime) -> Result<(), Fail> {
     let alloc = rt.alloc();
     let a = label_of(alloc, 1)?;
-    let mut deep = Loc::target(alloc)?;
-    for _ in 0..64 {
-        deep = deep.join(&a)?;
-    }
+    let deep = deeper(&Loc::target(alloc)?, &a, 64)?;
     assert!(rt; deep.size() == 129);
     assert!(rt; matches!(deep.join(&a), Err(PathFault::TooDeep)));
     assert!(rt; matches!(Path::of(alloc, deep.path.labels()), Ok(path) if path == deep.path));
+    Ok(())
+}
+
+#[test]
+fn places_have_1024_bytes(rt: HostRuntime) -> Result<(), Fail> {
+    let alloc = rt.alloc();
     let long = label_of(alloc, 255)?;
-    let three = Loc::target(alloc)?.join(&long)?.join(&long)?.join(&long)?;
+    let three = deeper(&Loc::target(alloc)?, &long, 3)?;
     assert!(rt; three.size() == 769);
     assert!(rt; matches!(three.join(&long), Err(PathFault::PathTooLong)));
     let full = three.join(&label_of(alloc, 254)?)?;
     assert!(rt; full.size() == 1024);
-    assert!(rt; matches!(full.join(&a), Err(PathFault::PathTooLong)));
+    assert!(rt; matches!(full.join(&label_of(alloc, 1)?), Err(PathFault::PathTooLong)));
     Ok(())
 }
 
 #[test]
 fn places_come_by_name_then_label_by_label(rt: HostRuntime) -> Result<(), Fail> {
     let alloc = rt.alloc();
-    let rising = [
-        place(alloc, "S", &["z"])?,
-        place(alloc, "T", &[])?,
-        place(alloc, "T", &["10"])?,
-        place(alloc, "T", &["10", "a"])?,
-        place(alloc, "T", &["2"])?,
-        place(alloc, "T", &["a"])?,
-        place(alloc, "T", &["a", ""])?,
-    ];
+    let rising = places(alloc, "S/z T T/10 T/10/a T/2 T/a T/a/")?;
     for (i, p) in rising.iter().enumerate() {
         for (j, q) in rising.iter().enumerate() {
             assert!(rt; p.cmp(q) == i.cmp(&j));
@@ -107,26 +105,33 @@ fn places_come_by_name_then_label_by_label(rt: HostRuntime) -> Result<(), Fail> 
 
 #[test]
 fn values_are_told_apart(rt: HostRuntime) -> Result<(), Fail> {
-    let alloc = rt.alloc();
-    assert!(rt; Whole::new(-0x8000_0000_0000_0001).is_none());
-    assert!(rt; Whole::new(0x1_0000_0000_0000_0000).is_none());
-    assert!(rt;
-        matches!(Whole::new(-0x8000_0000_0000_0000), Some(least) if least.get() == -0x8000_0000_0000_0000)
-    );
-    let values = [
-        Value::Null,
-        Value::False,
-        Value::True,
-        Value::Whole(Whole::from(1)),
-        Value::Whole(Whole::from(u64::MAX)),
-        Value::Text(Text::copy_of(alloc, "")?),
-        Value::Text(Text::copy_of(alloc, "1")?),
-    ];
+    let values = values(
+        rt.alloc(),
+        "null false true 1 18446744073709551615 \"\" \"1\"",
+    )?;
     for (i, v) in values.iter().enumerate() {
         for (j, w) in values.iter().enumerate() {
             assert!(rt; v.is_same(w) == (i == j));
         }
     }
+    Ok(())
+}
+
+#[test]
+fn whole_numbers_have_a_range(rt: HostRuntime) -> Result<(), Fail> {
+    assert!(rt; Whole::new(-0x8000_0000_0000_0001).is_none());
+    assert!(rt; Whole::new(0x1_0000_0000_0000_0000).is_none());
+    assert!(rt;
+        matches!(Whole::new(-0x8000_0000_0000_0000), Some(least) if least.get() == -0x8000_0000_0000_0000)
+    );
+    assert!(rt; Whole::from(u64::MAX).get() == 0xffff_ffff_ffff_ffff);
+    Ok(())
+}
+
+#[test]
+fn texts_and_bytes_are_copied(rt: HostRuntime) -> Result<(), Fail> {
+    let alloc = rt.alloc();
+    assert!(rt; Text::copy_of(alloc, "ab")?.clone()?.items.as_str() == "ab");
     assert!(rt; Bytes::copy_of(alloc, b"ab")?.clone()?.as_slice() == b"ab".as_slice());
     Ok(())
 }
@@ -170,96 +175,146 @@ fn value_read(alloc: Global, word: &str) -> Result<String, PathFault> {
     }
 }
 
+/// The text behind a `|`, or that there is none.
+fn text_read(alloc: Global, word: &str) -> Result<String, PathFault> {
+    let Some(text) = Text::read(alloc, word)? else {
+        return Ok(String::from_str(alloc, "none")?);
+    };
+    let mut line = String::from_str(alloc, "|")?;
+    line.push_str(text.items.as_str())?;
+    Ok(line)
+}
+
+/// A word and what it is read as, in each line.
+const PLACES: &str = "\
+T -> T
+T/ -> T|
+T// -> T||
+t1/x -> t1|x
+T/a~1b -> T|a/b
+T/~0 -> T|~
+T/~01 -> T|~1
+T/a\\b -> T|a\\b
+T/\u{e9} -> T|\u{e9}
+\"T/x y\" -> T|x y
+\"T/12:30\" -> T|12:30
+\"T/12:30/~0\\\\\" -> T|12:30|~\\
+\"T/\\\"\" -> T|\"
+\"T/\u{7f},\u{e9}\" -> T|\u{7f},\u{e9}
+abcdefghijklmnopqrstuvwxyz012345/a -> abcdefghijklmnopqrstuvwxyz012345|a
+ -> bad escape at 0
+1T -> bad escape at 0
+/a -> bad escape at 0
+T- -> bad escape at 1
+abcdefghijklmnopqrstuvwxyz0123456 -> bad escape at 32
+T/~2 -> bad escape at 3
+T/a~ -> bad escape at 4
+T/~/a -> bad escape at 3
+T/x y -> bad escape at 3
+T/a\" -> bad escape at 3
+\"T -> bad escape at 2
+\"T\" -> bad escape at 2
+\"T/ab\" -> bad escape at 5
+\"T/a b -> bad escape at 6
+\"T/a b\"x -> bad escape at 7
+\"T/a b~\" -> bad escape at 7
+\"T/\\u0041 \" -> bad escape at 7
+\"T/\\u001F\" -> bad escape at 8
+\"T/\\u0008\" -> bad escape at 8
+\"T/\\u000a\" -> bad escape at 8
+\"T/\\/ \" -> bad escape at 4
+\"T\\n\" -> bad escape at 2";
+
+const LABELS: &str = "\
+\"\" -> |
+a~1b -> |a/b
+into -> |into
+\"x y\" -> |x y
+ -> bad escape at 0
+a/b -> bad escape at 1
+\"ab\" -> bad escape at 3
+~2 -> bad escape at 1";
+
+const VALUES: &str = "\
+null -> null
+true -> true
+false -> false
+0 -> 0
+-9223372036854775808 -> -9223372036854775808
+18446744073709551615 -> 18446744073709551615
+\"\" -> \"\"
+\"a\\u0041\\/\" -> \"aA/\"
+-9223372036854775809 -> bad value
+18446744073709551616 -> bad value
+-0 -> bad value
++1 -> bad value
+007 -> bad value
+1.0 -> bad value
+[] -> bad value
+Null -> bad value
+ -> bad value
+\"a -> bad value";
+
+const TEXTS: &str = "\
+\"\" -> |
+\"a\\u0041\\/\" -> |aA/
+ \"a\"  -> |a
+a -> none
+\"a -> none
+1 -> none";
+
+/// What stands before and behind the arrow of a line.
+fn row(line: &str) -> (&str, &str) {
+    match line.split_once(" -> ") {
+        Some(parts) => parts,
+        None => (line, "no arrow"),
+    }
+}
+
 #[test]
 fn places_have_one_spelling(rt: HostRuntime) -> Result<(), Fail> {
     let alloc = rt.alloc();
-    for (word, line) in [
-        ("T", "T"),
-        ("T/", "T|"),
-        ("T//", "T||"),
-        ("t1/x", "t1|x"),
-        ("T/a~1b", "T|a/b"),
-        ("T/~0", "T|~"),
-        ("T/~01", "T|~1"),
-        ("T/a\\b", "T|a\\b"),
-        ("T/\u{e9}", "T|\u{e9}"),
-        ("\"T/x y\"", "T|x y"),
-        ("\"T/12:30\"", "T|12:30"),
-        ("\"T/12:30/~0\\\\\"", "T|12:30|~\\"),
-        ("\"T/\\\"\"", "T|\""),
-        ("\"T/\\b\\f\\n\\r\\t\"", "T|\u{8}\u{c}\n\r\t"),
-        ("\"T/\\u001f\"", "T|\u{1f}"),
-        ("\"T/\\u0000\\u000b\"", "T|\u{0}\u{b}"),
-        ("\"T/\u{7f},\u{e9}\"", "T|\u{7f},\u{e9}"),
-        (
-            "abcdefghijklmnopqrstuvwxyz012345/a",
-            "abcdefghijklmnopqrstuvwxyz012345|a",
-        ),
-        ("", "bad escape at 0"),
-        ("1T", "bad escape at 0"),
-        ("/a", "bad escape at 0"),
-        ("T-", "bad escape at 1"),
-        ("abcdefghijklmnopqrstuvwxyz0123456", "bad escape at 32"),
-        ("T/~2", "bad escape at 3"),
-        ("T/a~", "bad escape at 4"),
-        ("T/~/a", "bad escape at 3"),
-        ("T/x y", "bad escape at 3"),
-        ("T/a\"", "bad escape at 3"),
-        ("\"T", "bad escape at 2"),
-        ("\"T\"", "bad escape at 2"),
-        ("\"T/ab\"", "bad escape at 5"),
-        ("\"T/a b", "bad escape at 6"),
-        ("\"T/a b\"x", "bad escape at 7"),
-        ("\"T/a b~\"", "bad escape at 7"),
-        ("\"T/\\u0041 \"", "bad escape at 7"),
-        ("\"T/\\u001F\"", "bad escape at 8"),
-        ("\"T/\\u0008\"", "bad escape at 8"),
-        ("\"T/\\u000a\"", "bad escape at 8"),
-        ("\"T/\\/ \"", "bad escape at 4"),
-        ("\"T/\n\"", "bad escape at 3"),
-        ("\"T\\n\"", "bad escape at 2"),
-    ] {
-        assert_eq!(rt; place_read(alloc, word)?.as_str(), line);
+    for line in PLACES.lines() {
+        let (word, want) = row(line);
+        assert_eq!(rt; place_read(alloc, word)?.as_str(), want);
     }
     Ok(())
 }
 
 #[test]
-fn labels_and_values_are_read(rt: HostRuntime) -> Result<(), Fail> {
+fn control_bytes_are_escaped(rt: HostRuntime) -> Result<(), Fail> {
     let alloc = rt.alloc();
-    for (word, line) in [
-        ("\"\"", "|"),
-        ("a~1b", "|a/b"),
-        ("into", "|into"),
-        ("\"x y\"", "|x y"),
-        ("", "bad escape at 0"),
-        ("a/b", "bad escape at 1"),
-        ("\"ab\"", "bad escape at 3"),
-        ("~2", "bad escape at 1"),
+    for (word, want) in [
+        ("\"T/\\b\\f\\n\\r\\t\"", "T|\u{8}\u{c}\n\r\t"),
+        ("\"T/\\u001f\"", "T|\u{1f}"),
+        ("\"T/\\u0000\\u000b\"", "T|\u{0}\u{b}"),
+        ("\"T/\n\"", "bad escape at 3"),
     ] {
-        assert_eq!(rt; label_read(alloc, word)?.as_str(), line);
+        assert_eq!(rt; place_read(alloc, word)?.as_str(), want);
     }
-    for (word, line) in [
-        ("null", "null"),
-        ("true", "true"),
-        ("false", "false"),
-        ("0", "0"),
-        ("-9223372036854775808", "-9223372036854775808"),
-        ("18446744073709551615", "18446744073709551615"),
-        ("\"\"", "\"\""),
-        ("\"a\\u0041\\/\"", "\"aA/\""),
-        ("-9223372036854775809", "bad value"),
-        ("18446744073709551616", "bad value"),
-        ("-0", "bad value"),
-        ("+1", "bad value"),
-        ("007", "bad value"),
-        ("1.0", "bad value"),
-        ("[]", "bad value"),
-        ("Null", "bad value"),
-        ("", "bad value"),
-        ("\"a", "bad value"),
-    ] {
-        assert_eq!(rt; value_read(alloc, word)?.as_str(), line);
+    Ok(())
+}
+
+#[test]
+fn labels_have_one_spelling(rt: HostRuntime) -> Result<(), Fail> {
+    let alloc = rt.alloc();
+    for line in LABELS.lines() {
+        let (word, want) = row(line);
+        assert_eq!(rt; label_read(alloc, word)?.as_str(), want);
+    }
+    Ok(())
+}
+
+#[test]
+fn values_and_texts_are_read(rt: HostRuntime) -> Result<(), Fail> {
+    let alloc = rt.alloc();
+    for line in VALUES.lines() {
+        let (word, want) = row(line);
+        assert_eq!(rt; value_read(alloc, word)?.as_str(), want);
+    }
+    for line in TEXTS.lines() {
+        let (word, want) = row(line);
+        assert_eq!(rt; text_read(alloc, word)?.as_str(), want);
     }
     Ok(())
 }
@@ -297,19 +352,43 @@ fn limits_are_read_in_their_order(rt: HostRuntime) -> Result<(), Fail> {
 }
 
 #[test]
+fn places_begin_with_those_above_them(rt: HostRuntime) -> Result<(), Fail> {
+    let places = places(rt.alloc(), "T T/a T/a/b T/a/b/c")?;
+    for (i, p) in places.iter().enumerate() {
+        for (j, q) in places.iter().enumerate() {
+            assert!(rt; p.starts_with(q) == (j <= i));
+        }
+    }
+    Ok(())
+}
+
+#[test]
+fn places_beside_others_do_not_begin_with_them(rt: HostRuntime) -> Result<(), Fail> {
+    let places = places(rt.alloc(), "T/a/b T/b T/ab S S/a")?;
+    for (i, p) in places.iter().enumerate() {
+        for (j, q) in places.iter().enumerate() {
+            assert!(rt; p.starts_with(q) == (i == j || (i == 4 && j == 3)));
+        }
+    }
+    Ok(())
+}
+
+#[test]
+fn parents_have_one_label_less(rt: HostRuntime) -> Result<(), Fail> {
+    let alloc = rt.alloc();
+    let place = Loc::read(alloc, "T/a/b")?;
+    let parent = Loc::read(alloc, "T/a")?;
+    assert!(rt; matches!(place.parent()?, Some(found) if found == parent));
+    assert!(rt; Loc::target(alloc)?.parent()?.is_none());
+    Ok(())
+}
+
+#[test]
 fn places_move_with_those_above_them(rt: HostRuntime) -> Result<(), Fail> {
     let alloc = rt.alloc();
     let place = Loc::read(alloc, "T/a/b/c")?;
     let old = Loc::read(alloc, "T/a")?;
     let to = Loc::read(alloc, "S/x/y")?;
-    assert!(rt; place.starts_with(&old) && place.starts_with(&place));
-    assert!(rt;
-        !old.starts_with(&place)
-            && !place.starts_with(&Loc::read(alloc, "T/b")?)
-            && !place.starts_with(&Loc::read(alloc, "S")?)
-    );
-    assert!(rt; Loc::target(alloc)?.parent()?.is_none());
-    assert!(rt; matches!(place.parent()?, Some(parent) if parent == Loc::read(alloc, "T/a/b")?));
     if place.starts_with(&old) {
         assert_eq!(rt; place.rebase(&old, &to)?.text(alloc)?.as_str(), "S/x/y/b/c");
     }

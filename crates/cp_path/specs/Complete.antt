@@ -14,8 +14,8 @@ use Rattle.cp_path.specs.declared.scan.Part.{Part}
 use Rattle.cp_path.specs.declared.scan.Part.TheVariants as part
 use Rattle.cp_path.specs.declared.scan.Spot.{Spot}
 use Rattle.cp_path.specs.declared.scan.Spot.TheVariants as spot
-use Rattle.cp_path.proofs.Runs.{run_on, run_one, all_below, below, when, next_part, or_false, or_assoc}
-use Rattle.cp_path.proofs.Sound.{plain_escape, Spelt, seen, spelt}
+use Rattle.cp_path.specs.Runs.{run_on, run_one, all_below, below, when, next_part, or_false, or_assoc}
+use Rattle.cp_path.specs.Sound.{plain_escape, Spelt, seen, spelt}
 
 or_parts : (b c : Bool) → (b || c) ≡ false → (b ≡ false) × (c ≡ false)
 or_parts true c e = cc

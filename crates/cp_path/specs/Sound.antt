@@ -14,7 +14,7 @@ use Rattle.cp_path.specs.declared.scan.Part.{Part}
 use Rattle.cp_path.specs.declared.scan.Part.TheVariants as part
 use Rattle.cp_path.specs.declared.scan.Spot.{Spot}
 use Rattle.cp_path.specs.declared.scan.Spot.TheVariants as spot
-use Rattle.cp_path.proofs.Runs.{part_more, trigger_more, if_split, map_split, all_below, below, when, next_part, next_spot, part_run_one, or_false}
+use Rattle.cp_path.specs.Runs.{part_more, trigger_more, if_split, map_split, all_below, below, when, next_part, next_spot, part_run_one, or_false}
 
 -- ---- bytes and their escapes, by trying each
 

@@ -8,8 +8,8 @@ use Rattle.cp_path.specs.Scan.{part_step, label_step, part_run, ends, is_label}
 use Rattle.cp_path.specs.Reading.{LabelSpelled}
 use Rattle.cp_path.specs.declared.scan.Part.{Part}
 use Rattle.cp_path.specs.declared.scan.Part.TheVariants as part
-use Rattle.cp_path.proofs.Runs.{part_run_on, next_part}
-use Rattle.cp_path.proofs.Sound.{Spelt}
+use Rattle.cp_path.specs.Runs.{part_run_on, next_part}
+use Rattle.cp_path.specs.Sound.{Spelt}
 
 pub part_split : {P : Type 0} (b : Bool) (m n : Option Part) (u : Part) → cond b m n ≡ Some u → (b ≡ true → m ≡ Some u → P) → (b ≡ false → n ≡ Some u → P) → P
 part_split true m n u h f g = f refl h

@@ -12,9 +12,9 @@ use Rattle.cp_path.specs.Reading.{PlaceSpelled}
 use Rattle.cp_path.specs.declared.loc.Loc.{Loc}
 use Rattle.cp_path.specs.declared.scan.Part.{Part}
 use Rattle.cp_path.specs.declared.scan.Part.TheVariants as part
-use Rattle.cp_path.proofs.Runs.{part_run_on, next_part}
-use Rattle.cp_path.proofs.Sound.{Spelt}
-use Rattle.cp_path.proofs.Spelled.{part_split, same_part, no_part, InLabel, InTilde, grow, tilde, untilde, label_run}
+use Rattle.cp_path.specs.Runs.{part_run_on, next_part}
+use Rattle.cp_path.specs.Sound.{Spelt}
+use Rattle.cp_path.specs.Spelled.{part_split, same_part, no_part, InLabel, InTilde, grow, tilde, untilde, label_run}
 
 abbrev BehindSlash : (List ℕ → List ℕ → Type 0) → List ℕ → Type 0
 BehindSlash In r = (q : Loc) × (is_name q.db ≡ true) × In (raw_place q ++ 47 ∷ []) r
