@@ -2,6 +2,8 @@ pub mod Place
 pub mod Keyed
 pub mod Codes
 pub mod Literals
+pub mod Trees
+pub mod Grouping
 pub mod Falls
 pub mod Subtrees
 pub mod Tree

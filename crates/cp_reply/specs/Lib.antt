@@ -1,2 +1,3 @@
-pub mod Trees
 pub mod Lines
+pub mod Front
+pub mod Runs

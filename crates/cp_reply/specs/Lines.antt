@@ -26,7 +26,7 @@ use Rattle.cp_model.specs.declared.answer.FromAnswer.{FromAnswer}
 use Rattle.cp_model.specs.declared.answer.FromAnswer.TheVariants as came
 use Rattle.cp_model.specs.declared.answer.Stats.{Stats}
 use Rattle.cp_model.specs.declared.answer.LogLine.{LogLine}
-use Rattle.cp_reply.specs.Trees.{between, tree_text}
+use Rattle.cp_model.specs.Trees.{between, tree_text}
 use Rattle.cp_reply.specs.declared.reply.Of.{Of}
 use Rattle.cp_reply.specs.declared.reply.Of.TheVariants as of
 use Rattle.cp_reply.specs.declared.reply.Why.{Why}

@@ -3,6 +3,16 @@
 //! The lines stand in `specs/Lines.antt`.
 #![tactic(auto)]
 
+mod answer;
+mod record;
+mod refusal;
 mod reply;
+mod tree;
+mod word;
+mod write;
 
 pub use reply::{Of, Reply, Why};
+pub use write::lines;
+
+#[cfg(test)]
+mod tests;

@@ -10,7 +10,7 @@ use Rattle.cp_model.specs.Past.{loses_child, settle}
 use Rattle.cp_model.specs.Rows.{full_here, reduced_here, all_paths}
 use Rattle.cp_model.specs.History.{settled, after_step, after_commit, begun, replay}
 use Rattle.cp_model.specs.Answers.{answer_to}
-use Rattle.cp_reply.specs.Trees.{tree_at}
+use Rattle.cp_model.specs.Trees.{tree_at}
 use Rattle.cp_reply.specs.Lines.{lines}
 use Rattle.cp_session.specs.Session.{replies_to_statements}
 use Rattle.cp_session.specs.Examples.{CopyPasteHolds, CopiesHold, NetEffectsHold, InsertedTreesHold, TransactionsHold, SourcesHold, SpellingsHold}
