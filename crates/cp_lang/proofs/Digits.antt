@@ -1,4 +1,4 @@
--- Plain digits are what `parse` reads.
+-- Digits are what `parse` of std reads.
 use Rattle.std.proofs.Common.{◌≡◌, ℕ, ◌≤◌, ◌<◌, ◌==◌, ◌^◌, List, [], ◌∷◌, Bool, true, false, length, refl, ap, sym, arith, nat_lt, subst, ◌∙◌, Some, None, Result, Ok, Err}
 use Rattle.std.proofs.lemmas.Bool.{and_parts, leb-true, lt-ltb, ltb-true, ne_eqb}
 use Rattle.std.proofs.lemmas.Str.{digit_value_digit, IsUtf8-from_ascii}
@@ -7,7 +7,7 @@ use Rattle.std.specs.List.{list_all}
 use Rattle.std.specs.Str.{IsUtf8}
 use Rattle.std.specs.Str.Parse.{AllDigits, IsNumeral, digits_value, without_leading_plus}
 use Rattle.cp_path.specs.Text.{is_digit}
-use Rattle.cp_lang.specs.Plain.{is_decimal, decimal_value}
+use Rattle.cp_lang.specs.Decimal.{is_decimal, decimal_value}
 use Rattle.std.specs.Result.{result_ok}
 use Rattle.std.specs.Str.Parse.{ParsesUnsigned}
 

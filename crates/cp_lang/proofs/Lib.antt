@@ -1,3 +1,5 @@
-mod Alphanumeric
+mod Cutting
 mod Digits
 mod Held
+pub mod Printing
+mod Steps

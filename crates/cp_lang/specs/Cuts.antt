@@ -1,6 +1,6 @@
 -- How the input is cut into the texts of statements.
 use Rattle.std.specs.Prelude.{ℕ, ◌==◌, List, [], ◌∷◌, ◌++◌, Bool, false, length, nat_lt, if◌then◌else◌}
-use Rattle.cp_lang.specs.Tokens.{is_blank}
+use Rattle.cp_lang.specs.Spaces.{is_blank}
 use Rattle.cp_lang.specs.declared.cut.Mode.{Mode}
 use Rattle.cp_lang.specs.declared.cut.Mode.TheVariants.{Outside, Inside, Escaped}
 use Rattle.cp_lang.specs.declared.cut.Cut.{Cut}

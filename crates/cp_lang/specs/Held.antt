@@ -1,6 +1,6 @@
 -- What a cutter keeps of a scan: a text that is short enough, and of a longer one only whether it is white space alone.
 use Rattle.std.specs.Prelude.{ℕ, ◌≡◌, List, [], ◌∷◌, ◌++◌, Bool, true, ◌&&◌, length, nat_lt, if◌then◌else◌}
-use Rattle.cp_lang.specs.Tokens.{is_space, is_blank}
+use Rattle.cp_lang.specs.Spaces.{is_space, is_blank}
 use Rattle.cp_lang.specs.Cuts.{ends, after, Scan, scan_start, most_statement}
 use Rattle.cp_lang.specs.declared.cut.Mode.{Mode}
 use Rattle.cp_lang.specs.declared.cut.Cut.{Cut}

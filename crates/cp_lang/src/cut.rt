@@ -1,6 +1,6 @@
 ghost use Rattle.std.specs.Prelude.{◌≡◌};
 ghost use Rattle.cp_lang.specs.Cuts.{ends, after};
-ghost use Rattle.cp_lang.specs.Tokens.{is_space, is_blank};
+ghost use Rattle.cp_lang.specs.Spaces.{is_space, is_blank};
 
 use cp_path::Bytes;
 

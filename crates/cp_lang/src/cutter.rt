@@ -1,4 +1,4 @@
-ghost use Rattle.std.specs.Prelude.{◌≡◌, OnOk, [], ◌++◌, ◌∷◌};
+ghost use Rattle.std.specs.Prelude.{◌≡◌, OnOk, IfOk, [], ◌++◌, ◌∷◌};
 ghost use Rattle.std.specs.Option.{option_to_list};
 ghost use Rattle.cp_lang.specs.Cuts.{Scan, scan_start, scanned, rest_of};
 ghost use Rattle.cp_lang.specs.Held.{held_of, held_cut, grown, byte_cuts, byte_held, Begins};
@@ -64,32 +64,43 @@ impl Cutter {
     }
 
     /// Cuts the text out, which a byte has ended.
-    fn end(&mut self, out: &mut Vec<Cut>) -> Result<(), AllocError>
-        ensures ok { OnOk result ((out.new.items ≡ out.old.items ++ held_cut self.old) × (self.new ≡ held_of scan_start)) }
-        ensures front { Begins out.old.items out.new.items }
+    fn end(&mut self) -> Option<Cut>
+        ensures cut { option_to_list result ≡ held_cut self.old }
+        ensures anew { self.new ≡ held_of scan_start }
     {
         let ended = mem::replace(self, Cutter::new(self.alloc));
         if ended.blank {
-            return Ok(());
+            return None;
         }
-        let cut = if ended.long {
-            Cut::TooLong
-        } else {
-            Cut::Text(Bytes { items: ended.text })
-        };
-        out.push(cut)?;
-        Ok(())
+        if ended.long {
+            return Some(Cut::TooLong);
+        }
+        Some(Cut::Text(Bytes { items: ended.text }))
     }
 
-    /// Takes one byte.
+    /// Takes one byte, and gives the cut that ends with it, if one does. After an `Err` the cutter's place in the
+    /// input is lost.
+    pub fn push(&mut self, byte: u8) -> Result<Option<Cut>, AllocError>
+        ensures ok { IfOk result (λ cut. (option_to_list cut ≡ byte_cuts self.old byte) × (self.new ≡ byte_held self.old byte)) }
+    {
+        if ends(self.mode, byte) {
+            return Ok(self.end());
+        }
+        self.grow(byte)?;
+        Ok(None)
+    }
+
+    /// Takes one byte, and puts the cut that ends with it behind `out`.
     fn byte(&mut self, byte: u8, out: &mut Vec<Cut>) -> Result<(), AllocError>
         ensures ok { OnOk result ((out.new.items ≡ out.old.items ++ byte_cuts self.old byte) × (self.new ≡ byte_held self.old byte)) }
         ensures front { Begins out.old.items out.new.items }
     {
-        if ends(self.mode, byte) {
-            self.end(out)
-        } else {
-            self.grow(byte)
+        match self.push(byte)? {
+            Some(cut) => {
+                out.push(cut)?;
+                Ok(())
+            }
+            None => Ok(()),
         }
     }
 

@@ -1,15 +1,21 @@
-//! The statements that a curator writes, and how the input is cut into them.
+//! The statements that a curator writes, how the input is cut into them, and how they are read.
 #![tactic(auto)]
 
 mod cut;
 mod cutter;
-mod plain;
+mod decimal;
+mod lexer;
+mod literal;
+mod parser;
+mod printer;
+mod statement;
 mod stmt;
-mod token;
+mod verb;
 
 pub use cut::{Cut, Mode, after, ends, is_blank, is_space};
 pub use cutter::{Cutter, STATEMENT_MAX};
-pub use plain::read_plain;
+pub use printer::print;
+pub use statement::{first_offset, parse, parse_bytes};
 pub use stmt::{Load, Stmt, StmtFault};
 
 #[cfg(test)]

@@ -1,73 +1,105 @@
 -- Bytes played one after another, and what was written for them.
-use Rattle.std.proofs.Common.{◌≡◌, ℕ, ◌+◌, ◌<◌, get_or, List, [], ◌∷◌, ◌++◌, take, drop, length, Bool, true, false, cond, Option, Result, Ok, Err, OnOk, refl, sym, ap, ◌∙◌, subst, append_assoc, append-nil, arith}
+use Rattle.std.proofs.Common.{◌≡◌, ℕ, ◌+◌, ◌<◌, get_or, List, [], ◌∷◌, ◌++◌, take, drop, length, Bool, true, false, Option, Result, Ok, Err, OnOk, refl, sym, ap, ◌∙◌, subst, append_assoc, append-nil, arith}
+use Rattle.std.specs.Prelude.{◌||◌, ⊤}
+use Rattle.std.specs.List.{flat_map, list_any}
+use Rattle.std.specs.declared.option.Option.TheVariants.{None, Some}
 use Rattle.std.proofs.Math.Seq.{take-append-add, take-append_seam}
+use Rattle.std.proofs.lemmas.Grind.{flat_map-append}
+use Rattle.std.proofs.lemmas.List.Folds.{list_any-append}
 use Rattle.std.proofs.lemmas.List.{take-append-le, length-append, take_more, take-append-drop}
-use Rattle.std.specs.Prelude.{⊤}
 use Rattle.std.specs.Io.KnownBytes.{Appends}
 use Rattle.cp_outside.specs.Sinks.{TakesPart}
 use Rattle.cp_outside.specs.KnownBytes.{Appends-none, Appends-then}
-use Rattle.cpdb.specs.Machine.{Play, Seen, Db, Reply, silent, said, refusal, fresh_text, replied, goes_on, play, step}
-use Rattle.cpdb.specs.Turns.{Goes, Fed, Answers, Carried}
-use Rattle.cpdb.specs.declared.store.Reply as code
+use Rattle.cp_lang.specs.declared.cut.Cut.{Cut}
+use Rattle.cp_lang.specs.Cuts.{Scan, scan_byte, scanned, rest_of}
+use Rattle.cp_lang.specs.Pieces.{scan-append, cuts-append}
+use Rattle.cp_lang.specs.Held.{Held, held_of, byte_cuts, byte_held}
+use Rattle.cp_lang.specs.Bytewise.{byte_cuts-is, byte_held-is}
+use Rattle.cp_reply.specs.Lines.{lines}
+use Rattle.cp_reply.specs.declared.reply.Reply.{Reply}
+use Rattle.cp_session.specs.Session.{Session, turn, replies_to, session_after}
+use Rattle.cp_session.specs.Appended.{replies_to-append, session_after-append}
+use Rattle.cpdb.specs.Job.{Ended, told, setting, is_refusal}
+use Rattle.cpdb.specs.Play.{Seen, plays, after_play, closes, plays_all}
+use Rattle.cpdb.specs.Stores.{Stands, Turned}
+use Rattle.cpdb.specs.Turns.{Kept, Follows, Written, Goes, Fed, Closed, cuts_play, after_cuts}
 use Rattle.cpdb.specs.declared.stop.Stop.{Stop}
-use Rattle.cpdb.specs.declared.stop.Stop.TheVariants.{Refused, Output, Full, Memory}
+use Rattle.cpdb.specs.declared.stop.Stop.TheVariants.{Output, Full, Memory}
 
-goes_on-at : (out : List ℕ) (now : Seen) (refused : Bool) (f g : Seen → Play) → goes_on (goes_on (record { out = out; now = now; refused = refused }) f) g ≡ goes_on (record { out = out; now = now; refused = refused }) (λ t. goes_on (f t) g)
-goes_on-at out now true f g = refl
-goes_on-at out now false f g = inner (f now).out (f now).now (f now).refused
-  where
-    inner : (o : List ℕ) (n : Seen) (r : Bool) → goes_on (record { out = out ++ o; now = n; refused = r }) g ≡ goes_on (record { out = out; now = now; refused = false }) (λ t. goes_on (record { out = o; now = n; refused = r }) g)
-    inner o n true = refl
-    inner o n false = ap (λ z. let p : Play = record { out = z; now = (g n).now; refused = (g n).refused } in p) (append_assoc out o (g n).out)
+-- which of three is true
+pub or-assoc : (a b c : Bool) → ((a || b) || c) ≡ (a || (b || c))
+or-assoc true b c = refl
+or-assoc false b c = refl
 
--- going on twice is going on with both
-pub goes_on-assoc : (p : Play) (f g : Seen → Play) → goes_on (goes_on p f) g ≡ goes_on p (λ t. goes_on (f t) g)
-goes_on-assoc p f g = goes_on-at p.out p.now p.refused f g
+-- false adds nothing
+pub or-false : (b : Bool) → b ≡ (b || false)
+or-false true = refl
+or-false false = refl
 
--- what goes on alike is the same
-pub goes_on-same : (p : Play) (f g : Seen → Play) → ((t : Seen) → f t ≡ g t) → goes_on p f ≡ goes_on p g
-goes_on-same p f g same = go p.refused
-  where
-    go : (r : Bool) → cond r p (record { out = p.out ++ (f p.now).out; now = (f p.now).now; refused = (f p.now).refused }) ≡ cond r p (record { out = p.out ++ (g p.now).out; now = (g p.now).now; refused = (g p.now).refused })
-    go true = refl
-    go false = ap (λ (q : Play). let r : Play = record { out = p.out ++ q.out; now = q.now; refused = q.refused } in r) (same p.now)
+-- ---- lines one after another
 
--- a refused play stands, whatever would come next
-pub goes_on-stops : (p : Play) (next : Seen → Play) → p.refused ≡ true → goes_on p next ≡ p
-goes_on-stops p next h = rw h refl
+-- what was written first, and then
+abbrev pub joined : Ended → Ended → Ended
+joined e f = record { out = e.out ++ f.out; refused = e.refused || f.refused }
+
+ended : List ℕ → Bool → Ended
+ended out refused = record { out = out; refused = refused }
+
+-- the lines of replies one after another
+pub told-append : (xs ys : List Reply) → told (xs ++ ys) ≡ joined (told xs) (told ys)
+unfolding ended
+told-append xs ys =
+    ap (λ o. ended o (list_any is_refusal (xs ++ ys))) (flat_map-append lines xs ys) ∙ ap (ended (flat_map lines xs ++ flat_map lines ys)) (list_any-append is_refusal xs ys)
+
+-- the lines for cuts one after another
+pub cuts-then : (s : Session) (xs ys : List Cut) → told (replies_to setting s (xs ++ ys)) ≡ joined (told (replies_to setting s xs)) (told (replies_to setting (session_after setting s xs) ys))
+cuts-then s xs ys = ap told (replies_to-append setting s xs ys) ∙ told-append (replies_to setting s xs) (replies_to setting (session_after setting s xs) ys)
+
+seen : Scan → Session → Seen
+seen c s = record { scan = c; session = s }
 
 -- bytes are played in any pieces
-pub play-append : (s : Seen) (xs ys : List ℕ) → play s (xs ++ ys) ≡ goes_on (play s xs) (λ t. play t ys)
-unfolding play
-play-append s [] ys = refl
-play-append s (x ∷ xs) ys =
-    goes_on-same (step s x) (λ t. play t (xs ++ ys)) (λ t. goes_on (play t xs) (λ u. play u ys)) (λ t. play-append t xs ys)
-    ∙ sym (goes_on-assoc (step s x) (λ t. play t xs) (λ u. play u ys))
+pub plays-append : (s : Seen) (xs ys : List ℕ) → plays s (xs ++ ys) ≡ joined (plays s xs) (plays (after_play s xs) ys)
+unfolding plays after_play
+plays-append s xs ys = ap (λ c. told (replies_to setting s.session c)) (cuts-append s.scan xs ys) ∙ cuts-then s.session (scanned s.scan xs).cuts (scanned (scanned s.scan xs).scan ys).cuts
 
--- one byte is one step
-pub play-one : (s : Seen) (b : ℕ) → play s (b ∷ []) ≡ step s b
-unfolding play
-play-one s b = go (step s b).out (step s b).now (step s b).refused
-  where
-    go : (out : List ℕ) (now : Seen) (r : Bool) → goes_on (record { out = out; now = now; refused = r }) (λ t. record { out = []; now = t; refused = false }) ≡ (let p : Play = record { out = out; now = now; refused = r } in p)
-    go out now true = refl
-    go out now false = ap (λ z. let p : Play = record { out = z; now = now; refused = false } in p) (append-nil out)
+-- what is seen behind them is the same
+pub after-append : (s : Seen) (xs ys : List ℕ) → after_play s (xs ++ ys) ≡ after_play (after_play s xs) ys
+unfolding after_play seen
+after-append s xs ys =
+    ap (λ c. seen c (session_after setting s.session (scanned s.scan (xs ++ ys)).cuts)) (scan-append s.scan xs ys)
+    ∙ ap (seen (scanned (scanned s.scan xs).scan ys).scan)
+    (ap (session_after setting s.session) (cuts-append s.scan xs ys) ∙ session_after-append setting s.session (scanned s.scan xs).cuts (scanned (scanned s.scan xs).scan ys).cuts)
 
--- what one play wrote, and then another
-abbrev pub behind : List ℕ → Play → Play
-behind out p = record { out = out ++ p.out; now = p.now; refused = p.refused }
+-- what all the rest writes is what the bytes write, and then the cut at their end
+pub all-closes : (s : Seen) (xs : List ℕ) → plays_all s xs ≡ joined (plays s xs) (closes (after_play s xs))
+unfolding plays plays_all after_play closes
+all-closes s xs = cuts-then s.session (scanned s.scan xs).cuts (rest_of (scanned s.scan xs).scan)
 
-goes_on-behind : (p : Play) (t : Seen) (next : Seen → Play) → p.refused ≡ false → t ≡ p.now → goes_on p next ≡ behind p.out (next t)
-goes_on-behind p t next h k = rw (h, ← k) refl
+joined-assoc : (d e f : Ended) → joined (joined d e) f ≡ joined d (joined e f)
+unfolding ended
+joined-assoc d e f = ap (λ o. ended o ((d.refused || e.refused) || f.refused)) (append_assoc d.out e.out f.out) ∙ ap (ended (d.out ++ (e.out ++ f.out))) (or-assoc d.refused e.refused f.refused)
 
--- bytes that were played, and then others
-pub play-then : (s t : Seen) (xs ys : List ℕ) (b m : Option (List ℕ)) → Fed s xs t b m (Ok tt) → play s (xs ++ ys) ≡ behind (play s xs).out (play t ys)
-play-then s t xs ys b m h = play-append s xs ys ∙ goes_on-behind (play s xs) t (λ u. play u ys) h.0 h.1
+-- the rest may begin with bytes that are played
+pub all-append : (s : Seen) (xs ys : List ℕ) → plays_all s (xs ++ ys) ≡ joined (plays s xs) (plays_all (after_play s xs) ys)
+all-append s xs ys =
+    all-closes s (xs ++ ys)
+    ∙ ap (λ e. joined e (closes (after_play s (xs ++ ys)))) (plays-append s xs ys)
+    ∙ ap (λ t. joined (joined (plays s xs) (plays (after_play s xs) ys)) (closes t)) (after-append s xs ys)
+    ∙ joined-assoc (plays s xs) (plays (after_play s xs) ys) (closes (after_play (after_play s xs) ys))
+    ∙ ap (joined (plays s xs)) (sym (all-closes (after_play s xs) ys))
 
--- the same where something else goes on in the end
-pub job-then : (s t : Seen) (xs ys : List ℕ) (b m : Option (List ℕ)) (next : Seen → Play) → Fed s xs t b m (Ok tt) → goes_on (play s (xs ++ ys)) next ≡ behind (play s xs).out (goes_on (play t ys) next)
-job-then s t xs ys b m next h =
-    ap (λ p. goes_on p next) (play-append s xs ys) ∙ goes_on-assoc (play s xs) (λ u. play u ys) next ∙ goes_on-behind (play s xs) t (λ u. goes_on (play u ys) next) h.0 h.1
+-- no byte writes nothing
+pub plays-none : (s : Seen) → (plays s []).out ≡ []
+unfolding plays scanned replies_to
+plays-none s = refl
+
+-- at the end of the input
+pub all-none : (s : Seen) → plays_all s [] ≡ closes s
+unfolding plays_all closes scanned
+all-none s = refl
+
+-- ---- parts of texts
 
 -- a part of the second text, behind the first
 pub part-then : (b m a : Option (List ℕ)) (xs ys : List ℕ) → Appends b m xs → TakesPart m a ys → TakesPart b a (xs ++ ys)
@@ -78,69 +110,123 @@ part-then b m a xs ys h t =
 pub part-more : (b a : Option (List ℕ)) (xs ys : List ℕ) → TakesPart b a xs → TakesPart b a (xs ++ ys)
 part-more b a xs ys t = (t.0, omega (arith, length-append xs ys, t.1), subst (Appends b a) (sym (take-append-le t.0 xs ys t.1)) t.2)
 
--- a part of a play's text is a part of the text when the play goes on
-pub part-on : (p : Play) (next : Seen → Play) (b a : Option (List ℕ)) → TakesPart b a p.out → TakesPart b a (goes_on p next).out
-part-on p next b a t = go p.refused
-  where
-    go : (r : Bool) → TakesPart b a (cond r p (record { out = p.out ++ (next p.now).out; now = (next p.now).now; refused = (next p.now).refused })).out
-    go true = t
-    go false = part-more b a p.out (next p.now).out t
+-- nothing written behind a text
+pub nothing-more : (b m a : Option (List ℕ)) (xs : List ℕ) → Appends b m xs → Appends m a [] → Appends b a xs
+nothing-more b m a xs h k = subst (Appends b a) (append-nil xs) (Appends-then b m a xs [] h k)
 
--- ---- feeding
+-- ---- cuts
+
+-- a cut brought no reply
+pub ran-silent : (s : Seen) (cut : Cut) (old new : Kept) (a : Option (List ℕ)) → Turned (turn setting s.session cut) new.ledger None → new.held ≡ held_of s.scan → new.refused ≡ old.refused
+    → Goes (cuts_play s (cut ∷ [])) (after_cuts s (cut ∷ [])) old new a a (Ok tt)
+unfolding replies_to session_after
+ran-silent s cut old new a t h f = rw (sym t.0) ((h, t.1), f ∙ or-false old.refused, Appends-none a)
+
+-- the lines of a cut's reply were written
+pub ran-said : (s : Seen) (cut : Cut) (r : Reply) (old mid new : Kept) (b a : Option (List ℕ)) (result : Result ⊤ Stop)
+    → Turned (turn setting s.session cut) mid.ledger (Some r) → mid.held ≡ held_of s.scan → mid.refused ≡ old.refused
+    → Written (lines r) b a result → OnOk result (new.held ≡ mid.held) → OnOk result (new.ledger ≡ mid.ledger) → OnOk result (new.refused ≡ (mid.refused || is_refusal r))
+    → Goes (cuts_play s (cut ∷ [])) (after_cuts s (cut ∷ [])) old new b a result
+unfolding replies_to session_after
+ran-said s cut r old mid new b a (Ok x) t h f w h' l' f' =
+    rw (sym t.0) (
+      (h' ∙ h, subst (λ z. Stands z (turn setting s.session cut).next) (sym l') t.1),
+      f' ∙ ap (λ v. v || is_refusal r) f ∙ ap (λ v. old.refused || v) (or-false (is_refusal r)),
+      subst (Appends b a) (sym (append-nil (lines r))) w,
+    )
+ran-said s cut r old mid new b a (Err Output) t h f w h' l' f' = rw (sym t.0) (subst (TakesPart b a) (sym (append-nil (lines r))) w)
+ran-said s cut r old mid new b a (Err Full) t h f w h' l' f' = rw (sym t.0) (subst (TakesPart b a) (sym (append-nil (lines r))) w)
+ran-said s cut r old mid new b a (Err Memory) t h f w h' l' f' = w
+
+-- no cut
+pub ran-none : (s : Seen) (k : Kept) (a : Option (List ℕ)) → Follows k s → Goes (cuts_play s []) (after_cuts s []) k k a a (Ok tt)
+unfolding replies_to session_after
+ran-none s k a h = (h, or-false k.refused, Appends-none a)
+
+-- ---- bytes
+
+-- one byte and the cut that ends with it
+pub plays-one : (s : Seen) (x : ℕ) → (plays s (x ∷ []) ≡ cuts_play s (byte_cuts (held_of s.scan) x)) × (after_play s (x ∷ []) ≡ after_cuts (record { scan = (scan_byte s.scan x).scan; session = s.session }) (byte_cuts (held_of s.scan) x))
+unfolding plays after_play scanned seen
+plays-one s x = (
+  ap (λ c. told (replies_to setting s.session c)) one,
+  ap (λ c. seen (scan_byte s.scan x).scan (session_after setting s.session c)) one,
+)
+  where
+    one : (scan_byte s.scan x).cuts ++ [] ≡ byte_cuts (held_of s.scan) x
+    one = append-nil (scan_byte s.scan x).cuts ∙ sym (byte_cuts-is s.scan x)
+
+-- what the code keeps follows the scan
+pub follows-byte : (k : Kept) (s : Seen) (x : ℕ) (h : Held) → Follows k s → h ≡ byte_held k.held x → h ≡ held_of (scan_byte s.scan x).scan
+follows-byte k s x h f e = e ∙ ap (λ z. byte_held z x) f.0 ∙ byte_held-is s.scan x
+
+-- the cut that a byte ends was run
+pub pushed : (s : Seen) (x : ℕ) (cuts : List Cut) (old mid new : Kept) (b a : Option (List ℕ)) (result : Result ⊤ Stop)
+    → Follows old s → cuts ≡ byte_cuts old.held x → mid.held ≡ byte_held old.held x → mid.ledger ≡ old.ledger → mid.refused ≡ old.refused
+    → ((t : Seen) → Follows mid t → Goes (cuts_play t cuts) (after_cuts t cuts) mid new b a result)
+    → Goes (plays s (x ∷ [])) (after_play s (x ∷ [])) old new b a result
+pushed s x cuts old mid new b a result f c h l r go = rw ((plays-one s x).0, (plays-one s x).1) (moved result (subst at (c ∙ ap (λ z. byte_cuts z x) f.0) (go t (follows-byte old s x mid.held f h, subst (λ z. Stands z s.session) (sym l) f.1))))
+  where
+    t : Seen
+    t = record { scan = (scan_byte s.scan x).scan; session = s.session }
+
+    at : List Cut → Type 0
+    at z = Goes (cuts_play t z) (after_cuts t z) mid new b a result
+
+    moved : (v : Result ⊤ Stop) → Goes (cuts_play t (byte_cuts (held_of s.scan) x)) (after_cuts t (byte_cuts (held_of s.scan) x)) mid new b a v
+        → Goes (cuts_play s (byte_cuts (held_of s.scan) x)) (after_cuts t (byte_cuts (held_of s.scan) x)) old new b a v
+    moved (Ok y) g = (g.0, g.1 ∙ ap (λ z. z || (cuts_play t (byte_cuts (held_of s.scan) x)).refused) r, g.2)
+    moved (Err Output) g = g
+    moved (Err Full) g = g
+    moved (Err Memory) g = g
 
 -- no byte is played at once
-pub Fed-none : (s : Seen) (a : Option (List ℕ)) → Fed s [] s a a (Ok tt)
-unfolding play
-Fed-none s a = (refl, refl, Appends-none a)
+pub goes-none : (s : Seen) (k : Kept) (a : Option (List ℕ)) → Follows k s → Goes (plays s []) (after_play s []) k k a a (Ok tt)
+unfolding plays after_play scanned replies_to session_after
+goes-none s k a h = (h, or-false k.refused, Appends-none a)
 
--- one byte more
-pub Fed-more : (s t u : Seen) (xs : List ℕ) (x : ℕ) (b m a : Option (List ℕ)) → Fed s xs t b m (Ok tt) → Goes (step t x) u m a (Ok tt) → Fed s (xs ++ x ∷ []) u b a (Ok tt)
-Fed-more s t u xs x b m a h g =
-    let e : play s (xs ++ x ∷ []) ≡ behind (play s xs).out (step t x) = play-then s t xs (x ∷ []) b m h ∙ ap (behind (play s xs).out) (play-one t x) in
-    rw e (g.0, g.1, Appends-then b m a (play s xs).out (step t x).out h.2 g.2)
+-- bytes, and then others
+pub goes-then : (s : Seen) (xs ys : List ℕ) (old mid new : Kept) (b m a : Option (List ℕ)) → Goes (plays s xs) (after_play s xs) old mid b m (Ok tt)
+    → Goes (plays (after_play s xs) ys) (after_play (after_play s xs) ys) mid new m a (Ok tt) → Goes (plays s (xs ++ ys)) (after_play s (xs ++ ys)) old new b a (Ok tt)
+goes-then s xs ys old mid new b m a g h =
+    rw (plays-append s xs ys, after-append s xs ys) (
+      h.0,
+      h.1 ∙ ap (λ z. z || (plays (after_play s xs) ys).refused) g.1 ∙ or-assoc old.refused (plays s xs).refused (plays (after_play s xs) ys).refused,
+      Appends-then b m a (plays s xs).out (plays (after_play s xs) ys).out g.2 h.2,
+    )
 
-unfolded : (t : Seen) (x : ℕ) (ys : List ℕ) → play t (x ∷ ys) ≡ goes_on (step t x) (λ u. play u ys)
-unfolding play
-unfolded t x ys = refl
-
--- a byte that stops the session, whatever would come next
-pub Fed-stopped : (s t u v : Seen) (xs : List ℕ) (x : ℕ) (ys : List ℕ) (b m a : Option (List ℕ)) (e : Stop) → Fed s xs t b m (Ok tt) → Goes (step t x) u m a (Err e) → Fed s (xs ++ x ∷ ys) v b a (Err e)
-Fed-stopped s t u v xs x ys b m a Refused h g =
-    let same : play s (xs ++ x ∷ ys) ≡ behind (play s xs).out (step t x) =
-    play-then s t xs (x ∷ ys) b m h ∙ ap (behind (play s xs).out) (unfolded t x ys ∙ goes_on-stops (step t x) (λ u. play u ys) g.0) in
-    rw same (g.0, Appends-then b m a (play s xs).out (step t x).out h.2 g.1)
-Fed-stopped s t u v xs x ys b m a Output h g =
-    let same : play s (xs ++ x ∷ ys) ≡ behind (play s xs).out (goes_on (step t x) (λ u. play u ys)) = play-then s t xs (x ∷ ys) b m h ∙ ap (behind (play s xs).out) (unfolded t x ys) in
-    rw same (part-then b m a (play s xs).out (goes_on (step t x) (λ u. play u ys)).out h.2 (part-on (step t x) (λ u. play u ys) m a g))
-Fed-stopped s t u v xs x ys b m a Full h g =
-    let same : play s (xs ++ x ∷ ys) ≡ behind (play s xs).out (goes_on (step t x) (λ u. play u ys)) = play-then s t xs (x ∷ ys) b m h ∙ ap (behind (play s xs).out) (unfolded t x ys) in
-    rw same (part-then b m a (play s xs).out (goes_on (step t x) (λ u. play u ys)).out h.2 (part-on (step t x) (λ u. play u ys) m a g))
-Fed-stopped s t u v xs x ys b m a Memory h g =
-    let front : take (length xs) (xs ++ x ∷ ys) ≡ xs = take-append_seam xs (x ∷ ys) in
-    let wrote : Appends b a (play s xs).out = subst (Appends b a) (append-nil (play s xs).out) (Appends-then b m a (play s xs).out [] h.2 g) in
-    (length xs, omega (arith, length-append xs (x ∷ ys)), rw front h.0, rw front wrote)
-
--- ---- replies
-
--- a reply was written, and the session goes on behind it
-pub Goes-replied : (s new : Seen) (reply : Reply) (db : Db) (r : code.Reply) (b a : Option (List ℕ)) (result : Result ⊤ Stop)
-    → Answers reply db r → Carried r b a result → (OnOk result (new ≡ fresh_text db)) → Goes (replied s reply) new b a result
-Goes-replied s new (silent d) db r b a (Ok x) h k e =
-    let same : a ≡ b = subst (λ z. Carried z b a (Ok x)) h.0 k in
-    (refl, e ∙ ap fresh_text h.1, subst (λ z. Appends b z []) (sym same) (Appends-none b))
-Goes-replied s new (silent d) db r b a (Err y) h k e = absurd (subst (λ z. Carried z b a (Err y)) h.0 k)
-Goes-replied s new (said t d) db r b a (Ok x) h k e = (refl, e ∙ ap fresh_text h.1, subst (λ z. Carried z b a (Ok x)) h.0 k)
-Goes-replied s new (said t d) db r b a (Err Refused) h k e = absurd (subst (λ z. Carried z b a (Err Refused)) h.0 k)
-Goes-replied s new (said t d) db r b a (Err Output) h k e = subst (λ z. Carried z b a (Err Output)) h.0 k
-Goes-replied s new (said t d) db r b a (Err Full) h k e = subst (λ z. Carried z b a (Err Full)) h.0 k
-Goes-replied s new (said t d) db r b a (Err Memory) h k e = absurd (subst (λ z. Carried z b a (Err Memory)) h.0 k)
-Goes-replied s new (refusal t) db r b a (Ok x) h k e = absurd (subst (λ z. Carried z b a (Ok x)) h k)
-Goes-replied s new (refusal t) db r b a (Err Refused) h k e = (refl, subst (λ z. Carried z b a (Err Refused)) h k)
-Goes-replied s new (refusal t) db r b a (Err Output) h k e = subst (λ z. Carried z b a (Err Output)) h k
-Goes-replied s new (refusal t) db r b a (Err Full) h k e = subst (λ z. Carried z b a (Err Full)) h k
-Goes-replied s new (refusal t) db r b a (Err Memory) h k e = absurd (subst (λ z. Carried z b a (Err Memory)) h k)
+-- a byte at which the session stops, whatever would come next
+pub fed-stopped : (s : Seen) (xs : List ℕ) (x : ℕ) (ys : List ℕ) (old mid new : Kept) (b m a : Option (List ℕ)) (e : Stop) → Goes (plays s xs) (after_play s xs) old mid b m (Ok tt)
+    → Goes (plays (after_play s xs) (x ∷ [])) (after_play (after_play s xs) (x ∷ [])) mid new m a (Err e) → Fed s (xs ++ x ∷ ys) old new b a (Err e)
+fed-stopped s xs x ys old mid new b m a Output g h =
+    rw (plays-append s xs (x ∷ ys), plays-append (after_play s xs) (x ∷ []) ys)
+    (part-then b m a (plays s xs).out _ g.2 (part-more m a (plays (after_play s xs) (x ∷ [])).out _ h))
+fed-stopped s xs x ys old mid new b m a Full g h =
+    rw (plays-append s xs (x ∷ ys), plays-append (after_play s xs) (x ∷ []) ys)
+    (part-then b m a (plays s xs).out _ g.2 (part-more m a (plays (after_play s xs) (x ∷ [])).out _ h))
+fed-stopped s xs x ys old mid new b m a Memory g h =
+    (length xs, omega (arith, length-append xs (x ∷ ys)), rw (take-append_seam xs (x ∷ ys)) (nothing-more b m a (plays s xs).out g.2 h))
 
 -- the bytes up to one, that one, and the rest
 pub split_at : (xs : List ℕ) (i : ℕ) → i < length xs → xs ≡ take i xs ++ get_or xs i 0 ∷ drop (i + 1) xs
 split_at xs i h =
     sym (take-append-drop (i + 1) xs) ∙ ap (λ z. z ++ drop (i + 1) xs) (take_more xs i 0 h) ∙ append_assoc (take i xs) (get_or xs i 0 ∷ []) (drop (i + 1) xs)
+
+-- ---- the end of the input
+
+-- the cut at the end was run
+pub closed : (s : Seen) (cuts : List Cut) (old mid new : Kept) (b a : Option (List ℕ)) (result : Result ⊤ Stop)
+    → Follows old s → ((c : Scan) → old.held ≡ held_of c → cuts ≡ rest_of c) → mid.ledger ≡ old.ledger → mid.refused ≡ old.refused
+    → ((t : Seen) → Follows mid t → Goes (cuts_play t cuts) (after_cuts t cuts) mid new b a result) → (c : Scan) → mid.held ≡ held_of c → Closed s old new b a result
+unfolding closes
+closed s cuts old mid new b a result f rest l r go c h =
+    moved result (go (record { scan = c; session = s.session }) (h, subst (λ z. Stands z s.session) (sym l) f.1))
+  where
+    same : told (replies_to setting s.session cuts) ≡ told (replies_to setting s.session (rest_of s.scan))
+    same = ap (λ z. told (replies_to setting s.session z)) (rest s.scan f.0)
+
+    moved : (v : Result ⊤ Stop) → Goes (cuts_play (record { scan = c; session = s.session }) cuts) (after_cuts (record { scan = c; session = s.session }) cuts) mid new b a v → Closed s old new b a v
+    moved (Ok y) g = (g.1 ∙ ap (λ z. z || (told (replies_to setting s.session cuts)).refused) r ∙ ap (λ (e : Ended). old.refused || e.refused) same, subst (λ (e : Ended). Appends b a e.out) same g.2)
+    moved (Err Output) g = subst (λ (e : Ended). TakesPart b a e.out) same g
+    moved (Err Full) g = subst (λ (e : Ended). TakesPart b a e.out) same g
+    moved (Err Memory) g = g

@@ -1,7 +1,8 @@
 pub mod Words
 pub mod Job
-pub mod Machine
+pub mod Play
 pub mod Ends
 pub mod Story
-pub mod Turns
+pub mod Plans
 pub mod Stores
+pub mod Turns

@@ -18,16 +18,16 @@ WritesLast before after refusals_before refusals bytes last =
 -- What the output took, by how the call ended, where these bytes of the input were taken. `plays` gives what the
 -- statements that end in bytes write, and `plays_all` what a whole input's do.
 abbrev pub Wrote : (List ℕ → Ended) → (List ℕ → Ended) → ℕ → List ℕ → Option (List ℕ) → Option (List ℕ) → Option (List ℕ) → ℕ → ℕ → End → Type 0
--- all statements were run, up to the end of the input
+-- all statements were run, up to the end of the input, and none was refused
 Wrote plays plays_all count taken left before after r s how.Done =
     (count + length taken ≤ most_input) × IsAtEnd left × ((plays_all taken).refused ≡ false) × Appends before after (plays_all taken).out
--- a statement was refused, and what came before it was run
+-- all statements were run, up to the end of the input, and some line refuses one
 Wrote plays plays_all count taken left before after r s how.Refused =
-    (count + length taken ≤ most_input) × (((plays taken).refused ≡ true) ⊎ IsAtEnd left) × ((plays_all taken).refused ≡ true) × Appends before after (plays_all taken).out
+    (count + length taken ≤ most_input) × IsAtEnd left × ((plays_all taken).refused ≡ true) × Appends before after (plays_all taken).out
 Wrote plays plays_all count taken left before after r s how.Usage = ⊥
 -- each statement that ends in what was taken was run
 Wrote plays plays_all count taken left before after r s how.Input =
-    (count + length taken ≤ most_input) × ((plays taken).refused ≡ false) × WritesLast before after r s (plays taken).out input_line
+    (count + length taken ≤ most_input) × WritesLast before after r s (plays taken).out input_line
 -- a front part was written, and nothing more
 Wrote plays plays_all count taken left before after r s how.Output =
     (count + length taken ≤ most_input) × TakesPart before after (plays_all taken).out
@@ -35,11 +35,11 @@ Wrote plays plays_all count taken left before after r s how.Output =
 Wrote plays plays_all count taken left before after r s how.Memory =
     (count + length taken ≤ most_input)
     × ((Rose r s × TakesPart before after (plays_all taken).out)
-    ⊎ ((k : ℕ) × (k ≤ length taken) × ((plays (take k taken)).refused ≡ false) × WritesLast before after r s (plays (take k taken)).out memory_line))
+    ⊎ ((k : ℕ) × (k ≤ length taken) × WritesLast before after r s (plays (take k taken)).out memory_line))
 -- each statement that ends in all but the last piece was run
 Wrote plays plays_all count taken left before after r s how.TooLong =
     (most_input < count + length taken) × (k : ℕ) × (count + k ≤ most_input) × (length taken ≤ k + most_piece)
-    × ((plays (take k taken)).refused ≡ false) × WritesLast before after r s (plays (take k taken)).out too_long_line
+    × WritesLast before after r s (plays (take k taken)).out too_long_line
 
 -- Some bytes of the input were taken, and the call ended so.
 abbrev pub RanOn : (List ℕ → Ended) → (List ℕ → Ended) → ℕ → Option (List ℕ) → Option (List ℕ) → Option (List ℕ) → Option (List ℕ) → ℕ → ℕ → End → Type 0

@@ -1,60 +1,75 @@
 -- What the steps of a session did to its output: for the program's own clauses.
-use Rattle.std.specs.Prelude.{◌≡◌, ◌⊎◌, ℕ, ◌≤◌, ◌+◌, List, [], length, take, true, false, Result, Ok, Err, ⊤, OnOk, IsErrOf}
+use Rattle.std.specs.Prelude.{◌≡◌, ◌⊎◌, ℕ, ◌≤◌, ◌+◌, List, [], length, take, Bool, true, false, ◌||◌, Result, Ok, Err, ⊤, OnOk, IsErrOf}
 use Rattle.std.specs.declared.option.Option.{Option}
 use Rattle.std.specs.Io.KnownBytes.{Appends, Consumes}
 use Rattle.cp_outside.specs.Causes.{Rose}
 use Rattle.cp_outside.specs.Sinks.{TakesPart}
+use Rattle.cp_lang.specs.Held.{Held, held_of}
+use Rattle.cp_lang.specs.declared.cut.Cut.{Cut}
+use Rattle.cp_lang.specs.declared.stmt.Stmt.{Stmt}
+use Rattle.cp_lang.specs.Written.{IsWrittenStmt}
+use Rattle.cp_reply.specs.declared.reply.Why.{Why}
+use Rattle.cp_session.specs.Session.{says, unread, replies_to, session_after}
 use Rattle.cpdb.specs.Words.{memory_line}
-use Rattle.cpdb.specs.Job.{Ended}
-use Rattle.cpdb.specs.Machine.{Play, Seen, Db, Reply, silent, said, refusal, play, play_all, ending}
+use Rattle.cpdb.specs.Job.{Ended, told, setting, is_run, reading}
+use Rattle.cpdb.specs.Play.{Seen, plays, after_play, closes, plays_all}
+use Rattle.cpdb.specs.Stores.{Ledger, Stands}
 use Rattle.cpdb.specs.Story.{WritesLast, RanOn}
-use Rattle.cpdb.specs.declared.store.Reply as code
-use Rattle.cpdb.specs.declared.store.Reply.TheVariants.{Silent, Line, Refusal}
 use Rattle.cpdb.specs.declared.end.End.{End}
 use Rattle.cpdb.specs.declared.end.End.TheVariants as how
 use Rattle.cpdb.specs.declared.stop.Stop.{Stop}
-use Rattle.cpdb.specs.declared.stop.Stop.TheVariants.{Refused, Output, Full, Memory}
+use Rattle.cpdb.specs.declared.stop.Stop.TheVariants.{Output, Full, Memory}
 
--- what a play wrote, and whether it was refused
-abbrev pub ended_of : Play → Ended
-ended_of p = record { out = p.out; refused = p.refused }
+-- What the code made of a text: a statement that is run, or why it is refused.
+abbrev pub Reads : List ℕ → Result Stmt Why → Type 0
+Reads text (Ok s) = (reading text ≡ says s) × (is_run s ≡ true) × IsWrittenStmt s
+Reads text (Err w) = reading text ≡ unread w
 
--- The play was carried out, or stopped by its refusal, or the output refused a write, or nothing was written.
-abbrev pub Goes : Play → Seen → Option (List ℕ) → Option (List ℕ) → Result ⊤ Stop → Type 0
-Goes p new before after (Ok x) = (p.refused ≡ false) × (new ≡ p.now) × Appends before after p.out
-Goes p new before after (Err Refused) = (p.refused ≡ true) × Appends before after p.out
-Goes p new before after (Err Output) = TakesPart before after p.out
-Goes p new before after (Err Full) = TakesPart before after p.out
-Goes p new before after (Err Memory) = Appends before after []
+-- what the code keeps of a session: of its scan, of its tree, and whether a refusal was written
+pub record Kept : Type 0 where
+  pub held : Held
+  pub ledger : Ledger
+  pub refused : Bool
+
+-- the code stands where the session does
+abbrev pub Follows : Kept → Seen → Type 0
+Follows k s = (k.held ≡ held_of s.scan) × Stands k.ledger s.session
+
+-- Bytes were written; or the output refused a write; or nothing was written.
+abbrev pub Written : List ℕ → Option (List ℕ) → Option (List ℕ) → Result ⊤ Stop → Type 0
+Written text before after (Ok x) = Appends before after text
+Written text before after (Err Output) = TakesPart before after text
+Written text before after (Err Full) = TakesPart before after text
+Written text before after (Err Memory) = Appends before after []
+
+-- Lines were written, and the code follows what is seen then; or the output refused a write; or nothing was written.
+abbrev pub Goes : Ended → Seen → Kept → Kept → Option (List ℕ) → Option (List ℕ) → Result ⊤ Stop → Type 0
+Goes e next old new before after (Ok x) = Follows new next × (new.refused ≡ (old.refused || e.refused)) × Appends before after e.out
+Goes e next old new before after (Err Output) = TakesPart before after e.out
+Goes e next old new before after (Err Full) = TakesPart before after e.out
+Goes e next old new before after (Err Memory) = Appends before after []
+
+-- what these cuts write
+abbrev pub cuts_play : Seen → List Cut → Ended
+cuts_play s cuts = told (replies_to setting s.session cuts)
+
+-- the session behind these cuts
+abbrev pub after_cuts : Seen → List Cut → Seen
+after_cuts s cuts = record { scan = s.scan; session = session_after setting s.session cuts }
 
 -- Bytes were played, or a front part of them where memory ran out.
-abbrev pub Fed : Seen → List ℕ → Seen → Option (List ℕ) → Option (List ℕ) → Result ⊤ Stop → Type 0
-Fed s bytes new before after (Ok x) = ((play s bytes).refused ≡ false) × (new ≡ (play s bytes).now) × Appends before after (play s bytes).out
-Fed s bytes new before after (Err Refused) = ((play s bytes).refused ≡ true) × Appends before after (play s bytes).out
-Fed s bytes new before after (Err Output) = TakesPart before after (play s bytes).out
-Fed s bytes new before after (Err Full) = TakesPart before after (play s bytes).out
-Fed s bytes new before after (Err Memory) = (k : ℕ) × (k ≤ length bytes) × ((play s (take k bytes)).refused ≡ false) × Appends before after (play s (take k bytes)).out
+abbrev pub Fed : Seen → List ℕ → Kept → Kept → Option (List ℕ) → Option (List ℕ) → Result ⊤ Stop → Type 0
+Fed s bytes old new before after (Ok x) = Goes (plays s bytes) (after_play s bytes) old new before after (Ok x)
+Fed s bytes old new before after (Err Output) = TakesPart before after (plays s bytes).out
+Fed s bytes old new before after (Err Full) = TakesPart before after (plays s bytes).out
+Fed s bytes old new before after (Err Memory) = (k : ℕ) × (k ≤ length bytes) × Appends before after (plays s (take k bytes)).out
 
--- The code's reply and the database after it.
-abbrev pub Answers : Reply → Db → code.Reply → Type 0
-Answers (silent db) new r = (r ≡ Silent) × (new ≡ db)
-Answers (said text db) new r = (r ≡ Line text) × (new ≡ db)
-Answers (refusal text) new r = r ≡ Refusal text
-
--- What writing a reply did.
-abbrev pub Carried : code.Reply → Option (List ℕ) → Option (List ℕ) → Result ⊤ Stop → Type 0
-Carried Silent before after (Ok x) = after ≡ before
-Carried Silent before after (Err e) = ⊥
-Carried (Line text) before after (Ok x) = Appends before after text
-Carried (Line text) before after (Err Refused) = ⊥
-Carried (Line text) before after (Err Output) = TakesPart before after text
-Carried (Line text) before after (Err Full) = TakesPart before after text
-Carried (Line text) before after (Err Memory) = ⊥
-Carried (Refusal text) before after (Ok x) = ⊥
-Carried (Refusal text) before after (Err Refused) = Appends before after text
-Carried (Refusal text) before after (Err Output) = TakesPart before after text
-Carried (Refusal text) before after (Err Full) = TakesPart before after text
-Carried (Refusal text) before after (Err Memory) = ⊥
+-- The cut at the end of the input was run, and the code knows whether a refusal was written; or as with other lines.
+abbrev pub Closed : Seen → Kept → Kept → Option (List ℕ) → Option (List ℕ) → Result ⊤ Stop → Type 0
+Closed s old new before after (Ok x) = (new.refused ≡ (old.refused || (closes s).refused)) × Appends before after (closes s).out
+Closed s old new before after (Err Output) = TakesPart before after (closes s).out
+Closed s old new before after (Err Full) = TakesPart before after (closes s).out
+Closed s old new before after (Err Memory) = Appends before after []
 
 -- The output is blamed only where its count rose, which stays where nothing failed; and it has refused a write where it
 -- stopped the session.
@@ -62,42 +77,43 @@ pub record Blames (before now refusals_before refusals : ℕ) (result : Result �
   pub later : before ≤ now
   pub output : IsErrOf result Output → Rose before now
   pub steady : OnOk result (now ≡ before)
-  pub steady_refused : IsErrOf result Refused → now ≡ before
   pub kept : refusals_before ≤ refusals
   pub full : IsErrOf result Full → Rose refusals_before refusals
 
 -- the end of a call whose session stopped so
 abbrev pub status_of : Stop → End
-status_of Refused = how.Refused
 status_of Output = how.Output
 status_of Full = how.Memory
 status_of Memory = how.Memory
 
 -- What the last line of a stop did: only want of memory has one.
 abbrev pub WroteLast : Option (List ℕ) → Option (List ℕ) → ℕ → ℕ → Stop → Type 0
-WroteLast before after r s Refused = after ≡ before
 WroteLast before after r s Output = after ≡ before
 WroteLast before after r s Full = after ≡ before
 WroteLast before after r s Memory = WritesLast before after r s [] memory_line
 
--- The session is over.
-abbrev pub Closes : Seen → Option (List ℕ) → Option (List ℕ) → ℕ → ℕ → End → Type 0
-Closes s before after r t how.Done = ((ending s).refused ≡ false) × Appends before after (ending s).out
-Closes s before after r t how.Refused = ((ending s).refused ≡ true) × Appends before after (ending s).out
-Closes s before after r t how.Usage = ⊥
-Closes s before after r t how.Input = ⊥
-Closes s before after r t how.Output = TakesPart before after (ending s).out
-Closes s before after r t how.Memory = (Rose r t × TakesPart before after (ending s).out) ⊎ WritesLast before after r t [] memory_line
-Closes s before after r t how.TooLong = ⊥
+-- what was written, where a refusal may have been written before
+abbrev pub marked : Bool → Ended → Ended
+marked refused e = record { out = e.out; refused = refused || e.refused }
 
--- A session that stands at s, after so many bytes, ran to this end.
-abbrev pub RanFrom : Seen → ℕ → Option (List ℕ) → Option (List ℕ) → Option (List ℕ) → Option (List ℕ) → ℕ → ℕ → End → Type 0
-RanFrom s count = RanOn (λ bytes. ended_of (play s bytes)) (λ bytes. ended_of (play_all s bytes)) count
+-- The session is over.
+abbrev pub Closes : Seen → Bool → Option (List ℕ) → Option (List ℕ) → ℕ → ℕ → End → Type 0
+Closes s refused before after r t how.Done = ((refused || (closes s).refused) ≡ false) × Appends before after (closes s).out
+Closes s refused before after r t how.Refused = ((refused || (closes s).refused) ≡ true) × Appends before after (closes s).out
+Closes s refused before after r t how.Usage = ⊥
+Closes s refused before after r t how.Input = ⊥
+Closes s refused before after r t how.Output = TakesPart before after (closes s).out
+Closes s refused before after r t how.Memory = (Rose r t × TakesPart before after (closes s).out) ⊎ WritesLast before after r t [] memory_line
+Closes s refused before after r t how.TooLong = ⊥
+
+-- A session that stands at s, after so many bytes and maybe a refusal, ran to this end.
+abbrev pub RanFrom : Seen → Bool → ℕ → Option (List ℕ) → Option (List ℕ) → Option (List ℕ) → Option (List ℕ) → ℕ → ℕ → End → Type 0
+RanFrom s refused count = RanOn (plays s) (λ bytes. marked refused (plays_all s bytes)) count
 
 -- The next bytes were taken and played.
-abbrev pub Turned : Seen → Seen → ℕ → ℕ → Option (List ℕ) → Option (List ℕ) → Option (List ℕ) → Option (List ℕ) → Type 0
-Turned old new count now left_before left before after =
-    (bytes : List ℕ) × Consumes left_before left bytes × (now ≡ count + length bytes) × Fed old bytes new before after (Ok tt)
+abbrev pub Turned : Seen → Kept → Kept → ℕ → ℕ → Option (List ℕ) → Option (List ℕ) → Option (List ℕ) → Option (List ℕ) → Type 0
+Turned s old new count now left_before left before after =
+    (bytes : List ℕ) × Consumes left_before left bytes × (now ≡ count + length bytes) × Goes (plays s bytes) (after_play s bytes) old new before after (Ok tt)
 
 -- the end of a turn, if it has one
 abbrev pub status_or_done : Result ℕ End → End

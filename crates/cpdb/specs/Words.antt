@@ -26,7 +26,7 @@ too_long_line = codes "error: input too long\n"
 
 -- the most bytes that a call takes, and the most that a read asks for
 abbrev pub most_input : ℕ
-most_input = 524288
+most_input = 68719476736
 
 -- the most bytes that a read asks for
 abbrev pub most_piece : ℕ

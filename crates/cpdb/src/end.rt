@@ -6,7 +6,7 @@ ghost use Rattle.cpdb.specs.Ends.{code_of};
 pub enum End {
     /// All was done, and nothing was refused.
     Done,
-    /// A statement was refused.
+    /// All was done, and some line is a refusal.
     Refused,
     /// The words fit no row.
     Usage,

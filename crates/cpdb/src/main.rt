@@ -7,12 +7,17 @@ mod run;
 mod session;
 mod stop;
 mod store;
+mod turn;
 
 use host::{StdinSource, StdoutSink};
 use run::run_cpdb;
 use std::io::ErrorKind;
 use std::process::ExitCode;
 
+#[cfg(test)]
+mod examples;
+#[cfg(test)]
+mod limits;
 #[cfg(test)]
 mod tests;
 

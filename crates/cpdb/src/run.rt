@@ -1,10 +1,11 @@
 ghost use Rattle.std.specs.Prelude.{◌≡◌, ◌⊎◌, ◌≤◌, ◌<◌, ◌+◌, ◌↔◌, ℕ, List, [], length, map, true, false, string_bytes, IfOk, IfErr};
+ghost use Rattle.std.specs.Io.KnownBytes.{IsAtEnd};
 ghost use Rattle.cp_outside.specs.Causes.{Rose};
-ghost use Rattle.cpdb.specs.Words.{fits, most_input, most_piece};
-ghost use Rattle.cpdb.specs.Machine.{start};
+ghost use Rattle.cpdb.specs.Words.{fits, most_input, most_piece, memory_line};
+ghost use Rattle.cpdb.specs.Play.{Seen, start};
 ghost use Rattle.cpdb.specs.Ends.{code_of, end_of};
 ghost use Rattle.cpdb.specs.Story.{WritesLast, Ran, Whole, IsShort, IsAnswer, IsCalm, HasCauses};
-ghost use Rattle.cpdb.specs.Turns.{WroteLast, Closes, RanFrom, Turned, status_of, status_or_done};
+ghost use Rattle.cpdb.specs.Turns.{Follows, WroteLast, Closes, RanFrom, Turned, status_of, status_or_done};
 
 use crate::end::{End, Status};
 use crate::session::Session;
@@ -13,7 +14,7 @@ use cp_outside::{Sink, Source, write_all};
 use std::alloc::Global;
 
 /// The most bytes of input that a call takes.
-const MOST_INPUT: u64 = 524_288;
+const MOST_INPUT: u64 = 68_719_476_736;
 
 /// The most bytes that a read asks for.
 const MOST_PIECE: usize = 65_536;
@@ -43,7 +44,18 @@ fn last_line<O: Sink>(output: &mut O, line: &[u8])
     let _ = write_all(output, line);
 }
 
-/// How a session ends that a statement or the output stopped.
+/// There was no memory to begin with, or to go on.
+fn out_of_memory<O: Sink>(output: &mut O) -> End
+    ensures end { result ≡ End.Memory }
+    ensures wrote { WritesLast (O.contents output.old) (O.contents output.new) (O.refusals output.old) (O.refusals output.new) [] memory_line }
+    ensures later { O.faults output.old ≤ O.faults output.new }
+    ensures kept { O.refusals output.old ≤ O.refusals output.new }
+{
+    last_line(output, b"error: memory\n");
+    End::Memory
+}
+
+/// How a session ends that was stopped.
 fn stopped<O: Sink>(output: &mut O, stop: Stop) -> End
     ensures status { result ≡ status_of stop }
     ensures wrote { WroteLast (O.contents output.old) (O.contents output.new) (O.refusals output.old) (O.refusals output.new) stop }
@@ -52,25 +64,24 @@ fn stopped<O: Sink>(output: &mut O, stop: Stop) -> End
     ensures kept { O.refusals output.old ≤ O.refusals output.new }
 {
     match stop {
-        Stop::Refused => End::Refused,
         Stop::Output => End::Output,
         Stop::Full => End::Memory,
-        Stop::Memory => {
-            last_line(output, b"error: memory\n");
-            End::Memory
-        }
+        Stop::Memory => out_of_memory(output),
     }
 }
 
 /// The input has ended.
 fn closing<O: Sink>(session: &mut Session, output: &mut O) -> End
-    ensures went { Closes session.old (O.contents output.old) (O.contents output.new) (O.refusals output.old) (O.refusals output.new) result }
+    ensures went { (s : Seen) → Follows session.old s
+        → Closes s session.old.refused (O.contents output.old) (O.contents output.new) (O.refusals output.old) (O.refusals output.new) result }
     ensures later { O.faults output.old ≤ O.faults output.new }
     ensures kept { O.refusals output.old ≤ O.refusals output.new }
     ensures calm { IsCalm result (O.faults output.old) (O.faults output.new) }
     ensures blamed { result ≡ End.Output → Rose (O.faults output.old) (O.faults output.new) }
+    ensures own { result ≡ End.Input → ⊥ }
 {
     match session.close(output) {
+        Ok(()) if session.refused() => End::Refused,
         Ok(()) => End::Done,
         Err(stop) => stopped(output, stop),
     }
@@ -88,8 +99,9 @@ fn turn<I: Source, O: Sink>(
     requires room { 0 < length piece.old }
     requires bounded { length piece.old ≤ most_piece }
     ensures goes_on { IfOk result (λ n. (before < n) × (n ≤ most_input)
-        × Turned session.old session.new before n (I.left input.old) (I.left input.new) (O.contents output.old) (O.contents output.new)) }
-    ensures ends { IfErr result (λ end. RanFrom session.old before
+        × ((s : Seen) → Follows session.old s
+        → Turned s session.old session.new before n (I.left input.old) (I.left input.new) (O.contents output.old) (O.contents output.new))) }
+    ensures ends { IfErr result (λ end. (s : Seen) → Follows session.old s → RanFrom s session.old.refused before
         (I.left input.old) (I.left input.new) (O.contents output.old) (O.contents output.new) (O.refusals output.old) (O.refusals output.new) end) }
     ensures causes { HasCauses (I.faults input.old) (I.faults input.new) (O.faults output.old) (O.faults output.new) (status_or_done result) }
     ensures kept { O.refusals output.old ≤ O.refusals output.new }
@@ -112,7 +124,29 @@ fn turn<I: Source, O: Sink>(
     }
 }
 
-/// Runs the session until it ends.
+/// Runs a session until it ends.
+fn turns<I: Source, O: Sink>(
+    session: &mut Session,
+    piece: &mut [u8],
+    input: &mut I,
+    output: &mut O,
+) -> End
+    requires room { 0 < length piece.old }
+    requires bounded { length piece.old ≤ most_piece }
+    ensures ran { (s : Seen) → Follows session.old s → RanFrom s session.old.refused 0 (I.left input.old) (I.left input.new)
+        (O.contents output.old) (O.contents output.new) (O.refusals output.old) (O.refusals output.new) result }
+    ensures causes { HasCauses (I.faults input.old) (I.faults input.new) (O.faults output.old) (O.faults output.new) result }
+{
+    let mut taken = 0;
+    loop {
+        match turn(session, piece, input, output, taken) {
+            Ok(now) => taken = now,
+            Err(end) => return end,
+        }
+    }
+}
+
+/// A session over the input, from its start.
 fn session<I: Source, O: Sink>(
     alloc: Global,
     piece: &mut [u8],
@@ -121,41 +155,37 @@ fn session<I: Source, O: Sink>(
 ) -> End
     requires room { 0 < length piece.old }
     requires bounded { length piece.old ≤ most_piece }
-    ensures ran { RanFrom start 0 (I.left input.old) (I.left input.new)
+    ensures ran { RanFrom start false 0 (I.left input.old) (I.left input.new)
         (O.contents output.old) (O.contents output.new) (O.refusals output.old) (O.refusals output.new) result }
     ensures causes { HasCauses (I.faults input.old) (I.faults input.new) (O.faults output.old) (O.faults output.new) result }
 {
-    let mut session = Session::new(alloc);
-    let mut taken = 0;
-    loop {
-        match turn(&mut session, piece, input, output, taken) {
-            Ok(now) => taken = now,
-            Err(end) => return end,
-        }
+    match Session::new(alloc) {
+        Ok(mut session) => turns(&mut session, piece, input, output),
+        Err(_) => out_of_memory(output),
     }
 }
 
 /// The session over the input, with room for a piece of it.
 fn scratch<I: Source, O: Sink>(alloc: Global, input: &mut I, output: &mut O) -> End
-    ensures ran { RanFrom start 0 (I.left input.old) (I.left input.new)
+    ensures ran { RanFrom start false 0 (I.left input.old) (I.left input.new)
         (O.contents output.old) (O.contents output.new) (O.refusals output.old) (O.refusals output.new) result }
     ensures causes { HasCauses (I.faults input.old) (I.faults input.new) (O.faults output.old) (O.faults output.new) result }
 {
     match vec![in alloc; 0u8; MOST_PIECE] {
         Ok(mut piece) => session(alloc, &mut piece, input, output),
-        Err(_) => {
-            last_line(output, b"error: memory\n");
-            End::Memory
-        }
+        Err(_) => out_of_memory(output),
     }
 }
 
 /// Everything that the program does: words, input and output to an exit status.
 ///
 /// The words are those of the program's call, its name first. All lines go to the output, the usage text and errors
-/// included. A read asks for at most 65,536 bytes, and each line is written before the next statement is run.
-/// Status 0 says that all was done, 1 that a statement was refused, 2 that the words fit no row, 3 that the input
-/// failed, 4 that the output failed, 7 that memory ran out, 8 that more than 524,288 bytes of input came.
+/// included. A read asks for at most 65,536 bytes. Each statement is run where its end comes, and its lines are written
+/// before the next is run; one that is refused doesn't end the session. Of the input's bytes no more are kept than a
+/// piece and the text of one statement, which has at most 1,048,576 bytes.
+/// Status 0 says that all was done, 1 that all was done and some line is a refusal, 2 that the words fit no row, 3 that
+/// the input failed, 4 that the output failed, 7 that memory ran out, 8 that more than 68,719,476,736 bytes of input
+/// came. With 3, 4, 7 and 8 the session ended there, and what was written before stays.
 pub fn run_cpdb<I: Source, O: Sink>(
     alloc: Global,
     words: &[String],

@@ -1,95 +1,113 @@
-ghost use Rattle.std.specs.Prelude.{◌≡◌, [], ◌∷◌};
-ghost use Rattle.cpdb.specs.Machine.{play, start, ending, ended, step};
-ghost use Rattle.cpdb.specs.Turns.{Goes, Fed, Blames, Carried};
+ghost use Rattle.std.specs.Prelude.{◌≡◌, ◌||◌, false, IfOk, OnOk, [], ◌∷◌};
+ghost use Rattle.std.specs.Option.{option_to_list};
+ghost use Rattle.cp_reply.specs.Lines.{lines};
+ghost use Rattle.cpdb.specs.Job.{is_refusal};
+ghost use Rattle.cpdb.specs.Play.{Seen, start, plays, after_play, closes};
+ghost use Rattle.cp_lang.specs.Cuts.{rest_of};
+ghost use Rattle.cpdb.specs.Turns.{Follows, Written, Goes, Fed, Closed, Blames, cuts_play, after_cuts};
 
 use crate::stop::Stop;
-use crate::store::{Reply, Store};
-use cp_lang::{Mode, after, ends, is_blank, read_plain};
+use crate::store::Store;
+use crate::turn::reply_to;
+use cp_lang::{Cut, Cutter};
 use cp_outside::{Sink, write_all};
-use std::alloc::Global;
+use cp_reply::{Reply, lines};
+use std::alloc::{AllocError, Global};
 use std::marker::Model;
+use std::mem;
 
 /// A session between two bytes of its input.
 #[derive(Drop)]
 pub(crate) struct Session {
     alloc: Global,
-    /// What has come since the last statement's end.
-    text: Vec<u8>,
-    mode: Mode,
+    cutter: Cutter,
     store: Store,
+    /// Room for the lines of a reply.
+    text: Vec<u8>,
+    /// Whether a refusal was written.
+    refused: bool,
 }
 
 impl Model for Session {
-    ghost use Rattle.cpdb.specs.Machine.{Seen};
+    ghost use Rattle.cpdb.specs.Turns.{Kept};
 
-    ghost Value = { Seen };
+    ghost Value = { Kept };
 
-    ghost view = { λ s. record { text = s.text.items; mode = s.mode; db = s.store } };
+    ghost view = { λ s. record { held = s.cutter; ledger = s.store; refused = s.refused } };
 }
 
-/// Writes what a reply says.
-fn carry<O: Sink>(output: &mut O, reply: Reply) -> Result<(), Stop>
-    ensures went { Carried reply (O.contents output.old) (O.contents output.new) result }
-    ensures cause { Blames (O.faults output.old) (O.faults output.new) (O.refusals output.old) (O.refusals output.new) result }
+fn is_refusal(reply: &Reply) -> bool
+    ensures { result ≡ is_refusal reply.now }
 {
     match reply {
-        Reply::Silent => Ok(()),
-        Reply::Line(line) => {
-            write_all(output, line.items.as_bytes())?;
-            Ok(())
-        }
-        Reply::Refusal(line) => {
-            write_all(output, line.items.as_bytes())?;
-            Err(Stop::Refused)
-        }
+        Reply::Refused { .. } => true,
+        _ => false,
     }
 }
 
 impl Session {
-    pub(crate) fn new(alloc: Global) -> Session
-        ensures { result ≡ start }
+    pub(crate) fn new(alloc: Global) -> Result<Session, AllocError>
+        ensures { IfOk result (λ s. Follows s start × (s.refused ≡ false)) }
     {
-        Session {
+        Ok(Session {
             alloc,
+            cutter: Cutter::new(alloc),
+            store: Store::new(alloc)?,
             text: Vec::new(alloc),
-            mode: Mode::Outside,
-            store: Store::new(alloc),
-        }
+            refused: false,
+        })
     }
 
-    /// Runs the statement that has ended.
-    fn end<O: Sink>(&mut self, output: &mut O) -> Result<(), Stop>
-        ensures went { Goes (ended self.old) self.new (O.contents output.old) (O.contents output.new) result }
+    /// Whether a refusal was written.
+    pub(crate) fn refused(&self) -> bool
+        ensures { result ≡ self.now.refused }
+    {
+        self.refused
+    }
+
+    /// Writes the lines of a reply.
+    fn tell<O: Sink>(&mut self, reply: &Reply, output: &mut O) -> Result<(), Stop>
+        ensures went { Written (lines reply.now) (O.contents output.old) (O.contents output.new) result }
+        ensures held { OnOk result (self.new.held ≡ self.old.held) }
+        ensures ledger { OnOk result (self.new.ledger ≡ self.old.ledger) }
+        ensures refused { OnOk result (self.new.refused ≡ (self.old.refused || is_refusal reply.now)) }
         ensures cause { Blames (O.faults output.old) (O.faults output.new) (O.refusals output.old) (O.refusals output.new) result }
     {
-        if is_blank(&self.text) {
-            self.text.clear();
-            self.mode = Mode::Outside;
-            return Ok(());
-        }
-        let statement = read_plain(self.alloc, &self.text)?;
-        let reply = self.store.answer(self.alloc, statement)?;
-        carry(output, reply)?;
         self.text.clear();
-        self.mode = Mode::Outside;
+        lines(self.alloc, reply, &mut self.text)?;
+        write_all(output, &self.text)?;
+        self.refused = self.refused || is_refusal(reply);
         Ok(())
+    }
+
+    /// Runs a cut, if there is one, and writes what it replies.
+    fn run<O: Sink>(&mut self, cut: Option<Cut>, output: &mut O) -> Result<(), Stop>
+        ensures went { (s : Seen) → Follows self.old s
+            → Goes (cuts_play s (option_to_list cut)) (after_cuts s (option_to_list cut)) self.old self.new (O.contents output.old) (O.contents output.new) result }
+        ensures cause { Blames (O.faults output.old) (O.faults output.new) (O.refusals output.old) (O.refusals output.new) result }
+    {
+        let Some(cut) = cut else {
+            return Ok(());
+        };
+        match reply_to(&mut self.store, self.alloc, cut)? {
+            Some(reply) => self.tell(&reply, output),
+            None => Ok(()),
+        }
     }
 
     fn push<O: Sink>(&mut self, byte: u8, output: &mut O) -> Result<(), Stop>
-        ensures went { Goes (step self.old byte) self.new (O.contents output.old) (O.contents output.new) result }
+        ensures went { (s : Seen) → Follows self.old s
+            → Goes (plays s (byte ∷ [])) (after_play s (byte ∷ [])) self.old self.new (O.contents output.old) (O.contents output.new) result }
         ensures cause { Blames (O.faults output.old) (O.faults output.new) (O.refusals output.old) (O.refusals output.new) result }
     {
-        if ends(self.mode, byte) {
-            return self.end(output);
-        }
-        self.text.push(byte)?;
-        self.mode = after(self.mode, byte);
-        Ok(())
+        let cut = self.cutter.push(byte)?;
+        self.run(cut, output)
     }
 
-    /// Runs the statements that end in the next piece of the input, each line written before the next is run.
+    /// Runs the statements that end in the next piece of the input, each reply written before the next byte is taken.
+    /// Keeps the bytes since the last statement's end, up to the longest that a statement may have.
     pub(crate) fn feed<O: Sink>(&mut self, piece: &[u8], output: &mut O) -> Result<(), Stop>
-        ensures went { Fed self.old piece.now self.new (O.contents output.old) (O.contents output.new) result }
+        ensures went { (s : Seen) → Follows self.old s → Fed s piece.now self.old self.new (O.contents output.old) (O.contents output.new) result }
         ensures cause { Blames (O.faults output.old) (O.faults output.new) (O.refusals output.old) (O.refusals output.new) result }
     {
         for byte in piece {
@@ -100,13 +118,10 @@ impl Session {
 
     /// The input has ended: a text that is left is refused.
     pub(crate) fn close<O: Sink>(&mut self, output: &mut O) -> Result<(), Stop>
-        ensures went { Goes (ending self.old) self.new (O.contents output.old) (O.contents output.new) result }
+        ensures went { (s : Seen) → Follows self.old s → Closed s self.old self.new (O.contents output.old) (O.contents output.new) result }
         ensures cause { Blames (O.faults output.old) (O.faults output.new) (O.refusals output.old) (O.refusals output.new) result }
     {
-        if is_blank(&self.text) {
-            return Ok(());
-        }
-        write_all(output, b"refused: syntax\n")?;
-        Err(Stop::Refused)
+        let cutter = mem::replace(&mut self.cutter, Cutter::new(self.alloc));
+        self.run(cutter.rest(), output)
     }
 }

@@ -5,8 +5,6 @@ use thiserror::Error;
 /// Why a session ended before its input did.
 #[derive(Clone, Copy, Debug, Drop, PartialEq, Eq, Error)]
 pub enum Stop {
-    #[error("a statement was refused")]
-    Refused,
     #[error("the output failed")]
     Output,
     /// The output's own want of memory.

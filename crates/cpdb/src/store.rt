@@ -1,255 +1,335 @@
-ghost use Rattle.std.specs.Prelude.{◌≡◌, ◌++◌, ◌+◌, ◌<◌, ◌^◌, ◌∷◌, [], false, IfOk, OnOk, OnErr, length, option_map};
-ghost use Rattle.cpdb.specs.Machine.{has, reply, reply_to, operating, answering, inserted, committing, asking, at_place, label_there_line, no_place_line, src_line, committed_line};
-ghost use Rattle.std.specs.List.{position};
-ghost use Rattle.cp_path.specs.Text.{text_eq};
-ghost use Rattle.cpdb.specs.Stores.{insertion_record, insertion_records};
-ghost use Rattle.cpdb.specs.Turns.{Answers};
+ghost use Rattle.std.specs.Prelude.{◌≡◌, ◌⊎◌, ◌<◌, true, IfOk, IfErr, OnOk};
+ghost use Rattle.std.specs.declared.option.Option.TheVariants.{Some, None};
+ghost use Rattle.cp_model.specs.Tree.{is_node};
+ghost use Rattle.cp_model.specs.Literals.{literal_rows};
+ghost use Rattle.cp_model.specs.History.{IsLiteral, most_ops};
+ghost use Rattle.cp_model.specs.declared.op.Op.TheVariants.{Ins};
+ghost use Rattle.cp_model.specs.declared.literal.Literal.{Literal as LiteralValue};
+ghost use Rattle.cp_reply.specs.declared.reply.Why.{Why as WhyValue};
+ghost use Rattle.cp_session.specs.Session.{Session, says, turn_of, not_read, why_refused};
+ghost use Rattle.cp_lang.specs.Written.{IsWrittenStmt};
+ghost use Rattle.cpdb.specs.Job.{setting, begun_session, is_run};
+ghost use Rattle.cpdb.specs.Stores.{Stands, Turned, IsSmall, IsOpen, held_in, Judges, Holds, GivesUp, Keeps, failing, refusal_in, committed_entry};
+
+mod ledger;
+mod plan;
+mod table;
 
 use cp_lang::Stmt;
-use cp_model::{Op, Query, RecOp, Record};
-use cp_path::{Label, Loc, Name, Path, PathFault, Text};
+use cp_model::{Answer, Literal, Op, Query, Refusal};
+use cp_path::{Label, Loc};
+use cp_reply::{Of, Reply, Why};
+use ledger::{Insertion, Size, Transaction, given_in, held_in};
+use plan::{Denied, child_of, plan_tree, weight_within};
 use std::alloc::{AllocError, Global};
-use std::collections::BTreeMap;
 use std::marker::Model;
+use table::{Entry, Table};
 
-/// What a statement brings.
-#[derive(Drop)]
-pub(crate) enum Reply {
-    Silent,
-    Line(Text),
-    Refusal(Text),
-}
+/// The most nodes of a tree, its root counted.
+const NODES_MAX: u32 = 1_048_576;
 
-/// The committed insertions and those of the open transaction, all below T's root.
+/// The most weight of a tree.
+const WEIGHT_MAX: u32 = 33_554_432;
+
+/// The most operations of a transaction.
+const OPS_MAX: u32 = 65_535;
+
+/// A tree that starts as a root alone, and that insertions change.
 #[derive(Drop)]
 pub(crate) struct Store {
-    /// In the order of their Tids.
-    records: Vec<Record>,
-    /// The labels of the open transaction, in order.
-    opened: Vec<Label>,
-    /// Each label with its number, from 0, among the committed and then the open ones.
-    places: BTreeMap<Label, usize>,
+    table: Table,
+    transaction: Transaction,
+    /// The last Tid.
+    last: u64,
+    working: Size,
+    committed: Size,
 }
 
 impl Model for Store {
-    ghost use Rattle.cpdb.specs.Machine.{Db};
-    ghost use Rattle.cpdb.specs.Stores.{labels_of, IsStore};
+    ghost use Rattle.cpdb.specs.Stores.{Ledger, IsBounded};
 
-    ghost Value = { Db };
+    ghost Value = { Ledger };
 
-    ghost view = { λ s. record { rows = labels_of s.records.items; opened = s.opened.items } };
+    ghost view = { λ s. record { table = s.table; transaction = s.transaction; last = s.last; working = s.working; committed = s.committed } };
 
-    ghost invariant = { λ s. IsStore s.records.items s.opened.items s.places };
+    ghost invariant = { λ s. IsBounded s.transaction s.last s.working s.committed };
 }
 
-fn text(alloc: Global, words: &str) -> Result<Text, AllocError>
-    ensures { IfOk result (λ t. t ≡ words.now) }
+fn refused(why: Why) -> Reply
+    ensures { result ≡ Reply.Refused Of.Statement why }
 {
-    Text::copy_of(alloc, words)
-}
-
-fn label_there(alloc: Global, label: &Label) -> Result<Text, AllocError>
-    ensures { IfOk result (λ t. t ≡ label_there_line label.now) }
-{
-    let label = label.as_str();
-    let items = format!(in alloc; "refused: label {label} is there in T\n")?;
-    Ok(Text { items })
-}
-
-fn no_place(alloc: Global, label: &Label) -> Result<Text, AllocError>
-    ensures { IfOk result (λ t. t ≡ no_place_line label.now) }
-{
-    let label = label.as_str();
-    let items = format!(in alloc; "refused: no place T/{label}\n")?;
-    Ok(Text { items })
-}
-
-fn src(alloc: Global, label: &Label, tid: u64) -> Result<Text, AllocError>
-    ensures { IfOk result (λ t. t ≡ src_line label.now tid) }
-{
-    let label = label.as_str();
-    let items = format!(in alloc; "src T/{label}: {tid}\n")?;
-    Ok(Text { items })
-}
-
-fn committed(alloc: Global, before: u64, count: u64) -> Result<Text, AllocError>
-    requires some { 0 < count }
-    requires fits { before + count < 2 ^ 64 }
-    ensures { IfOk result (λ t. t ≡ committed_line before count) }
-{
-    let low = before + 1;
-    let high = before + count;
-    if count == 1 {
-        let items = format!(in alloc; "committed {low}\n")?;
-        return Ok(Text { items });
-    }
-    let items = format!(in alloc; "committed {low}..{high}\n")?;
-    Ok(Text { items })
-}
-
-fn insertion_record(alloc: Global, tid: u64, label: &Label) -> Result<Record, AllocError>
-    ensures { IfOk result (λ r. r ≡ insertion_record tid label.now) }
-{
-    let db = Name::target(alloc)?;
-    let mut path = Path::root(alloc);
-    let label = label.clone()?;
-    match path.push(label) {
-        Ok(()) => Ok(Record {
-            tid,
-            op: RecOp::I,
-            loc: Loc { db, path },
-            src: None,
-        }),
-        Err(PathFault::Memory) => Err(AllocError),
-        Err(_) => unreachable!(),
+    Reply::Refused {
+        of: Of::Statement,
+        why,
     }
 }
 
-/// The records of insertions at these labels, with the Tids that follow. Costs their bytes.
-fn insertion_records(
-    alloc: Global,
-    before: u64,
-    labels: &[Label],
-) -> Result<Vec<Record>, AllocError>
-    requires { before + length labels.now < 2 ^ 64 }
-    ensures { IfOk result (λ v. v.items ≡ insertion_records before labels.now) }
+fn refused_commit(why: Why) -> Reply
+    ensures { result ≡ Reply.Refused Of.Commit why }
 {
-    let mut records = Vec::new(alloc);
-    let mut tid = before;
-    for label in labels {
-        tid += 1;
-        records.push(insertion_record(alloc, tid, label)?)?;
+    Reply::Refused {
+        of: Of::Commit,
+        why,
     }
-    Ok(records)
+}
+
+/// Why an insertion is refused.
+fn why_of(refusal: Refusal, into: Loc, label: Label) -> Why
+    ensures { (tree : LiteralValue) → result ≡ why_refused (Ins into label tree) refusal }
+{
+    match refusal {
+        Refusal::NoPlace => Why::NoPlace(into),
+        Refusal::LabelThere => Why::LabelThere(label, into),
+        Refusal::NoLabel => Why::NoLabel(label, into),
+        Refusal::NotANode => Why::NotANode(into),
+        Refusal::ReadOnly => Why::ReadOnly(into),
+        Refusal::NoSource => Why::NoSource(into.db),
+        Refusal::NoOrigin => Why::NoOrigin(into),
+        Refusal::TooDeep => Why::TooDeep,
+        Refusal::TooMany => Why::TooMany,
+        Refusal::TooBig => Why::TooBig,
+        Refusal::TooManyOps => Why::TooManyOps,
+    }
 }
 
 impl Store {
-    pub(crate) fn new(alloc: Global) -> Store
-        ensures { result ≡ Rattle.cpdb.specs.Machine.start.db }
+    /// A root alone, and no transaction.
+    pub(crate) fn new(alloc: Global) -> Result<Store, AllocError>
+        ensures { IfOk result (λ st. Stands st begun_session) }
     {
-        Store {
-            records: Vec::new(alloc),
-            opened: Vec::new(alloc),
-            places: BTreeMap::new(alloc),
-        }
+        let size = Size {
+            nodes: 1,
+            weight: 16,
+        };
+        Ok(Store {
+            table: Table::new(alloc)?,
+            transaction: Transaction::Closed,
+            last: 0,
+            working: size,
+            committed: size,
+        })
     }
 
-    /// Whether the label is committed or held. Costs a search among all labels.
-    fn has(&self, label: &Label) -> bool
-        ensures { result ≡ has label.now (self.now.rows ++ self.now.opened) }
+    /// Whether the insertion is refused, and what it adds. Costs two searches and the bytes of the added places' paths.
+    fn judge(
+        &self,
+        alloc: Global,
+        into: &Loc,
+        label: &Label,
+        tree: &Literal,
+    ) -> Result<Insertion, Denied>
+        ensures ok { IfOk result (Judges self.now into.now label.now tree.now) }
+        ensures err { IfErr result (λ e. (e ≡ Denied.Memory) ⊎ ((r : Refusal) × (e ≡ Denied.Refused r) × (refusal_in self.now into.now label.now tree.now ≡ Some r))) }
     {
-        self.places.get(label).is_some()
+        if !into.db.is_target() {
+            return Err(Denied::Refused(Refusal::ReadOnly));
+        }
+        let Some(entry) = self.table.entry(&into.path) else {
+            return Err(Denied::Refused(Refusal::NoPlace));
+        };
+        if !entry.is_node {
+            return Err(Denied::Refused(Refusal::NotANode));
+        }
+        let child = child_of(into, label)?;
+        if self.table.entry(&child.place.path).is_some() {
+            return Err(Denied::Refused(Refusal::LabelThere));
+        }
+        let mut plan = Vec::new(alloc);
+        plan_tree(&child.place, child.bytes, tree, &mut plan)?;
+        if plan.len() > (NODES_MAX - self.working.nodes) as usize {
+            return Err(Denied::Refused(Refusal::TooMany));
+        }
+        let Some(weight) = weight_within(&plan, (WEIGHT_MAX - self.working.weight) as u64) else {
+            return Err(Denied::Refused(Refusal::TooBig));
+        };
+        let size = Size {
+            nodes: self.working.nodes + plan.len() as u32,
+            weight: self.working.weight + weight as u32,
+        };
+        Ok(Insertion { plan, size })
     }
 
-    /// Holds an insertion at a new label. After an error the store is as it was. Costs a search among all labels.
-    fn hold(&mut self, label: Label) -> Result<(), AllocError>
-        requires { has label (self.old.rows ++ self.old.opened) ≡ false }
-        ensures held { OnOk result (self.new ≡ record self.old { opened = self.old.opened ++ label ∷ [] }) }
-        ensures same { OnErr result (self.new ≡ self.old) }
+    /// Holds an insertion, the next after `held` operations. Costs a search for each place that it adds.
+    fn hold(&mut self, insertion: Insertion, held: u32) -> Result<(), AllocError>
+        requires held { held ≡ held_in self.old.transaction }
+        requires few { held < most_ops }
+        requires more { self.old.working.nodes < insertion.size.nodes }
+        requires small { IsSmall insertion.size }
+        ensures { OnOk result (Holds self.old insertion.plan.items insertion.size self.new) }
     {
-        let at = self.records.len() + self.opened.len();
-        let key = label.clone()?;
-        self.opened.push(label)?;
-        if self.places.insert(key, at).is_err() {
-            let _ = self.opened.pop();
-            return Err(AllocError);
-        }
+        let number = held + 1;
+        self.table
+            .put_all(insertion.plan, self.last + number as u64)?;
+        self.transaction = Transaction::Going(number);
+        self.working = insertion.size;
         Ok(())
     }
 
-    fn insert(&mut self, alloc: Global, label: Label) -> Result<Reply, AllocError>
-        ensures { IfOk result (λ r. Answers (inserted self.old label) self.new r) }
+    /// The working tree is again the committed one. Costs a search for each place that was added.
+    fn give_up(&mut self, next: Transaction)
+        requires { held_in next ≡ 0 }
+        ensures { GivesUp self.old next self.new }
     {
-        if self.has(&label) {
-            return Ok(Reply::Refusal(label_there(alloc, &label)?));
+        self.table.drop_added();
+        self.transaction = next;
+        self.working = self.committed;
+    }
+
+    /// The open transaction fails at its next operation.
+    fn fail(&mut self)
+        ensures { GivesUp self.old (failing self.old.transaction) self.new }
+    {
+        let next = match self.transaction {
+            Transaction::Closed => Transaction::Failed(1),
+            Transaction::Going(held) => Transaction::Failed(held + 1),
+            Transaction::Failed(at) => Transaction::Failed(at),
+        };
+        self.give_up(next);
+    }
+
+    /// Runs an insertion where no operation has failed.
+    fn insert(
+        &mut self,
+        alloc: Global,
+        into: Loc,
+        label: Label,
+        tree: &Literal,
+    ) -> Result<Option<Reply>, AllocError>
+        requires going { IsOpen self.old.transaction }
+        requires literal { IsLiteral (literal_rows tree.now) }
+        ensures { IfOk result (λ r. (s : Session) → Stands self.old s → Turned (turn_of setting s (says (Stmt.Op (Ins into label tree.now)))) self.new r) }
+    {
+        let held = held_in(self.transaction);
+        if held == OPS_MAX {
+            self.fail();
+            return Ok(Some(refused(Why::TooManyOps)));
         }
-        self.hold(label)?;
-        Ok(Reply::Silent)
-    }
-
-    /// Commits what is held. Costs its bytes.
-    fn commit(&mut self, alloc: Global) -> Result<Reply, AllocError>
-        ensures { IfOk result (λ r. Answers (committing self.old) self.new r) }
-    {
-        if self.opened.is_empty() {
-            return Ok(Reply::Refusal(text(alloc, "refused commit: no operation\n")?));
-        }
-        let before = self.records.len() as u64;
-        let line = committed(alloc, before, self.opened.len() as u64)?;
-        let mut added = insertion_records(alloc, before, &self.opened)?;
-        self.records.append(&mut added)?;
-        self.opened.clear();
-        Ok(Reply::Line(line))
-    }
-
-    /// The Tid of the label's record, if it is committed. Costs a search among all labels.
-    fn tid_of(&self, label: &Label) -> Option<u64>
-        ensures { result ≡ option_map (λ at. at + 1) (position (text_eq label.now) self.now.rows) }
-    {
-        let at = *self.places.get(label)?;
-        let record = self.records.get(at)?;
-        Some(record.tid)
-    }
-
-    fn ask_label(&self, alloc: Global, label: &Label) -> Result<Reply, AllocError>
-        ensures { IfOk result (λ r. Answers (at_place self.now label.now (position (text_eq label.now) self.now.rows)) self.now r) }
-    {
-        match self.tid_of(label) {
-            Some(tid) => Ok(Reply::Line(src(alloc, label, tid)?)),
-            None => Ok(Reply::Refusal(no_place(alloc, label)?)),
+        match self.judge(alloc, &into, &label, tree) {
+            Ok(insertion) => {
+                self.hold(insertion, held)?;
+                Ok(None)
+            }
+            Err(Denied::Refused(refusal)) => {
+                self.fail();
+                Ok(Some(refused(why_of(refusal, into, label))))
+            }
+            Err(Denied::Memory) => Err(AllocError),
         }
     }
 
-    fn ask(&self, alloc: Global, place: &Path) -> Result<Reply, AllocError>
-        ensures { IfOk result (λ r. Answers (asking self.now place.now) self.now r) }
+    /// Commits what is held.
+    fn keep(&mut self)
+        ensures { Keeps self.old self.new }
     {
-        match place.labels() {
-            [] => Ok(Reply::Line(text(alloc, "src T: none\n")?)),
-            [label] => self.ask_label(alloc, label),
-            _ => Ok(Reply::Refusal(text(alloc, "refused: syntax\n")?)),
+        if let Transaction::Going(held) = self.transaction {
+            self.last += held as u64;
+        }
+        self.table.keep_added();
+        self.transaction = Transaction::Closed;
+        self.committed = self.working;
+    }
+
+    fn commit(&mut self) -> Reply
+        ensures { (s : Session) → Stands self.old s → Turned (turn_of setting s (says Stmt.Commit)) self.new (Some result) }
+    {
+        match self.transaction {
+            Transaction::Closed => refused_commit(Why::NoOperation),
+            Transaction::Failed(at) => {
+                self.give_up(Transaction::Closed);
+                refused_commit(Why::FailedAt(at))
+            }
+            Transaction::Going(_) => {
+                let low = self.last + 1;
+                self.keep();
+                Reply::Committed {
+                    low,
+                    high: self.last,
+                }
+            }
         }
     }
 
-    fn operate(&mut self, alloc: Global, op: Op) -> Result<Reply, AllocError>
-        ensures { IfOk result (λ r. Answers (operating self.old op) self.new r) }
+    fn abort(&mut self) -> Reply
+        ensures { (s : Session) → Stands self.old s → Turned (turn_of setting s (says Stmt.Abort)) self.new (Some result) }
     {
+        let count = given_in(self.transaction);
+        self.give_up(Transaction::Closed);
+        Reply::Aborted { count }
+    }
+
+    /// What is kept of a place of the committed tree. Costs a search.
+    fn committed_entry(&self, place: &Loc) -> Option<Entry>
+        ensures { result ≡ committed_entry self.now place.now }
+    {
+        if !place.db.is_target() {
+            return None;
+        }
+        let entry = self.table.entry(&place.path)?;
+        match entry.tid {
+            Some(tid) if tid > self.last => None,
+            _ => Some(entry),
+        }
+    }
+
+    fn src(&self, place: Loc) -> Reply
+        ensures { (s : Session) → Stands self.now s → Turned (turn_of setting s (says (Stmt.Ask (Query.Src place)))) self.now (Some result) }
+    {
+        match self.committed_entry(&place) {
+            Some(entry) => Reply::Answered {
+                query: Query::Src(place),
+                answer: Answer::Src(entry.tid),
+            },
+            None => refused(Why::NoPlace(place)),
+        }
+    }
+
+    fn operate(&mut self, alloc: Global, op: Op) -> Result<Option<Reply>, AllocError>
+        requires built { is_run (Stmt.Op op) ≡ true }
+        requires written { IsWrittenStmt (Stmt.Op op) }
+        ensures { IfOk result (λ r. (s : Session) → Stands self.old s → Turned (turn_of setting s (says (Stmt.Op op))) self.new r) }
+    {
+        if let Transaction::Failed(at) = self.transaction {
+            return Ok(Some(refused(Why::FailedAt(at))));
+        }
         match op {
-            Op::Ins { label, .. } => self.insert(alloc, label),
-            _ => Ok(Reply::Refusal(text(alloc, "refused: syntax\n")?)),
+            Op::Ins { into, label, tree } => self.insert(alloc, into, label, &tree),
+            _ => unreachable!(),
         }
     }
 
-    fn query(&self, alloc: Global, query: &Query) -> Result<Reply, AllocError>
-        ensures { IfOk result (λ r. Answers (answering self.now query.now) self.now r) }
+    fn ask(&self, query: Query) -> Reply
+        requires { is_run (Stmt.Ask query) ≡ true }
+        ensures { (s : Session) → Stands self.now s → Turned (turn_of setting s (says (Stmt.Ask query))) self.now (Some result) }
     {
         match query {
-            Query::Src(place) => self.ask(alloc, &place.path),
-            _ => Ok(Reply::Refusal(text(alloc, "refused: syntax\n")?)),
+            Query::Src(place) => self.src(place),
+            _ => unreachable!(),
         }
     }
 
-    fn run(&mut self, alloc: Global, statement: Stmt) -> Result<Reply, AllocError>
-        ensures { IfOk result (λ r. Answers (reply_to self.old statement) self.new r) }
+    /// Runs a statement of a kind that is run. What stands after an error isn't said.
+    pub(crate) fn run(
+        &mut self,
+        alloc: Global,
+        statement: Stmt,
+    ) -> Result<Option<Reply>, AllocError>
+        requires built { is_run statement ≡ true }
+        requires written { IsWrittenStmt statement }
+        ensures { IfOk result (λ r. (s : Session) → Stands self.old s → Turned (turn_of setting s (says statement)) self.new r) }
     {
         match statement {
             Stmt::Op(op) => self.operate(alloc, op),
-            Stmt::Commit => self.commit(alloc),
-            Stmt::Ask(query) => self.query(alloc, &query),
-            _ => Ok(Reply::Refusal(text(alloc, "refused: syntax\n")?)),
+            Stmt::Commit => Ok(Some(self.commit())),
+            Stmt::Abort => Ok(Some(self.abort())),
+            Stmt::Ask(query) => Ok(Some(self.ask(query))),
+            _ => unreachable!(),
         }
     }
 
-    /// Answers a statement, or a text that is none. What stands after an error isn't said.
-    pub(crate) fn answer(
-        &mut self,
-        alloc: Global,
-        statement: Option<Stmt>,
-    ) -> Result<Reply, AllocError>
-        ensures { IfOk result (λ r. Answers (reply self.old statement) self.new r) }
+    /// A text that can't be read counts as an operation that is refused.
+    pub(crate) fn spoil(&mut self)
+        ensures { (s : Session) → (w : WhyValue) → Stands self.old s → Stands self.new (not_read s w).next }
     {
-        match statement {
-            Some(statement) => self.run(alloc, statement),
-            None => Ok(Reply::Refusal(text(alloc, "refused: syntax\n")?)),
-        }
+        self.fail();
     }
 }

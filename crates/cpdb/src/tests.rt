@@ -53,10 +53,27 @@ fn runs(
     Ok(input.read(&mut room).unwrap_or(8))
 }
 
+// A session over the input: its status and whole output.
+pub(crate) fn replies(
+    rt: &(impl Abort + AllocGlobal),
+    text: &[u8],
+    code: u8,
+    written: &str,
+) -> Result<(), Fail> {
+    let alloc = rt.alloc();
+    let words = owned(alloc, SCRATCH)?;
+    let mut input = MemSource::new(alloc, text)?;
+    let mut output = MemSink::new(alloc)?;
+    let status = run_cpdb(alloc, words.as_slice(), &mut input, &mut output);
+    assert_eq!(rt; output.bytes(), written.as_bytes());
+    assert_eq!(rt; status, Status { code });
+    Ok(())
+}
+
 #[test]
 fn statements_and_their_replies(rt: HostRuntime) -> Result<(), Fail> {
     // the input, the status, the output
-    let cases: [(&str, u8, &str); 33] = [
+    let cases: [(&str, u8, &str); 28] = [
         ("", 0, ""),
         (" \t\r\n", 0, ""),
         (";;  ;", 0, ""),
@@ -82,62 +99,69 @@ fn statements_and_their_replies(rt: HostRuntime) -> Result<(), Fail> {
             "committed 1..2\ncommitted 3..5\nsrc T/d: 4\n",
         ),
         (
-            "ins {a : 1} into T; ins {A : 1} into T; commit; src T/A;",
+            "ins {a : 0} into T; ins {A : 18446744073709551615} into T; commit; src T/A;",
             0,
             "committed 1..2\nsrc T/A: 2\n",
         ),
         (
-            "ins {a : 0} into T; ins {b : 18446744073709551615} into T; commit;",
-            0,
-            "committed 1..2\n",
+            "ins {a : {}} into T; ins {b : \"x\"} into T/a; src T/a/b; commit; src T/a/b; abort;",
+            1,
+            "refused: no place T/a/b\ncommitted 1..2\nsrc T/a/b: 2\naborted 0\n",
+        ),
+        (
+            "ins {a : {b : 1, c : {d : null}}} into T; commit; src T/a/c/d; ins {b : 2} into T/a; abort;",
+            1,
+            "committed 1\nsrc T/a/c/d: 1\nrefused: label b is there in T/a\naborted 0\n",
+        ),
+        (
+            "ins {a : 1} into T; ins {b : 1} into T; abort; src T/a; ins {b : 1} into T; commit; src T/b;",
+            1,
+            "aborted 2\nrefused: no place T/a\ncommitted 1\nsrc T/b: 1\n",
         ),
         (
             "ins {a : 1} into T; ins {b : 1} into T; commit; src T/b; src T; src T/c; src T;",
             1,
-            "committed 1..2\nsrc T/b: 2\nsrc T: none\nrefused: no place T/c\n",
+            "committed 1..2\nsrc T/b: 2\nsrc T: none\nrefused: no place T/c\nsrc T: none\n",
         ),
         (
-            "ins {a : 1} into T; ins {a : 2} into T; commit;",
+            "commit; ins {a : 1} into T; commit; commit; abort;",
             1,
-            "refused: label a is there in T\n",
+            "refused commit: no operation\ncommitted 1\nrefused commit: no operation\naborted 0\n",
         ),
         (
-            "ins {a : 1} into T; commit; ins {a : 1} into T;",
+            "ins {a : 1} into T; ins {a : 2} into T; ins {b : 1} into T; commit; src T/a;",
             1,
-            "committed 1\nrefused: label a is there in T\n",
+            "refused: label a is there in T\nrefused: transaction failed at 2\nrefused commit: failed at 2\nrefused: no place T/a\n",
         ),
-        ("ins {a : 1} into T; src T/a;", 1, "refused: no place T/a\n"),
-        ("commit;", 1, "refused commit: no operation\n"),
         (
-            "ins {a : 1} into T; commit; commit;",
+            "ins {a : 1} into T; ?; ins {b : 1} into T; abort; ins {b : 1} into T; commit;",
             1,
-            "committed 1\nrefused commit: no operation\n",
+            "refused: syntax at 1\nrefused: transaction failed at 2\naborted 1\ncommitted 1\n",
+        ),
+        (
+            "ins {a~1b : 1} into T; ins {~0 : 2} into T; ins {\"\" : 3} into T; ins {\"x y\" : 4} into T; commit; src T/a~1b; src T/~0; src T/; src \"T/x y\";",
+            0,
+            "committed 1..4\nsrc T/a~1b: 1\nsrc T/~0: 2\nsrc T/: 3\nsrc \"T/x y\": 4\n",
+        ),
+        ("src \"T/ab\";", 1, "refused: bad escape at 4\n"),
+        (
+            "ins {a : {b : 1, b : 2}} into T;",
+            1,
+            "refused: syntax at 17\n",
         ),
         (
             "ins {a : 1} into T; commit; src T/a",
             1,
-            "committed 1\nrefused: syntax\n",
+            "committed 1\nrefused: syntax at 8\n",
         ),
-        ("ins {a : 01} into T;", 1, "refused: syntax\n"),
-        ("ins {a : 00} into T;", 1, "refused: syntax\n"),
-        ("ins {a : -1} into T;", 1, "refused: syntax\n"),
-        (
-            "ins {a : 18446744073709551616} into T;",
-            1,
-            "refused: syntax\n",
-        ),
-        ("ins {a_b : 1} into T;", 1, "refused: syntax\n"),
-        ("ins {\"a\" : 1} into T;", 1, "refused: syntax\n"),
-        ("ins {a 1} into T;", 1, "refused: syntax\n"),
-        ("ins {a : 1} into S;", 1, "refused: syntax\n"),
-        ("ins {a : 1} into T", 1, "refused: syntax\n"),
-        ("ins {a : 1} into T commit;", 1, "refused: syntax\n"),
-        ("del a from T;", 1, "refused: syntax\n"),
-        ("Commit;", 1, "refused: syntax\n"),
-        ("src T/a/b;", 1, "refused: syntax\n"),
-        ("src T/;", 1, "refused: syntax\n"),
-        ("src \"T;a\";", 1, "refused: syntax\n"),
-        ("?", 1, "refused: syntax\n"),
+        ("ins {a : 01} into T;", 1, "refused: bad value at 9\n"),
+        ("ins {a 1} into T;", 1, "refused: syntax at 7\n"),
+        ("ins {a : 1} into T", 1, "refused: syntax at 18\n"),
+        ("ins {a : 1} into T commit;", 1, "refused: syntax at 19\n"),
+        (" del a from T;", 1, "refused: syntax at 1\n"),
+        ("Commit; src T;", 1, "refused: syntax at 0\nsrc T: none\n"),
+        ("src T/a/b;", 1, "refused: no place T/a/b\n"),
+        ("?", 1, "refused: syntax at 1\n"),
     ];
     for (text, code, written) in cases {
         runs(&rt, SCRATCH, text, (&[], &[]), code, written)?;
@@ -169,7 +193,7 @@ fn other_words_bring_the_usage_and_take_no_input(rt: HostRuntime) -> Result<(), 
 #[test]
 fn a_failed_read_or_write_ends_the_call(rt: HostRuntime) -> Result<(), Fail> {
     // the input, the reads and the writes that fail, the status, the output
-    let cases: [(&str, &[u64], &[u64], u8, &str); 14] = [
+    let cases: [(&str, &[u64], &[u64], u8, &str); 16] = [
         (
             "ins {a : 1} into T; commit;",
             &[3],
@@ -199,11 +223,31 @@ fn a_failed_read_or_write_ends_the_call(rt: HostRuntime) -> Result<(), Fail> {
             3,
             "committed 1\n",
         ),
-        ("commit;", &[2], &[], 1, "refused commit: no operation\n"),
+        (
+            "commit;",
+            &[2],
+            &[],
+            3,
+            "refused commit: no operation\nerror: input\n",
+        ),
+        (
+            "commit; src T;",
+            &[],
+            &[2],
+            4,
+            "refused commit: no operation\n",
+        ),
         // a semicolon inside quotation marks ends nothing
         ("src \"T;a", &[2], &[], 3, "error: input\n"),
         ("src \"T\\\";", &[2], &[], 3, "error: input\n"),
-        ("src \"T\\\\\";", &[2], &[], 1, "refused: syntax\n"),
+        (
+            "src \"T\\\\\";",
+            &[2],
+            &[],
+            3,
+            "refused: bad escape at 4\nerror: input\n",
+        ),
+        ("abort;", &[], &[1], 4, ""),
         ("src T;", &[], &[1], 4, ""),
         ("src T; src T; src T;", &[], &[2], 4, "src T: none\n"),
         ("ins {a : 1} into T; commit; src T/a;", &[], &[1], 4, ""),
@@ -217,34 +261,44 @@ fn a_failed_read_or_write_ends_the_call(rt: HostRuntime) -> Result<(), Fail> {
 }
 
 #[test]
-fn long_labels_and_long_inputs(rt: HostRuntime) -> Result<(), Fail> {
+fn labels_have_at_most_255_bytes(rt: HostRuntime) -> Result<(), Fail> {
     let alloc = rt.alloc();
     let label = "x".repeat(alloc, 255)?;
     let most = format!(in alloc; "ins {{{label} : 1}} into T; commit; src T/{label};")?;
     let answer = format!(in alloc; "committed 1\nsrc T/{label}: 1\n")?;
-    let more = format!(in alloc; "ins {{{label}x : 1}} into T;")?;
-    let asked = format!(in alloc; "src T/{label}x;")?;
-    let spaces = " ".repeat(alloc, 524_288)?;
-    let beyond = " ".repeat(alloc, 524_289)?;
-    let behind = format!(in alloc; "src T;{}", &beyond)?;
+    let more = format!(in alloc; "ins {{{label}x : 1}} into T; src T/{label}x;")?;
+    let refusals = "refused: label too long at 5\nrefused: label too long at 5\n";
+    runs(&rt, SCRATCH, &most, (&[], &[]), 0, &answer)?;
+    runs(&rt, SCRATCH, &more, (&[], &[]), 1, refusals)?;
+    Ok(())
+}
+
+#[test]
+fn statements_go_across_pieces(rt: HostRuntime) -> Result<(), Fail> {
+    let alloc = rt.alloc();
+    let spaces = " ".repeat(alloc, 524_289)?;
     let before = format!(in alloc; "{}src T;src T;", " ".repeat(alloc, 65_530)?)?;
     let across = format!(in alloc; "{}src T;", " ".repeat(alloc, 65_533)?)?;
-    let none: (&[u64], &[u64]) = (&[], &[]);
-    let second: (&[u64], &[u64]) = (&[2], &[]);
-    let ninth: (&[u64], &[u64]) = (&[9], &[]);
-    runs(&rt, SCRATCH, &most, none, 0, &answer)?;
-    runs(&rt, SCRATCH, &more, none, 1, "refused: syntax\n")?;
-    runs(&rt, SCRATCH, &asked, none, 1, "refused: syntax\n")?;
-    runs(&rt, SCRATCH, &spaces, none, 0, "")?;
-    runs(&rt, SCRATCH, &spaces, ninth, 3, "error: input\n")?;
-    runs(&rt, SCRATCH, &beyond, none, 8, "error: input too long\n")?;
-    runs(&rt, SCRATCH, &beyond, ninth, 3, "error: input\n")?;
-    let late = "src T: none\nerror: input too long\n";
-    runs(&rt, SCRATCH, &behind, none, 8, late)?;
     let failed = "src T: none\nerror: input\n";
-    runs(&rt, SCRATCH, &before, second, 3, failed)?;
+    let none: (&[u64], &[u64]) = (&[], &[]);
+    runs(&rt, SCRATCH, &spaces, none, 0, "")?;
+    runs(&rt, SCRATCH, &spaces, (&[9], &[]), 3, "error: input\n")?;
+    runs(&rt, SCRATCH, &before, (&[2], &[]), 3, failed)?;
     runs(&rt, SCRATCH, &before, none, 0, "src T: none\nsrc T: none\n")?;
     runs(&rt, SCRATCH, &across, none, 0, "src T: none\n")?;
+    Ok(())
+}
+
+#[test]
+fn a_statement_may_be_too_long(rt: HostRuntime) -> Result<(), Fail> {
+    let alloc = rt.alloc();
+    let word = "x".repeat(alloc, 1_048_576)?;
+    let most = format!(in alloc; "{word};src T;")?;
+    let more = format!(in alloc; "{word}x;src T;")?;
+    let kept = "refused: syntax at 0\nsrc T: none\n";
+    let refused = "refused: statement too long\nsrc T: none\n";
+    runs(&rt, SCRATCH, &most, (&[], &[]), 1, kept)?;
+    runs(&rt, SCRATCH, &more, (&[], &[]), 1, refused)?;
     Ok(())
 }
 

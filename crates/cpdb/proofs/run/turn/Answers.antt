@@ -3,12 +3,12 @@ use Rattle.std.proofs.lemmas.List.{length-take-le}
 use Rattle.std.specs.Io.KnownBytes.{Consumes, IsAtEnd}
 use Rattle.cpdb.specs.Turns.{RanFrom, Fed}
 use Rattle.cpdb.specs.declared.end.End.{End}
-use Rattle.cpdb.proofs.Runs.{ran-input, ran-closed, ran-too-long, ran-stopped}
+use Rattle.cpdb.proofs.Runs.{ran-input, ran-closed, ran-too-long, ran-stopped, calm-same}
 use Rattle.cpdb.proofs.run.turn.Goals as goal
 
 pub returns-in_default-clause-ends : goal.returns-in_default-clause-ends
 returns-in_default-clause-ends g c =
-    ran-input c.args.session.now c.args.before (g.I.Source.left c.args.input.now) (g.I.Source.left c.read.new.self) (g.O.Sink.contents c.args.output.now) (g.O.Sink.contents c.last_line.new.output)
+    λ s f. ran-input s c.args.session.now.refused c.args.before (g.I.Source.left c.args.input.now) (g.I.Source.left c.read.new.self) (g.O.Sink.contents c.args.output.now) (g.O.Sink.contents c.last_line.new.output)
     (g.O.Sink.refusals c.args.output.now) (g.O.Sink.refusals c.last_line.new.output) c.requires.taken c.in_default.ensures.bytes c.last_line.ensures.wrote
 
 pub returns-then-count-eq0-clause-ends : goal.returns-then-count-eq0-clause-ends
@@ -18,8 +18,8 @@ returns-then-count-eq0-clause-ends g c =
     let none : c.in-Ok.count ≡ 0 = c.if-count-eq0.true in
     let took : Consumes l0 l1 [] = let P : ℕ → Type 0 = λ n. Consumes l0 l1 (take n c.read.new.into) in subst P none c.in-Ok.ensures.bytes.0 in
     let end : IsAtEnd l1 = c.in-Ok.ensures.bytes.1 none (search rules) in
-    ran-closed c.args.session.now c.args.before l0 l1 (g.O.Sink.contents c.args.output.now) (g.O.Sink.contents c.closing.new.output) (g.O.Sink.refusals c.args.output.now) (g.O.Sink.refusals c.closing.new.output)
-    c.closing.result c.requires.taken took end c.closing.ensures.went
+    λ s f. ran-closed s c.args.session.now.refused c.args.before l0 l1 (g.O.Sink.contents c.args.output.now) (g.O.Sink.contents c.closing.new.output) (g.O.Sink.refusals c.args.output.now) (g.O.Sink.refusals c.closing.new.output)
+    c.closing.result c.requires.taken took end (c.closing.ensures.went s f)
 
 pub returns-then-now-gt-MOST_INPUT-clause-ends : goal.returns-then-now-gt-MOST_INPUT-clause-ends
 returns-then-now-gt-MOST_INPUT-clause-ends g c =
@@ -28,7 +28,7 @@ returns-then-now-gt-MOST_INPUT-clause-ends g c =
     let bytes = take c.in-Ok.count c.read.new.into in
     let same : length c.read.new.into ≡ length c.args.piece.now = search rules in
     let count : length bytes ≡ c.in-Ok.count = length-take-le c.in-Ok.count c.read.new.into (omega (arith, c.in-Ok.ensures.bound)) in
-    ran-too-long c.args.session.now c.args.before bytes l0 l1 (g.O.Sink.contents c.args.output.now) (g.O.Sink.contents c.last_line-then-now-gt-MOST_INPUT.new.output)
+    λ s f. ran-too-long s c.args.session.now.refused c.args.before bytes l0 l1 (g.O.Sink.contents c.args.output.now) (g.O.Sink.contents c.last_line-then-now-gt-MOST_INPUT.new.output)
     (g.O.Sink.refusals c.args.output.now) (g.O.Sink.refusals c.last_line-then-now-gt-MOST_INPUT.new.output) c.requires.taken
     c.in-Ok.ensures.bytes.0 (omega (arith, count, c.if-now-gt-MOST_INPUT.true)) (omega (arith, count, same, c.in-Ok.ensures.bound, c.requires.bounded)) c.last_line-then-now-gt-MOST_INPUT.ensures.wrote
 
@@ -43,10 +43,22 @@ returns-in-Err-clause-ends g c =
     let bytes = take c.in-Ok.count c.read.new.into in
     let count : length bytes ≡ c.in-Ok.count = length-take-le c.in-Ok.count c.read.new.into (omega (arith, c.in-Ok.ensures.bound)) in
     let stop = c.in-Err.stop in
-    let P : End → Type 0 = λ e. RanFrom c.args.session.now c.args.before l0 l1 b a r v e in
-    let fed : Fed c.args.session.now bytes c.feed.new.self b (g.O.Sink.contents c.feed.new.output) (Err stop) = search rules in
+    let first = c.args.session.now in
+    let m = (g.O.Sink.contents c.feed.new.output) in
+    λ s f. (let P : End → Type 0 = λ e. RanFrom s first.refused c.args.before l0 l1 b a r v e in
+    let fed : Fed s bytes first c.feed.new.self b m (Err stop) = subst (Fed s bytes first c.feed.new.self b m) c.in-Err.is (c.feed.ensures.went s f) in
     subst P (sym c.stopped.ensures.status) (
-    ran-stopped c.args.session.now c.feed.new.self c.args.before bytes l0 l1 b (g.O.Sink.contents c.feed.new.output) a r (g.O.Sink.refusals c.feed.new.output) v stop
+    ran-stopped s first.refused first c.feed.new.self c.args.before bytes l0 l1 b m a r (g.O.Sink.refusals c.feed.new.output) v stop
     (omega (arith, count, c.if-now-gt-MOST_INPUT.false)) c.in-Err.ensures.cause.kept c.stopped.ensures.kept c.in-Ok.ensures.bytes.0 fed c.stopped.ensures.wrote
     (λ full. c.in-Err.ensures.cause.full (ap (λ s. Err s) full))
-    )
+    ))
+
+pub returns-then-count-eq0-clause-causes : goal.returns-then-count-eq0-clause-causes
+returns-then-count-eq0-clause-causes g c = record {
+  in_later = omega (arith, c.in-Ok.ensures.cause.steady);
+  out_later = c.closing.ensures.later;
+  input = λ e. absurd (c.closing.ensures.own e);
+  output = c.closing.ensures.blamed;
+  in_calm = calm-same c.closing.result _ _ c.in-Ok.ensures.cause.steady;
+  out_calm = c.closing.ensures.calm;
+}

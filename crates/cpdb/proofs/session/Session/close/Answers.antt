@@ -1,27 +1,14 @@
-use Rattle.std.proofs.Common.{rules, ◌≡◌, [], Bool, true, false, sym, subst, refl, if◌then◌else◌}
-use Rattle.cpdb.specs.Machine.{Play, syntax_line}
-use Rattle.cp_lang.specs.Tokens.{is_blank}
-use Rattle.std.specs.Io.KnownBytes.{Appends}
-use Rattle.cpdb.specs.Turns.{Goes}
+use Rattle.std.proofs.Common.{◌≡◌, ◌∙◌, rules}
+use Rattle.std.specs.Option.{option_to_list}
+use Rattle.cp_lang.specs.Cuts.{scan_start}
+use Rattle.cpdb.specs.Turns.{Kept}
+use Rattle.cpdb.proofs.Plays.{closed}
 use Rattle.cpdb.proofs.session.Session.close.Goals as goal
-
-pub returns-in_err-write_all-clause-went : goal.returns-in_err-write_all-clause-went
-returns-in_err-write_all-clause-went g c =
-    let s = c.args.self.now in
-    let b = (g.O.Sink.contents c.args.output.now) in
-    let a = (g.O.Sink.contents c.write_all.new.output) in
-    let blank : is_blank s.text ≡ false = search rules in
-    let left : Play = record { out = syntax_line; now = s; refused = true } in
-    let whole : Goes left s b a c.from_residual.result = search rules in
-    let P : Bool → Type 0 = λ v. Goes (if v then (let r : Play = record { out = []; now = s; refused = false } in r) else left) s b a c.from_residual.result in
-    subst P (sym blank) whole
 
 pub returns-clause-went : goal.returns-clause-went
 returns-clause-went g c =
-    let s = c.args.self.now in
-    let b = (g.O.Sink.contents c.args.output.now) in
-    let a = (g.O.Sink.contents c.write_all.new.output) in
-    let blank : is_blank s.text ≡ false = search rules in
-    let left : Play = record { out = syntax_line; now = s; refused = true } in
-    let P : Bool → Type 0 = λ v. (let p : Play = (if v then (let r : Play = record { out = []; now = s; refused = false } in r) else left) in (p.refused ≡ true) × Appends b a p.out) in
-    subst P (sym blank) (refl, c.in_ok-write_all.ensures.all)
+    let old = c.args.self.now in
+    let mid : Kept = record { held = c.replace-cutter.new.dest; ledger = c.self.inside.store; refused = c.self.inside.refused } in
+    let held : c.self.inside.cutter ≡ old.held = search rules in
+    λ s f. closed s (option_to_list c.rest.result) old mid c.run.new.self (g.O.Sink.contents c.args.output.now) (g.O.Sink.contents c.run.new.output) c.run.result f
+    (λ t e. c.rest.ensures t (c.replace-cutter.ensures.value ∙ held ∙ e)) (search rules) (search rules) c.run.ensures.went scan_start (c.replace-cutter.ensures.after ∙ c.new.ensures)

@@ -1,30 +1,22 @@
-use Rattle.std.proofs.Common.{◌≡◌, ◌==◌, ◌++◌, [], length, false, sym, ap, ◌∙◌, rules}
-use Rattle.std.specs.Vec.{vec_len}
-use Rattle.cpdb.specs.Machine.{Db, committed_line}
-use Rattle.cpdb.specs.Stores.{labels_of, insertion_records}
-use Rattle.cpdb.proofs.Numbers.{store-committed, labels-length, answers-committing}
+use Rattle.std.proofs.Common.{◌≡◌, sym, ap, ◌∙◌}
+use Rattle.cpdb.specs.Stores.{Ledger}
+use Rattle.cpdb.specs.declared.store.ledger.Transaction.TheVariants.{Closed, Going, Failed}
+use Rattle.cpdb.proofs.Turning.{commit-closed, commit-failed, commit-going}
 use Rattle.cpdb.proofs.store.Store.commit.Goals as goal
 
-pub invariant_of-self-2 : goal.invariant_of-self-2
-invariant_of-self-2 c =
-    let rows = c.self.inside.records.items in
-    let opened = c.self.inside.opened.items in
-    let added : c.in_ok-added.added.items ≡ insertion_records (length rows) opened = search rules in
-    rw (c.in_ok-append.ensures.items, c.clear.ensures.items) (store-committed rows c.in_ok-added.added.items opened c.self.inside.places c.self.invariant added).0
+pub returns-in-Closed : goal.returns-in-Closed
+returns-in-Closed c = λ s z.
+    let is : c.args.self.now.transaction ≡ Closed = ap (λ (v : Ledger). v.transaction) (sym c.self.view_is) ∙ c.in-Closed.is in
+    rw c.refused_commit.ensures (commit-closed c.args.self.now c.args.self.now s z is)
 
-pub returns : goal.returns
-returns c =
-    let rows = c.self.inside.records.items in
-    let opened = c.self.inside.opened.items in
-    let added : c.in_ok-added.added.items ≡ insertion_records (length rows) opened = search rules in
-    let db : Db = record { rows = labels_of rows; opened = opened } in
-    let new : Db = record { rows = labels_of c.append.new.self.items; opened = c.clear.new.self.items } in
-    let held : vec_len c.self.inside.opened ≡ length opened = search rules in
-    let kept : vec_len c.self.inside.records ≡ length rows = search rules in
-    let some : (length opened == 0) ≡ false = ap (λ n. n == 0) (sym held) ∙ sym c.is_empty.ensures ∙ c.if-is_empty.false in
-    let line : c.in_ok-line.line ≡ committed_line (length (labels_of rows)) (length opened) =
-    c.in_ok-line.ensures ∙ ap (λ m. committed_line m c.len.result) (c.len-before.ensures ∙ kept ∙ sym (labels-length rows)) ∙ ap (committed_line (length (labels_of rows))) (c.len.ensures ∙ held) in
-    let labels : labels_of c.append.new.self.items ≡ labels_of rows ++ opened =
-    ap labels_of c.in_ok-append.ensures.items ∙ (store-committed rows c.in_ok-added.added.items opened c.self.inside.places c.self.invariant added).1 in
-    let is : new ≡ record { rows = labels_of rows ++ opened; opened = [] } = λ i. record { rows = labels i; opened = c.clear.ensures.items i } in
-    rw (← c.self.view_is) (answers-committing db new c.in_ok-line.line some line is)
+pub returns-in-Failed : goal.returns-in-Failed
+returns-in-Failed c = λ s z.
+    let is : c.args.self.now.transaction ≡ Failed c.in-Failed.at = ap (λ (v : Ledger). v.transaction) (sym c.self.view_is) ∙ c.in-Failed.is in
+    rw c.refused_commit-in-Failed.ensures (commit-failed c.args.self.now c.give_up.new.self s z c.in-Failed.at is c.give_up.ensures)
+
+pub returns-in-Going : goal.returns-in-Going
+returns-in-Going c = λ s z.
+    let is : c.args.self.now.transaction ≡ Going c.in-Going.field-0 = ap (λ (v : Ledger). v.transaction) (sym c.self.view_is) ∙ c.in-Going.is in
+    let low : c.self.inside.last ≡ c.args.self.now.last = ap (λ (v : Ledger). v.last) c.self.view_is in
+    let high : c.self-in-Going.inside.last ≡ c.keep.new.self.last = ap (λ (v : Ledger). v.last) c.self-in-Going.view_is in
+    rw (low, high) (commit-going c.args.self.now c.keep.new.self s z c.in-Going.field-0 is c.keep.ensures)

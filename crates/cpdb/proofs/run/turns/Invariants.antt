@@ -1,0 +1,17 @@
+use Rattle.std.proofs.Common.{◌≡◌, ◌≤◌, ◌-◌}
+use Rattle.cpdb.specs.Words.{most_input}
+use Rattle.cpdb.specs.Play.{Seen}
+use Rattle.cpdb.specs.Turns.{Follows, Turned}
+use Rattle.cpdb.proofs.run.turns.Given as goal
+
+abbrev pub decreases-loop-now : goal.decreases-loop-now
+decreases-loop-now g l = most_input - l.taken
+
+abbrev pub invariant-loop-now : goal.invariant-loop-now
+invariant-loop-now g l = record {
+  within : l.taken ≤ most_input;
+  turned : (s : Seen) → Follows l.initial.session s → Turned s l.initial.session l.session 0 l.taken (g.I.Source.left l.initial.input) (g.I.Source.left l.input) (g.O.Sink.contents l.initial.output) (g.O.Sink.contents l.output);
+  in_steady : g.I.Source.faults l.input ≡ g.I.Source.faults l.initial.input;
+  out_steady : g.O.Sink.faults l.output ≡ g.O.Sink.faults l.initial.output;
+  kept : g.O.Sink.refusals l.initial.output ≤ g.O.Sink.refusals l.output;
+}

@@ -1,0 +1,30 @@
+-- A session between two bytes of its input, and what the next bytes bring.
+use Rattle.std.specs.Prelude.{ℕ, List, ◌++◌}
+use Rattle.cp_lang.specs.Cuts.{Scan, scan_start, scanned, rest_of}
+use Rattle.cp_session.specs.Session.{Session, replies_to, session_after}
+use Rattle.cpdb.specs.Job.{Ended, told, setting, begun_session}
+
+-- the bytes since the last statement's end, and the state of the session
+pub record Seen : Type 0 where
+  pub scan : Scan
+  pub session : Session
+
+-- before the first byte
+abbrev pub start : Seen
+start = record { scan = scan_start; session = begun_session }
+
+-- what the cuts that end in the next bytes write
+unfoldable pub plays : Seen → List ℕ → Ended
+plays s bytes = told (replies_to setting s.session (scanned s.scan bytes).cuts)
+
+-- what is seen then
+unfoldable pub after_play : Seen → List ℕ → Seen
+after_play s bytes = record { scan = (scanned s.scan bytes).scan; session = session_after setting s.session (scanned s.scan bytes).cuts }
+
+-- what the cut at the end of the input writes
+unfoldable pub closes : Seen → Ended
+closes s = told (replies_to setting s.session (rest_of s.scan))
+
+-- what all the rest of an input writes
+unfoldable pub plays_all : Seen → List ℕ → Ended
+plays_all s bytes = told (replies_to setting s.session ((scanned s.scan bytes).cuts ++ rest_of (scanned s.scan bytes).scan))
