@@ -19,5 +19,3 @@ pub mod Placing
 pub mod Spellable
 pub mod Parser
 pub mod Written
-pub mod WrittenTrees
-pub mod GrammarLaws

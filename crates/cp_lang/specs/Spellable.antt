@@ -1,4 +1,4 @@
--- A statement that is read is within every limit, so it can be printed.
+-- A statement that is read is within every limit, so it can be printed, and written in a history.
 use Rattle.std.specs.Prelude.{ℕ, suc, ◌≤◌, ◌<◌, ◌^◌, ◌≡◌, List, [], ◌∷◌, Bool, true, false, ◌&&◌, ◌||◌, nat_le, nat_lt, length, ⊤, codes, refl, Result, Ok, Err, if◌then◌else◌}
 use Rattle.std.proofs.Common.{subst, arith}
 use Rattle.std.proofs.lemmas.Bool.{leb-false, ltb-true}
@@ -26,6 +26,7 @@ use Rattle.cp_lang.specs.Grammar.{Level, has_edge, node, placed, close_node, new
 use Rattle.cp_lang.specs.Grammar.{start, ins_open, ins_label, tree_colon, tree, first_edge, next_edge, edge_end, ins_close, ins_into, ins_place, del_label, del_from, del_place, copy_origin, copy_into, copy_place, load_name, load_form, json_file, csv_file, csv_by, csv_column, asked_place, asks_src, asks_hist, asks_mod, asks_trace, asks_from, show_place, records_tid, ended}
 use Rattle.cp_lang.specs.Printer.{IsPlace, IsLabel, IsShortTree, IsSpellable}
 use Rattle.cp_lang.specs.Placing.{IsBelow, AreEdges, node-below, leaf-below, short-below, edges-insert}
+use Rattle.cp_lang.specs.Written.{IsWrittenStmt}
 use Rattle.cp_lang.specs.declared.stmt.Stmt.{Stmt}
 use Rattle.cp_lang.specs.declared.stmt.Stmt.TheVariants as stmt
 use Rattle.cp_lang.specs.declared.stmt.StmtFault.{StmtFault}
@@ -353,3 +354,18 @@ reads-good n s (t ∷ ts) x h e = by (takes s t.shape) (takes-leads s t.shape h)
 pub read_spellable : (text : List ℕ) (s : Stmt) → statement_reading text ≡ Ok s → IsSpellable s
 unfolding statement_reading
 read_spellable text s e = reads-good (length text) start (tokens_of text) s tt e
+
+-- a statement within every limit can be written
+spellable_written : (s : Stmt) → IsSpellable s → IsWrittenStmt s
+spellable_written (stmt.Op (Ins p a t)) h = let tree : IsShortTree t = h.2 in tree.0
+spellable_written (stmt.Op (Del a p)) h = tt
+spellable_written (stmt.Op (Copy q p)) h = tt
+spellable_written stmt.Commit h = tt
+spellable_written stmt.Abort h = tt
+spellable_written (stmt.Load l) h = tt
+spellable_written (stmt.Ask q) h = tt
+spellable_written (stmt.Show q) h = tt
+
+-- a statement that is read can be written
+pub read_written : (text : List ℕ) (s : Stmt) → statement_reading text ≡ Ok s → IsWrittenStmt s
+read_written text s e = spellable_written s (read_spellable text s e)

@@ -1,6 +1,6 @@
 ghost use Rattle.std.specs.Prelude.{◌≡◌};
 ghost use Rattle.cp_lang.specs.Cuts.{ends, after};
-ghost use Rattle.cp_lang.specs.Spaces.{is_space, is_blank};
+ghost use Rattle.cp_lang.specs.Spaces.{is_space};
 
 use cp_path::Bytes;
 
@@ -17,14 +17,14 @@ pub enum Cut {
 
 /// Where the scan for the ends of statements stands: outside or inside quotation marks, or behind a backslash inside.
 #[derive(Clone, Copy, Debug, Drop, PartialEq, Eq)]
-pub enum Mode {
+pub(crate) enum Mode {
     Outside,
     Inside,
     Escaped,
 }
 
 /// Whether the byte ends a statement.
-pub fn ends(mode: Mode, byte: u8) -> bool
+pub(crate) fn ends(mode: Mode, byte: u8) -> bool
     ensures { result ≡ ends mode byte }
 {
     match mode {
@@ -35,7 +35,7 @@ pub fn ends(mode: Mode, byte: u8) -> bool
 }
 
 /// Where the scan stands behind a byte that ends no statement.
-pub fn after(mode: Mode, byte: u8) -> Mode
+pub(crate) fn after(mode: Mode, byte: u8) -> Mode
     ensures { result ≡ after mode byte }
 {
     match mode {
@@ -60,15 +60,8 @@ pub fn after(mode: Mode, byte: u8) -> Mode
 }
 
 /// Whether the byte is white space: space, tab, line feed or carriage return.
-pub fn is_space(byte: u8) -> bool
+pub(crate) fn is_space(byte: u8) -> bool
     ensures { result ≡ is_space byte }
 {
     byte == b' ' || byte == b'\t' || byte == b'\n' || byte == b'\r'
-}
-
-/// Whether the text is white space alone. Costs its bytes.
-pub fn is_blank(text: &[u8]) -> bool
-    ensures { result ≡ is_blank text.now }
-{
-    text.iter().all(|byte| is_space(*byte))
 }

@@ -12,7 +12,7 @@ mod statement;
 mod stmt;
 mod verb;
 
-pub use cut::{Cut, Mode, after, ends, is_blank, is_space};
+pub use cut::Cut;
 pub use cutter::{Cutter, STATEMENT_MAX};
 pub use printer::print;
 pub use statement::{first_offset, parse, parse_bytes};

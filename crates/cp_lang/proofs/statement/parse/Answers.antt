@@ -1,7 +1,7 @@
 use Rattle.std.proofs.Common.{◌∙◌, inr, sym}
 use Rattle.std.proofs.lemmas.Result.{err_from_is_err_and}
 use Rattle.cp_lang.specs.Grammar.{start, statement_reading}
-use Rattle.cp_lang.specs.GrammarLaws.{parsed_written}
+use Rattle.cp_lang.specs.Spellable.{read_written}
 use Rattle.cp_lang.proofs.Steps.{past}
 use Rattle.cp_lang.proofs.statement.parse.Goals as goal
 
@@ -20,5 +20,5 @@ returns-clause-reads c = sym (c.new-parser.ensures start) ∙ c.in_ok-statement.
 pub returns-clause-written : goal.returns-clause-written
 unfolding statement_reading
 returns-clause-written c =
-    parsed_written c.args.text.now c.in_ok-statement.statement
+    read_written c.args.text.now c.in_ok-statement.statement
     (sym (c.new-parser.ensures start) ∙ c.in_ok-statement.ensures.reads ∙ c.in_ok-finish.ensures.reads c.in_ok-statement.statement)
