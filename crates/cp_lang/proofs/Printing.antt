@@ -1,5 +1,5 @@
 -- What has been written of a literal.
-use Rattle.std.proofs.Common.{◌≡◌, ◌++◌, ◌∷◌, [], ℕ, suc, ◌+◌, List, drop, codes, ap, sym, ◌∙◌, append_assoc, append-nil, refl, subst, arith, Result, Ok, Err, OnOk, if◌then◌else◌}
+use Rattle.std.proofs.Common.{◌≡◌, ◌++◌, ◌∷◌, [], ℕ, suc, ◌+◌, List, drop, codes, ap, sym, ◌∙◌, append_assoc, append-nil, subst, arith, Result, Ok, Err, OnOk, if◌then◌else◌}
 use Rattle.std.specs.Result.{is_ok}
 use Rattle.cp_path.specs.Spelling.{value_text}
 use Rattle.cp_path.specs.declared.value.Value.{Value}
@@ -17,9 +17,6 @@ use Rattle.cp_lang.specs.Printed.{AreWithin, IsOrdered, AreOrdered, edge_text, e
 abbrev pub IsWritten : List LitEdge → ℕ → List ℕ → List ℕ → List ℕ → Type 0
 IsWritten edges i separator out before =
     (n : ℕ) → AreOrdered n edges → AreOrdered n (drop i edges) × (out ++ edges_text n separator (drop i edges) ≡ before ++ edges_text n [] edges)
-
-pub written_none : (edges : List LitEdge) (out : List ℕ) → IsWritten edges 0 [] out out
-written_none edges out n h = (h, refl)
 
 -- one edge more
 pub written_more : (edges : List LitEdge) (i : ℕ) (e : LitEdge) (separator out parted more before : List ℕ) →

@@ -258,18 +258,6 @@ next_label p q r t b a es ls h e k =
     h ∙ ap (λ v. reading q (if v then next_edge (within a es ls) else placed a (node es) ls)) e ∙ k
     ∙ ap (λ (u : Taken). refused_or u t.at (reading r)) (takes_next_edge (within a es ls) (shape_of t.shape))
 
--- a comma with no token behind it
-pub next_none_behind : (p q : Parser) (b : Bool) (a : Label) (es : Edges) (ls : List Level) (e : StmtFault)
-    → reading p (edge_end (within a es ls)) ≡ reading q (if b then next_edge (within a es ls) else placed a (node es) ls) → b ≡ true
-    → reading q (next_edge (within a es ls)) ≡ Err e → reading p (edge_end (within a es ls)) ≡ Err e
-next_none_behind p q b a es ls e h i k = h ∙ ap (λ v. reading q (if v then next_edge (within a es ls) else placed a (node es) ls)) i ∙ k
-
--- the closing brace behind an edge
-pub last_edge : (p q : Parser) (b : Bool) (a : Label) (es : Edges) (ls : List Level)
-    → reading p (edge_end (within a es ls)) ≡ reading q (if b then next_edge (within a es ls) else placed a (node es) ls) → b ≡ false
-    → reading p (edge_end (within a es ls)) ≡ reading q (placed a (node es) ls)
-last_edge p q b a es ls h e = h ∙ ap (λ v. reading q (if v then next_edge (within a es ls) else placed a (node es) ls)) e
-
 -- the opening brace of a node
 pub tree_opens : (p q : Parser) (x : Shape) (at : ℕ) (b : Bool) (a : Label) (ls : List Level)
     → reading p (tree a ls) ≡ refused_or (takes (tree a ls) x) at (reading q)

@@ -3,7 +3,6 @@ use Rattle.std.specs.Prelude.{ℕ, ◌+◌, ◌<◌, ◌≡◌, Bool, true, fals
 use Rattle.std.proofs.Common.{sym, ap, ◌∙◌, append_assoc, add-one, suc, drop, get_or, inl, inr, ⊎_elim}
 use Rattle.std.proofs.Math.Seq.{drop-cons}
 use Rattle.std.proofs.lemmas.List.{map-append}
-use Rattle.std.proofs.lemmas.List.Sums.{sum_by-cons}
 use Rattle.cp_path.specs.declared.loc.Loc.{Loc}
 use Rattle.cp_model.specs.Place.{Path, Label, child_place, over_limit, below_place}
 use Rattle.cp_model.specs.Tree.{reaches_over, last_bytes}
@@ -13,7 +12,7 @@ use Rattle.cp_model.specs.Literals.{literal_rows, rows_under, edge_rows}
 use Rattle.cp_model.specs.declared.row.Content.{Content}
 use Rattle.cp_model.specs.declared.literal.LitEdge.{LitEdge}
 use Rattle.cp_model.specs.declared.refusal.Refusal.{Refusal}
-use Rattle.cpdb.specs.Plans.{planned, planned_at, weight_in, Denies}
+use Rattle.cpdb.specs.Plans.{planned, planned_at, Denies}
 use Rattle.cpdb.specs.declared.store.plan.Denied.{Denied}
 use Rattle.cpdb.specs.declared.store.plan.Planned.{Planned}
 
@@ -56,21 +55,9 @@ reaches-rest q a rs rest h = reaches-append q (rows_under a rs) rest ∙ ap (λ 
 pub reaches-edge : (q : Loc) (a : Label) (rs rest : List (Path × Content)) → reaches_over (child_place q a) rs ≡ true → reaches_over q (rows_under a rs ++ rest) ≡ true
 reaches-edge q a rs rest h = reaches-append q (rows_under a rs) rest ∙ ap (λ b. b || reaches_over q rest) (reaches-under q a rs ∙ h)
 
--- a root that isn't over a limit leaves it to the rows below
-pub reaches-root : (q : Loc) (c : Content) (rs : List (Path × Content)) → over_limit q ≡ false → reaches_over q (([], c) ∷ rs) ≡ reaches_over q rs
-reaches-root q c rs h = ap (λ b. b || reaches_over q rs) (ap (λ (p : Path). over_limit (record { db = q.db; path = p })) (append-nil q.path) ∙ h)
-
 -- the root of a literal is its first row
 pub reaches-first : (q : Loc) (c : Content) (rs : List (Path × Content)) → over_limit q ≡ true → reaches_over q (([], c) ∷ rs) ≡ true
 reaches-first q c rs h = ap (λ b. b || reaches_over q rs) (ap (λ (p : Path). over_limit (record { db = q.db; path = p })) (append-nil q.path) ∙ h)
-
--- a root is planned first
-pub planned-root : (p : Path) (c : Content) (rs : List (Path × Content)) → planned p (([], c) ∷ rs) ≡ planned_at (p, c) ∷ planned p rs
-planned-root p c rs = ap (λ (s : Path). planned_at (s, c) ∷ planned p rs) (append-nil p)
-
--- one place more weighs its weight
-pub weight-cons : (x : Planned) (xs : List Planned) → weight_in (x ∷ xs) ≡ x.weight + weight_in xs
-weight-cons x xs = sum_by-cons (λ (y : Planned). y.weight) x xs
 
 -- what is left of a list from one of its elements on
 pub drop-one : {X : Type 0} (xs : List X) (i : ℕ) (x : X) → i < length xs → x ≡ get_or xs i x → drop i xs ≡ x ∷ drop (i + 1) xs

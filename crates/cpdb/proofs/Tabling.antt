@@ -1,6 +1,6 @@
 -- A table after places are put, or taken out.
 use Rattle.std.specs.Prelude.{ℕ, ◌≡◌, Bool, true, false, cond, ◌||◌, List, [], ◌∷◌, ◌++◌, is_some, refl, if◌then◌else◌}
-use Rattle.std.proofs.Common.{sym, ap, subst, ◌∙◌}
+use Rattle.std.proofs.Common.{sym, ap, ◌∙◌}
 use Rattle.std.specs.List.{list_any}
 use Rattle.std.specs.declared.option.Option.{Option}
 use Rattle.std.specs.declared.option.Option.TheVariants.{None, Some}
@@ -9,7 +9,7 @@ use Rattle.std.specs.Map.{lookup}
 use Rattle.cp_model.specs.Place.{Path, path_cmp, path_eq, path_ties, or_else}
 use Rattle.cp_model.specs.Lookups.{path_eq-sym}
 use Rattle.cp_model.specs.Keyed.{look}
-use Rattle.cpdb.specs.Plans.{Places, at, entries_of, PutsAll, Puts}
+use Rattle.cpdb.specs.Plans.{Places, at, entries_of, Puts}
 use Rattle.cpdb.specs.declared.store.plan.Planned.{Planned}
 use Rattle.cpdb.specs.declared.store.table.Entry.{Entry}
 
@@ -59,9 +59,6 @@ pub record LeadsTo (tid : ℕ) (left : List Planned) (t : Places) (all : List Pl
   pub places : (p : Path) → or_else (look p (entries_of tid left)) (at t p) ≡ or_else (look p (entries_of tid all)) (at u p)
   pub added : (p : Path) → (is_some (look p (entries_of tid left)) || list_any (path_eq p) t.added) ≡ (is_some (look p (entries_of tid all)) || list_any (path_eq p) u.added)
 
-pub leads-start : (tid : ℕ) (all : List Planned) (u : Places) → LeadsTo tid all u all u
-leads-start tid all u = record { places = λ p. refl; added = λ p. refl }
-
 or_or : {X : Type 0} (a b c : Option X) → or_else a (or_else b c) ≡ or_else (or_else a b) c
 or_or None b c = refl
 or_or (Some x) b c = refl
@@ -95,12 +92,6 @@ leads-step tid left rest x t v all u e h k = record {
       (sym (some_or (look p (entries_of tid rest)) (look p (entries_of tid (x ∷ [])))) ∙ ap is_some (sym (look_snoc tid rest x p) ∙ ap (λ xs. look p (entries_of tid xs)) (sym e)))
       ∙ h.added p;
 }
-
--- nothing is left to put
-pub leads-end : (tid : ℕ) (left : List Planned) (t : Places) (all : List Planned) (u : Places) → left ≡ [] → LeadsTo tid left t all u → PutsAll u all tid t
-leads-end tid left t all u e h =
-    let g = subst (λ xs. LeadsTo tid xs t all u) e h in
-    record { places = g.places; added = g.added }
 
 -- what a map has at a path once these paths are taken out
 abbrev pub without_all : List Path → List (Path × Entry) → Path → Option Entry

@@ -1,5 +1,5 @@
 -- A run of the program is the session's job, and where the input is told it is that of all the input.
-use Rattle.std.proofs.Common.{◌≡◌, ℕ, ◌+◌, List, ◌++◌, length, false, refl, ap, ◌∙◌, subst, append-nil, arith}
+use Rattle.std.proofs.Common.{◌≡◌, ℕ, ◌+◌, List, ◌++◌, length, false, refl, ap, ◌∙◌, append-nil, arith}
 use Rattle.std.proofs.lemmas.List.{length-append}
 use Rattle.std.specs.declared.option.Option.{Option}
 use Rattle.std.specs.declared.option.Option.TheVariants.{None, Some}
@@ -53,10 +53,6 @@ complete (Some all) None b a r s how.TooLong i j o p w c short ci co = w.1
 complete (Some all) (Some rest) b a r s how.TooLong i j o p w c short ci co =
     let n : length all ≡ length w.0 + length rest = ap length w.1 ∙ length-append w.0 rest in
     absurd (omega (arith, w.2.0, n, short))
-
--- a session doesn't end with the usage
-pub not_usage : (l0 l1 b a : Option (List ℕ)) (r s : ℕ) (e : End) → RanOn played job 0 l0 l1 b a r s e → e ≡ how.Usage → ⊥
-not_usage l0 l1 b a r s e w h = (let z = subst (RanOn played job 0 l0 l1 b a r s) h w in z.2)
 
 -- ---- numbers
 
