@@ -1,0 +1,113 @@
+-- The rows of literal trees, and how deep they lie.
+use Rattle.std.specs.Prelude.{◌≡◌, ℕ, zero, suc, ◌+◌, ◌≤◌, List, [], ◌∷◌, ◌++◌, length, map, max}
+use Rattle.std.proofs.Common.{append-nil, sym, ap, ◌∙◌, arith, append_assoc, length-append, get_or, drop, ◌<◌, Result, Ok, Err, OnOk, add-one}
+use Rattle.std.proofs.lemmas.List.{map-append, length-map}
+use Rattle.std.proofs.Math.Seq.{drop-cons}
+use Rattle.std.proofs.Math.ListN.{drop_of_length-le}
+use Rattle.cp_model.specs.declared.row.Content.{Content}
+use Rattle.cp_model.specs.declared.row.Content.TheVariants.{Node, Leaf}
+use Rattle.cp_model.specs.declared.row.Row.{Row}
+use Rattle.cp_model.specs.declared.literal.Literal.{Literal}
+use Rattle.cp_model.specs.declared.literal.Literal.TheVariants as literal
+use Rattle.cp_model.specs.declared.literal.LitEdge.{LitEdge}
+use Rattle.cp_model.specs.Literals.{literal_rows, rows_under, edge_rows}
+use Rattle.cp_model.specs.Place.{Label, Path, child}
+use Rattle.cp_model.specs.Subtrees.{moved}
+use Rattle.cp_tree.specs.Listing.{entries_in-rows, moved-append, moved-under, moved-first, moved-root}
+use Rattle.cp_tree.specs.Counted.{greatest-append}
+use Rattle.cp_tree.specs.Rows.{row_of, entries_in, deepest}
+
+-- rows that are those of entries have these entries
+pub entries-listed : (rs vs : List Row) (es : List (Path × Content)) → rs ≡ vs → vs ≡ map row_of es → entries_in rs ≡ es
+entries-listed rs vs es r v = ap entries_in (r ∙ v) ∙ entries_in-rows es
+
+-- one row more
+pub entries-more : (rs : List Row) (r : Row) → entries_in (rs ++ r ∷ []) ≡ entries_in rs ++ (r.path, r.content) ∷ []
+entries-more rs r = map-append (λ (x : Row). (x.path, x.content)) rs (r ∷ [])
+
+-- rows listed from a root are all
+pub entries-root : (at : Path) (rs first all : List Row) (es : List (Path × Content)) → rs ≡ all → at ≡ [] → first ≡ [] → entries_in all ≡ entries_in first ++ moved at es → entries_in rs ≡ es
+entries-root at rs first all es r p f h = ap entries_in r ∙ h ∙ ap (λ xs. entries_in xs ++ moved at es) f ∙ ap (λ q. moved q es) p ∙ moved-root es
+
+-- ---- depths
+
+deepest_under : (a : Label) (r : Path × Content) (es : List (Path × Content)) → deepest (rows_under a (r ∷ es)) ≡ 1 + deepest (r ∷ es)
+deepest_under a r [] = omega arith
+deepest_under a r (e ∷ es) = ap (max (length (a ∷ r.0))) (deepest_under a e es) ∙ omega arith
+
+deepest_literal : (a : Label) (t : Literal) → deepest (rows_under a (literal_rows t)) ≡ 1 + deepest (literal_rows t)
+deepest_literal a (literal.Leaf v) = deepest_under a ([], Leaf v) []
+deepest_literal a (literal.Node below) = deepest_under a ([], Node) below
+
+-- the most labels of an edge's rows, and of those of the others
+pub deepest-edge : (e : LitEdge) (rest tail : List LitEdge) → tail ≡ e ∷ rest → deepest (edge_rows tail) ≡ max (1 + deepest (literal_rows e.tree)) (deepest (edge_rows rest))
+deepest-edge e rest tail t =
+    ap (λ es. deepest (edge_rows es)) t
+    ∙ greatest-append (λ r. length r.0) (rows_under e.label (literal_rows e.tree)) (edge_rows rest)
+    ∙ ap (λ n. max n (deepest (edge_rows rest))) (deepest_literal e.label e.tree)
+
+-- ---- rows
+
+-- after an edge's rows the rest is listed
+pub rows-edge : (at path : Path) (e : LitEdge) (rest tail : List LitEdge) (old new total : List (Path × Content)) → tail ≡ e ∷ rest → path ≡ child at e.label →
+    new ≡ old ++ moved path (literal_rows e.tree) → old ++ moved at (edge_rows tail) ≡ total → new ++ moved at (edge_rows rest) ≡ total
+rows-edge at path e rest tail old new total t p n h =
+    ap (λ xs. xs ++ moved at (edge_rows rest)) (n ∙ ap (λ q. old ++ moved q (literal_rows e.tree)) p ∙ ap (λ xs. old ++ xs) (sym (moved-under at e.label (literal_rows e.tree))))
+    ∙ append_assoc old (moved at (rows_under e.label (literal_rows e.tree))) (moved at (edge_rows rest))
+    ∙ ap (λ xs. old ++ xs) (sym (moved-append at (rows_under e.label (literal_rows e.tree)) (edge_rows rest)))
+    ∙ ap (λ es. old ++ moved at (edge_rows es)) (sym t)
+    ∙ h
+
+-- the row of a root
+pub rows-root : (at : Path) (c : Content) (rs : List Row) (r : Row) (new : List Row) (es : List (Path × Content)) → new ≡ rs ++ r ∷ [] → r.path ≡ at → r.content ≡ c →
+    entries_in new ++ moved at es ≡ entries_in rs ++ moved at (([], c) ∷ es)
+rows-root at c rs r new es n p is =
+    ap (λ x. entries_in x ++ moved at es) n
+    ∙ ap (λ x. x ++ moved at es) (entries-more rs r)
+    ∙ append_assoc (entries_in rs) ((r.path, r.content) ∷ []) (moved at es)
+    ∙ (λ i. entries_in rs ++ (p i, is i) ∷ moved at es)
+    ∙ ap (λ x. entries_in rs ++ x) (sym (moved-first at c es))
+
+no_rows : (at : Path) (xs : List (Path × Content)) → xs ++ moved at [] ≡ xs
+unfolding moved
+no_rows at xs = append-nil xs
+
+-- a leaf is its root alone
+pub rows-leaf : (at : Path) (c : Content) (rs : List Row) (r : Row) (new : List Row) → new ≡ rs ++ r ∷ [] → r.path ≡ at → r.content ≡ c → entries_in new ≡ entries_in rs ++ moved at (([], c) ∷ [])
+rows-leaf at c rs r new n p is = sym (no_rows at (entries_in new)) ∙ rows-root at c rs r new [] n p is
+
+-- after the last edge all is listed
+pub rows-end : (at : Path) (edges : List LitEdge) (i : ℕ) (new old : List (Path × Content)) (below : List (Path × Content)) → length edges ≤ i → edge_rows edges ≡ below →
+    new ++ moved at (edge_rows (drop i edges)) ≡ old ++ moved at (edge_rows edges) → new ≡ old ++ moved at below
+rows-end at edges i new old below l b h =
+    sym (no_rows at new) ∙ ap (λ es. new ++ moved at (edge_rows es)) (sym (drop_of_length-le edges l)) ∙ h ∙ ap (λ es. old ++ moved at es) b
+
+-- the rows below a node come after its own
+pub rows-node : {E : Type 0} (result : Result (Unit {0}) E) (at : Path) (rs new all : List Row) (below : List (Path × Content)) (r : Row) → new ≡ rs ++ r ∷ [] → r.path ≡ at → r.content ≡ Node →
+    OnOk result (entries_in all ≡ entries_in new ++ moved at below) → OnOk result (entries_in all ≡ entries_in rs ++ moved at (([], Node) ∷ below))
+rows-node (Ok u) at rs new all below r n p c h = h ∙ rows-root at Node rs r new below n p c
+rows-node (Err e) at rs new all below r n p c h = tt
+
+-- an edge's tree has no more rows than all its siblings
+pub rows-fewer : (e : LitEdge) (rest edges : List LitEdge) (i : ℕ) (below : List (Path × Content)) → drop i edges ≡ e ∷ rest → edge_rows edges ≡ below → length (literal_rows e.tree) ≤ length below
+rows-fewer e rest edges i below t b =
+    let all : length (edge_rows edges) ≡ length below = ap length b in
+    omega (arith, all, fewer i edges t)
+  where
+    more : (d : LitEdge) (ds : List LitEdge) → length (edge_rows (d ∷ ds)) ≡ length (literal_rows d.tree) + length (edge_rows ds)
+    more d ds = length-append (rows_under d.label (literal_rows d.tree)) (edge_rows ds) ∙ ap (λ n. n + length (edge_rows ds)) (length-map (literal_rows d.tree) (λ r. (d.label ∷ r.0, r.1)))
+
+    fewer : (i : ℕ) (es : List LitEdge) → drop i es ≡ e ∷ rest → length (literal_rows e.tree) ≤ length (edge_rows es)
+    fewer zero es t = (let all : length (edge_rows es) ≡ length (edge_rows (e ∷ rest)) = ap (λ ds. length (edge_rows ds)) t in omega (arith, all, more e rest))
+    fewer (suc i) [] t = absurd (cc)
+    fewer (suc i) (d ∷ ds) t = omega (arith, more d ds, fewer i ds t)
+
+-- an edge's tree lies no deeper than the rows of its siblings
+pub path-within : (at path : Path) (e : LitEdge) (rest tail : List LitEdge) → tail ≡ e ∷ rest → path ≡ child at e.label → length at + deepest (edge_rows tail) ≤ 64 → length path + deepest (literal_rows e.tree) ≤ 64
+path-within at path e rest tail t p h =
+    let long : length path ≡ length at + 1 = ap length p ∙ length-append at (e.label ∷ []) in
+    omega (arith, long, deepest-edge e rest tail t)
+
+-- where one entry is left of a list, and the others
+pub drop-one : {X : Type 0} (xs : List X) (i : ℕ) (x : X) → i < length xs → x ≡ get_or xs i x → drop i xs ≡ x ∷ drop (i + 1) xs
+drop-one xs i x h e = drop-cons xs i x h ∙ ap (λ y. y ∷ drop (suc i) xs) (sym e) ∙ ap (λ k. x ∷ drop k xs) (sym (add-one i))

@@ -1,0 +1,11 @@
+//! What every representation of a tree answers and does: a finite map from paths to contents.
+#![tactic(auto)]
+
+mod build;
+mod listing;
+mod reach;
+mod rep;
+
+pub use build::{graft, insert_tree};
+pub use reach::Reach;
+pub use rep::TreeRep;
