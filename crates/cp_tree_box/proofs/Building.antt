@@ -1,0 +1,73 @@
+-- A tree built from its rows, one by one.
+use Rattle.std.specs.Prelude.{◌≡◌, ℕ, ◌+◌, ◌≤◌, ◌<◌, true, false, List, [], ◌∷◌, ◌++◌, length, take, Result, Ok, Err, OnOk, is_some}
+use Rattle.std.proofs.Common.{sym, ap, subst, ◌∙◌, arith, get_or, add-one, refl}
+use Rattle.std.specs.declared.option.Option.TheVariants.{Some}
+use Rattle.cp_model.specs.declared.row.Content.{Content}
+use Rattle.cp_model.specs.declared.row.Content.TheVariants.{Node}
+use Rattle.cp_model.specs.declared.row.Row.{Row}
+use Rattle.cp_model.specs.Place.{Label, Path, child}
+use Rattle.cp_model.specs.Keyed as keyed
+use Rattle.cp_model.specs.Subtrees.{replaced}
+use Rattle.cp_model.specs.Tree.{Tree}
+use Rattle.cp_model.specs.History.{IsLiteral}
+use Rattle.cp_model.specs.Lookups.{find-from_entries}
+use Rattle.cp_tree.specs.Rows.{entries_in, alone, single}
+use Rattle.cp_tree.specs.Built.{made, made-first, row_below, made-parent, made-more, made-all, entries-single}
+
+-- a leaf put at a row's place
+pub put_row : {E : Type 0} (r : Result (Unit {0}) E) (new root leaf : Tree) (path parent : Path) (a b : Label) (c d : Content) → path ≡ parent ++ a ∷ [] → b ≡ a → leaf ≡ single d → d ≡ c →
+    OnOk r (new ≡ replaced (child parent b) (keyed.entries leaf) root) → OnOk r (new ≡ replaced path (alone c) root)
+put_row (Err y) new root leaf path parent a b c d p l s e h = tt
+put_row (Ok u) new root leaf path parent a b c d p l s e h =
+    let rows : keyed.entries leaf ≡ alone c = ap keyed.entries s ∙ entries-single d ∙ ap alone e in
+    h ∙ ap (λ z. replaced (child parent z) (keyed.entries leaf) root) l ∙ ap (λ z. replaced z (keyed.entries leaf) root) (sym p) ∙ ap (λ z. replaced path z root) rows
+
+-- no rows are no tree
+pub no_rows : (rows : List Row) → rows ≡ [] → IsLiteral (entries_in rows) → ⊥
+no_rows rows e l = (let n = ap is_some (find-from_entries (entries_in rows) []) ∙ ap (λ z. is_some (keyed.look [] (entries_in z))) e in let r = l.rooted.root in absurd (cc))
+
+take_first : (rows rest : List Row) (first : Row) (i : ℕ) → rows ≡ first ∷ rest → take (i + 1) rows ≡ first ∷ take i rest
+take_first rows rest first i e = ap (take (i + 1)) e ∙ ap (λ n. take n (first ∷ rest)) (add-one i)
+
+module _ (rows rest : List Row) (first : Row) (e : rows ≡ first ∷ rest) (l : IsLiteral (entries_in rows)) where
+  literal : IsLiteral (entries_in (first ∷ rest))
+  literal = subst (λ z. IsLiteral (entries_in z)) e l
+
+  -- the first row
+  pub begun_build : (root : Tree) (d : Content) → root ≡ single d → d ≡ first.content → root ≡ made (take (0 + 1) rows)
+  begun_build root d s c = s ∙ ap single c ∙ sym (made-first first rest literal) ∙ ap made (sym (take_first rows rest first 0 e))
+
+  module _ (i : ℕ) (row : Row) (lt : i < length rest) (at : row ≡ get_or rest i row) where
+    -- a further row is no root
+    pub row_deep : 0 < length row.path
+    row_deep = by row.path refl
+      where
+        by : (p : Path) → row.path ≡ p → 0 < length p
+        by [] k = absurd (let ne = row_below first rest literal i row lt at k in cc)
+        by (a ∷ p) k = omega arith
+
+    module _ (root : Tree) (so_far : root ≡ made (take (i + 1) rows)) where
+      -- its parent is there
+      pub row_parent : (p : Path) (a : Label) → row.path ≡ child p a → keyed.get root p ≡ Some Node
+      row_parent p a k = ap (λ z. keyed.get z p) (so_far ∙ ap made (take_first rows rest first i e)) ∙ made-parent first rest literal i row lt at p a k
+
+      -- with it the tree is that of one row more
+      pub row_built : (new : Tree) → new ≡ replaced row.path (alone row.content) root → new ≡ made (take ((i + 1) + 1) rows)
+      row_built new n =
+          n ∙ ap (replaced row.path (alone row.content)) (so_far ∙ ap made (take_first rows rest first i e))
+          ∙ by row.path refl ∙ ap made (sym (take_first rows rest first (i + 1) e))
+        where
+          by : (p : Path) → row.path ≡ p → replaced row.path (alone row.content) (made (first ∷ take i rest)) ≡ made (first ∷ take (i + 1) rest)
+          by p k = last p k (ends p (λ z. row_below first rest literal i row lt at (k ∙ z)))
+            where
+              ends : (q : Path) → (q ≡ [] → true ≡ false) → (r : Path) × (a : Label) × (q ≡ child r a)
+              ends [] f = absurd (let n = f refl in cc)
+              ends (b ∷ []) f = ([], b, refl)
+              ends (b ∷ c ∷ q) f = (let more = ends (c ∷ q) (λ z. absurd (cc)) in (b ∷ more.0, more.1, ap (λ z. b ∷ z) more.2))
+
+              last : (q : Path) → row.path ≡ q → (r : Path) × (a : Label) × (q ≡ child r a) → replaced row.path (alone row.content) (made (first ∷ take i rest)) ≡ made (first ∷ take (i + 1) rest)
+              last q k x = ap (λ z. replaced z (alone row.content) (made (first ∷ take i rest))) (k ∙ x.2) ∙ sym (made-more first rest literal i row lt at x.0 x.1 (k ∙ x.2))
+
+  -- all rows
+  pub built_all : (i : ℕ) (root : Tree) → length rest ≤ i → root ≡ made (take (i + 1) rows) → root ≡ made rows
+  built_all i root h s = s ∙ ap made (take_first rows rest first i e) ∙ made-all first rest literal i h ∙ ap made (sym e)

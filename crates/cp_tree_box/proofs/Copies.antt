@@ -1,0 +1,126 @@
+-- Steps of walks over the edges below a root.
+use Rattle.std.specs.Prelude.{◌≡◌, is_some, ℕ, ◌+◌, ◌≤◌, ◌-◌, List, [], ◌∷◌, ◌++◌, map, length, IfSome, IfNone}
+use Rattle.std.proofs.Common.{sym, ap, subst, ◌∙◌, T, arith, append_assoc, take, length-append, refl}
+use Rattle.std.proofs.Math.Seq.{take-append_seam}
+use Rattle.std.proofs.lemmas.List.{map-append}
+use Rattle.std.specs.declared.option.Option.{Option}
+use Rattle.std.specs.declared.option.Option.TheVariants.{None, Some}
+use Rattle.std.specs.Option.{option_copied}
+use denote.Ref.{Bor}
+use Rattle.std.specs.FinMap.Entries.{is_sorted}
+use Rattle.std.specs.Map.{lookup}
+use Rattle.std.specs.BTreeMap.{is_at, insert_entry}
+use Rattle.cp_path.specs.Text.{text_cmp}
+use Rattle.cp_model.specs.declared.row.Content.{Content}
+use Rattle.cp_model.specs.declared.row.Row.{Row}
+use Rattle.cp_model.specs.Place.{Label, Path, child}
+use Rattle.cp_model.specs.Keyed as keyed
+use Rattle.cp_model.specs.Subtrees.{moved}
+use Rattle.cp_model.specs.Tree.{Tree, IsRooted}
+use Rattle.cp_tree.specs.Branch.{label_total, branch, kid_rows, sub, get-sub, sub-root, under}
+use Rattle.cp_tree.specs.Good.{IsGood, rooted_found, sub_below, get_nothing}
+use Rattle.cp_tree.specs.Rows.{row_of}
+use Rattle.cp_tree.specs.Rising.{put_end}
+use Rattle.cp_tree.specs.Listing.{moved-append, moved-under, moved-branch}
+use Rattle.cp_tree.specs.Totals.{kids_len, len-branch}
+use Rattle.cp_tree_box.proofs.Maps.{looked, insert-put}
+
+-- nothing behind a list
+pub append_end : {X : Type 0} (xs : List X) → xs ++ [] ≡ xs
+append_end [] = refl
+append_end (x ∷ xs) = ap (λ z. x ∷ z) (append_end xs)
+
+-- a subtree of a subtree
+pub sub-child : (m n : Tree) (p : Path) (a : Label) → n ≡ sub m p → sub n (a ∷ []) ≡ sub m (child p a)
+sub-child m n p a e = keyed.same_map (sub n (a ∷ [])) (sub m (child p a)) (λ q.
+    get-sub n (a ∷ []) q ∙ ap (λ z. keyed.get z (a ∷ q)) e ∙ get-sub m p (a ∷ q) ∙ ap (keyed.get m) (sym (append_assoc p (a ∷ []) q)) ∙ sym (get-sub m (child p a) q))
+
+-- the child of a node that was found at p in m
+module _ (m n : Tree) (x : Content) (es : List (Label × Tree)) (p : Path) (a : Label) (at : n ≡ sub m p) (view : branch x es ≡ n) (g : IsGood x es) where
+  pub kid_there : (o : Option (Bor Tree)) → option_copied o ≡ lookup (is_at (text_cmp a)) es → IfSome o (λ k. k.now ≡ sub m (child p a))
+  kid_there None e = tt
+  kid_there (Some k) e = sym (sub_below n x es es a view g [] k.now (looked a es (Some k.now) e) ∙ sub-root k.now) ∙ sub-child m n p a at
+
+  pub kid_rooted : (o : Option (Bor Tree)) → option_copied o ≡ lookup (is_at (text_cmp a)) es → IfSome o (λ k. IsRooted k.now)
+  kid_rooted None e = tt
+  kid_rooted (Some k) e = rooted_found a es k.now g.trees (looked a es (Some k.now) e)
+
+  pub kid_gone : (o : Option (Bor Tree)) → option_copied o ≡ lookup (is_at (text_cmp a)) es → IfNone o (keyed.get m (child p a) ≡ None)
+  kid_gone (Some k) e = tt
+  kid_gone None e =
+      sym (get-sub m p (a ∷ [])) ∙ ap (λ z. keyed.get z (a ∷ [])) (sym at) ∙ get_nothing n x es es a view g [] (looked a es None e)
+
+-- one edge more is copied
+pub copied : (done new it rest all : List (Label × Tree)) (a b : Label) (k l : Tree) → T (is_sorted text_cmp all) → done ++ it ≡ all → it ≡ (a, k) ∷ rest → b ≡ a → l ≡ k →
+    new ≡ insert_entry text_cmp done b l → new ++ rest ≡ all
+copied done new it rest all a b k l s d i ea ek n =
+    let whole : done ++ (a, k) ∷ rest ≡ all = ap (λ z. done ++ z) (sym i) ∙ d in
+    let put_is : insert_entry text_cmp done b l ≡ done ++ (a, k) ∷ [] =
+    ap (λ z. insert_entry text_cmp done z l) ea ∙ ap (insert_entry text_cmp done a) ek ∙ insert-put a k done ∙ put_end text_cmp label_total done (a, k) rest (subst (λ z. T (is_sorted text_cmp z)) (sym whole) s) in
+    ap (λ z. z ++ rest) (n ∙ put_is) ∙ append_assoc done ((a, k) ∷ []) rest ∙ whole
+
+-- the places below some edges are fewer than those of the tree
+pub kids_fewer : (m : Tree) (x : Content) (es its : List (Label × Tree)) → branch x es ≡ m → IsGood x es → its ≡ es → kids_len its + 1 ≤ keyed.len m
+kids_fewer m x es its view g e = omega (arith, ap kids_len e, ap keyed.len view, len-branch x es g.sorted)
+
+-- and so are those below the others
+pub still_fewer : (n : ℕ) (it rest : List (Label × Tree)) (a : Label) (k : Tree) → kids_len it + 1 ≤ n → it ≡ (a, k) ∷ rest → kids_len rest + 1 ≤ n
+still_fewer n it rest a k h e = omega (arith, h, ap kids_len e)
+
+-- what is pushed and taken off again leaves a list
+pub pop_push : {X : Type 0} (xs ys : List X) (x : X) (n : ℕ) → ys ≡ xs ++ x ∷ [] → n ≡ length ys → take (n - 1) ys ≡ xs
+pop_push xs ys x n is len = (let e : n - 1 ≡ length xs = omega (arith, ap length is, length-append xs (x ∷ [])) in rw (e, is) (take-append_seam xs (x ∷ [])))
+
+-- the rows of one edge more are written
+pub rows_more : (out new total : List Row) (p : Path) (it rest : List (Label × Tree)) (a : Label) (k : Tree) → it ≡ (a, k) ∷ rest →
+    new ≡ out ++ map row_of (moved (child p a) (keyed.entries k)) → out ++ map row_of (moved p (kid_rows it)) ≡ total → new ++ map row_of (moved p (kid_rows rest)) ≡ total
+rows_more out new total p it rest a k i n h =
+    ap (λ z. z ++ map row_of (moved p (kid_rows rest))) n
+    ∙ append_assoc out (map row_of (moved (child p a) (keyed.entries k))) (map row_of (moved p (kid_rows rest)))
+    ∙ ap (λ z. out ++ z) (sym (map-append row_of (moved (child p a) (keyed.entries k)) (moved p (kid_rows rest)))
+    ∙ ap (map row_of) (ap (λ z. z ++ moved p (kid_rows rest)) (sym (moved-under p a (keyed.entries k))) ∙ sym (moved-append p (under a (keyed.entries k)) (kid_rows rest)) ∙ ap (λ z. moved p (kid_rows z)) (sym i)))
+    ∙ h
+
+moved-none : (p : Path) → moved {X = Content} p [] ≡ []
+unfolding moved
+moved-none p = refl
+
+-- the rows of a root and all its edges are written
+pub rows_all : (m : Tree) (x : Content) (es it all : List (Label × Tree)) (before first out : List Row) (p : Path) (row : Row) → branch x es ≡ m → IsGood x es → all ≡ es → it ≡ [] →
+    first ≡ before ++ row ∷ [] → row.path ≡ p → row.content ≡ x →
+    out ++ map row_of (moved p (kid_rows it)) ≡ first ++ map row_of (moved p (kid_rows all)) → out ≡ before ++ map row_of (moved p (keyed.entries m))
+rows_all m x es it all before first out p row view g a i f rp rx h =
+    let ends : out ≡ first ++ map row_of (moved p (kid_rows all)) = sym (append_end out) ∙ ap (λ z. out ++ map row_of z) (sym (moved-none p)) ∙ ap (λ z. out ++ map row_of (moved p (kid_rows z))) (sym i) ∙ h in
+    let is_row : row ≡ row_of (p, x) = λ j. record { path = rp j; content = rx j } in
+    let rows : map row_of (moved p (keyed.entries m)) ≡ row_of (p, x) ∷ map row_of (moved p (kid_rows all)) =
+    ap (λ z. map row_of (moved p (keyed.entries z))) (sym view) ∙ ap (map row_of) (moved-branch p x es g.sorted) ∙ ap (λ z. row_of (p, x) ∷ map row_of (moved p (kid_rows z))) (sym a) in
+    ends ∙ ap (λ z. z ++ map row_of (moved p (kid_rows all))) f ∙ append_assoc before (row ∷ []) (map row_of (moved p (kid_rows all)))
+    ∙ ap (λ z. before ++ z ∷ map row_of (moved p (kid_rows all))) is_row ∙ ap (λ z. before ++ z) (sym rows)
+
+-- edges that are those of a good root rise
+pub sorted_as : {all es : List (Label × Tree)} → all ≡ es → T (is_sorted text_cmp es) → T (is_sorted text_cmp all)
+sorted_as e s = subst (λ z. T (is_sorted text_cmp z)) (sym e) s
+
+-- a root with all its edges is copied
+module _ (x y : Content) (es done it all : List (Label × Tree)) (c : y ≡ x) (a : all ≡ es) (i : it ≡ []) (h : done ++ it ≡ all) where
+  edges_copied : done ≡ es
+  edges_copied = sym (append_end done) ∙ ap (λ z. done ++ z) (sym i) ∙ h ∙ a
+
+  pub good_copy : IsGood x es → IsGood y done
+  good_copy g = subst (λ z. IsGood z done) (sym c) (subst (IsGood x) (sym edges_copied) g)
+
+  pub same_copy : branch y done ≡ branch x es
+  same_copy = ap (λ z. branch z done) c ∙ ap (branch x) edges_copied
+
+-- below what isn't there is nothing
+pub gone_below : (m : Tree) (p : Path) (a : Label) → IsRooted m → keyed.get m p ≡ None → keyed.get m (child p a) ≡ None
+gone_below m p a r e = by (keyed.get m (child p a)) refl
+  where
+    by : (o : Option Content) → keyed.get m (child p a) ≡ o → o ≡ None
+    by None k = refl
+    by (Some c) k = (let up = r.parents p a (ap is_some k) in absurd (cc))
+
+-- the rows of an edge's tree, written at the label's place
+pub listed_kid : (out new : List Row) (p at deeper : Path) (a b : Label) (k : Tree) → new ≡ out ++ map row_of (moved deeper (keyed.entries k)) → deeper ≡ at ++ b ∷ [] → at ≡ p → b ≡ a →
+    new ≡ out ++ map row_of (moved (child p a) (keyed.entries k))
+listed_kid out new p at deeper a b k n d e l = n ∙ ap (λ q. out ++ map row_of (moved q (keyed.entries k))) (d ∙ ap (λ q. q ++ b ∷ []) e ∙ ap (λ z. p ++ z ∷ []) l)

@@ -1,0 +1,8 @@
+mod Maps
+mod Edges
+mod Copies
+mod Tallying
+mod Changes
+mod Building
+mod Wrapping
+mod Testing

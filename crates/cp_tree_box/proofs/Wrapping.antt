@@ -1,0 +1,312 @@
+-- What a tree kept whole, with the numbers kept of it, answers and becomes.
+use Rattle.std.specs.Prelude.{◌≡◌, ℕ, ◌+◌, ◌≤◌, ◌<◌, ◌⊎◌, true, false, cond, ◌==◌, List, [], ◌∷◌, ◌++◌, map, length, sum_by, is_some, slice_index, IfSome, IfNone, Result, Ok, Err, OnOk}
+use Rattle.std.proofs.Common.{sym, ap, subst, ◌∙◌, arith, refl}
+use Rattle.std.proofs.lemmas.List.Sums.{sum_by-cons}
+use Rattle.std.specs.List.{filter_map}
+use Rattle.std.specs.declared.option.Option.{Option}
+use Rattle.std.specs.declared.option.Option.TheVariants.{None, Some}
+use denote.Ref.{Bor}
+use Rattle.cp_model.specs.declared.row.Content.{Content}
+use Rattle.cp_model.specs.declared.row.Row.{Row}
+use Rattle.cp_model.specs.Place.{Label, Path, child, over_limit, at_target}
+use Rattle.cp_model.specs.Keyed as keyed
+use Rattle.cp_model.specs.Keyed.{look}
+use Rattle.cp_model.specs.Subtrees.{is_there, below, moved, without, replaced}
+use Rattle.cp_model.specs.Tree.{Tree, IsRooted, IsTree, weight, weight_of, most_text, text_bytes}
+use Rattle.cp_model.specs.Strips.{append-nil, strip-append}
+use Rattle.cp_model.specs.Lookups.{find-from_entries, get-replaced, placed}
+use Rattle.cp_model.specs.Sums.{below-none, sum_by-one}
+use Rattle.cp_model.specs.Kept.{closed-tree}
+use Rattle.cp_tree.specs.Branch.{branch, sub, get-sub, sub-root, entries-sub}
+use Rattle.cp_tree.specs.Good.{good_single, rooted-branch}
+use Rattle.cp_tree.specs.Built.{made, made-entries, entries-single}
+use Rattle.cp_model.specs.History.{IsLiteral}
+use Rattle.cp_tree.specs.Counted.{is_one, counted, greatest_is}
+use Rattle.cp_tree.specs.Listing.{moved-root}
+use Rattle.cp_tree.specs.Rows.{row_of, entries_in, alone, single, one_label, labels_at, path_size, greatest, reach_of}
+use Rattle.cp_tree.specs.declared.reach.Reach.{Reach}
+use Rattle.cp_tree_box.specs.declared.spot.Spot.{Spot}
+use Rattle.cp_tree_box.specs.declared.tally.Tally.{Tally}
+use Rattle.cp_tree_box.specs.Tallies.{root_spot, child_spot, spot_at, IsNear, AreNear, Gauge, places, weighs, deep, large, row_counts, tree_counts, kept, IsTallyOf}
+use Rattle.cp_tree_box.proofs.Changes.{spot_append, spot_depth, spot_size, spot_last, near_front, near_tree, near_put, same_sum, counts_replaced, counts_without, counts_places, counts_weight}
+
+-- ---- answers
+
+-- what stands at a subtree's root stands at its place
+pub root_of : (n m : Tree) (p q : Path) → n ≡ sub m q → q ≡ p → keyed.get n [] ≡ keyed.get m p
+root_of n m p q e k = ap (λ z. keyed.get z []) e ∙ get-sub m q [] ∙ ap (keyed.get m) (append-nil q ∙ k)
+
+-- whether a node was found is whether one is there
+pub got : (o : Option (Bor Tree)) (m : Tree) (p q : Path) → q ≡ p → IfSome o (λ n. n.now ≡ sub m q) → IfSome o (λ n. IsRooted n.now) → IfNone o (keyed.get m q ≡ None) → is_some o ≡ is_there m p
+got None m p q k t r g = sym (ap is_some (sym (ap (keyed.get m) k) ∙ g))
+got (Some n) m p q k t r g = sym (sym (ap is_some (root_of n.now m p q t k)) ∙ r.root)
+
+-- the rows below a place
+pub below_is : (n m : Tree) (p q : Path) → n ≡ sub m q → q ≡ p → keyed.entries n ≡ below p m
+below_is n m p q e k = ap keyed.entries e ∙ entries-sub m q ∙ ap (λ z. below z m) k
+
+-- the labels below a place
+pub labels_sub : (n m : Tree) (p q : Path) → n ≡ sub m q → q ≡ p → labels_at n [] ≡ labels_at m p
+unfolding labels_at
+labels_sub n m p q e k = ap (filter_map (λ e. one_label e.0)) (sym (entries-sub n []) ∙ ap keyed.entries (sub-root n) ∙ below_is n m p q e k)
+
+-- the rows that were listed
+pub rows_at : (out first : List Row) (at : Path) (n m : Tree) (p q : Path) → out ≡ first ++ map row_of (moved at (keyed.entries n)) → first ≡ [] → at ≡ [] → n ≡ sub m q → q ≡ p → out ≡ map row_of (below p m)
+rows_at out first at n m p q o f a e k =
+    o ∙ ap (λ z. z ++ map row_of (moved at (keyed.entries n))) f ∙ ap (λ z. map row_of (moved z (keyed.entries n))) a
+    ∙ ap (map row_of) (moved-root (keyed.entries n) ∙ below_is n m p q e k)
+
+-- ---- reach
+
+number_is : (f : Path × Content → ℕ) (g : Path × Content → ℕ) (k : ℕ) (es : List (Path × Content)) → ((e : Path × Content) → g e ≡ f e) → sum_by (λ e. cond (g e == k) 1 0) es ≡ counted f k es
+number_is f g k es h = same_sum (λ e. cond (g e == k) 1 0) (is_one f k) es (λ e. ap (λ (n : ℕ). cond {A = ℕ} (n == k) 1 0) (h e))
+
+some_of : (n a b : ℕ) → a ≡ b → (n ≡ 0) ⊎ (0 < a) → (n ≡ 0) ⊎ (0 < b)
+some_of n a b e o = subst (λ z. (n ≡ 0) ⊎ (0 < z)) e o
+
+reach_as : (r : Reach) (m : Tree) → r.nodes ≡ length (keyed.entries m) → r.inner ≡ weight m → r.depth ≡ greatest (λ e. length e.0) (keyed.entries m) → r.size ≡ greatest (λ e. path_size e.0) (keyed.entries m) → r ≡ reach_of (keyed.entries m)
+unfolding reach_of weight
+reach_as r m n w d s = λ i. record { nodes = n i; inner = w i; depth = d i; size = s i }
+
+-- the reach of the whole, from what is kept
+pub reach_kept : (t : Tally) (m : Tree) (r : Reach) → IsTallyOf t m → r.nodes ≡ t.places → r.inner ≡ t.weight →
+    ((k : ℕ) → r.depth < k → slice_index t.depths.items k ≡ 0) → (r.depth ≡ 0) ⊎ (0 < slice_index t.depths.items r.depth) →
+    ((k : ℕ) → r.size < k → slice_index t.sizes.items k ≡ 0) → (r.size ≡ 0) ⊎ (0 < slice_index t.sizes.items r.size) → r ≡ reach_of (keyed.entries m)
+reach_kept t m r tallied n w d sd s ss =
+    let labels : Path × Content → ℕ = λ e. length e.0 in
+    let bytes : Path × Content → ℕ = λ e. path_size e.0 in
+    let deep_is : (k : ℕ) → slice_index t.depths.items k ≡ counted labels k (keyed.entries m) = λ k. tallied (deep k) ∙ number_is labels (λ e. (spot_at root_spot e.0).depth) k (keyed.entries m) (λ e. spot_depth root_spot e.0 ∙ omega arith) in
+    let large_is : (k : ℕ) → slice_index t.sizes.items k ≡ counted bytes k (keyed.entries m) = λ k. tallied (large k) ∙ number_is bytes (λ e. (spot_at root_spot e.0).size) k (keyed.entries m) (λ e. spot_size root_spot e.0 ∙ omega arith) in
+    let nodes : r.nodes ≡ length (keyed.entries m) = n ∙ tallied places ∙ sum_by-one (keyed.entries m) in
+    let inner : r.inner ≡ weight m = w ∙ tallied weighs ∙ counts_weight m in
+    let depth : r.depth ≡ greatest labels (keyed.entries m) = sym (greatest_is labels r.depth (keyed.entries m) (λ k h. sym (deep_is k) ∙ d k h) (some_of r.depth (slice_index t.depths.items r.depth) (counted labels r.depth (keyed.entries m)) (deep_is r.depth) sd)) in
+    let size : r.size ≡ greatest bytes (keyed.entries m) = sym (greatest_is bytes r.size (keyed.entries m) (λ k h. sym (large_is k) ∙ s k h) (some_of r.size (slice_index t.sizes.items r.size) (counted bytes r.size (keyed.entries m)) (large_is r.size) ss)) in
+    reach_as r m nodes inner depth size
+
+-- the whole at its root
+pub reach_whole : (m : Tree) (p : Path) (r : Reach) → length p ≡ 0 → r ≡ reach_of (keyed.entries m) → r ≡ reach_of (below p m)
+reach_whole m [] r z e = e ∙ ap reach_of (sym (ap keyed.entries (sub-root m)) ∙ entries-sub m [])
+reach_whole m (a ∷ p) r z e = absurd (omega arith)
+
+weighs_less : (s : Spot) (es : List (Path × Content)) → sum_by (row_counts weighs root_spot) es ≤ sum_by (row_counts weighs s) es
+weighs_less s [] = omega arith
+weighs_less s (e ∷ es) = omega (arith, sum_by-cons (row_counts weighs root_spot) e es, sum_by-cons (row_counts weighs s) e es, each e, weighs_less s es)
+  where
+    each : (e : Path × Content) → row_counts weighs root_spot e ≤ row_counts weighs s e
+    each ([], c) = omega arith
+    each (a ∷ p, c) = omega (arith, spot_last root_spot a p, spot_last s a p)
+
+module _ (m : Tree) (t : IsTree m) where
+  -- the numbers of a tree are small
+  pub few_places : tree_counts places root_spot m ≤ 1048576
+  few_places = omega (arith, counts_places m, t.within.nodes)
+
+  pub few_weight : tree_counts weighs root_spot m ≤ 33554432
+  few_weight = omega (arith, counts_weight m, t.within.weighs)
+
+  -- and so are those of its subtrees
+  module _ (n : Tree) (p : Path) (e : n ≡ sub m p) where
+    pub sub_near : AreNear root_spot n
+    sub_near q i =
+        let there : is_there m (p ++ q) ≡ true = ap is_some (sym (get-sub m p q) ∙ ap (λ z. keyed.get z q) (sym e)) ∙ i in
+        let near = near_tree m t (p ++ q) there in (
+          omega (arith, near.0, ap (λ z. z.depth) (spot_append root_spot p q), spot_depth (spot_at root_spot p) q, spot_depth root_spot q),
+          omega (arith, near.1, ap (λ z. z.size) (spot_append root_spot p q), spot_size (spot_at root_spot p) q, spot_size root_spot q),
+        )
+
+    pub sub_places : tree_counts places root_spot n ≤ 4294967295
+    sub_places = omega (arith, ap (tree_counts places root_spot) e, counts_without places m p, few_places)
+
+    pub sub_weight : tree_counts weighs root_spot n ≤ 4294967295
+    sub_weight = omega (arith, ap (tree_counts weighs root_spot) e, weighs_less (spot_at root_spot p) (keyed.entries (sub m p)), counts_without weighs m p, few_weight)
+
+-- ---- changes
+
+at_most_one : (s : ℕ) (k : ℕ) → cond {A = ℕ} (s == k) 1 0 ≤ 1
+at_most_one s k = elim (s == k) as (λ b. cond {A = ℕ} b 1 0 ≤ 1) [ true ↦ omega arith | false ↦ omega arith ]
+
+no_more : (f : Path × Content → ℕ) (es : List (Path × Content)) → ((e : Path × Content) → f e ≤ 1) → sum_by f es ≤ length es
+no_more f [] h = omega arith
+no_more f (e ∷ es) h = omega (arith, sum_by-cons f e es, h e, no_more f es h)
+
+-- every number of a tree is small
+pub small_counts : (m : Tree) → IsTree m → (j : Gauge) → tree_counts j root_spot m ≤ 33554432
+small_counts m t places = omega (arith, few_places m t)
+small_counts m t weighs = few_weight m t
+small_counts m t (deep k) = omega (arith, no_more (row_counts (deep k) root_spot) (keyed.entries m) (λ e. at_most_one (spot_at root_spot e.0).depth k), sum_by-one (keyed.entries m), few_places m t)
+small_counts m t (large k) = omega (arith, no_more (row_counts (large k) root_spot) (keyed.entries m) (λ e. at_most_one (spot_at root_spot e.0).size k), sum_by-one (keyed.entries m), few_places m t)
+
+-- a subtree that was put is there
+pub sub-replaced : (m n : Tree) (p : Path) → sub (replaced p (keyed.entries n) m) p ≡ n
+sub-replaced m n p = keyed.same_map (sub (replaced p (keyed.entries n) m) p) n (λ q.
+    get-sub (replaced p (keyed.entries n) m) p q ∙ get-replaced p (keyed.entries n) m (p ++ q) ∙ ap (λ o. placed o (λ s. look s (keyed.entries n)) (keyed.get m (p ++ q))) (strip-append p q) ∙ sym (keyed.get-entries n q))
+
+-- what is put is there
+pub put_there : (m n : Tree) (p : Path) → IsRooted n → is_there (replaced p (keyed.entries n) m) p ≡ true
+put_there m n p r = sym (ap is_some (root_of n (replaced p (keyed.entries n) m) p p (sym (sub-replaced m n p)) refl)) ∙ r.root
+
+none_of : (o : Option Content) → is_some o ≡ false → o ≡ None
+none_of None e = refl
+none_of (Some c) e = absurd (cc)
+
+-- nothing counts where nothing was
+no_counts_below : (j : Gauge) (s : Spot) (m : Tree) (p : Path) → IsTree m → is_there m p ≡ false → tree_counts j s (sub m p) ≡ 0
+no_counts_below j s m p t f = ap (sum_by (row_counts j s)) (entries-sub m p ∙ below-none m p (closed-tree m t.rooted) (none_of (keyed.get m p) f))
+
+module _ (t : Tally) (m n : Tree) (p : Path) (w : IsTree m) (kept_is : IsTallyOf t m) (fits : IsTree (replaced p (keyed.entries n) m)) where
+  -- a new subtree fits what is kept
+  pub plant_room : is_there m p ≡ false → (k : Tree) → k ≡ n → (j : Gauge) → kept t j + tree_counts j (spot_at root_spot p) k ≤ 4294967295
+  plant_room f k e j = omega (arith, kept_is j, ap (tree_counts j (spot_at root_spot p)) e, counts_replaced j m n p, no_counts_below j (spot_at root_spot p) m p w f, small_counts (replaced p (keyed.entries n) m) fits j)
+
+  -- with it, what is kept is that of the new tree
+  pub planted : is_there m p ≡ false → (k : Tree) → k ≡ n → (u : Tally) → ((j : Gauge) → kept u j ≡ kept t j + tree_counts j (spot_at root_spot p) k) → IsTallyOf u (replaced p (keyed.entries n) m)
+  planted f k e u h j = omega (arith, h j, kept_is j, ap (tree_counts j (spot_at root_spot p)) e, counts_replaced j m n p, no_counts_below j (spot_at root_spot p) m p w f)
+
+  -- a subtree in place of another fits, with both
+  pub swap_room : (j : Gauge) → kept t j + tree_counts j (spot_at root_spot p) n ≤ 4294967295
+  swap_room j = omega (arith, kept_is j, counts_replaced j m n p, counts_without j m p, small_counts m w j, small_counts (replaced p (keyed.entries n) m) fits j)
+
+  module _ (u : Tally) (k : Tree) (e : k ≡ sub m p) (h : (j : Gauge) → kept u j ≡ kept t j + tree_counts j (spot_at root_spot p) n) where
+    -- what was there is counted
+    pub swap_there : (j : Gauge) → tree_counts j (spot_at root_spot p) k ≤ kept u j
+    swap_there j = omega (arith, h j, kept_is j, ap (tree_counts j (spot_at root_spot p)) e, counts_without j m p)
+
+    -- without it, what is kept is that of the new tree
+    pub swapped : (v : Tally) → ((j : Gauge) → kept v j + tree_counts j (spot_at root_spot p) k ≡ kept u j) → IsTallyOf v (replaced p (keyed.entries n) m)
+    swapped v g j = omega (arith, g j, h j, kept_is j, ap (tree_counts j (spot_at root_spot p)) e, counts_replaced j m n p)
+
+module _ (t : Tally) (m : Tree) (p : Path) (kept_is : IsTallyOf t m) (k : Tree) (e : k ≡ sub m p) where
+  -- what is taken out was counted
+  pub cut_there : (j : Gauge) → tree_counts j (spot_at root_spot p) k ≤ kept t j
+  cut_there j = omega (arith, kept_is j, ap (tree_counts j (spot_at root_spot p)) e, counts_without j m p)
+
+  -- without it, what is kept is that of the new tree
+  pub cut : (u : Tally) → ((j : Gauge) → kept u j + tree_counts j (spot_at root_spot p) k ≡ kept t j) → IsTallyOf u (without p m)
+  cut u g j = omega (arith, g j, kept_is j, ap (tree_counts j (spot_at root_spot p)) e, counts_without j m p)
+
+-- the places of a subtree that is there are within the limits
+pub near_sub : (m n : Tree) (p : Path) → IsTree m → n ≡ sub m p → AreNear (spot_at root_spot p) n
+near_sub m n p t e q i =
+    let there : is_there m (p ++ q) ≡ true = ap is_some (sym (get-sub m p q) ∙ ap (λ z. keyed.get z q) (sym e)) ∙ i in
+    subst IsNear (spot_append root_spot p q) (near_tree m t (p ++ q) there)
+
+-- ---- a root alone
+
+module _ (c : Content) where
+  only_root : (q : Path) → is_there (single c) q ≡ true → q ≡ []
+  only_root [] i = refl
+  only_root (a ∷ q) i = (let no = ap is_some (find-from_entries (alone c) (a ∷ q)) in absurd (cc))
+
+  rooted_single : IsRooted (single c)
+  unfolding branch
+  rooted_single = rooted-branch c [] (good_single c)
+
+  few_single : keyed.len (single c) ≡ 1
+  unfolding keyed.len keyed.entries
+  few_single = ap length (entries-single c)
+
+  light_single : weight (single c) ≡ 16 + text_bytes c
+  unfolding weight
+  light_single = ap (sum_by weight_of) (entries-single c) ∙ omega arith
+
+  text_single : text_bytes c ≤ most_text → (q : Path) (d : Content) → look q (alone c) ≡ Some d → text_bytes d ≤ most_text
+  text_single h [] d e = (let is : c ≡ d = cc in subst (λ z. text_bytes z ≤ most_text) is h)
+  text_single h (a ∷ q) d e = absurd (cc)
+
+  -- a root alone is a tree
+  pub tree-single : text_bytes c ≤ most_text → IsTree (single c)
+  tree-single h = record {
+    rooted = rooted_single;
+    within = record { nodes = omega (arith, few_single); weighs = omega (arith, h, light_single) };
+    places = λ q i. ap (λ z. over_limit (at_target z)) (only_root q i);
+    texts = λ q d e. text_single h q d (sym (find-from_entries (alone c) q) ∙ e);
+  }
+
+-- the tree of a root alone, with what is kept of it
+module _ (c d : Content) (h : text_bytes c ≤ most_text) (same_content : d ≡ c) (m : Tree) (e : m ≡ single d) where
+  pub single_is : m ≡ single c
+  single_is = e ∙ ap single same_content
+
+  pub single_tree : IsTree m
+  single_tree = subst IsTree (sym single_is) (tree-single c h)
+
+  pub single_near : (s : Spot) → s ≡ root_spot → AreNear s m
+  single_near s k = subst (λ z. AreNear z m) (sym k) (near_tree m single_tree)
+
+  module _ (t : Tally) (s : Spot) (k : s ≡ root_spot) (none : (j : Gauge) → kept t j ≡ 0) where
+    pub single_room : (j : Gauge) → kept t j + tree_counts j s m ≤ 4294967295
+    single_room j = omega (arith, none j, ap (λ z. tree_counts j z m) k, small_counts m single_tree j)
+
+    pub single_tallied : (u : Tally) → ((j : Gauge) → kept u j ≡ kept t j + tree_counts j s m) → IsTallyOf u m
+    single_tallied u g j = omega (arith, g j, none j, ap (λ z. tree_counts j z m) k)
+
+-- ---- the places of changes
+
+-- a place's spot
+pub spot_of : (r s : Spot) (p q : Path) → r ≡ root_spot → s ≡ spot_at r q → q ≡ p → s ≡ spot_at root_spot p
+spot_of r s p q k e f = e ∙ ap (λ z. spot_at z q) k ∙ ap (spot_at root_spot) f
+
+-- that of a child
+pub spot_child : (s u : Spot) (p : Path) (a : Label) → s ≡ spot_at root_spot p → u ≡ child_spot s a → u ≡ spot_at root_spot (child p a)
+spot_child s u p a e k = k ∙ ap (λ z. child_spot z a) e ∙ sym (spot_append root_spot p (a ∷ []))
+
+module _ (m : Tree) (t : IsTree m) where
+  -- a place that is there is within the limits
+  pub near_there : (r : Spot) (p q : Path) → r ≡ root_spot → q ≡ p → is_there m p ≡ true → IsNear (spot_at r q)
+  near_there r p q k e i = subst (λ z. IsNear (spot_at z q)) (sym k) (subst (λ z. IsNear (spot_at root_spot z)) (sym e) (near_tree m t p i))
+
+  near_edge : (p : Path) (a : Label) → is_there m (child p a) ≡ true → IsNear (child_spot (spot_at root_spot p) a)
+  near_edge p a i = subst IsNear (spot_append root_spot p (a ∷ [])) (near_tree m t (child p a) i)
+
+  -- so is what is above one
+  pub near_above : (r : Spot) (p q : Path) (a : Label) → r ≡ root_spot → q ≡ p → is_there m (child p a) ≡ true → IsNear (spot_at r q)
+  near_above r p q a k e i =
+      subst (λ z. IsNear (spot_at z q)) (sym k) (subst (λ z. IsNear (spot_at root_spot z)) (sym e) (near_front (spot_at root_spot p) (a ∷ []) (near_edge p a i)))
+
+  -- and a child that is there
+  pub near_child : (s : Spot) (p : Path) (a : Label) → s ≡ spot_at root_spot p → is_there m (child p a) ≡ true → IsNear (child_spot s a)
+  near_child s p a e i = subst (λ z. IsNear (child_spot z a)) (sym e) (near_edge p a i)
+
+  -- and all of a subtree
+  pub near_cut : (s : Spot) (p : Path) (n : Tree) → s ≡ spot_at root_spot p → n ≡ sub m p → AreNear s n
+  near_cut s p n e k = subst (λ z. AreNear z n) (sym e) (near_sub m n p t k)
+
+-- and all of a subtree that is put
+pub near_new : (m n k : Tree) (p : Path) (s : Spot) → s ≡ spot_at root_spot p → IsTree (replaced p (keyed.entries n) m) → k ≡ n → AreNear s k
+near_new m n k p s e fits is = subst (λ z. AreNear z k) (sym e) (subst (AreNear (spot_at root_spot p)) (sym is) (near_put m n p fits))
+
+-- the tree with a subtree at a label
+pub plant_is : (new m n : Tree) (p : Path) (a b : Label) → b ≡ a → new ≡ replaced (child p b) (keyed.entries n) m → new ≡ replaced (child p a) (keyed.entries n) m
+plant_is new m n p a b e is = is ∙ ap (λ z. replaced (child p z) (keyed.entries n) m) e
+
+-- that subtree
+pub plant_kid : (new m n k : Tree) (p : Path) → new ≡ replaced p (keyed.entries n) m → k ≡ sub new p → k ≡ n
+plant_kid new m n k p is e = e ∙ ap (λ z. sub z p) is ∙ sub-replaced m n p
+
+-- it is found
+pub plant_found : (new m n : Tree) (p : Path) → new ≡ replaced p (keyed.entries n) m → IsRooted n → keyed.get new p ≡ None → ⊥
+plant_found new m n p is r e = (let there = put_there m n p r in let none = ap is_some (ap (λ z. keyed.get z p) (sym is) ∙ e) in absurd (cc))
+
+-- ---- the same change, said of other rows and another path
+
+module _ (m : Tree) (p q : Path) (es fs : List (Path × Content)) (k : q ≡ p) (e : es ≡ fs) where
+  changed_as : replaced q es m ≡ replaced p fs m
+  changed_as = ap (λ z. replaced z es m) k ∙ ap (λ z. replaced p z m) e
+
+  pub fits_as : IsTree (replaced p fs m) → IsTree (replaced q es m)
+  fits_as h = subst IsTree (sym changed_as) h
+
+  pub done_as : (new : Tree) → new ≡ replaced q es m → new ≡ replaced p fs m
+  done_as new h = h ∙ changed_as
+
+  pub tried_as : {E : Type 0} (r : Result (Unit {0}) E) (new : Tree) → OnOk r (new ≡ replaced q es m) → OnOk r (new ≡ replaced p fs m)
+  tried_as (Ok u) new h = h ∙ changed_as
+  tried_as (Err y) new h = tt
+
+-- the rows of a leaf
+pub leaf_rows : (n : Tree) (c d : Content) → n ≡ single d → d ≡ c → keyed.entries n ≡ alone c
+leaf_rows n c d e k = ap keyed.entries e ∙ entries-single d ∙ ap alone k
+
+-- the rows of a tree that was built
+pub built_rows : (n : Tree) (rows : List Row) → IsLiteral (entries_in rows) → n ≡ made rows → (keyed.entries n ≡ entries_in rows) × IsRooted n
+built_rows n rows l e = (ap keyed.entries e ∙ made-entries rows l, subst IsRooted (sym e) l.rooted)

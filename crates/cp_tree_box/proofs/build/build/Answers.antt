@@ -1,0 +1,22 @@
+use Rattle.std.proofs.Common.{arith}
+use Rattle.cp_tree_box.proofs.Maps.{no_length}
+use Rattle.cp_tree_box.proofs.Building.{no_rows, begun_build, row_deep, row_parent, row_built, built_all}
+use Rattle.cp_tree_box.proofs.build.build.Goals as goal
+
+pub unreachable-requires : goal.unreachable-requires
+unreachable-requires c = no_rows _ (no_length _ c.in-None.ensures.cases) c.requires
+
+pub loop-row-init : goal.loop-row-init
+loop-row-init c = begun_build _ _ _ c.in-Some.ensures.cases.0 c.requires _ _ c.leaf-root.ensures.alone c.in_ok-copy_content-in-Some.ensures
+
+pub add_row-requires-clause-deep : goal.add_row-requires-clause-deep
+add_row-requires-clause-deep c = row_deep _ _ _ c.in-Some.ensures.cases.0 c.requires c.loop-row.row-index c.row-item.result c.loop-row-test.true c.row-item.is
+
+pub add_row-requires-clause-parent : goal.add_row-requires-clause-parent
+add_row-requires-clause-parent c = row_parent _ _ _ c.in-Some.ensures.cases.0 c.requires c.loop-row.row-index c.row-item.result c.loop-row-test.true c.row-item.is _ c.loop-row.invariant
+
+pub loop-row-preserved : goal.loop-row-preserved
+loop-row-preserved c = row_built _ _ _ c.in-Some.ensures.cases.0 c.requires c.loop-row.row-index c.row-item.result c.loop-row-test.true c.row-item.is _ c.loop-row.invariant _ c.in_ok-add_row-in-Some.ensures
+
+pub returns : goal.returns
+returns c = built_all _ _ _ c.in-Some.ensures.cases.0 c.requires c.loop-row.row-index _ (omega (arith, c.loop-row-test.false)) c.loop-row.invariant

@@ -1,0 +1,3 @@
+pub mod Nodes
+pub mod Falls
+pub mod Tallies

@@ -1,0 +1,130 @@
+ghost use Rattle.std.specs.Prelude.{◌≡◌, ◌≤◌, ◌<◌, ◌+◌, ◌⊎◌, ℕ, IfOk, length, replicate, slice_index};
+ghost use Rattle.cp_model.specs.Tree.{text_bytes};
+ghost use Rattle.cp_tree_box.specs.Tallies.{IsNear, AreNear, Gauge, one, tree_counts, kept};
+
+use crate::node::BoxNode;
+use crate::spot::Spot;
+use crate::tally::Tally;
+use cp_model::Content;
+use cp_path::{LABELS_MAX, Value};
+use cp_tree::Reach;
+use std::alloc::{AllocError, Global};
+
+/// The greatest size that a place's labels have, with 1 for each.
+const SIZE_MAX: usize = 1023;
+
+/// The bytes of a text leaf.
+pub(crate) fn text_bytes(content: &Content) -> u64
+    ensures { result ≡ text_bytes content.now }
+{
+    match content {
+        Content::Leaf(Value::Text(text)) => text.items.len() as u64,
+        _ => 0,
+    }
+}
+
+/// The last index at which there is more than nothing. Costs the length.
+fn highest(counts: &[u32]) -> u32
+    requires { length counts.now ≤ 1024 }
+    ensures last { (k : ℕ) → result < k → slice_index counts.now k ≡ 0 }
+    ensures some { (result ≡ 0) ⊎ (0 < slice_index counts.now result) }
+{
+    let mut top: usize = 0;
+    for i in 0..counts.len() {
+        if counts[i] != 0 {
+            top = i;
+        }
+    }
+    top as u32
+}
+
+impl Tally {
+    /// That of no place.
+    pub(crate) fn new(alloc: Global) -> Result<Tally, AllocError>
+        ensures places { IfOk result (λ t. t.places ≡ 0) }
+        ensures weight { IfOk result (λ t. t.weight ≡ 0) }
+        ensures depths { IfOk result (λ t. t.depths.items ≡ replicate 65 0) }
+        ensures sizes { IfOk result (λ t. t.sizes.items ≡ replicate 1024 0) }
+    {
+        Ok(Tally {
+            places: 0,
+            weight: 0,
+            depths: Vec::from_elem(alloc, 0, LABELS_MAX + 1)?,
+            sizes: Vec::from_elem(alloc, 0, SIZE_MAX + 1)?,
+        })
+    }
+
+    fn add_one(&mut self, at: Spot, content: &Content)
+        requires near { IsNear at }
+        requires room { (g : Gauge) → kept self.old g + one g at content.now ≤ 4294967295 }
+        ensures { (g : Gauge) → kept self.new g ≡ kept self.old g + one g at content.now }
+    {
+        self.places += 1;
+        self.weight += 16 + u64::from(at.last) + text_bytes(content);
+        self.depths[at.depth as usize] += 1;
+        self.sizes[at.size as usize] += 1;
+    }
+
+    fn subtract_one(&mut self, at: Spot, content: &Content)
+        requires near { IsNear at }
+        requires there { (g : Gauge) → one g at content.now ≤ kept self.old g }
+        ensures { (g : Gauge) → kept self.new g + one g at content.now ≡ kept self.old g }
+    {
+        self.places -= 1;
+        self.weight -= 16 + u64::from(at.last) + text_bytes(content);
+        self.depths[at.depth as usize] -= 1;
+        self.sizes[at.size as usize] -= 1;
+    }
+
+    /// With the places of a subtree at this place. Costs their number.
+    pub(crate) fn add(&mut self, at: Spot, node: &BoxNode)
+        requires near { AreNear at node.now }
+        requires room { (g : Gauge) → kept self.old g + tree_counts g at node.now ≤ 4294967295 }
+        ensures { (g : Gauge) → kept self.new g ≡ kept self.old g + tree_counts g at node.now }
+    {
+        self.add_one(at, &node.content);
+        for (a, kid) in &node.kids {
+            self.add(at.child(a), kid);
+        }
+    }
+
+    /// Without the places of a subtree at this place. Costs their number.
+    pub(crate) fn subtract(&mut self, at: Spot, node: &BoxNode)
+        requires near { AreNear at node.now }
+        requires there { (g : Gauge) → tree_counts g at node.now ≤ kept self.old g }
+        ensures { (g : Gauge) → kept self.new g + tree_counts g at node.now ≡ kept self.old g }
+    {
+        self.subtract_one(at, &node.content);
+        for (a, kid) in &node.kids {
+            self.subtract(at.child(a), kid);
+        }
+    }
+
+    /// How far the tree reaches. Costs 1,089 steps at most.
+    pub(crate) fn reach(&self) -> Reach
+        ensures nodes { result.nodes ≡ self.now.places }
+        ensures inner { result.inner ≡ self.now.weight }
+        ensures depth { (k : ℕ) → result.depth < k → slice_index self.now.depths.items k ≡ 0 }
+        ensures some_depth { (result.depth ≡ 0) ⊎ (0 < slice_index self.now.depths.items result.depth) }
+        ensures size { (k : ℕ) → result.size < k → slice_index self.now.sizes.items k ≡ 0 }
+        ensures some_size { (result.size ≡ 0) ⊎ (0 < slice_index self.now.sizes.items result.size) }
+    {
+        Reach {
+            nodes: self.places,
+            inner: self.weight,
+            depth: highest(&self.depths),
+            size: highest(&self.sizes),
+        }
+    }
+
+    pub(crate) fn copy(&self) -> Result<Tally, AllocError>
+        ensures { IfOk result (λ t. (g : Gauge) → kept t g ≡ kept self.now g) }
+    {
+        Ok(Tally {
+            places: self.places,
+            weight: self.weight,
+            depths: self.depths.clone()?,
+            sizes: self.sizes.clone()?,
+        })
+    }
+}

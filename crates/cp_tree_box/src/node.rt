@@ -1,0 +1,208 @@
+ghost use Rattle.std.specs.Prelude.{◌≡◌, [], ◌++◌, true, map, IfOk, OnOk, OnErr, IfSome, IfNone};
+ghost use Rattle.std.specs.declared.option.Option.TheVariants.{None, Some};
+ghost use Rattle.cp_model.specs.Place.{child};
+ghost use Rattle.cp_model.specs.Keyed.{get, entries};
+ghost use Rattle.cp_model.specs.Subtrees.{moved, without, replaced, is_there};
+ghost use Rattle.cp_model.specs.Tree.{IsRooted, is_node};
+ghost use Rattle.cp_model.specs.declared.row.Content.TheVariants.{Node};
+ghost use Rattle.cp_tree.specs.Branch.{sub};
+ghost use Rattle.cp_tree.specs.Rows.{row_of, single, labels_at};
+
+use cp_model::{Content, Row};
+use cp_path::{Label, Path};
+use std::alloc::{AllocError, Global};
+use std::collections::BTreeMap;
+use std::marker::Model;
+
+/// A node with the nodes below it, seen as the tree of its places.
+#[cycle(box_node)]
+#[derive(Drop)]
+pub(crate) struct BoxNode {
+    pub(crate) content: Content,
+    pub(crate) kids: BTreeMap<Label, BoxNode>,
+}
+
+impl Model for BoxNode {
+    ghost use Rattle.cp_model.specs.Tree.{Tree};
+    ghost use Rattle.cp_model.specs.Keyed.{code, len};
+    ghost use Rattle.cp_model.specs.Codes.{content_code};
+
+    ghost Value = { Tree };
+
+    ghost coded = { code content_code };
+
+    ghost use Rattle.cp_tree_box.specs.Nodes.{tree_of, IsGoodNode};
+
+    ghost view = { tree_of };
+
+    ghost invariant = { IsGoodNode };
+
+    ghost size = { len };
+
+    ghost use Rattle.cp_tree_box.specs.Falls.{node_falls};
+
+    ghost size_decreases = { node_falls };
+}
+
+/// Costs the bytes of a text.
+pub(crate) fn copy_content(content: &Content) -> Result<Content, AllocError>
+    ensures { IfOk result (λ c. c ≡ content.now) }
+{
+    match content {
+        Content::Node => Ok(Content::Node),
+        Content::Leaf(value) => Ok(Content::Leaf(value.clone()?)),
+    }
+}
+
+impl BoxNode {
+    /// A root alone.
+    pub(crate) fn leaf(alloc: Global, content: Content) -> BoxNode
+        ensures alone { result ≡ single content }
+        ensures rooted { IsRooted result }
+    {
+        BoxNode {
+            content,
+            kids: BTreeMap::new(alloc),
+        }
+    }
+
+    /// The node at the place. Costs a search among siblings for each label.
+    pub(crate) fn find(&self, p: &[Label]) -> Option<&BoxNode>
+        ensures there { IfSome result (λ n. n.now ≡ sub self.now p.now) }
+        ensures rooted { IfSome result (λ n. IsRooted n.now) }
+        ensures gone { IfNone result (get self.now p.now ≡ None) }
+        ensures whole { IsRooted self.now }
+    {
+        let _content = &self.content;
+        match p.split_first() {
+            None => Some(self),
+            Some((a, rest)) => match self.kids.get(a) {
+                Some(kid) => kid.find(rest),
+                None => None,
+            },
+        }
+    }
+
+    /// The node at the label below the place.
+    pub(crate) fn find_child(&self, p: &[Label], a: &Label) -> Option<&BoxNode>
+        ensures there { IfSome result (λ n. n.now ≡ sub self.now (child p.now a.now)) }
+        ensures rooted { IfSome result (λ n. IsRooted n.now) }
+        ensures gone { IfNone result (get self.now (child p.now a.now) ≡ None) }
+    {
+        match self.find(p) {
+            Some(node) => node.kids.get(a),
+            None => None,
+        }
+    }
+
+    /// Adds a subtree at a new label below the node at `p`. Costs a search among siblings for each label.
+    pub(crate) fn insert(&mut self, p: &[Label], a: Label, new: BoxNode) -> Result<(), AllocError>
+        requires node { get self.old p.now ≡ Some Node }
+        requires rooted { IsRooted new }
+        ensures ok { OnOk result (self.new ≡ replaced (child p.now a) (entries new) self.old) }
+        ensures err { OnErr result (self.new ≡ self.old) }
+        ensures whole { IsRooted self.new }
+    {
+        match p.split_first() {
+            None => {
+                self.kids.insert(a, new)?;
+                Ok(())
+            }
+            Some((b, rest)) => match self.kids.get_mut(b) {
+                Some(kid) => kid.insert(rest, a, new),
+                None => unreachable!(),
+            },
+        }
+    }
+
+    /// The subtree at `p` becomes `new`, and is given back.
+    pub(crate) fn swap(&mut self, p: &[Label], new: BoxNode) -> BoxNode
+        requires there { is_there self.old p.now ≡ true }
+        requires rooted { IsRooted new }
+        ensures changed { self.new ≡ replaced p.now (entries new) self.old }
+        ensures back { result ≡ sub self.old p.now }
+        ensures whole { IsRooted self.new }
+    {
+        match p.split_first() {
+            None => std::mem::replace(self, new),
+            Some((b, rest)) => match self.kids.get_mut(b) {
+                Some(kid) => kid.swap(rest, new),
+                None => unreachable!(),
+            },
+        }
+    }
+
+    /// Takes out the subtree at the label below the node at `p`.
+    pub(crate) fn remove(&mut self, p: &[Label], a: &Label) -> BoxNode
+        requires there { is_there self.old (child p.now a.now) ≡ true }
+        ensures changed { self.new ≡ without (child p.now a.now) self.old }
+        ensures back { result ≡ sub self.old (child p.now a.now) }
+        ensures whole { IsRooted self.new }
+    {
+        match p.split_first() {
+            None => match self.kids.remove(a) {
+                Some(kid) => kid,
+                None => unreachable!(),
+            },
+            Some((b, rest)) => match self.kids.get_mut(b) {
+                Some(kid) => kid.remove(rest, a),
+                None => unreachable!(),
+            },
+        }
+    }
+
+    pub(crate) fn is_node(&self) -> bool
+        ensures { result ≡ is_node (get self.now []) }
+    {
+        match self.content {
+            Content::Node => true,
+            Content::Leaf(_) => false,
+        }
+    }
+
+    /// The labels below, in order. Costs their bytes.
+    pub(crate) fn labels(&self, alloc: Global) -> Result<Vec<Label>, AllocError>
+        ensures { IfOk result (λ v. v.items ≡ labels_at self.now []) }
+    {
+        let mut labels = Vec::new(alloc);
+        for (a, _) in &self.kids {
+            labels.push(a.clone()?)?;
+        }
+        Ok(labels)
+    }
+
+    /// Costs the places and their labels.
+    pub(crate) fn copy(&self, alloc: Global) -> Result<BoxNode, AllocError>
+        ensures { IfOk result (λ t. t ≡ self.now) }
+    {
+        let mut kids = BTreeMap::new(alloc);
+        for (a, kid) in &self.kids {
+            kids.insert(a.clone()?, kid.copy(alloc)?)?;
+        }
+        let content = copy_content(&self.content)?;
+        Ok(BoxNode { content, kids })
+    }
+
+    /// The rows of the node at the place `at`, in order.
+    pub(crate) fn rows_into(
+        &self,
+        alloc: Global,
+        at: &mut Vec<Label>,
+        out: &mut Vec<Row>,
+    ) -> Result<(), AllocError>
+        ensures rows { OnOk result (out.new.items ≡ out.old.items ++ map row_of (moved at.old.items (entries self.now))) }
+        ensures same_place { OnOk result (at.new.items ≡ at.old.items) }
+    {
+        let content = copy_content(&self.content)?;
+        let Ok(path) = Path::of(alloc, at.as_slice()) else {
+            return Err(AllocError);
+        };
+        out.push(Row { path, content })?;
+        for (a, kid) in &self.kids {
+            at.push(a.clone()?)?;
+            kid.rows_into(alloc, at, out)?;
+            at.pop();
+        }
+        Ok(())
+    }
+}

@@ -1,0 +1,48 @@
+ghost use Rattle.std.specs.Prelude.{◌≡◌, ◌<◌, ◌≤◌, ◌+◌, length};
+ghost use Rattle.cp_tree_box.specs.Tallies.{root_spot, child_spot, spot_at, IsNear};
+
+use cp_path::Label;
+
+/// How far below a root a place lies: its labels, their bytes with 1 for each, and the bytes of the last one.
+#[derive(Clone, Copy)]
+pub(crate) struct Spot {
+    pub(crate) depth: u32,
+    pub(crate) size: u32,
+    pub(crate) last: u32,
+}
+
+impl Spot {
+    pub(crate) fn root() -> Spot
+        ensures { result ≡ root_spot }
+    {
+        Spot {
+            depth: 0,
+            size: 0,
+            last: 0,
+        }
+    }
+
+    /// One label further down.
+    pub(crate) fn child(self, a: &Label) -> Spot
+        requires { IsNear (child_spot self a.now) }
+        ensures { result ≡ child_spot self a.now }
+    {
+        let last = a.as_str().len() as u32;
+        Spot {
+            depth: self.depth + 1,
+            size: self.size + last + 1,
+            last,
+        }
+    }
+
+    /// These labels further down. Costs their number.
+    pub(crate) fn below(self, labels: &[Label]) -> Spot
+        requires { IsNear (spot_at self labels.now) }
+        ensures { result ≡ spot_at self labels.now }
+    {
+        match labels.split_first() {
+            None => self,
+            Some((a, rest)) => self.child(a).below(rest),
+        }
+    }
+}

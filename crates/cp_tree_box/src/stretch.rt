@@ -1,0 +1,54 @@
+ghost use Rattle.std.specs.Prelude.{◌≡◌, ◌≤◌, ◌<◌, ◌+◌, max};
+ghost use Rattle.cp_model.specs.Keyed.{entries};
+ghost use Rattle.cp_tree.specs.Rows.{reach_of};
+ghost use Rattle.cp_tree_box.specs.Tallies.{AreNear, places, weighs, one, tree_counts, root_spot, IsStretched};
+
+use crate::count::text_bytes;
+use crate::node::BoxNode;
+use crate::spot::Spot;
+use cp_model::Content;
+use cp_tree::Reach;
+
+fn stretch_one(reach: &mut Reach, at: Spot, content: &Content)
+    requires nodes { reach.old.nodes < 4294967295 }
+    requires inner { reach.old.inner + one weighs at content.now ≤ 4294967295 }
+    ensures nodes { reach.new.nodes ≡ reach.old.nodes + 1 }
+    ensures inner { reach.new.inner ≡ reach.old.inner + one weighs at content.now }
+    ensures depth { reach.new.depth ≡ max reach.old.depth at.depth }
+    ensures size { reach.new.size ≡ max reach.old.size at.size }
+{
+    reach.nodes += 1;
+    reach.inner += 16 + u64::from(at.last) + text_bytes(content);
+    reach.depth = reach.depth.max(at.depth);
+    reach.size = reach.size.max(at.size);
+}
+
+/// The reach with the places of a subtree that lies there. Costs their number.
+fn stretch(reach: &mut Reach, at: Spot, node: &BoxNode)
+    requires near { AreNear at node.now }
+    requires nodes { reach.old.nodes + tree_counts places at node.now ≤ 4294967295 }
+    requires inner { reach.old.inner + tree_counts weighs at node.now ≤ 4294967295 }
+    ensures { IsStretched at node.now reach.old reach.new }
+{
+    stretch_one(reach, at, &node.content);
+    for (a, kid) in &node.kids {
+        stretch(reach, at.child(a), kid);
+    }
+}
+
+/// How far the tree of the node reaches. Costs its places.
+pub(crate) fn reach_of(node: &BoxNode) -> Reach
+    requires near { AreNear root_spot node.now }
+    requires nodes { tree_counts places root_spot node.now ≤ 4294967295 }
+    requires inner { tree_counts weighs root_spot node.now ≤ 4294967295 }
+    ensures { result ≡ reach_of (entries node.now) }
+{
+    let mut reach = Reach {
+        nodes: 0,
+        inner: 0,
+        depth: 0,
+        size: 0,
+    };
+    stretch(&mut reach, Spot::root(), node);
+    reach
+}
