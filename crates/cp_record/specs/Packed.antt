@@ -1,0 +1,54 @@
+-- What packed records hold.
+use Rattle.std.specs.Prelude.{ℕ, ◌^◌, ◌≡◌, ◌≤◌, ◌<◌, ◌++◌, Bool, true, false, List, length, sum_by, is_some, ⊤}
+use Rattle.std.specs.List.{AllByRecursion}
+use Rattle.cp_model.specs.Place.{Path, at_target}
+use Rattle.cp_model.specs.declared.row.Content.{Content}
+use Rattle.cp_model.specs.declared.literal.Literal.{Literal}
+use Rattle.cp_model.specs.declared.literal.Literal.TheVariants as literal
+use Rattle.cp_model.specs.Literals.{literal_rows}
+use Rattle.cp_model.specs.Tree.{weight_of, most_weight}
+use Rattle.cp_model.specs.declared.op.Op.{Op}
+use Rattle.cp_model.specs.declared.op.Op.TheVariants.{Ins, Del, Copy}
+use Rattle.cp_model.specs.declared.record.Record.{Record}
+use Rattle.cp_model.specs.declared.record.RecOp.{RecOp}
+use Rattle.cp_model.specs.declared.record.RecOp.TheVariants as op
+use Rattle.cp_record.specs.declared.packed.PackedRecords.{PackedRecords}
+use Rattle.cp_record.specs.Bytes.{records_bytes}
+
+-- the letter is that of a copy
+abbrev pub is_copy : RecOp → Bool
+is_copy op.I = false
+is_copy op.C = true
+is_copy op.D = false
+is_copy op.K = false
+
+-- a record of T whose Tid has eight bytes, with a source exactly where it is a copy
+pub record IsKept (r : Record) : Type 0 where
+  pub tid : r.tid < 2 ^ 64
+  pub place : r.loc ≡ at_target r.loc.path
+  pub source : is_some r.src ≡ is_copy r.op
+
+-- the bytes are those of these records
+pub record Holds (x : PackedRecords) (rs : List Record) : Type 0 where
+  pub bytes : x.bytes.items ≡ records_bytes rs
+  pub kept : AllByRecursion IsKept rs
+
+-- what was there is still there, and bytes may follow it
+pub record Grew (old new : List ℕ) : Type 0 where
+  pub added : List ℕ
+  pub is : new ≡ old ++ added
+
+-- an insertion whose tree is within the limit of weight
+abbrev pub IsSmall : Op → Type 0
+IsSmall (Ins p a l) = sum_by weight_of (literal_rows l) ≤ most_weight
+IsSmall (Del a p) = ⊤
+IsSmall (Copy q p) = ⊤
+
+-- no row is that of a root
+abbrev pub AreBelow : List (Path × Content) → Type 0
+AreBelow rows = AllByRecursion (λ e. 0 < length e.0) rows
+
+-- the rows of a literal tree are its root and others below it
+abbrev pub IsTreeOfRows : Literal → Type 0
+IsTreeOfRows (literal.Leaf v) = ⊤
+IsTreeOfRows (literal.Node rows) = AreBelow rows

@@ -1,0 +1,14 @@
+//! Records, kept as bytes, and the length of a commit's entry.
+#![tactic(auto)]
+
+mod length;
+mod pack;
+mod packed;
+mod unpack;
+
+pub use cp_model::{RecOp, Record, RecordList};
+pub use length::op_length;
+pub use packed::PackedRecords;
+
+#[cfg(test)]
+mod tests;
