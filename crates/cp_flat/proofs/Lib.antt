@@ -1,0 +1,7 @@
+mod Newest
+mod Changes
+mod Parts
+mod Positions
+mod Before
+mod Kept
+mod Found

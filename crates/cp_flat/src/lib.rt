@@ -1,0 +1,10 @@
+//! The stores that keep each row of a step.
+#![tactic(auto)]
+
+mod index;
+mod naive;
+
+pub use naive::NaiveStore;
+
+#[cfg(test)]
+mod tests;

@@ -1,0 +1,55 @@
+-- What a store answers over the rows that it keeps.
+use Rattle.std.specs.Prelude.{ℕ, ◌+◌, ◌≡◌, ◌==◌, ◌&&◌, ◌||◌, Bool, true, List, [], ◌∷◌, nat_lt, filter, if◌then◌else◌}
+use Rattle.std.specs.List.{list_all}
+use Rattle.std.specs.Ordering.{is_lt}
+use Rattle.std.specs.declared.option.Option.{Option}
+use Rattle.std.specs.declared.option.Option.TheVariants.{None, Some}
+use Rattle.cp_path.specs.declared.loc.Loc.{Loc}
+use Rattle.cp_model.specs.Place.{in_target, path_cmp}
+use Rattle.cp_model.specs.Rows.{Effect, made, from, gone}
+use Rattle.cp_model.specs.Leaps.{last}
+use Rattle.cp_model.specs.Records.{reads}
+use Rattle.cp_model.specs.declared.kind.Kind.{Kind}
+use Rattle.cp_model.specs.declared.record.Record.{Record}
+use Rattle.cp_store.specs.declared.change.Change.{Change}
+use Rattle.cp_store.specs.declared.change.What.{What}
+use Rattle.cp_store.specs.declared.change.What.TheVariants.{New, From, Gone}
+
+-- what a change says, as an effect
+abbrev pub effect_of : What → Effect
+effect_of New = made
+effect_of (From q) = from q
+effect_of Gone = gone
+
+-- the Tid of a change, and its effect
+abbrev pub seen : Option Change → Option (ℕ × Effect)
+seen None = None
+seen (Some c) = Some (c.tid, effect_of c.what)
+
+-- the greatest Tid up to t at which the rows give the place an effect other than Same, with that effect; no row is of
+-- a place of a source
+unfoldable pub change_at : Kind → List Record → ℕ → Loc → Option (ℕ × Effect)
+change_at k rs t q = if in_target q then last (reads k rs) t q.path else None
+
+-- the rows of one step
+unfoldable pub records_at : List Record → ℕ → List Record
+records_at rs t = filter (λ r. r.tid == t) rs
+
+-- of an earlier step, or of the same step and an earlier place
+abbrev pub goes_before : Record → Record → Bool
+goes_before r s = nat_lt r.tid s.tid || (r.tid == s.tid && is_lt (path_cmp r.loc.path s.loc.path))
+
+-- each row goes before the next
+abbrev pub rises : List Record → Bool
+rises [] = true
+rises (r ∷ []) = true
+rises (r ∷ s ∷ rs) = goes_before r s && rises (s ∷ rs)
+
+-- a row of a place of T, of a step after low up to high
+abbrev pub is_between : ℕ → ℕ → Record → Bool
+is_between low high r = in_target r.loc && nat_lt low r.tid && nat_lt r.tid (high + 1)
+
+-- rows of T that rise by Tid and place, of steps after low up to high
+pub record AreNext (low high : ℕ) (rs : List Record) : Type 0 where
+  pub rise : rises rs ≡ true
+  pub between : list_all (is_between low high) rs ≡ true

@@ -1,0 +1,69 @@
+//! The trait of the stores.
+ghost use Rattle.std.specs.Prelude.{◌≡◌, ◌≤◌, ◌+◌, ◌<◌, ◌^◌, ◌++◌, ℕ, List, IfOk, OnOk, IsErrOf};
+ghost use Rattle.cp_outside.specs.Causes.{Rose};
+ghost use Rattle.cp_model.specs.declared.kind.Kind.{Kind};
+ghost use Rattle.cp_model.specs.declared.record.Record.{Record};
+ghost use Rattle.cp_store.specs.Changes.{seen, change_at, records_at, AreNext};
+ghost use Rattle.cp_store.specs.declared.fault.StoreFault.TheVariants.{Disk};
+
+use crate::change::Change;
+use crate::fault::StoreFault;
+use cp_model::{Kind, Record, RecordList};
+use cp_path::Loc;
+use std::alloc::Global;
+
+/// The rows of all steps up to the last, in one of the four kinds.
+///
+/// An answer leaves the rows as they are, also where it is an error.
+pub trait ProvStore: Drop {
+    ghost kept_kind: { Self → Kind };
+
+    /// The Tid of the last step.
+    ghost last_tid: { Self → ℕ };
+
+    /// The rows, in the order of their Tids and then of their places.
+    ghost kept_rows: { Self → List Record };
+
+    /// How often its disk has failed, up to the end of a `u64`.
+    ghost faults: { Self → ℕ };
+
+    fn kind(&self) -> Kind
+        ensures { result ≡ kept_kind self.now };
+
+    fn upto(&self) -> u64
+        ensures { result ≡ last_tid self.now };
+
+    /// The last step up to `t` that changed the place, and what it did to it. A copy from a place over a limit of places
+    /// counts as no change.
+    fn last_change(
+        &mut self,
+        alloc: Global,
+        loc: &Loc,
+        t: u64,
+    ) -> Result<Option<Change>, StoreFault>
+        ensures found { IfOk result (λ c. seen c ≡ change_at (kept_kind self.old) (kept_rows self.old) t loc.now) }
+        ensures kind { kept_kind self.new ≡ kept_kind self.old }
+        ensures last { last_tid self.new ≡ last_tid self.old }
+        ensures rows { kept_rows self.new ≡ kept_rows self.old }
+        ensures later { faults self.old ≤ faults self.new }
+        ensures cause { IsErrOf result Disk → Rose (faults self.old) (faults self.new) };
+
+    /// The rows of one step, by place.
+    fn rows_of(&mut self, alloc: Global, t: u64) -> Result<RecordList, StoreFault>
+        ensures found { IfOk result (λ v. v ≡ records_at (kept_rows self.old) t) }
+        ensures kind { kept_kind self.new ≡ kept_kind self.old }
+        ensures last { last_tid self.new ≡ last_tid self.old }
+        ensures rows { kept_rows self.new ≡ kept_rows self.old }
+        ensures later { faults self.old ≤ faults self.new }
+        ensures cause { IsErrOf result Disk → Rose (faults self.old) (faults self.new) };
+
+    /// Keeps the rows of the next `tids` steps. After an error the store is given up.
+    fn absorb(&mut self, alloc: Global, tids: u64, rows: &[Record]) -> Result<(), StoreFault>
+        requires room { last_tid self.old + tids < 2 ^ 64 }
+        requires next { AreNext (last_tid self.old) (last_tid self.old + tids) rows.now }
+        ensures kind { OnOk result (kept_kind self.new ≡ kept_kind self.old) }
+        ensures last { OnOk result (last_tid self.new ≡ last_tid self.old + tids) }
+        ensures rows { OnOk result (kept_rows self.new ≡ kept_rows self.old ++ rows.now) }
+        ensures later { faults self.old ≤ faults self.new }
+        ensures cause { IsErrOf result Disk → Rose (faults self.old) (faults self.new) };
+}
