@@ -1,0 +1,25 @@
+-- When a store and a tree are those of one history.
+use Rattle.std.specs.Prelude.{ℕ, ◌≡◌, ◌&&◌, Bool, List}
+use Rattle.std.specs.declared.option.Option.TheVariants.{Some}
+use Rattle.cp_path.specs.declared.loc.Loc.{Loc}
+use Rattle.cp_model.specs.Place.{in_target}
+use Rattle.cp_model.specs.Subtrees.{is_there}
+use Rattle.cp_model.specs.Tree.{Tree}
+use Rattle.cp_model.specs.Past.{tree_of}
+use Rattle.cp_model.specs.History.{Entry, State, IsLegal, replay}
+use Rattle.cp_model.specs.declared.kind.Kind.{Kind}
+use Rattle.cp_model.specs.declared.record.Record.{Record}
+
+-- the kind, the last Tid, the rows and the tree are those to which a legal history leads
+pub record IsCommitted (k : Kind) (n : ℕ) (rs : List Record) (t : Tree) (s : State) : Type 0 where
+  pub history : List Entry
+  pub legal : IsLegal history
+  pub replayed : replay history ≡ Some s
+  pub kind : s.kind ≡ k
+  pub now : s.now ≡ n
+  pub rows : s.rows ≡ rs
+  pub tree : tree_of s.tree ≡ t
+
+-- the place is in the tree of T
+abbrev pub is_in : Tree → Loc → Bool
+is_in t q = in_target q && is_there t q.path

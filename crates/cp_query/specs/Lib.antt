@@ -1,0 +1,7 @@
+pub mod Asked
+pub mod Faults
+pub mod Following
+pub mod Followed
+pub mod Laws
+pub mod Telling
+pub mod Legs

@@ -1,0 +1,11 @@
+//! Queries on the provenance of a place, answered by looking up rows.
+#![tactic(auto)]
+
+mod ask;
+mod fault;
+mod stated;
+mod walk;
+
+pub use ask::{hist, src, trace};
+pub use fault::QueryFault;
+pub use stated::laws;

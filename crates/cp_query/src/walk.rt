@@ -1,0 +1,196 @@
+//! The walk from the newest change of a place back to where its data came from.
+ghost use Rattle.std.specs.Prelude.{◌≡◌, ◌≤◌, ◌<◌, true, reverse, IfSome, IfOk, IsErrOf};
+ghost use Rattle.cp_outside.specs.Causes.{Rose};
+ghost use Rattle.cp_model.specs.Place.{in_target};
+ghost use Rattle.cp_model.specs.Records.{reads};
+ghost use Rattle.cp_query.specs.Legs.{came_with, inserted_by, copied_by, leg_of, leg_by, leg, trace_from, src_from, hist_from};
+ghost use Rattle.cp_store.specs.Changes.{seen};
+ghost use Rattle.cp_store.specs.declared.fault.StoreFault.TheVariants.{Disk};
+
+use cp_model::{Segment, SegmentList, TidList, Trace, TraceEnd};
+use cp_path::Loc;
+use cp_store::{Change, ProvStore, StoreFault, What};
+use std::alloc::Global;
+
+/// A place of T at which data stood, and the last version in which it is known to have stood there.
+#[derive(Drop)]
+pub(crate) struct Walk {
+    pub at: Loc,
+    pub high: u64,
+}
+
+/// Where data came from: another place of T, or an end of the walk.
+#[derive(Drop)]
+pub(crate) enum Came {
+    Back(Walk),
+    End(TraceEnd),
+}
+
+/// The versions in which data stood at one place, and where it came from to that place.
+#[derive(Drop)]
+pub(crate) struct Leg {
+    pub segment: Segment,
+    pub came: Came,
+}
+
+impl Came {
+    /// The step `low` with which the leg begins, if it inserted the data.
+    fn insertion(&self, low: u64) -> Option<u64>
+        ensures { result ≡ inserted_by low self.now }
+    {
+        match self {
+            Came::End(TraceEnd::New) => Some(low),
+            Came::Back(_) | Came::End(TraceEnd::Start | TraceEnd::Source(_)) => None,
+        }
+    }
+
+    /// The step `low` with which the leg begins, if it copied the data.
+    fn copy(&self, low: u64) -> Option<u64>
+        ensures { result ≡ copied_by low self.now }
+    {
+        match self {
+            Came::Back(_) | Came::End(TraceEnd::Source(_)) => Some(low),
+            Came::End(TraceEnd::New | TraceEnd::Start) => None,
+        }
+    }
+}
+
+/// Where the data came from that step `tid` copied from a place.
+fn came_with(tid: u64, q: Loc) -> Came
+    requires { 0 < tid }
+    ensures { result ≡ came_with tid q }
+{
+    if q.db.is_target() {
+        Came::Back(Walk {
+            at: q,
+            high: tid - 1,
+        })
+    } else {
+        Came::End(TraceEnd::Source(q))
+    }
+}
+
+impl Walk {
+    /// The leg here from the version `low` on.
+    fn leg_of(self, low: u64, came: Came) -> Leg
+        ensures { result ≡ leg_of self low came }
+    {
+        let Walk { at: loc, high } = self;
+        let segment = Segment { loc, low, high };
+        Leg { segment, came }
+    }
+
+    /// The leg that the newest change of this place begins. Data that no step brought was there from the start.
+    fn leg_from(self, change: Option<Change>) -> Leg
+        requires { IfSome change (λ c. 0 < c.tid) }
+        ensures { result ≡ leg_by self (seen change) }
+    {
+        let Some(Change { tid, what }) = change else {
+            return self.leg_of(0, Came::End(TraceEnd::Start));
+        };
+        match what {
+            What::New => self.leg_of(tid, Came::End(TraceEnd::New)),
+            What::From(q) => self.leg_of(tid, came_with(tid, q)),
+            What::Gone => self.leg_of(0, Came::End(TraceEnd::Start)),
+        }
+    }
+
+    /// The leg at this place. Costs one look-up.
+    fn leg<P: ProvStore>(self, alloc: Global, store: &mut P) -> Result<Leg, StoreFault>
+        requires { in_target self.at ≡ true }
+        ensures leg { IfOk result (λ l. l ≡ leg (reads (P.kept_kind store.old) (P.kept_rows store.old)) self) }
+        ensures kind { P.kept_kind store.new ≡ P.kept_kind store.old }
+        ensures last { P.last_tid store.new ≡ P.last_tid store.old }
+        ensures rows { P.kept_rows store.new ≡ P.kept_rows store.old }
+        ensures later { P.faults store.old ≤ P.faults store.new }
+        ensures cause { IsErrOf result Disk → Rose (P.faults store.old) (P.faults store.new) }
+    {
+        let change = store.last_change(alloc, &self.at, self.high)?;
+        Ok(self.leg_from(change))
+    }
+
+    /// The segments from here back, newest first. Costs a look-up for each.
+    pub fn trace<P: ProvStore>(self, alloc: Global, store: &mut P) -> Result<Trace, StoreFault>
+        requires { in_target self.at ≡ true }
+        ensures answer { IfOk result (λ a. a ≡ trace_from (reads (P.kept_kind store.old) (P.kept_rows store.old)) self) }
+        ensures kind { P.kept_kind store.new ≡ P.kept_kind store.old }
+        ensures last { P.last_tid store.new ≡ P.last_tid store.old }
+        ensures rows { P.kept_rows store.new ≡ P.kept_rows store.old }
+        ensures later { P.faults store.old ≤ P.faults store.new }
+        ensures cause { IsErrOf result Disk → Rose (P.faults store.old) (P.faults store.new) }
+    {
+        let mut walk = self;
+        let mut segments = Vec::new(alloc);
+        loop {
+            let Leg { segment, came } = walk.leg(alloc, store)?;
+            segments.push(segment)?;
+            match came {
+                Came::Back(next) => walk = next,
+                Came::End(end) => {
+                    let segments = SegmentList { items: segments };
+                    return Ok(Trace { segments, end });
+                }
+            }
+        }
+    }
+
+    /// The step of the insertion at which the walk ends, if it does. Costs a look-up for each place passed.
+    pub fn src<P: ProvStore>(self, alloc: Global, store: &mut P) -> Result<Option<u64>, StoreFault>
+        requires { in_target self.at ≡ true }
+        ensures answer { IfOk result (λ a. a ≡ src_from (reads (P.kept_kind store.old) (P.kept_rows store.old)) self) }
+        ensures kind { P.kept_kind store.new ≡ P.kept_kind store.old }
+        ensures last { P.last_tid store.new ≡ P.last_tid store.old }
+        ensures rows { P.kept_rows store.new ≡ P.kept_rows store.old }
+        ensures later { P.faults store.old ≤ P.faults store.new }
+        ensures cause { IsErrOf result Disk → Rose (P.faults store.old) (P.faults store.new) }
+    {
+        let mut walk = self;
+        loop {
+            let Leg { segment, came } = walk.leg(alloc, store)?;
+            let inserted = came.insertion(segment.low);
+            match came {
+                Came::Back(next) => walk = next,
+                Came::End(_end) => return Ok(inserted),
+            }
+        }
+    }
+
+    /// The steps that copied the data, newest first. Costs a look-up for each place passed.
+    fn copies<P: ProvStore>(self, alloc: Global, store: &mut P) -> Result<Vec<u64>, StoreFault>
+        requires { in_target self.at ≡ true }
+        ensures answer { IfOk result (λ v. v.items ≡ hist_from (reads (P.kept_kind store.old) (P.kept_rows store.old)) self) }
+        ensures kind { P.kept_kind store.new ≡ P.kept_kind store.old }
+        ensures last { P.last_tid store.new ≡ P.last_tid store.old }
+        ensures rows { P.kept_rows store.new ≡ P.kept_rows store.old }
+        ensures later { P.faults store.old ≤ P.faults store.new }
+        ensures cause { IsErrOf result Disk → Rose (P.faults store.old) (P.faults store.new) }
+    {
+        let mut walk = self;
+        let mut tids = Vec::new(alloc);
+        loop {
+            let Leg { segment, came } = walk.leg(alloc, store)?;
+            if let Some(tid) = came.copy(segment.low) {
+                tids.push(tid)?;
+            }
+            match came {
+                Came::Back(next) => walk = next,
+                Came::End(_end) => return Ok(tids),
+            }
+        }
+    }
+
+    /// The steps that copied the data, rising. Costs a look-up for each place passed.
+    pub fn hist<P: ProvStore>(self, alloc: Global, store: &mut P) -> Result<TidList, StoreFault>
+        requires { in_target self.at ≡ true }
+        ensures answer { IfOk result (λ v. v ≡ reverse (hist_from (reads (P.kept_kind store.old) (P.kept_rows store.old)) self)) }
+        ensures kind { P.kept_kind store.new ≡ P.kept_kind store.old }
+        ensures last { P.last_tid store.new ≡ P.last_tid store.old }
+        ensures rows { P.kept_rows store.new ≡ P.kept_rows store.old }
+        ensures later { P.faults store.old ≤ P.faults store.new }
+        ensures cause { IsErrOf result Disk → Rose (P.faults store.old) (P.faults store.new) }
+    {
+        let mut tids = self.copies(alloc, store)?;
+        tids.reverse();
+        Ok(TidList { items: tids })
+    }
+}
