@@ -1,0 +1,26 @@
+use Rattle.std.proofs.Common.{ap, ◌∙◌}
+use Rattle.cp_model.specs.Place.{child}
+use Rattle.cp_model.specs.Subtrees.{below, is_there}
+use Rattle.cp_engine.proofs.Depths.{deepest, below-within}
+use Rattle.cp_engine.proofs.OpRows.{child-room, rows-within, del-added}
+use Rattle.cp_engine.proofs.rows.push_deleted.Goals as goal
+
+pub child_of-requires : goal.child_of-requires
+child_of-requires g c =
+    let t = g.R.TreeRep.contents c.args.tree.now in
+    let q = child c.args.from.now.path c.args.label.now in
+    child-room c.args.from.now.path c.args.label.now (deepest (below q t)) (below-within t q (g.met.R.TreeRep.is_tree c.args.tree.now) c.requires.there)
+
+pub rows-requires : goal.rows-requires
+rows-requires g c = record { there = ap (is_there (g.R.TreeRep.contents c.args.tree.now)) c.in_ok-base.ensures ∙ c.requires.there }
+
+pub push_gone-requires : goal.push_gone-requires
+push_gone-requires g c =
+    let t = g.R.TreeRep.contents c.args.tree.now in
+    let q = child c.args.from.now.path c.args.label.now in
+    record { shallow = rows-within t q c.in_ok-base.base c.in_ok-list.list (g.met.R.TreeRep.is_tree c.args.tree.now) c.requires.there c.in_ok-base.ensures c.in_ok-list.ensures }
+
+pub returns-clause-ok : goal.returns-clause-ok
+returns-clause-ok g c =
+    let t = g.R.TreeRep.contents c.args.tree.now in
+    del-added c.push_gone.result c.args.tid t c.in_ok-base.base c.args.from.now c.args.label.now c.in_ok-list.list _ _ c.in_ok-base.ensures c.in_ok-list.ensures c.push_gone.ensures.ok

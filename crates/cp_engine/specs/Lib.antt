@@ -1,0 +1,7 @@
+pub mod Passed
+pub mod Reaching
+pub mod RowsAlone
+pub mod Linked
+pub mod Rising
+pub mod Held
+pub mod Transactions

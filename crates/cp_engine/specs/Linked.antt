@@ -1,0 +1,166 @@
+-- Operations one by one and as one step: what is accepted, and where it leads.
+use Rattle.std.specs.Prelude.{ℕ, ◌+◌, ◌≡◌, true, List, [], ◌∷◌, ◌++◌, length, fold, refl}
+use Rattle.std.proofs.Common.{sym, ap, subst, ◌∙◌, arith, append_assoc, append-nil}
+use Rattle.std.proofs.lemmas.List.Sums.{fold-append}
+use Rattle.std.specs.declared.option.Option.TheVariants.{None}
+use Rattle.cp_model.specs.declared.kind.Kind.TheVariants as kind
+use Rattle.cp_model.specs.declared.op.Op.{Op}
+use Rattle.cp_model.specs.declared.record.Record.{Record}
+use Rattle.cp_model.specs.Tree.{Tree, IsTree, refusal, changed}
+use Rattle.cp_model.specs.Step.{Working, contents, opened, applied, done, then_op, step, is_done}
+use Rattle.cp_model.specs.Past.{tree_of}
+use Rattle.cp_model.specs.Rows.{full_rows}
+use Rattle.cp_model.specs.History.{IsWritten, AreWritten, State, with_tid, rows_of, each_alone, settled, after_outcome, after_step}
+use Rattle.cp_model.specs.Contents.{contents-applied, contents-opened}
+use Rattle.cp_model.specs.Folds.{done_is, first-accepted, then-accepted}
+use Rattle.cp_model.specs.Kept.{AreTrees, tree-changed}
+use Rattle.cp_model.specs.Alone.{step-alone, contents-alone, after-settled}
+use Rattle.cp_engine.specs.Passed.{Passed, pass, passed, AllAccepted}
+
+-- one step more changes the tree
+pub pass-tree : (x : Passed) (op : Op) → (pass x op).tree ≡ changed [] x.tree op
+unfolding pass
+pass-tree x op = refl
+
+-- ---- as one step
+
+accepted_from : (x : Passed) (j : ℕ) (w : Working) (ops : List Op) → x.tree ≡ contents w → AllAccepted x.tree ops →
+    (v : Working) × (fold (then_op []) (done j w) ops ≡ done (j + length ops) v) × (contents v ≡ (fold pass x ops).tree)
+unfolding pass
+accepted_from x j w [] e a = (w, ap (λ n. done n w) (omega arith), sym e)
+accepted_from x j w (op ∷ ops) e a =
+    let more : changed [] x.tree op ≡ contents (applied [] w op) = ap (λ u. changed [] u op) e ∙ sym (contents-applied [] w op) in
+    let rest = accepted_from (pass x op) (j + 1) (applied [] w op) ops more a.1 in
+    let n : refusal [] (contents w) op ≡ None = ap (λ u. refusal [] u op) (sym e) ∙ a.0 in
+    (rest.0, ap (λ o. fold (then_op []) o ops) (then-accepted [] op j w n) ∙ rest.1 ∙ ap (λ n. done n (rest.0)) (omega arith), rest.2)
+
+-- operations that are accepted one by one are done as one step, with the same contents
+pub accepted-step : (t : Tree) (n : ℕ) (ops : List Op) → AllAccepted t ops → (w : Working) × (step t [] ops ≡ done (length ops) w) × (contents w ≡ (passed t n ops).tree)
+unfolding step passed
+accepted-step t n ops a =
+    let x = accepted_from (record { tree = t; next = n; records = [] }) 0 (opened t) ops (sym (contents-opened t)) a in
+    (x.0, x.1 ∙ ap (λ n. done n (x.0)) (omega arith), x.2)
+
+done_from : (t : Tree) (ops : List Op) (j : ℕ) (w : Working) (k : ℕ) (v : Working) → t ≡ contents w → fold (then_op []) (done j w) ops ≡ done k v → AllAccepted t ops
+done_from t [] j w k v e d = tt
+done_from t (op ∷ ops) j w k v e d =
+    let x = first-accepted [] op ops j w k v d in
+    (ap (λ u. refusal [] u op) e ∙ x.0, done_from (changed [] t op) ops (j + 1) (applied [] w op) k v (ap (λ u. changed [] u op) e ∙ sym (contents-applied [] w op)) x.1)
+
+-- operations that are done as one step are accepted one by one
+pub done-accepted : (t : Tree) (ops : List Op) → is_done (step t [] ops) ≡ true → AllAccepted t ops
+unfolding step
+done-accepted t ops h =
+    let x = done_is (step t [] ops) h in
+    done_from t ops 0 (opened t) x.0 x.1 (sym (contents-opened t)) x.2
+
+-- operations that are accepted one by one are done as one step
+pub accepted-done : (t : Tree) (ops : List Op) → AllAccepted t ops → is_done (step t [] ops) ≡ true
+accepted-done t ops a = ap is_done (accepted-step t 0 ops a).1
+
+-- the contents of a step that is done are the tree that its operations lead to
+pub passed-contents : (t : Tree) (n : ℕ) (ops : List Op) (k : ℕ) (w : Working) → step t [] ops ≡ done k w → (passed t n ops).tree ≡ contents w
+passed-contents t n ops k w e =
+    let x = accepted-step t n ops (done-accepted t ops (ap is_done e)) in
+    sym (x.2) ∙ same_end (length ops) k (x.0) w (sym (x.1) ∙ e)
+  where
+    same_end : (j k : ℕ) (v w : Working) → done j v ≡ done k w → contents v ≡ contents w
+    same_end j k v w d = let same : v ≡ w = cc in ap contents same
+
+-- an operation behind others is refused as it is by the contents of their step
+pub refusal-contents : (t : Tree) (n : ℕ) (ops : List Op) (k : ℕ) (w : Working) (op : Op) → step t [] ops ≡ done k w → refusal [] (passed t n ops).tree op ≡ refusal [] (contents w) op
+refusal-contents t n ops k w op e = ap (λ u. refusal [] u op) (passed-contents t n ops k w e)
+
+-- ---- one operation more
+
+-- one operation more passes behind the others
+pub passed-snoc : (t : Tree) (n : ℕ) (ops : List Op) (op : Op) → passed t n (ops ++ op ∷ []) ≡ pass (passed t n ops) op
+unfolding passed
+passed-snoc t n ops op = fold-append pass (record { tree = t; next = n; records = [] }) ops (op ∷ [])
+
+next_from : (x : Passed) (ops : List Op) → (fold pass x ops).next ≡ x.next + length ops
+unfolding pass
+next_from x [] = omega arith
+next_from x (op ∷ ops) = omega (arith, next_from (pass x op) ops)
+
+-- each operation takes a Tid
+pub passed-next : (t : Tree) (n : ℕ) (ops : List Op) → (passed t n ops).next ≡ n + length ops
+unfolding passed
+passed-next t n ops = next_from (record { tree = t; next = n; records = [] }) ops
+
+snoc_from : (x : Passed) (ops : List Op) (op : Op) → AllAccepted x.tree ops → refusal [] (fold pass x ops).tree op ≡ None → AllAccepted x.tree (ops ++ op ∷ [])
+unfolding pass
+snoc_from x [] op a n = (n, tt)
+snoc_from x (o ∷ ops) op a n = (a.0, snoc_from (pass x o) ops op a.1 n)
+
+-- an operation that is accepted behind accepted ones
+pub accepted-snoc : (t : Tree) (n : ℕ) (ops : List Op) (op : Op) → AllAccepted t ops → refusal [] (passed t n ops).tree op ≡ None → AllAccepted t (ops ++ op ∷ [])
+unfolding passed
+accepted-snoc t n ops op a h = snoc_from (record { tree = t; next = n; records = [] }) ops op a h
+
+-- an operation that can be written behind others that can
+pub written-snoc : (ops : List Op) (op : Op) → AreWritten ops → IsWritten op → AreWritten (ops ++ op ∷ [])
+written-snoc [] op a w = (w, tt)
+written-snoc (o ∷ ops) op a w = (a.0, written-snoc ops op a.1 w)
+
+-- without sources every source is a tree
+pub no_sources : AreTrees []
+no_sources = record { trees = λ n t e. absurd (cc) }
+
+tree_from : (x : Passed) (ops : List Op) → IsTree x.tree → AreWritten ops → AllAccepted x.tree ops → IsTree (fold pass x ops).tree
+unfolding pass
+tree_from x [] h w a = h
+tree_from x (op ∷ ops) h w a = tree_from (pass x op) ops (tree-changed [] x.tree op h no_sources w.0 a.0) w.1 a.1
+
+-- accepted operations lead from a tree to a tree
+pub tree-passed : (t : Tree) (n : ℕ) (ops : List Op) → IsTree t → AreWritten ops → AllAccepted t ops → IsTree (passed t n ops).tree
+unfolding passed
+tree-passed t n ops h w a = tree_from (record { tree = t; next = n; records = [] }) ops h w a
+
+-- ---- each a step of a history
+
+-- a history of the plain kind has come, behind the records rs, as far as x
+pub record IsAt (rs : List Record) (x : Passed) (s : State) : Type 0 where
+  pub kind : s.kind ≡ kind.N
+  pub sources : s.sources ≡ []
+  pub tree : tree_of s.tree ≡ x.tree
+  pub rows : s.rows ≡ rs ++ x.records
+  pub next : x.next ≡ s.now + 1
+
+settled-at : (rs : List Record) (x : Passed) (s : State) (op : Op) → IsAt rs x s → IsAt rs (pass x op) (settled s (applied s.sources (opened (tree_of s.tree)) op))
+unfolding pass settled
+settled-at rs x s op h = record {
+  kind = h.kind;
+  sources = h.sources;
+  tree = (after-settled s (applied s.sources (opened (tree_of s.tree)) op)).tree ∙ contents-alone s.sources (tree_of s.tree) op ∙ ap (λ ss. changed ss (tree_of s.tree) op) h.sources ∙ ap (λ u. changed [] u op) h.tree;
+  rows =
+      ap (λ qs. qs ++ with_tid (s.now + 1) (rows_of s.kind (tree_of s.tree) (applied s.sources (opened (tree_of s.tree)) op))) h.rows
+      ∙ append_assoc rs x.records (with_tid (s.now + 1) (rows_of s.kind (tree_of s.tree) (applied s.sources (opened (tree_of s.tree)) op)))
+      ∙ ap (λ k. rs ++ (x.records ++ with_tid (s.now + 1) (rows_of k (tree_of s.tree) (applied s.sources (opened (tree_of s.tree)) op)))) h.kind
+      ∙ ap (λ ss. rs ++ (x.records ++ with_tid (s.now + 1) (full_rows (tree_of s.tree) (applied ss (opened (tree_of s.tree)) op)))) h.sources
+      ∙ ap (λ u. rs ++ (x.records ++ with_tid (s.now + 1) (full_rows u (applied [] (opened u) op)))) h.tree
+      ∙ ap (λ n. rs ++ (x.records ++ with_tid n (full_rows x.tree (applied [] (opened x.tree) op)))) (sym h.next);
+  next = omega (arith, h.next);
+}
+
+-- a step of one accepted operation is one operation more
+pub step-at : (rs : List Record) (x : Passed) (s : State) (op : Op) → IsAt rs x s → refusal [] x.tree op ≡ None → IsAt rs (pass x op) (after_step s (op ∷ []))
+unfolding after_step
+step-at rs x s op h n =
+    let r : refusal s.sources (tree_of s.tree) op ≡ None = ap (λ ss. refusal ss (tree_of s.tree) op) h.sources ∙ ap (λ u. refusal [] u op) h.tree ∙ n in
+    subst (λ o. IsAt rs (pass x op) (after_outcome s o)) (sym (step-alone s.sources (tree_of s.tree) op r)) (settled-at rs x s op h)
+
+steps_at : (rs : List Record) (x : Passed) (s : State) (ops : List Op) → IsAt rs x s → AllAccepted x.tree ops → IsAt rs (fold pass x ops) (fold after_step s (each_alone ops))
+steps_at rs x s [] h a = h
+steps_at rs x s (op ∷ ops) h a = steps_at rs (pass x op) (after_step s (op ∷ [])) ops (step-at rs x s op h a.0) (subst (λ u. AllAccepted u ops) (sym (pass-tree x op)) a.1)
+
+module _ (s : State) (ops : List Op) (k : s.kind ≡ kind.N) (o : s.sources ≡ []) (a : AllAccepted (tree_of s.tree) ops) where
+  -- accepted operations, each a step of its own, lead where they pass to, and their records are added
+  pub passed-after : IsAt s.rows (passed (tree_of s.tree) (s.now + 1) ops) (fold after_step s (each_alone ops))
+  unfolding passed
+  passed-after =
+      steps_at s.rows (record { tree = tree_of s.tree; next = s.now + 1; records = [] }) s ops (record { kind = k; sources = o; tree = refl; rows = sym (append-nil s.rows); next = refl }) a
+
+  -- each of them takes a Tid
+  pub now-after : (fold after_step s (each_alone ops)).now ≡ s.now + length ops
+  now-after = omega (arith, passed-after.next, passed-next (tree_of s.tree) (s.now + 1) ops)

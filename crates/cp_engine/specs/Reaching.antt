@@ -1,0 +1,36 @@
+-- What a literal reaches, in numbers that stop one past their limits.
+use Rattle.std.specs.Prelude.{ℕ, ◌+◌, Bool, ◌||◌, [], ◌∷◌, length, max, min, nat_lt}
+use Rattle.std.specs.declared.option.Option.{Option}
+use Rattle.cp_path.specs.declared.loc.Loc.{Loc}
+use Rattle.cp_model.specs.Place.{Label, size}
+use Rattle.cp_model.specs.Tree.{first_case, most_nodes, most_weight}
+use Rattle.cp_model.specs.Literals.{literal_rows, rows_under}
+use Rattle.cp_model.specs.declared.literal.Literal.{Literal}
+use Rattle.cp_model.specs.declared.refusal.Refusal.{Refusal}
+use Rattle.cp_model.specs.declared.refusal.Refusal.TheVariants.{TooMany, TooBig}
+use Rattle.cp_tree.specs.Rows.{reach_of}
+use Rattle.cp_tree.specs.declared.reach.Reach.{Reach}
+
+-- each number, or one past its limit where it is over that
+abbrev pub capped : Reach → Reach
+capped r = record { nodes = min r.nodes 1048577; inner = min r.inner 33554433; depth = min r.depth 65; size = min r.size 1025 }
+
+-- with rows s one label further down, the label's size being k
+abbrev pub joined : ℕ → Reach → Reach → Reach
+joined k r s = capped (record { nodes = r.nodes + s.nodes; inner = r.inner + s.inner; depth = max r.depth (1 + s.depth); size = max r.size (k + s.size) })
+
+-- a place alone, with a label of n bytes and a text of m
+abbrev pub alone_at : ℕ → ℕ → Reach
+alone_at n m = capped (record { nodes = 1; inner = 16 + n + m; depth = 1; size = n + 1 })
+
+-- what the tree of a literal reaches below the place that gets its label
+abbrev pub literal_reach : Label → Literal → Reach
+literal_reach a l = capped (reach_of (rows_under a (literal_rows l)))
+
+-- some place so many labels below p, or of so much more size, is over a limit
+abbrev pub over_by : Loc → ℕ → ℕ → Bool
+over_by p depth more = nat_lt 64 (length p.path + depth) || nat_lt 1024 (size p + more)
+
+-- why a tree of so many nodes and so much weight is refused, if it is
+abbrev pub limit_passed : ℕ → ℕ → Option Refusal
+limit_passed nodes weight = first_case ((nat_lt most_nodes nodes, TooMany) ∷ (nat_lt most_weight weight, TooBig) ∷ [])

@@ -1,0 +1,368 @@
+-- The full rows of a step of one operation.
+use Rattle.std.specs.Prelude.{ℕ, ◌≡◌, Bool, true, false, cond, ◌&&◌, List, [], ◌∷◌, ◌++◌, map, is_some, if◌then◌else◌, refl}
+use Rattle.std.proofs.Common.{sym, ap, subst, ◌∙◌, T, append_assoc}
+use Rattle.std.proofs.lemmas.List.{append_cancel_right}
+use Rattle.std.specs.List.{cons_option}
+use Rattle.std.specs.declared.option.Option.{Option}
+use Rattle.std.specs.declared.option.Option.TheVariants.{None, Some}
+use Rattle.std.specs.Ordering.{is_lt}
+use Rattle.std.specs.FinMap.Entries.{is_sorted, below_all, same_entries}
+use Rattle.cp_path.specs.declared.loc.Loc.{Loc}
+use Rattle.cp_path.specs.Text.{text_eq}
+use Rattle.cp_model.specs.declared.row.Content.{Content}
+use Rattle.cp_model.specs.declared.literal.Literal.{Literal}
+use Rattle.cp_model.specs.declared.op.Op.{Op}
+use Rattle.cp_model.specs.declared.op.Op.TheVariants.{Ins, Del, Copy}
+use Rattle.cp_model.specs.Place.{Label, Path, path_cmp, path_total, path_same, path_eq, path_eq_equiv, path_eq-same, text_eq-same, place_eq, place_eq-refl, place_eq-same, target, at_target, in_target, child, below_place, strip, label_eq, option_map, or_else, nearest, with_rest}
+use Rattle.cp_model.specs.Keyed as keyed
+use Rattle.cp_model.specs.Keyed.{look, look-find}
+use Rattle.cp_model.specs.Subtrees.{is_there, below, moved, without, replaced, with_values, mapped}
+use Rattle.cp_model.specs.Literals.{literal_rows}
+use Rattle.cp_model.specs.Tree.{Tree, IsTree, IsRooted, refusal}
+use Rattle.cp_model.specs.declared.origin.Origin.TheVariants.{New as new, Was as was}
+use Rattle.cp_model.specs.declared.record.RowMark.{RowMark as Mark}
+use Rattle.cp_model.specs.declared.record.RowMark.TheVariants.{Made as I, Copied as C, Gone as D}
+use Rattle.cp_model.specs.Step.{Worked, Working, opened, as_new, carried, applied}
+use Rattle.cp_model.specs.Rows.{Effect, same, from, effect, effect_at, full_mark, is_same, above, nearest_effect, full_here, marked, all_paths, full_rows}
+use Rattle.cp_model.specs.History.{IsWritten}
+use Rattle.cp_model.specs.Strips.{strip_is, strip-append, append-nil, nearest-below}
+use Rattle.cp_model.specs.Lookups.{placed, find-moved, find-below, find-with_values, get-without, get-replaced, get-mapped}
+use Rattle.cp_model.specs.Sorted.{path_cmp-append, parts_of, all_of, sorted-entries, sorted-below}
+use Rattle.cp_model.specs.Sums.{below-none}
+use Rattle.cp_model.specs.Accepted.{InsAccepted, ins_accepted, DelAccepted, del_accepted, copy_accepted}
+use Rattle.cp_model.specs.Kept.{closed-tree}
+use Rattle.cp_model.specs.Marks.{find-full_rows}
+
+-- a row behind p for each entry, of what follows p
+abbrev pub behind : {X : Type 0} → Path → (Path → Mark) → List (Path × X) → List (Path × Mark)
+behind p f es = map (λ e. (p ++ e.0, f e.0)) es
+
+-- the full rows of one operation: what is inserted, what is gone, or what each place is a copy of
+unfoldable pub op_rows : Tree → Op → List (Path × Mark)
+op_rows t (Ins p a l) = behind (child p.path a) (λ _. I) (literal_rows l)
+op_rows t (Del a p) = behind (child p.path a) (λ _. D) (below (child p.path a) t)
+op_rows t (Copy q p) = if place_eq q p then [] else behind p.path (λ s. C (below_place q s)) (below q.path t)
+
+-- ---- rows that rise
+
+module _ {X : Type 0} where
+  below_marked : (f : Path → Option Mark) (k : Path) (es : List (Path × X)) → T (below_all path_cmp k es) → T (below_all path_cmp k (marked f (map (λ e. e.0) es)))
+  below_marked f k [] h = tt
+  below_marked f k (e ∷ es) h =
+      let parts = parts_of (is_lt (path_cmp k e.0)) (below_all path_cmp k es) h in
+      let rest = below_marked f k es parts.1 in
+      elim (f e.0) as (λ o. T (below_all path_cmp k (cons_option (option_map (λ m. (e.0, m)) o) (marked f (map (λ e. e.0) es))))) [
+        | None ↦ rest
+        | Some m ↦ all_of (is_lt (path_cmp k e.0)) (below_all path_cmp k (marked f (map (λ e. e.0) es))) parts.0 rest
+      ]
+
+  -- marks at paths that rise are rows that rise
+  pub sorted-marked : (f : Path → Option Mark) (es : List (Path × X)) → T (is_sorted path_cmp es) → T (is_sorted path_cmp (marked f (map (λ e. e.0) es)))
+  sorted-marked f [] h = tt
+  sorted-marked f (e ∷ es) h =
+      let parts = parts_of (below_all path_cmp e.0 es) (is_sorted path_cmp es) h in
+      let rest = sorted-marked f es parts.1 in
+      elim (f e.0) as (λ o. T (is_sorted path_cmp (cons_option (option_map (λ m. (e.0, m)) o) (marked f (map (λ e. e.0) es))))) [
+        | None ↦ rest
+        | Some m ↦ all_of (below_all path_cmp e.0 (marked f (map (λ e. e.0) es))) (is_sorted path_cmp (marked f (map (λ e. e.0) es))) (below_marked f e.0 es parts.0) rest
+      ]
+
+  below_behind : (p : Path) (f : Path → Mark) (k : Path) (es : List (Path × X)) → T (below_all path_cmp k es) → T (below_all path_cmp (p ++ k) (behind p f es))
+  below_behind p f k [] h = tt
+  below_behind p f k (e ∷ es) h =
+      let parts = parts_of (is_lt (path_cmp k e.0)) (below_all path_cmp k es) h in
+      all_of (is_lt (path_cmp (p ++ k) (p ++ e.0))) (below_all path_cmp (p ++ k) (behind p f es)) (subst (λ o. T (is_lt o)) (sym (path_cmp-append p k e.0)) parts.0) (below_behind p f k es parts.1)
+
+  -- entries that rise, rise behind p
+  pub sorted-behind : (p : Path) (f : Path → Mark) (es : List (Path × X)) → T (is_sorted path_cmp es) → T (is_sorted path_cmp (behind p f es))
+  sorted-behind p f [] h = tt
+  sorted-behind p f (e ∷ es) h =
+      let parts = parts_of (below_all path_cmp e.0 es) (is_sorted path_cmp es) h in
+      all_of (below_all path_cmp (p ++ e.0) (behind p f es)) (is_sorted path_cmp (behind p f es)) (below_behind p f e.0 es parts.0) (sorted-behind p f es parts.1)
+
+  behind_moved : (p : Path) (f : Path → Mark) (es : List (Path × X)) → behind p f es ≡ moved p (with_values (λ s _. f s) es)
+  unfolding moved
+  behind_moved p f [] = refl
+  behind_moved p f (e ∷ es) = ap (λ rs. (p ++ e.0, f e.0) ∷ rs) (behind_moved p f es)
+
+  -- rows behind p answer by what follows p
+  pub find-behind : (p : Path) (f : Path → Mark) (r : Path) (es : List (Path × X)) → look r (behind p f es) ≡ placed (strip p r) (λ s. option_map (λ _. f s) (look s es)) None
+  find-behind p f r es =
+      ap (look r) (behind_moved p f es) ∙ find-moved p r (with_values (λ s _. f s) es)
+      ∙ elim (strip p r) as (λ o. placed o (λ s. look s (with_values (λ s _. f s) es)) None ≡ placed o (λ s. option_map (λ _. f s) (look s es)) None) [
+        | None ↦ refl
+        | Some s ↦ find-with_values (λ s _. f s) s es
+      ]
+
+-- the full rows of a step rise
+pub sorted-full_rows : (a : Tree) (w : Working) → T (is_sorted path_cmp (full_rows a w))
+unfolding all_paths
+sorted-full_rows a w = sorted-marked (full_here a w) (keyed.entries (keyed.put_all (with_values (λ _ _. true) (keyed.entries w)) (mapped (λ _ _. true) a))) (sorted-entries _)
+
+-- rows that rise and answer alike are the same
+pub same_rows : {X : Type 0} (es fs : List (Path × X)) → T (is_sorted path_cmp es) → T (is_sorted path_cmp fs) → ((r : Path) → look r es ≡ look r fs) → es ≡ fs
+same_rows es fs g h is = same_entries path_cmp path_total path_same es fs g h (λ r. sym (look-find r es) ∙ is r ∙ look-find r fs)
+
+-- ---- what one operation does to a place
+
+-- the mark of a place with this effect
+abbrev mark_at : Tree → Working → Path → Option Effect → Option Mark
+mark_at t w r o = elim o [ Some e ↦ full_mark e | None ↦ if is_there t r && is_same (above w r) then Some D else None ]
+
+-- a place that carries itself
+abbrev itself : Path → Content → Worked
+itself r c = record { content = c; origin = was (at_target r) }
+
+here_by : (t : Tree) (w : Working) (r : Path) (o : Option Worked) → keyed.get w r ≡ o → full_here t w r ≡ mark_at t w r (option_map (λ x. effect r x.origin) o)
+unfolding full_here
+here_by t w r o e = ap (λ o. mark_at t w r (option_map (λ x. effect r x.origin) o)) e
+
+effect_itself : (r : Path) → effect r (was (at_target r)) ≡ same
+effect_itself r = ap (λ b. if b then same else from (at_target r)) (place_eq-refl (at_target r))
+
+-- a place that is as it was at the start of the step has no row
+untouched : (t : Tree) (w : Working) (r : Path) → keyed.get w r ≡ keyed.get (opened t) r → full_here t w r ≡ None
+untouched t w r e =
+    here_by t w r (option_map (itself r) (keyed.get t r)) (e ∙ get-mapped itself t r)
+    ∙ elim (keyed.get t r) as (λ o. keyed.get t r ≡ o → mark_at t w r (option_map (λ x. effect r x.origin) (option_map (itself r) o)) ≡ None) [
+      | Some c ↦ λ _. ap full_mark (effect_itself r)
+      | None ↦ λ n. ap (λ o. if is_some o && is_same (above w r) then Some D else None) n
+    ] refl
+
+-- nothing is below what isn't there
+none_below : (t : Tree) (p s : Path) → IsRooted t → keyed.get t p ≡ None → keyed.get t (p ++ s) ≡ None
+none_below t p s h n = sym (find-below p s t) ∙ ap (look s) (below-none t p (closed-tree t h) n)
+
+-- a place that isn't there before and after a step has no row
+absent : (t : Tree) (w : Working) (r : Path) → keyed.get w r ≡ None → keyed.get t r ≡ None → full_here t w r ≡ None
+absent t w r e n = here_by t w r None e ∙ ap (λ o. if is_some o && is_same (above w r) then Some D else None) n
+
+-- a path doesn't go on to what is below it
+strip-child : (p : Path) (a : Label) → strip (child p a) p ≡ None
+strip-child [] a = refl
+strip-child (b ∷ p) a = ap (λ o. cond (label_eq b b) o None) (strip-child p a) ∙ elim (label_eq b b) as (λ c. cond {A = Option Path} c None None ≡ None) [ true ↦ refl | false ↦ refl ]
+
+-- where nothing stands, nothing is nearest
+nearest-none : {X : Type 0} (f : Path → Option X) (s : Path) → ((r : Path) → f r ≡ None) → nearest f s ≡ None
+nearest-none f [] n = ap (λ o. with_rest o []) (n [])
+nearest-none f (a ∷ s) n = ap (λ o. or_else o (with_rest (f []) (a ∷ s))) (nearest-none (λ r. f (a ∷ r)) s (λ r. n (a ∷ r))) ∙ ap (λ o. with_rest o (a ∷ s)) (n [])
+
+-- an effect that is there and the same
+abbrev is_kept : Option Effect → Bool
+is_kept None = false
+is_kept (Some e) = is_same e
+
+-- where nothing is the same, what is nearest isn't
+nearest-changed : (f : Path → Option Effect) (s : Path) → ((r : Path) → is_kept (f r) ≡ false) → is_same (nearest_effect (nearest f s)) ≡ false
+nearest-changed f [] n = ends (f []) [] (n [])
+  where
+    ends : (o : Option Effect) (s : Path) → is_kept o ≡ false → is_same (nearest_effect (with_rest o s)) ≡ false
+    ends None s h = refl
+    ends (Some e) s h = h
+nearest-changed f (a ∷ s) n = more (nearest (λ r. f (a ∷ r)) s) (f []) (nearest-changed (λ r. f (a ∷ r)) s (λ r. n (a ∷ r))) (n [])
+  where
+    more : (o : Option (Effect × Path)) (e : Option Effect) → is_same (nearest_effect o) ≡ false → is_kept e ≡ false → is_same (nearest_effect (or_else o (with_rest e (a ∷ s)))) ≡ false
+    more (Some y) e h k = h
+    more None None h k = refl
+    more None (Some e) h k = k
+
+-- behind both the same follows
+same-suffix : (a b s : Path) → path_eq (a ++ s) (b ++ s) ≡ path_eq a b
+same-suffix a b s =
+    elim (path_eq a b) as (λ c. path_eq a b ≡ c → path_eq (a ++ s) (b ++ s) ≡ c) [
+      | true ↦ λ e. ap (λ k. path_eq (a ++ s) (k ++ s)) (sym (path_eq-same a b e)) ∙ path_eq_equiv.refl (a ++ s)
+      | false ↦ λ e. elim (path_eq (a ++ s) (b ++ s)) as (λ d. path_eq (a ++ s) (b ++ s) ≡ d → d ≡ false) [
+        | false ↦ λ _. refl
+        | true ↦ λ h. sym (path_eq_equiv.refl a) ∙ ap (path_eq a) (append_cancel_right a b s (path_eq-same (a ++ s) (b ++ s) h)) ∙ e
+      ] refl
+    ] refl
+
+-- what the entries put in place of a subtree leave at a place
+put_at : (k r : Path) (es : List (Path × Worked)) (w : Working) (o : Option Path) → strip k r ≡ o → keyed.get (replaced k es w) r ≡ placed o (λ s. look s es) (keyed.get w r)
+put_at k r es w o e = get-replaced k es w r ∙ ap (λ o. placed o (λ s. look s es) (keyed.get w r)) e
+
+-- the mark of what stands this far below a place after a copy onto it
+abbrev mark_copy : Loc → Loc → Path → Option Content → Option Mark
+mark_copy q p s o = if place_eq q p then None else option_map (λ _. C (below_place q s)) o
+
+module _ (t : Tree) (p : Loc) (a : Label) (l : Literal) (h : IsRooted t) (x : InsAccepted t p a l) where
+  abbrev after_ins : Working
+  after_ins = replaced (child p.path a) (as_new (literal_rows l)) (opened t)
+
+  inserted : (r s : Path) → strip (child p.path a) r ≡ Some s → (o : Option Content) → look s (literal_rows l) ≡ o → full_here t after_ins r ≡ option_map (λ _. I) o
+  inserted r s k (Some c) e =
+      here_by t after_ins r (Some (record { content = c; origin = new }))
+      (put_at (child p.path a) r (as_new (literal_rows l)) (opened t) (Some s) k ∙ find-with_values (λ _ c. record { content = c; origin = new }) s (literal_rows l) ∙ ap (option_map (λ c. record { content = c; origin = new })) e)
+  inserted r s k None e =
+      absent t after_ins r
+      (put_at (child p.path a) r (as_new (literal_rows l)) (opened t) (Some s) k ∙ find-with_values (λ _ c. record { content = c; origin = new }) s (literal_rows l) ∙ ap (option_map (λ c. record { content = c; origin = new })) e)
+      (ap (keyed.get t) (strip_is (child p.path a) r s k) ∙ none_below t (child p.path a) s h x.free)
+
+  here_ins : (r : Path) → full_here t after_ins r ≡ placed (strip (child p.path a) r) (λ s. option_map (λ _. I) (look s (literal_rows l))) None
+  here_ins r =
+      elim (strip (child p.path a) r) as (λ o. strip (child p.path a) r ≡ o → full_here t after_ins r ≡ placed o (λ s. option_map (λ _. I) (look s (literal_rows l))) None) [
+        | None ↦ λ k. untouched t after_ins r (put_at (child p.path a) r (as_new (literal_rows l)) (opened t) None k)
+        | Some s ↦ λ k. inserted r s k (look s (literal_rows l)) refl
+      ] refl
+
+module _ (t : Tree) (p : Loc) (a : Label) (x : DelAccepted t p a) where
+  abbrev after_del : Working
+  after_del = without (child p.path a) (opened t)
+
+  dropped : (r : Path) (o : Option Path) → strip (child p.path a) r ≡ o → keyed.get after_del r ≡ placed o (λ _. None) (keyed.get (opened t) r)
+  dropped r o e = get-without (child p.path a) (opened t) r ∙ ap (λ o. placed o (λ _. None) (keyed.get (opened t) r)) e
+
+  left : effect_at after_del p.path ≡ Some same
+  left =
+      ap (option_map (λ (x : Worked). effect p.path x.origin)) (dropped p.path None (strip-child p.path a) ∙ get-mapped itself t p.path ∙ ap (option_map (itself p.path)) x.node)
+      ∙ ap (λ e. Some e) (effect_itself p.path)
+
+  nothing : (s : Path) → effect_at after_del (p.path ++ a ∷ s) ≡ None
+  nothing s =
+      ap (effect_at after_del) (sym (append_assoc p.path (a ∷ []) s))
+      ∙ ap (option_map (λ (x : Worked). effect (child p.path a ++ s) x.origin)) (dropped (child p.path a ++ s) (Some s) (strip-append (child p.path a) s))
+
+  -- what is left above a deleted place is the same
+  above_del : (s : Path) → is_same (above after_del (child p.path a ++ s)) ≡ true
+  above_del s =
+      ap (λ o. is_same (nearest_effect o)) (
+      ap (nearest (effect_at after_del)) (append_assoc p.path (a ∷ []) s)
+      ∙ nearest-below (effect_at after_del) p.path (a ∷ s) same left
+      ∙ ap (λ o. or_else o (with_rest (effect_at after_del (p.path ++ [])) (a ∷ s))) (nearest-none (λ r. effect_at after_del (p.path ++ a ∷ r)) s nothing)
+      ∙ ap (λ o. with_rest o (a ∷ s)) (ap (effect_at after_del) (append-nil p.path) ∙ left)
+      )
+
+  deleted : (r s : Path) → strip (child p.path a) r ≡ Some s → full_here t after_del r ≡ option_map (λ _. D) (look s (below (child p.path a) t))
+  deleted r s k =
+      here_by t after_del r None (dropped r (Some s) k)
+      ∙ ap (λ q. mark_at t after_del q None) (strip_is (child p.path a) r s k)
+      ∙ ap (λ b. if is_there t (child p.path a ++ s) && b then Some D else None) (above_del s)
+      ∙ gone_or (keyed.get t (child p.path a ++ s))
+      ∙ ap (option_map (λ _. D)) (sym (find-below (child p.path a) s t))
+    where
+      gone_or : (o : Option Content) → (if is_some o && true then Some D else None) ≡ option_map (λ _. D) o
+      gone_or None = refl
+      gone_or (Some c) = refl
+
+  here_del : (r : Path) → full_here t after_del r ≡ placed (strip (child p.path a) r) (λ s. option_map (λ _. D) (look s (below (child p.path a) t))) None
+  here_del r =
+      elim (strip (child p.path a) r) as (λ o. strip (child p.path a) r ≡ o → full_here t after_del r ≡ placed o (λ s. option_map (λ _. D) (look s (below (child p.path a) t))) None) [
+        | None ↦ λ k. untouched t after_del r (dropped r None k)
+        | Some s ↦ λ k. deleted r s k
+      ] refl
+
+module _ (t : Tree) (q p : Loc) (i : in_target q ≡ true) (j : in_target p ≡ true) (origin : is_there t q.path ≡ true) where
+  abbrev after_copy : Working
+  after_copy = replaced p.path (below q.path (opened t)) (opened t)
+
+  place : (s : Path) → at_target (q.path ++ s) ≡ below_place q s
+  place s = ap (λ (d : List ℕ). record { db = d; path = q.path ++ s }) (sym (text_eq-same q.db target i))
+
+  same_place : (s : Path) → path_eq (q.path ++ s) (p.path ++ s) ≡ place_eq q p
+  same_place s =
+      same-suffix q.path p.path s
+      ∙ ap (λ d. text_eq d target && path_eq q.path p.path) (sym (text_eq-same q.db target i))
+      ∙ ap (λ d. text_eq q.db d && path_eq q.path p.path) (sym (text_eq-same p.db target j))
+
+  copied_effect : (s : Path) → effect (p.path ++ s) (was (at_target (q.path ++ s))) ≡ (if place_eq q p then same else from (below_place q s))
+  copied_effect s = ap (λ b. if b then same else from (at_target (q.path ++ s))) (same_place s) ∙ ap (λ r. if place_eq q p then same else from r) (place s)
+
+  taken_at : (s : Path) → look s (below q.path (opened t)) ≡ option_map (itself (q.path ++ s)) (keyed.get t (q.path ++ s))
+  taken_at s = find-below q.path s (opened t) ∙ get-mapped itself t (q.path ++ s)
+
+  at_copy : (r s : Path) → strip p.path r ≡ Some s → keyed.get after_copy r ≡ option_map (itself (q.path ++ s)) (keyed.get t (q.path ++ s))
+  at_copy r s k = put_at p.path r (below q.path (opened t)) (opened t) (Some s) k ∙ taken_at s
+
+  effect_copy : (s : Path) → effect_at after_copy (p.path ++ s) ≡ option_map (λ _. if place_eq q p then same else from (below_place q s)) (keyed.get t (q.path ++ s))
+  effect_copy s =
+      ap (option_map (λ (x : Worked). effect (p.path ++ s) x.origin)) (at_copy (p.path ++ s) s (strip-append p.path s))
+      ∙ elim (keyed.get t (q.path ++ s)) as (λ o. option_map (λ (x : Worked). effect (p.path ++ s) x.origin) (option_map (itself (q.path ++ s)) o) ≡ option_map (λ _. if place_eq q p then same else from (below_place q s)) o) [
+        | None ↦ refl
+        | Some c ↦ ap (λ e. Some e) (copied_effect s)
+      ]
+
+  root_copy : place_eq q p ≡ false → effect_at after_copy p.path ≡ Some (from (below_place q []))
+  root_copy n =
+      ap (effect_at after_copy) (sym (append-nil p.path)) ∙ effect_copy []
+      ∙ elim (keyed.get t (q.path ++ [])) as (λ o. is_some o ≡ true → option_map (λ _. if place_eq q p then same else from (below_place q [])) o ≡ Some (from (below_place q []))) [
+        | None ↦ λ e. absurd (cc)
+        | Some c ↦ λ _. ap (λ b. Some (if b then same else from (below_place q []))) n
+      ] (ap (is_there t) (append-nil q.path) ∙ origin)
+
+  -- what is left above a place that a copy replaces isn't the same
+  above_copy : (s : Path) → place_eq q p ≡ false → is_same (above after_copy (p.path ++ s)) ≡ false
+  above_copy s n =
+      ap (λ o. is_same (nearest_effect o)) (nearest-below (effect_at after_copy) p.path s (from (below_place q [])) (root_copy n))
+      ∙ nearest-changed (λ r. effect_at after_copy (p.path ++ r)) s (λ r. ap is_kept (effect_copy r ∙ ap (λ b. option_map (λ _. if b then same else from (below_place q r)) (keyed.get t (q.path ++ r))) n) ∙ changed_at r (keyed.get t (q.path ++ r)))
+    where
+      changed_at : (r : Path) (o : Option Content) → is_kept (option_map (λ _. from (below_place q r)) o) ≡ false
+      changed_at r None = refl
+      changed_at r (Some c) = refl
+
+  copied : (s : Path) (o : Option Content) → keyed.get t (q.path ++ s) ≡ o → full_here t after_copy (p.path ++ s) ≡ mark_copy q p s o
+  copied s (Some c) e =
+      here_by t after_copy (p.path ++ s) (Some (itself (q.path ++ s) c)) (at_copy (p.path ++ s) s (strip-append p.path s) ∙ ap (option_map (itself (q.path ++ s))) e)
+      ∙ ap full_mark (copied_effect s)
+      ∙ elim (place_eq q p) as (λ b. full_mark (if b then same else from (below_place q s)) ≡ (if b then None else Some (C (below_place q s)))) [ true ↦ refl | false ↦ refl ]
+  copied s None e =
+      here_by t after_copy (p.path ++ s) None (at_copy (p.path ++ s) s (strip-append p.path s) ∙ ap (option_map (itself (q.path ++ s))) e)
+      ∙ elim (place_eq q p) as (λ b. place_eq q p ≡ b → mark_at t after_copy (p.path ++ s) None ≡ (if b then None else None)) [
+        | true ↦ λ b. ap (λ (r : Loc). if is_there t (r.path ++ s) && is_same (above after_copy (p.path ++ s)) then Some D else None) (sym (place_eq-same q p b)) ∙ ap (λ o. if is_some o && is_same (above after_copy (p.path ++ s)) then Some D else None) e
+        | false ↦ λ b. ap (λ c. if is_there t (p.path ++ s) && c then Some D else None) (above_copy s b) ∙ never (is_there t (p.path ++ s))
+      ] refl
+    where
+      never : (b : Bool) → (if b && false then Some D else None) ≡ None
+      never true = refl
+      never false = refl
+
+  here_copy : (r : Path) → full_here t after_copy r ≡ placed (strip p.path r) (λ s. mark_copy q p s (look s (below q.path t))) None
+  here_copy r =
+      elim (strip p.path r) as (λ o. strip p.path r ≡ o → full_here t after_copy r ≡ placed o (λ s. mark_copy q p s (look s (below q.path t))) None) [
+        | None ↦ λ k. untouched t after_copy r (put_at p.path r (below q.path (opened t)) (opened t) None k)
+        | Some s ↦ λ k. ap (full_here t after_copy) (strip_is p.path r s k) ∙ copied s (keyed.get t (q.path ++ s)) refl ∙ ap (mark_copy q p s) (sym (find-below q.path s t))
+      ] refl
+
+find_copy : (t : Tree) (q p : Loc) (r : Path) → look r (op_rows t (Copy q p)) ≡ placed (strip p.path r) (λ s. mark_copy q p s (look s (below q.path t))) None
+unfolding op_rows
+find_copy t q p r =
+    elim (place_eq q p) as (λ b. look r (if b then [] else behind p.path (λ s. C (below_place q s)) (below q.path t)) ≡ placed (strip p.path r) (λ s. if b then None else option_map (λ _. C (below_place q s)) (look s (below q.path t))) None) [
+      | true ↦ elim (strip p.path r) as (λ o. ◌≡◌ {A = Option Mark} None (placed o (λ _. None) None)) [ None ↦ refl | Some s ↦ refl ]
+      | false ↦ find-behind p.path (λ s. C (below_place q s)) r (below q.path t)
+    ]
+
+-- the rows of one operation rise
+pub sorted-op_rows : (t : Tree) (op : Op) → IsWritten op → T (is_sorted path_cmp (op_rows t op))
+unfolding op_rows
+sorted-op_rows t (Ins p a l) h = sorted-behind (child p.path a) (λ _. I) (literal_rows l) h.sorted
+sorted-op_rows t (Del a p) h = sorted-behind (child p.path a) (λ _. D) (below (child p.path a) t) (sorted-below (child p.path a) t)
+sorted-op_rows t (Copy q p) h =
+    elim (place_eq q p) as (λ b. T (is_sorted path_cmp (if b then [] else behind p.path (λ s. C (below_place q s)) (below q.path t)))) [
+      | true ↦ tt
+      | false ↦ sorted-behind p.path (λ s. C (below_place q s)) (below q.path t) (sorted-below q.path t)
+    ]
+
+-- without sources what is copied is a place of the tree
+pub copy_alone : (t : Tree) (q p : Loc) → refusal [] t (Copy q p) ≡ None → (in_target q ≡ true) × (is_there t q.path ≡ true)
+copy_alone t q p n =
+    let x = copy_accepted [] t q p n in
+    elim (in_target q) as (λ b. (if b then Some t else None) ≡ Some x.tree → (b ≡ true) × (is_there t q.path ≡ true)) [
+      | true ↦ λ e. let k : t ≡ x.tree = cc in (refl, ap (λ u. is_there u q.path) k ∙ x.origin)
+      | false ↦ λ e. absurd (cc)
+    ] x.is_tree
+
+-- what one operation that isn't refused does to a place, its rows say
+pub here-alone : (t : Tree) (op : Op) → IsTree t → refusal [] t op ≡ None → (r : Path) → full_here t (applied [] (opened t) op) r ≡ look r (op_rows t op)
+unfolding applied op_rows
+here-alone t (Ins p a l) h n r = here_ins t p a l h.rooted (ins_accepted [] t p a l n) r ∙ sym (find-behind (child p.path a) (λ _. I) r (literal_rows l))
+here-alone t (Del a p) h n r = here_del t p a (del_accepted [] t p a n) r ∙ sym (find-behind (child p.path a) (λ _. D) r (below (child p.path a) t))
+here-alone t (Copy q p) h n r =
+    let x = copy_alone t q p n in
+    ap (λ b. full_here t (replaced p.path (carried [] (opened t) q b) (opened t)) r) x.0
+    ∙ here_copy t q p x.0 (copy_accepted [] t q p n).target x.1 r
+    ∙ sym (find_copy t q p r)
+
+-- the full rows of a step of one operation that isn't refused are the operation's rows
+pub rows-alone : (t : Tree) (op : Op) → IsTree t → IsWritten op → refusal [] t op ≡ None → full_rows t (applied [] (opened t) op) ≡ op_rows t op
+rows-alone t op h i n =
+    same_rows (full_rows t (applied [] (opened t) op)) (op_rows t op) (sorted-full_rows t (applied [] (opened t) op)) (sorted-op_rows t op i)
+    (λ r. find-full_rows t (applied [] (opened t) op) r ∙ here-alone t op h n r)

@@ -1,0 +1,90 @@
+-- A transaction: what it holds, and what each call does to it.
+use Rattle.std.specs.Prelude.{ℕ, ◌+◌, ◌-◌, ◌≡◌, ◌≤◌, ◌<◌, ◌^◌, List, [], ◌∷◌, ◌++◌, length, Result, Ok, Err, ⊤}
+use Rattle.std.specs.declared.option.Option.TheVariants.{None, Some}
+use Rattle.cp_model.specs.Tree.{Tree, IsTree}
+use Rattle.cp_model.specs.History.{AreWritten, most_ops}
+use Rattle.cp_model.specs.declared.op.Op.{Op}
+use Rattle.cp_model.specs.declared.refusal.Cause.{Cause}
+use Rattle.cp_model.specs.declared.refusal.Cause.TheVariants.{Refused, Unread}
+use Rattle.cp_record.specs.Bytes.{commit_length}
+use Rattle.cp_record.specs.Packed.{Holds}
+use Rattle.cp_engine.specs.Passed.{passed, refusal_behind, AllAccepted}
+use Rattle.cp_engine.specs.declared.txn.Txn.{Txn}
+use Rattle.cp_engine.specs.declared.txn.Step.{Step}
+use Rattle.cp_engine.specs.declared.state.TxnState.{TxnState}
+use Rattle.cp_engine.specs.declared.state.TxnState.TheVariants as state
+use Rattle.cp_engine.specs.declared.fault.ApplyFault.{ApplyFault}
+use Rattle.cp_engine.specs.declared.fault.ApplyFault.TheVariants as denied
+use Rattle.cp_engine.specs.declared.fault.FinishFault.{FinishFault}
+use Rattle.cp_engine.specs.declared.fault.FinishFault.TheVariants as unfinished
+
+-- operations that were accepted, or the number of the one at which the transaction failed, and why
+pub data Progress : Type 0 where
+  going : List Op → Progress
+  failed : ℕ → Cause → Progress
+
+-- the number of accepted operations, or the number of the refused one with its cause
+abbrev pub state_of : Progress → TxnState
+state_of (going ops) = state.Going (length ops)
+state_of (failed n c) = state.Failed n c
+
+-- a text that can't be read counts as the next operation
+abbrev pub spoiled : Progress → Progress
+spoiled (going ops) = failed (length ops + 1) Unread
+spoiled (failed n c) = failed n c
+
+-- the number of operations that are given up
+abbrev pub given_up : Progress → ℕ
+given_up (going ops) = length ops
+given_up (failed n c) = n - 1
+
+-- the transaction holds these operations, which lead from the tree t, the first with the Tid n
+pub record IsGoing {R : Type 0} (view : R → Tree) (x : Txn R) (t : Tree) (n : ℕ) (ops : List Op) : Type 0 where
+  pub start : IsTree t
+  pub first : n ≤ 2 ^ 63
+  pub few : length ops ≤ most_ops
+  pub written : AreWritten ops
+  pub accepted : AllAccepted t ops
+  pub held : x.ops ≡ ops
+  pub tid : x.first ≡ n
+  pub tree : view x.tree ≡ (passed t n ops).tree
+  pub rows : Holds x.rows (passed t n ops).records
+  pub failure : x.failure ≡ None
+
+-- the transaction stands where this progress was made from the tree t
+abbrev pub Stands : {R : Type 0} → (R → Tree) → Txn R → Tree → ℕ → Progress → Type 0
+Stands view x t n (going ops) = IsGoing view x t n ops
+Stands view x t n (failed k c) = x.failure ≡ Some (record { number = k; cause = c })
+
+-- an operation is held behind the others, or refused by the first case that applies, or there was no memory for it
+abbrev pub Applies : {R : Type 0} → (R → Tree) → Tree → ℕ → Progress → Op → Txn R → Result ⊤ ApplyFault → Type 0
+Applies view t n (going ops) op new (Ok x) = (refusal_behind t n ops op ≡ None) × Stands view new t n (going (ops ++ op ∷ []))
+Applies view t n (going ops) op new (Err (denied.Failed k)) = ⊥
+Applies view t n (going ops) op new (Err (denied.Refused r)) = (refusal_behind t n ops op ≡ Some r) × Stands view new t n (failed (length ops + 1) (Refused r))
+Applies view t n (going ops) op new (Err denied.Memory) = Stands view new t n (going ops)
+Applies view t n (failed k c) op new (Ok x) = ⊥
+Applies view t n (failed k c) op new (Err (denied.Failed j)) = (j ≡ k) × Stands view new t n (failed k c)
+Applies view t n (failed k c) op new (Err (denied.Refused r)) = ⊥
+Applies view t n (failed k c) op new (Err denied.Memory) = ⊥
+
+-- the operations, the tree to which they lead, their records and their number, within the limit of a commit's bytes
+pub record IsStep {R : Type 0} (view : R → Tree) (t : Tree) (n : ℕ) (ops : List Op) (limit : ℕ) (x : Step R) : Type 0 where
+  pub some : 1 ≤ length ops
+  pub held : x.ops ≡ ops
+  pub tree : view x.tree ≡ (passed t n ops).tree
+  pub rows : x.rows ≡ (passed t n ops).records
+  pub tids : x.tids ≡ length ops
+  pub small : commit_length ops (passed t n ops).records ≤ limit
+
+-- the step that a transaction makes, or why it makes none
+abbrev pub Finishes : {R : Type 0} → (R → Tree) → Tree → ℕ → Progress → ℕ → Result (Step R) FinishFault → Type 0
+Finishes view t n (going ops) limit (Ok x) = IsStep view t n ops limit x
+Finishes view t n (going ops) limit (Err unfinished.Empty) = ops ≡ []
+Finishes view t n (going ops) limit (Err (unfinished.Failed k c)) = ⊥
+Finishes view t n (going ops) limit (Err unfinished.TooLarge) = (1 ≤ length ops) × (limit < commit_length ops (passed t n ops).records) × (commit_length ops (passed t n ops).records < 2 ^ 64)
+Finishes view t n (going ops) limit (Err unfinished.Memory) = 1 ≤ length ops
+Finishes view t n (failed k c) limit (Ok x) = ⊥
+Finishes view t n (failed k c) limit (Err unfinished.Empty) = ⊥
+Finishes view t n (failed k c) limit (Err (unfinished.Failed j d)) = (j ≡ k) × (d ≡ c)
+Finishes view t n (failed k c) limit (Err unfinished.TooLarge) = ⊥
+Finishes view t n (failed k c) limit (Err unfinished.Memory) = ⊥

@@ -1,0 +1,16 @@
+//! Transactions: operations that are checked and applied one by one, all of them or none.
+#![tactic(auto)]
+
+mod change;
+mod checks;
+mod copy;
+mod fault;
+mod held;
+mod rows;
+mod state;
+mod txn;
+
+pub use checks::check;
+pub use fault::{ApplyFault, FinishFault};
+pub use state::TxnState;
+pub use txn::{Step, Txn};

@@ -1,0 +1,211 @@
+//! The records of one operation.
+ghost use Rattle.std.specs.Prelude.{◌≡◌, true, ◌≤◌, ◌<◌, ◌+◌, [], ◌∷◌, length, map, OnOk, OnErr, IfOk};
+ghost use Rattle.std.specs.declared.option.Option.TheVariants.{None, Some};
+ghost use Rattle.cp_model.specs.Place.{child};
+ghost use Rattle.cp_model.specs.Subtrees.{is_there, moved};
+ghost use Rattle.cp_model.specs.Literals.{literal_rows};
+ghost use Rattle.cp_model.specs.History.{with_tid};
+ghost use Rattle.cp_model.specs.Tree.{refusal};
+ghost use Rattle.cp_model.specs.declared.op.Op.TheVariants.{Del, Copy};
+ghost use Rattle.cp_model.specs.declared.record.RecOp.TheVariants as letter;
+ghost use Rattle.cp_record.specs.Bytes.{record_below};
+ghost use Rattle.cp_tree.specs.Rows.{greatest};
+ghost use Rattle.cp_engine.specs.Held.{Appended, Grown, Restored};
+ghost use Rattle.cp_engine.specs.RowsAlone.{behind, op_rows};
+ghost use Rattle.cp_model.specs.declared.record.RowMark.TheVariants as mark;
+
+use cp_model::{LitList, Literal, Op, RowList};
+use cp_path::{Label, Loc, Path, PathFault};
+use cp_record::{PackedRecords, RecOp};
+use cp_tree::TreeRep;
+use std::alloc::{AllocError, Global};
+
+/// Appends the records of an operation that the tree, as it was before, doesn't refuse. After an error the records are
+/// as they were. Costs the bytes of the places.
+pub(crate) fn push_op<R: TreeRep>(
+    alloc: Global,
+    rows: &mut PackedRecords,
+    tid: u64,
+    tree: &R,
+    op: &Op,
+) -> Result<(), AllocError>
+    requires accepted { refusal [] (R.contents tree.now) op.now ≡ None }
+    ensures ok { OnOk result (Appended rows.old rows.new (with_tid tid (op_rows (R.contents tree.now) op.now))) }
+    ensures err { OnErr result (Restored rows.old rows.new) }
+{
+    let bytes = rows.len();
+    match push_places(alloc, rows, tid, tree, op) {
+        Ok(()) => Ok(()),
+        Err(fault) => {
+            rows.truncate(bytes);
+            Err(fault)
+        }
+    }
+}
+
+/// After an error there may be more records.
+fn push_places<R: TreeRep>(
+    alloc: Global,
+    rows: &mut PackedRecords,
+    tid: u64,
+    tree: &R,
+    op: &Op,
+) -> Result<(), AllocError>
+    requires accepted { refusal [] (R.contents tree.now) op.now ≡ None }
+    ensures ok { OnOk result (Appended rows.old rows.new (with_tid tid (op_rows (R.contents tree.now) op.now))) }
+    ensures err { OnErr result (Grown rows.old rows.new) }
+{
+    match op {
+        Op::Ins {
+            into,
+            label,
+            tree: literal,
+        } => push_inserted(alloc, rows, tid, into, label, literal),
+        Op::Del { label, from } => push_deleted(alloc, rows, tid, tree, label, from),
+        Op::Copy { from, into } => push_copied(alloc, rows, tid, tree, from, into),
+    }
+}
+
+/// After an error there may be more records.
+fn push_inserted(
+    alloc: Global,
+    rows: &mut PackedRecords,
+    tid: u64,
+    into: &Loc,
+    label: &Label,
+    literal: &Literal,
+) -> Result<(), AllocError>
+    requires shallow { length (child into.now.path label.now) + greatest (λ e. length e.0) (literal_rows literal.now) ≤ 64 }
+    ensures ok { OnOk result (Appended rows.old rows.new (with_tid tid (behind (child into.now.path label.now) (λ _. mark.Made) (literal_rows literal.now)))) }
+    ensures err { OnErr result (Grown rows.old rows.new) }
+{
+    let base = child_of(&into.path, label)?;
+    push_literal(rows, tid, &base, Path::root(alloc), literal)
+}
+
+/// After an error there may be more records.
+fn push_deleted<R: TreeRep>(
+    alloc: Global,
+    rows: &mut PackedRecords,
+    tid: u64,
+    tree: &R,
+    label: &Label,
+    from: &Loc,
+) -> Result<(), AllocError>
+    requires there { is_there (R.contents tree.now) (child from.now.path label.now) ≡ true }
+    ensures ok { OnOk result (Appended rows.old rows.new (with_tid tid (op_rows (R.contents tree.now) (Del label.now from.now)))) }
+    ensures err { OnErr result (Grown rows.old rows.new) }
+{
+    let base = child_of(&from.path, label)?;
+    let list = tree.rows(alloc, &base)?;
+    push_gone(rows, tid, &base, &list)
+}
+
+/// A copy of a place onto itself has no record. After an error there may be more records.
+fn push_copied<R: TreeRep>(
+    alloc: Global,
+    rows: &mut PackedRecords,
+    tid: u64,
+    tree: &R,
+    from: &Loc,
+    into: &Loc,
+) -> Result<(), AllocError>
+    requires accepted { refusal [] (R.contents tree.now) (Copy from.now into.now) ≡ None }
+    ensures ok { OnOk result (Appended rows.old rows.new (with_tid tid (op_rows (R.contents tree.now) (Copy from.now into.now)))) }
+    ensures err { OnErr result (Grown rows.old rows.new) }
+{
+    if from.is_at(into) {
+        return Ok(());
+    }
+    let list = tree.rows(alloc, &from.path)?;
+    push_copies(rows, tid, &into.path, &list, from)
+}
+
+/// The path one label further down. Costs its labels.
+fn child_of(at: &Path, label: &Label) -> Result<Path, AllocError>
+    requires { length at.now < 64 }
+    ensures { IfOk result (λ q. q ≡ child at.now label.now) }
+{
+    let mut path = at.clone()?;
+    match path.push(label.clone()?) {
+        Ok(()) => Ok(path),
+        Err(PathFault::TooDeep) => unreachable!(),
+        Err(_) => Err(AllocError),
+    }
+}
+
+/// Appends a record for each place of a literal tree whose root stands at `at` below the base.
+#[cycle(inserting)]
+fn push_literal(
+    rows: &mut PackedRecords,
+    tid: u64,
+    base: &Path,
+    at: Path,
+    literal: &Literal,
+) -> Result<(), AllocError>
+    requires shallow { length base.now + (length at + greatest (λ e. length e.0) (literal_rows literal.now)) ≤ 64 }
+    ensures ok { OnOk result (Appended rows.old rows.new (map (λ e. record_below tid letter.I base.now e.0 None) (moved at (literal_rows literal.now)))) }
+    ensures err { OnErr result (Grown rows.old rows.new) }
+{
+    rows.push(tid, RecOp::I, base, &at, None)?;
+    match literal {
+        Literal::Leaf(_) => Ok(()),
+        Literal::Node(below) => push_edges(rows, tid, base, &at, below),
+    }
+}
+
+/// Appends a record for each place below the one at `at`.
+#[cycle(inserting)]
+fn push_edges(
+    rows: &mut PackedRecords,
+    tid: u64,
+    base: &Path,
+    at: &Path,
+    below: &LitList,
+) -> Result<(), AllocError>
+    requires shallow { length base.now + (length at.now + greatest (λ e. length e.0) below.now) ≤ 64 }
+    ensures ok { OnOk result (Appended rows.old rows.new (map (λ e. record_below tid letter.I base.now e.0 None) (moved at.now below.now))) }
+    ensures err { OnErr result (Grown rows.old rows.new) }
+{
+    for edge in &below.items {
+        let path = child_of(at, &edge.label)?;
+        push_literal(rows, tid, base, path, &edge.tree)?;
+    }
+    Ok(())
+}
+
+/// Appends a record for each place of a subtree that is gone.
+fn push_gone(
+    rows: &mut PackedRecords,
+    tid: u64,
+    base: &Path,
+    list: &RowList,
+) -> Result<(), AllocError>
+    requires shallow { length base.now + greatest (λ r. length r.path) list.now ≤ 64 }
+    ensures ok { OnOk result (Appended rows.old rows.new (map (λ r. record_below tid letter.D base.now r.path None) list.now)) }
+    ensures err { OnErr result (Grown rows.old rows.new) }
+{
+    for row in &list.items {
+        rows.push(tid, RecOp::D, base, &row.path, None)?;
+    }
+    Ok(())
+}
+
+/// Appends a record for each place of a subtree that is copied.
+fn push_copies(
+    rows: &mut PackedRecords,
+    tid: u64,
+    base: &Path,
+    list: &RowList,
+    from: &Loc,
+) -> Result<(), AllocError>
+    requires shallow { length base.now + greatest (λ r. length r.path) list.now ≤ 64 }
+    requires source { length from.now.path + greatest (λ r. length r.path) list.now ≤ 64 }
+    ensures ok { OnOk result (Appended rows.old rows.new (map (λ r. record_below tid letter.C base.now r.path (Some from.now)) list.now)) }
+    ensures err { OnErr result (Grown rows.old rows.new) }
+{
+    for row in &list.items {
+        rows.push(tid, RecOp::C, base, &row.path, Some(from))?;
+    }
+    Ok(())
+}

@@ -1,0 +1,192 @@
+ghost use Rattle.std.specs.Prelude.{◌≡◌, ◌==◌, ◌≤◌, ◌<◌, ◌+◌, ◌^◌, ℕ, List, [], ◌∷◌, ◌++◌, length, if◌then◌else◌, IfOk, OnOk, OnErr};
+ghost use Rattle.std.specs.declared.option.Option.TheVariants.{None, Some};
+ghost use Rattle.cp_model.specs.Tree.{Tree, refusal};
+ghost use Rattle.cp_model.specs.History.{IsWritten, most_ops};
+ghost use Rattle.cp_model.specs.declared.op.Op.{Op};
+ghost use Rattle.cp_model.specs.declared.record.Record.{Record};
+ghost use Rattle.cp_model.specs.declared.refusal.Refusal.TheVariants.{TooManyOps};
+ghost use Rattle.cp_record.specs.Bytes.{commit_length};
+ghost use Rattle.cp_record.specs.Packed.{Holds};
+ghost use Rattle.cp_engine.specs.Passed.{passed};
+ghost use Rattle.cp_engine.specs.Transactions.{Progress, going, Stands, Applies, Finishes, IsGoing, state_of, spoiled, given_up};
+
+use crate::change::change;
+use crate::checks::check;
+use crate::copy::copy_op;
+use crate::fault::{ApplyFault, FinishFault};
+use crate::held::{FirstTid, HeldOps};
+use crate::rows::push_op;
+use crate::state::{Failure, TxnState};
+use cp_model::{Cause, Op, OpList, RecordList, Refusal};
+use cp_record::PackedRecords;
+use cp_tree::TreeRep;
+use std::alloc::{AllocError, Global};
+
+/// Operations on a working tree of their own, each a step with a Tid of its own.
+#[derive(Drop)]
+pub struct Txn<R: TreeRep> {
+    tree: R,
+    first: FirstTid,
+    ops: HeldOps,
+    rows: PackedRecords,
+    failure: Option<Failure>,
+}
+
+/// What a transaction makes: its operations, the tree to which they lead, their records, and the number of their Tids.
+#[derive(Drop)]
+pub struct Step<R: TreeRep> {
+    pub ops: OpList,
+    pub tree: R,
+    pub rows: RecordList,
+    pub tids: u64,
+}
+
+impl<R: TreeRep> Txn<R> {
+    /// A transaction on a copy of the tree, whose first operation gets the Tid `first`. Costs the copy.
+    pub fn begin(alloc: Global, tree: &R, first: u64) -> Result<Txn<R>, AllocError>
+        requires first { first ≤ 2 ^ 63 }
+        ensures { IfOk result (λ x. Stands R.contents x (R.contents tree.now) first (going [])) }
+    {
+        Ok(Txn {
+            tree: tree.copy(alloc)?,
+            first: FirstTid::new(first),
+            ops: HeldOps::new(alloc),
+            rows: PackedRecords::new(alloc),
+            failure: None,
+        })
+    }
+
+    /// Applies the operation, unless it is refused; a refusal fails the transaction. Costs its check, its change of the
+    /// tree and its records.
+    pub fn apply(&mut self, alloc: Global, op: &Op) -> Result<(), ApplyFault>
+        requires written { IsWritten op.now }
+        ensures { (t : Tree) (n : ℕ) (p : Progress) → Stands R.contents self.old t n p → Applies R.contents t n p op.now self.new result }
+    {
+        if let Some(failure) = self.failure {
+            return Err(ApplyFault::Failed(failure.number));
+        }
+        if let Some(why) = self.refusal(op) {
+            self.fail(Cause::Refused(why));
+            return Err(ApplyFault::Refused(why));
+        }
+        match self.hold(alloc, op) {
+            Ok(()) => Ok(()),
+            Err(_) => Err(ApplyFault::Memory),
+        }
+    }
+
+    /// The first case that refuses the operation behind the held ones, if there is one.
+    fn refusal(&self, op: &Op) -> Option<Refusal>
+        requires written { IsWritten op.now }
+        ensures case { result ≡ (if length self.now.ops == most_ops then Some TooManyOps else refusal [] (R.contents self.now.tree) op.now) }
+        ensures few { length self.now.ops ≤ 65535 }
+    {
+        if self.ops.is_full() {
+            return Some(Refusal::TooManyOps);
+        }
+        check(&self.tree, op)
+    }
+
+    /// Holds an operation that isn't refused, with its records and its change of the tree. After an error the
+    /// transaction is as it was.
+    fn hold(&mut self, alloc: Global, op: &Op) -> Result<(), AllocError>
+        requires written { IsWritten op.now }
+        requires few { length self.old.ops < 65535 }
+        requires accepted { refusal [] (R.contents self.old.tree) op.now ≡ None }
+        ensures ok { (t : Tree) (n : ℕ) (ops : List Op) → IsGoing R.contents self.old t n ops → OnOk result (IsGoing R.contents self.new t n (ops ++ op.now ∷ [])) }
+        ensures err { (t : Tree) (n : ℕ) (ops : List Op) → IsGoing R.contents self.old t n ops → OnErr result (IsGoing R.contents self.new t n ops) }
+    {
+        let held = copy_op(alloc, op)?;
+        let bytes = self.rows.len();
+        let tid = self.first.after(self.ops.len());
+        push_op(alloc, &mut self.rows, tid, &self.tree, op)?;
+        if let Err(fault) = self.ops.push(held) {
+            self.rows.truncate(bytes);
+            return Err(fault);
+        }
+        if let Err(fault) = change(alloc, &mut self.tree, op) {
+            self.ops.pop();
+            self.rows.truncate(bytes);
+            return Err(fault);
+        }
+        Ok(())
+    }
+
+    /// Lets the transaction fail at the operation behind the held ones.
+    fn fail(&mut self, cause: Cause)
+        ensures { self.new.failure ≡ Some (record { number = length self.old.ops + 1; cause = cause }) }
+    {
+        self.failure = Some(Failure {
+            number: self.ops.len() + 1,
+            cause,
+        });
+    }
+
+    /// Counts a text that couldn't be read as the next operation, at which a going transaction fails.
+    pub fn spoil(&mut self)
+        ensures { (t : Tree) (n : ℕ) (p : Progress) → Stands R.contents self.old t n p → Stands R.contents self.new t n (spoiled p) }
+    {
+        if self.failure.is_none() {
+            self.fail(Cause::Unread);
+        }
+    }
+
+    /// The working tree.
+    pub fn tree(&self) -> &R
+        ensures { (t : Tree) (n : ℕ) (ops : List Op) → Stands R.contents self.now t n (going ops) → R.contents result.now ≡ (passed t n ops).tree }
+    {
+        &self.tree
+    }
+
+    /// How far the transaction has come.
+    pub fn state(&self) -> TxnState
+        ensures { (t : Tree) (n : ℕ) (p : Progress) → Stands R.contents self.now t n p → result ≡ state_of p }
+    {
+        match self.failure {
+            Some(failure) => TxnState::Failed(failure.number, failure.cause),
+            None => TxnState::Going(self.ops.len()),
+        }
+    }
+
+    /// Ends the transaction with the step that it makes, whose bytes in a commit are at most `limit`. The transaction is
+    /// given up where it gives none. Costs the bytes of its records.
+    pub fn finish(self, alloc: Global, limit: u64) -> Result<Step<R>, FinishFault>
+        ensures { (t : Tree) (n : ℕ) (p : Progress) → Stands R.contents self t n p → Finishes R.contents t n p limit result }
+    {
+        if let Some(failure) = self.failure {
+            return Err(FinishFault::Failed(failure.number, failure.cause));
+        }
+        if self.ops.len() == 0 {
+            return Err(FinishFault::Empty);
+        }
+        if self.commit_length() > limit {
+            return Err(FinishFault::TooLarge);
+        }
+        let rows = self.rows.records(alloc)?;
+        let tids = self.ops.len() as u64;
+        Ok(Step {
+            ops: self.ops.into_list(),
+            tree: self.tree,
+            rows,
+            tids,
+        })
+    }
+
+    /// The bytes of the commit. Costs the places of its operations.
+    fn commit_length(&self) -> u64
+        ensures length { (rs : List Record) → Holds self.now.rows rs → result ≡ commit_length self.now.ops rs }
+        ensures fits { result < 2 ^ 64 }
+    {
+        (9 + self.ops.bytes()).saturating_add(self.rows.len() as u64)
+    }
+
+    /// Gives the transaction up, and says how many accepted operations it held.
+    pub fn abort(self) -> u32
+        ensures { (t : Tree) (n : ℕ) (p : Progress) → Stands R.contents self t n p → result ≡ given_up p }
+    {
+        match self.failure {
+            Some(failure) => failure.number.saturating_sub(1),
+            None => self.ops.len(),
+        }
+    }
+}
