@@ -1,11 +1,7 @@
-pub mod Planning
-pub mod Tabling
-pub mod Aging
-pub mod Refusing
-pub mod Judging
-pub mod Standing
-pub mod Starting
-pub mod Turning
+mod Standing
+mod Operating
+mod Committing
+mod Answering
 pub mod Readings
 pub mod Plays
 pub mod Runs

@@ -21,8 +21,11 @@ use Rattle.cp_session.specs.Session.{Session, turn, replies_to, session_after}
 use Rattle.cp_session.specs.Appended.{replies_to-append, session_after-append}
 use Rattle.cpdb.specs.Job.{Ended, told, setting, is_refusal}
 use Rattle.cpdb.specs.Play.{Seen, plays, after_play, closes, plays_all}
-use Rattle.cpdb.specs.Stores.{Stands, Turned}
-use Rattle.cpdb.specs.Turns.{Kept, Follows, Written, Goes, Fed, Closed, cuts_play, after_cuts}
+use Rattle.cp_model.specs.Tree.{Tree}
+use Rattle.cpdb.specs.Databases.{Stands, Turned}
+use Rattle.cpdb.specs.declared.session.Session.{Session as Kept}
+use Rattle.cpdb.specs.declared.database.Database.{Database}
+use Rattle.cpdb.specs.Turns.{Follows, FollowsOne, Written, Goes, Fed, Closed, cuts_play, after_cuts}
 use Rattle.cpdb.specs.declared.stop.Stop.{Stop}
 use Rattle.cpdb.specs.declared.stop.Stop.TheVariants.{Output, Full, Memory}
 
@@ -116,32 +119,40 @@ nothing-more b m a xs h k = subst (Appends b a) (append-nil xs) (Appends-then b 
 
 -- ---- cuts
 
+-- what is kept behind a reply, where the database is this
+abbrev pub after_reply : {R : Type 0} → Kept R → Database R → Kept R
+after_reply k d = record { alloc = k.alloc; cutter = k.cutter; database = d; text = k.text; refused = k.refused }
+
+-- what is kept where the cutter is this
+abbrev pub after_cutter : {R : Type 0} → Kept R → Held → Kept R
+after_cutter k h = record { alloc = k.alloc; cutter = h; database = k.database; text = k.text; refused = k.refused }
+
 -- a cut brought no reply
-pub ran-silent : (s : Seen) (cut : Cut) (old new : Kept) (a : Option (List ℕ)) → Turned (turn setting s.session cut) new.ledger None → new.held ≡ held_of s.scan → new.refused ≡ old.refused
-    → Goes (cuts_play s (cut ∷ [])) (after_cuts s (cut ∷ [])) old new a a (Ok tt)
+pub ran-silent : {R : Type 0} (view : R → Tree) (s : Seen) (cut : Cut) (old new : Kept R) (a : Option (List ℕ)) → Turned view (turn setting s.session cut) new.database None → new.cutter ≡ held_of s.scan → new.refused ≡ old.refused
+    → Goes view (cuts_play s (cut ∷ [])) (after_cuts s (cut ∷ [])) old new a a (Ok tt)
 unfolding replies_to session_after
-ran-silent s cut old new a t h f = rw (sym t.0) ((h, t.1), f ∙ or-false old.refused, Appends-none a)
+ran-silent view s cut old new a t h f = rw (sym t.0) ((h, t.1), f ∙ or-false old.refused, Appends-none a)
 
 -- the lines of a cut's reply were written
-pub ran-said : (s : Seen) (cut : Cut) (r : Reply) (old mid new : Kept) (b a : Option (List ℕ)) (result : Result ⊤ Stop)
-    → Turned (turn setting s.session cut) mid.ledger (Some r) → mid.held ≡ held_of s.scan → mid.refused ≡ old.refused
-    → Written (lines r) b a result → OnOk result (new.held ≡ mid.held) → OnOk result (new.ledger ≡ mid.ledger) → OnOk result (new.refused ≡ (mid.refused || is_refusal r))
-    → Goes (cuts_play s (cut ∷ [])) (after_cuts s (cut ∷ [])) old new b a result
+pub ran-said : {R : Type 0} (view : R → Tree) (s : Seen) (cut : Cut) (r : Reply) (old mid new : Kept R) (b a : Option (List ℕ)) (result : Result ⊤ Stop)
+    → Turned view (turn setting s.session cut) mid.database (Some r) → mid.cutter ≡ held_of s.scan → mid.refused ≡ old.refused
+    → Written (lines r) b a result → OnOk result (new.cutter ≡ mid.cutter) → OnOk result (new.database ≡ mid.database) → OnOk result (new.refused ≡ (mid.refused || is_refusal r))
+    → Goes view (cuts_play s (cut ∷ [])) (after_cuts s (cut ∷ [])) old new b a result
 unfolding replies_to session_after
-ran-said s cut r old mid new b a (Ok x) t h f w h' l' f' =
+ran-said view s cut r old mid new b a (Ok x) t h f w h' l' f' =
     rw (sym t.0) (
-      (h' ∙ h, subst (λ z. Stands z (turn setting s.session cut).next) (sym l') t.1),
+      (h' ∙ h, subst (λ z. Stands view z (turn setting s.session cut).next) (sym l') t.1),
       f' ∙ ap (λ v. v || is_refusal r) f ∙ ap (λ v. old.refused || v) (or-false (is_refusal r)),
       subst (Appends b a) (sym (append-nil (lines r))) w,
     )
-ran-said s cut r old mid new b a (Err Output) t h f w h' l' f' = rw (sym t.0) (subst (TakesPart b a) (sym (append-nil (lines r))) w)
-ran-said s cut r old mid new b a (Err Full) t h f w h' l' f' = rw (sym t.0) (subst (TakesPart b a) (sym (append-nil (lines r))) w)
-ran-said s cut r old mid new b a (Err Memory) t h f w h' l' f' = w
+ran-said view s cut r old mid new b a (Err Output) t h f w h' l' f' = rw (sym t.0) (subst (TakesPart b a) (sym (append-nil (lines r))) w)
+ran-said view s cut r old mid new b a (Err Full) t h f w h' l' f' = rw (sym t.0) (subst (TakesPart b a) (sym (append-nil (lines r))) w)
+ran-said view s cut r old mid new b a (Err Memory) t h f w h' l' f' = w
 
 -- no cut
-pub ran-none : (s : Seen) (k : Kept) (a : Option (List ℕ)) → Follows k s → Goes (cuts_play s []) (after_cuts s []) k k a a (Ok tt)
+pub ran-none : {R : Type 0} (view : R → Tree) (s : Seen) (k : Kept R) (a : Option (List ℕ)) → Follows view k s → Goes view (cuts_play s []) (after_cuts s []) k k a a (Ok tt)
 unfolding replies_to session_after
-ran-none s k a h = (h, or-false k.refused, Appends-none a)
+ran-none view s k a h = (h, or-false k.refused, Appends-none a)
 
 -- ---- bytes
 
@@ -157,38 +168,45 @@ plays-one s x = (
     one = append-nil (scan_byte s.scan x).cuts ∙ sym (byte_cuts-is s.scan x)
 
 -- what the code keeps follows the scan
-pub follows-byte : (k : Kept) (s : Seen) (x : ℕ) (h : Held) → Follows k s → h ≡ byte_held k.held x → h ≡ held_of (scan_byte s.scan x).scan
-follows-byte k s x h f e = e ∙ ap (λ z. byte_held z x) f.0 ∙ byte_held-is s.scan x
+pub follows-byte : {R : Type 0} (view : R → Tree) (k : Kept R) (s : Seen) (x : ℕ) (h : Held) → Follows view k s → h ≡ byte_held k.cutter x → h ≡ held_of (scan_byte s.scan x).scan
+follows-byte view k s x h f e = e ∙ ap (λ z. byte_held z x) f.0 ∙ byte_held-is s.scan x
+
+-- behind a byte too it stands where some session does
+pub one-byte : {R : Type 0} (view : R → Tree) (x : ℕ) (old mid : Kept R) → FollowsOne view old → mid.cutter ≡ byte_held old.cutter x → mid.database ≡ old.database → FollowsOne view mid
+one-byte view x old mid f h l = (
+  record { scan = (scan_byte f.0.scan x).scan; session = f.0.session },
+  (follows-byte view old f.0 x mid.cutter f.1 h, subst (λ z. Stands view z f.0.session) (sym l) f.1.1),
+)
 
 -- the cut that a byte ends was run
-pub pushed : (s : Seen) (x : ℕ) (cuts : List Cut) (old mid new : Kept) (b a : Option (List ℕ)) (result : Result ⊤ Stop)
-    → Follows old s → cuts ≡ byte_cuts old.held x → mid.held ≡ byte_held old.held x → mid.ledger ≡ old.ledger → mid.refused ≡ old.refused
-    → ((t : Seen) → Follows mid t → Goes (cuts_play t cuts) (after_cuts t cuts) mid new b a result)
-    → Goes (plays s (x ∷ [])) (after_play s (x ∷ [])) old new b a result
-pushed s x cuts old mid new b a result f c h l r go = rw ((plays-one s x).0, (plays-one s x).1) (moved result (subst at (c ∙ ap (λ z. byte_cuts z x) f.0) (go t (follows-byte old s x mid.held f h, subst (λ z. Stands z s.session) (sym l) f.1))))
+pub pushed : {R : Type 0} (view : R → Tree) (s : Seen) (x : ℕ) (cuts : List Cut) (old mid new : Kept R) (b a : Option (List ℕ)) (result : Result ⊤ Stop)
+    → Follows view old s → cuts ≡ byte_cuts old.cutter x → mid.cutter ≡ byte_held old.cutter x → mid.database ≡ old.database → mid.refused ≡ old.refused
+    → ((t : Seen) → Follows view mid t → Goes view (cuts_play t cuts) (after_cuts t cuts) mid new b a result)
+    → Goes view (plays s (x ∷ [])) (after_play s (x ∷ [])) old new b a result
+pushed view s x cuts old mid new b a result f c h l r go = rw ((plays-one s x).0, (plays-one s x).1) (moved result (subst at (c ∙ ap (λ z. byte_cuts z x) f.0) (go t (follows-byte view old s x mid.cutter f h, subst (λ z. Stands view z s.session) (sym l) f.1))))
   where
     t : Seen
     t = record { scan = (scan_byte s.scan x).scan; session = s.session }
 
     at : List Cut → Type 0
-    at z = Goes (cuts_play t z) (after_cuts t z) mid new b a result
+    at z = Goes view (cuts_play t z) (after_cuts t z) mid new b a result
 
-    moved : (v : Result ⊤ Stop) → Goes (cuts_play t (byte_cuts (held_of s.scan) x)) (after_cuts t (byte_cuts (held_of s.scan) x)) mid new b a v
-        → Goes (cuts_play s (byte_cuts (held_of s.scan) x)) (after_cuts t (byte_cuts (held_of s.scan) x)) old new b a v
+    moved : (v : Result ⊤ Stop) → Goes view (cuts_play t (byte_cuts (held_of s.scan) x)) (after_cuts t (byte_cuts (held_of s.scan) x)) mid new b a v
+        → Goes view (cuts_play s (byte_cuts (held_of s.scan) x)) (after_cuts t (byte_cuts (held_of s.scan) x)) old new b a v
     moved (Ok y) g = (g.0, g.1 ∙ ap (λ z. z || (cuts_play t (byte_cuts (held_of s.scan) x)).refused) r, g.2)
     moved (Err Output) g = g
     moved (Err Full) g = g
     moved (Err Memory) g = g
 
 -- no byte is played at once
-pub goes-none : (s : Seen) (k : Kept) (a : Option (List ℕ)) → Follows k s → Goes (plays s []) (after_play s []) k k a a (Ok tt)
+pub goes-none : {R : Type 0} (view : R → Tree) (s : Seen) (k : Kept R) (a : Option (List ℕ)) → Follows view k s → Goes view (plays s []) (after_play s []) k k a a (Ok tt)
 unfolding plays after_play scanned replies_to session_after
-goes-none s k a h = (h, or-false k.refused, Appends-none a)
+goes-none view s k a h = (h, or-false k.refused, Appends-none a)
 
 -- bytes, and then others
-pub goes-then : (s : Seen) (xs ys : List ℕ) (old mid new : Kept) (b m a : Option (List ℕ)) → Goes (plays s xs) (after_play s xs) old mid b m (Ok tt)
-    → Goes (plays (after_play s xs) ys) (after_play (after_play s xs) ys) mid new m a (Ok tt) → Goes (plays s (xs ++ ys)) (after_play s (xs ++ ys)) old new b a (Ok tt)
-goes-then s xs ys old mid new b m a g h =
+pub goes-then : {R : Type 0} (view : R → Tree) (s : Seen) (xs ys : List ℕ) (old mid new : Kept R) (b m a : Option (List ℕ)) → Goes view (plays s xs) (after_play s xs) old mid b m (Ok tt)
+    → Goes view (plays (after_play s xs) ys) (after_play (after_play s xs) ys) mid new m a (Ok tt) → Goes view (plays s (xs ++ ys)) (after_play s (xs ++ ys)) old new b a (Ok tt)
+goes-then view s xs ys old mid new b m a g h =
     rw (plays-append s xs ys, after-append s xs ys) (
       h.0,
       h.1 ∙ ap (λ z. z || (plays (after_play s xs) ys).refused) g.1 ∙ or-assoc old.refused (plays s xs).refused (plays (after_play s xs) ys).refused,
@@ -196,15 +214,15 @@ goes-then s xs ys old mid new b m a g h =
     )
 
 -- a byte at which the session stops, whatever would come next
-pub fed-stopped : (s : Seen) (xs : List ℕ) (x : ℕ) (ys : List ℕ) (old mid new : Kept) (b m a : Option (List ℕ)) (e : Stop) → Goes (plays s xs) (after_play s xs) old mid b m (Ok tt)
-    → Goes (plays (after_play s xs) (x ∷ [])) (after_play (after_play s xs) (x ∷ [])) mid new m a (Err e) → Fed s (xs ++ x ∷ ys) old new b a (Err e)
-fed-stopped s xs x ys old mid new b m a Output g h =
+pub fed-stopped : {R : Type 0} (view : R → Tree) (s : Seen) (xs : List ℕ) (x : ℕ) (ys : List ℕ) (old mid new : Kept R) (b m a : Option (List ℕ)) (e : Stop) → Goes view (plays s xs) (after_play s xs) old mid b m (Ok tt)
+    → Goes view (plays (after_play s xs) (x ∷ [])) (after_play (after_play s xs) (x ∷ [])) mid new m a (Err e) → Fed view s (xs ++ x ∷ ys) old new b a (Err e)
+fed-stopped view s xs x ys old mid new b m a Output g h =
     rw (plays-append s xs (x ∷ ys), plays-append (after_play s xs) (x ∷ []) ys)
     (part-then b m a (plays s xs).out _ g.2 (part-more m a (plays (after_play s xs) (x ∷ [])).out _ h))
-fed-stopped s xs x ys old mid new b m a Full g h =
+fed-stopped view s xs x ys old mid new b m a Full g h =
     rw (plays-append s xs (x ∷ ys), plays-append (after_play s xs) (x ∷ []) ys)
     (part-then b m a (plays s xs).out _ g.2 (part-more m a (plays (after_play s xs) (x ∷ [])).out _ h))
-fed-stopped s xs x ys old mid new b m a Memory g h =
+fed-stopped view s xs x ys old mid new b m a Memory g h =
     (length xs, omega (arith, length-append xs (x ∷ ys)), rw (take-append_seam xs (x ∷ ys)) (nothing-more b m a (plays s xs).out g.2 h))
 
 -- the bytes up to one, that one, and the rest
@@ -214,18 +232,22 @@ split_at xs i h =
 
 -- ---- the end of the input
 
+-- a scan that begins again stands where some session does
+pub one-begun : {R : Type 0} (view : R → Tree) (c : Scan) (old mid : Kept R) → FollowsOne view old → mid.cutter ≡ held_of c → mid.database ≡ old.database → FollowsOne view mid
+one-begun view c old mid f h l = (record { scan = c; session = f.0.session }, (h, subst (λ z. Stands view z f.0.session) (sym l) f.1.1))
+
 -- the cut at the end was run
-pub closed : (s : Seen) (cuts : List Cut) (old mid new : Kept) (b a : Option (List ℕ)) (result : Result ⊤ Stop)
-    → Follows old s → ((c : Scan) → old.held ≡ held_of c → cuts ≡ rest_of c) → mid.ledger ≡ old.ledger → mid.refused ≡ old.refused
-    → ((t : Seen) → Follows mid t → Goes (cuts_play t cuts) (after_cuts t cuts) mid new b a result) → (c : Scan) → mid.held ≡ held_of c → Closed s old new b a result
+pub closed : {R : Type 0} (view : R → Tree) (s : Seen) (cuts : List Cut) (old mid new : Kept R) (b a : Option (List ℕ)) (result : Result ⊤ Stop)
+    → Follows view old s → ((c : Scan) → old.cutter ≡ held_of c → cuts ≡ rest_of c) → mid.database ≡ old.database → mid.refused ≡ old.refused
+    → ((t : Seen) → Follows view mid t → Goes view (cuts_play t cuts) (after_cuts t cuts) mid new b a result) → (c : Scan) → mid.cutter ≡ held_of c → Closed s old new b a result
 unfolding closes
-closed s cuts old mid new b a result f rest l r go c h =
-    moved result (go (record { scan = c; session = s.session }) (h, subst (λ z. Stands z s.session) (sym l) f.1))
+closed view s cuts old mid new b a result f rest l r go c h =
+    moved result (go (record { scan = c; session = s.session }) (h, subst (λ z. Stands view z s.session) (sym l) f.1))
   where
     same : told (replies_to setting s.session cuts) ≡ told (replies_to setting s.session (rest_of s.scan))
     same = ap (λ z. told (replies_to setting s.session z)) (rest s.scan f.0)
 
-    moved : (v : Result ⊤ Stop) → Goes (cuts_play (record { scan = c; session = s.session }) cuts) (after_cuts (record { scan = c; session = s.session }) cuts) mid new b a v → Closed s old new b a v
+    moved : (v : Result ⊤ Stop) → Goes view (cuts_play (record { scan = c; session = s.session }) cuts) (after_cuts (record { scan = c; session = s.session }) cuts) mid new b a v → Closed s old new b a v
     moved (Ok y) g = (g.1 ∙ ap (λ z. z || (told (replies_to setting s.session cuts)).refused) r ∙ ap (λ (e : Ended). old.refused || e.refused) same, subst (λ (e : Ended). Appends b a e.out) same g.2)
     moved (Err Output) g = subst (λ (e : Ended). TakesPart b a e.out) same g
     moved (Err Full) g = subst (λ (e : Ended). TakesPart b a e.out) same g

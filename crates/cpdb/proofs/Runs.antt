@@ -11,7 +11,9 @@ use Rattle.cpdb.specs.Words.{most_input, most_piece, input_line, memory_line, to
 use Rattle.cpdb.specs.Job.{Ended}
 use Rattle.cpdb.specs.Play.{Seen, start, plays, after_play, closes, plays_all}
 use Rattle.cpdb.specs.Story.{WritesLast, Wrote, IsCalm}
-use Rattle.cpdb.specs.Turns.{Kept, Follows, Fed, marked, RanFrom, Turned, WroteLast, Closes, status_of}
+use Rattle.cp_model.specs.Tree.{Tree}
+use Rattle.cpdb.specs.declared.session.Session.{Session as Kept}
+use Rattle.cpdb.specs.Turns.{Follows, FollowsOne, Fed, marked, RanFrom, Turned, WroteLast, Closes, status_of}
 use Rattle.cpdb.specs.declared.end.End.{End}
 use Rattle.cpdb.specs.declared.end.End.TheVariants as how
 use Rattle.cpdb.specs.declared.stop.Stop.{Stop}
@@ -136,17 +138,17 @@ ran-too-long s f count bytes l0 l1 b a r v le took past piece w = (bytes, took, 
 part-all : (s : Seen) (bytes : List ℕ) (b a : Option (List ℕ)) → TakesPart b a (plays s bytes).out → TakesPart b a (plays_all s bytes).out
 part-all s bytes b a t = rw (all-closes s bytes) (part-more b a (plays s bytes).out (closes (after_play s bytes)).out t)
 
-wrote-stopped : (s : Seen) (f : Bool) (old new : Kept) (count : ℕ) (bytes : List ℕ) (left b m a : Option (List ℕ)) (r t v : ℕ) (stop : Stop) → count + length bytes ≤ most_input → r ≤ t → t ≤ v
-    → Fed s bytes old new b m (Err stop) → WroteLast m a t v stop → (stop ≡ Full → Rose r t) → Wrote (plays s) (all_of s f) count bytes left b a r v (status_of stop)
-wrote-stopped s f old new count bytes left b m a r t v Output le rt tv g w full = rw w (le, part-all s bytes b m g)
-wrote-stopped s f old new count bytes left b m a r t v Full le rt tv g w full = rw w (le, inl (rose-on r t v (full refl) tv, part-all s bytes b m g))
-wrote-stopped s f old new count bytes left b m a r t v Memory le rt tv g w full =
+wrote-stopped : {R : Type 0} (view : R → Tree) (s : Seen) (f : Bool) (old new : Kept R) (count : ℕ) (bytes : List ℕ) (left b m a : Option (List ℕ)) (r t v : ℕ) (stop : Stop) → count + length bytes ≤ most_input → r ≤ t → t ≤ v
+    → Fed view s bytes old new b m (Err stop) → WroteLast m a t v stop → (stop ≡ Full → Rose r t) → Wrote (plays s) (all_of s f) count bytes left b a r v (status_of stop)
+wrote-stopped view s f old new count bytes left b m a r t v Output le rt tv g w full = rw w (le, part-all s bytes b m g)
+wrote-stopped view s f old new count bytes left b m a r t v Full le rt tv g w full = rw w (le, inl (rose-on r t v (full refl) tv, part-all s bytes b m g))
+wrote-stopped view s f old new count bytes left b m a r t v Memory le rt tv g w full =
     (le, inr (g.0, g.1, subst (λ z. WritesLast b a r v z memory_line) (append-nil (plays s (take g.0 bytes)).out) (last-behind b m a r t v (plays s (take g.0 bytes)).out [] memory_line rt g.2 w)))
 
 -- the session was stopped
-pub ran-stopped : (s : Seen) (f : Bool) (old new : Kept) (count : ℕ) (bytes : List ℕ) (l0 l1 b m a : Option (List ℕ)) (r t v : ℕ) (stop : Stop) → count + length bytes ≤ most_input → r ≤ t → t ≤ v
-    → Consumes l0 l1 bytes → Fed s bytes old new b m (Err stop) → WroteLast m a t v stop → (stop ≡ Full → Rose r t) → RanFrom s f count l0 l1 b a r v (status_of stop)
-ran-stopped s f old new count bytes l0 l1 b m a r t v stop le rt tv took g w full = (bytes, took, wrote-stopped s f old new count bytes l1 b m a r t v stop le rt tv g w full)
+pub ran-stopped : {R : Type 0} (view : R → Tree) (s : Seen) (f : Bool) (old new : Kept R) (count : ℕ) (bytes : List ℕ) (l0 l1 b m a : Option (List ℕ)) (r t v : ℕ) (stop : Stop) → count + length bytes ≤ most_input → r ≤ t → t ≤ v
+    → Consumes l0 l1 bytes → Fed view s bytes old new b m (Err stop) → WroteLast m a t v stop → (stop ≡ Full → Rose r t) → RanFrom s f count l0 l1 b a r v (status_of stop)
+ran-stopped view s f old new count bytes l0 l1 b m a r t v stop le rt tv took g w full = (bytes, took, wrote-stopped view s f old new count bytes l1 b m a r t v stop le rt tv g w full)
 
 -- want of memory before the first byte
 pub ran-nothing : (l b a : Option (List ℕ)) (r v : ℕ) → WritesLast b a r v [] memory_line → RanFrom start false 0 l l b a r v how.Memory
@@ -165,24 +167,28 @@ calm-same how.TooLong before now h = tt
 -- ---- turns
 
 -- no turn yet
-pub turned-none : (s : Seen) (k : Kept) (l b : Option (List ℕ)) → Follows k s → Turned s k k 0 0 l l b b
-turned-none s k l b f = ([], Consumes-none l, refl, goes-none s k b f)
+pub turned-none : {R : Type 0} (view : R → Tree) (s : Seen) (k : Kept R) (l b : Option (List ℕ)) → Follows view k s → Turned view s k k 0 0 l l b b
+turned-none view s k l b f = ([], Consumes-none l, refl, goes-none view s k b f)
+
+-- behind turns it stands where some session does
+pub turned-stands : {R : Type 0} (view : R → Tree) (s : Seen) (old new : Kept R) (count now : ℕ) (l0 l1 b a : Option (List ℕ)) → Turned view s old new count now l0 l1 b a → FollowsOne view new
+turned-stands view s old new count now l0 l1 b a x = (after_play s x.0, x.3.0)
 
 -- one turn more
-pub turned-more : (s : Seen) (old mid new : Kept) (count now later : ℕ) (l0 l1 l2 b m a : Option (List ℕ)) → Turned s old mid count now l0 l1 b m
-    → ((t : Seen) → Follows mid t → Turned t mid new now later l1 l2 m a) → Turned s old new count later l0 l2 b a
-turned-more s old mid new count now later l0 l1 l2 b m a x next =
+pub turned-more : {R : Type 0} (view : R → Tree) (s : Seen) (old mid new : Kept R) (count now later : ℕ) (l0 l1 l2 b m a : Option (List ℕ)) → Turned view s old mid count now l0 l1 b m
+    → ((t : Seen) → Follows view mid t → Turned view t mid new now later l1 l2 m a) → Turned view s old new count later l0 l2 b a
+turned-more view s old mid new count now later l0 l1 l2 b m a x next =
     let y = next (after_play s x.0) x.3.0 in (
       x.0 ++ y.0,
       Consumes-then l0 l1 l2 x.0 y.0 x.1 y.1,
       omega (arith, x.2, y.2, length-append x.0 y.0),
-      goes-then s x.0 y.0 old mid new b m a x.3 y.3,
+      goes-then view s x.0 y.0 old mid new b m a x.3 y.3,
     )
 
 -- turns, and then a run
-pub turned-ran : (s : Seen) (old mid : Kept) (now : ℕ) (l0 l1 l2 b m a : Option (List ℕ)) (q r v : ℕ) (e : End) → q ≤ r → Turned s old mid 0 now l0 l1 b m
-    → ((t : Seen) → Follows mid t → RanFrom t mid.refused now l1 l2 m a r v e) → RanFrom s old.refused 0 l0 l2 b a q v e
-turned-ran s old mid now l0 l1 l2 b m a q r v e le x next =
+pub turned-ran : {R : Type 0} (view : R → Tree) (s : Seen) (old mid : Kept R) (now : ℕ) (l0 l1 l2 b m a : Option (List ℕ)) (q r v : ℕ) (e : End) → q ≤ r → Turned view s old mid 0 now l0 l1 b m
+    → ((t : Seen) → Follows view mid t → RanFrom t mid.refused now l1 l2 m a r v e) → RanFrom s old.refused 0 l0 l2 b a q v e
+turned-ran view s old mid now l0 l1 l2 b m a q r v e le x next =
     let w = next (after_play s x.0) x.3.0 in
     let P : Bool → Type 0 = λ f. RanFrom (after_play s x.0) f now l1 l2 m a r v e in
     let Q : ℕ → Type 0 = λ n. RanFrom (after_play s x.0) (old.refused || (plays s x.0).refused) n l1 l2 m a r v e in

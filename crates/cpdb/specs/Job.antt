@@ -1,6 +1,7 @@
 -- What a call replies: the session over its whole input.
 use Rattle.std.specs.Prelude.{ℕ, List, [], ◌∷◌, Bool, true, false, Result, Ok, Err, length, if◌then◌else◌}
 use Rattle.std.specs.List.{flat_map, list_any}
+use Rattle.cp_model.specs.Place.{in_target}
 use Rattle.cp_model.specs.Keyed as keyed
 use Rattle.cp_model.specs.Tree.{Tree}
 use Rattle.cp_model.specs.declared.kind.Kind.TheVariants as kind
@@ -22,22 +23,22 @@ use Rattle.cp_session.specs.Session.{Reading, says, unread, Setting, withholds, 
 
 -- ---- what a text says
 
--- the statements that are run: insertions, commit, abort and src
+-- the statements that are run: operations but for copies from sources, commit, abort, src, hist, trace and show
 abbrev pub is_run : Stmt → Bool
 is_run (stmt.Op (Ins p a t)) = true
-is_run (stmt.Op (Del a p)) = false
-is_run (stmt.Op (Copy q p)) = false
+is_run (stmt.Op (Del a p)) = true
+is_run (stmt.Op (Copy q p)) = in_target q
 is_run stmt.Commit = true
 is_run stmt.Abort = true
 is_run (stmt.Load l) = false
 is_run (stmt.Ask (query.Src q)) = true
-is_run (stmt.Ask (query.Hist q)) = false
+is_run (stmt.Ask (query.Hist q)) = true
 is_run (stmt.Ask (query.Mod q)) = false
-is_run (stmt.Ask (query.Trace q)) = false
+is_run (stmt.Ask (query.Trace q)) = true
 is_run (stmt.Ask (query.From q)) = false
 is_run (stmt.Ask (query.Records t)) = false
 is_run (stmt.Ask query.Stats) = false
-is_run (stmt.Show q) = false
+is_run (stmt.Show q) = true
 
 -- a statement of another kind is refused at its first token
 abbrev pub if_run : List ℕ → Stmt → Reading

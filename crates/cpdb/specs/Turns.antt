@@ -4,7 +4,7 @@ use Rattle.std.specs.declared.option.Option.{Option}
 use Rattle.std.specs.Io.KnownBytes.{Appends, Consumes}
 use Rattle.cp_outside.specs.Causes.{Rose}
 use Rattle.cp_outside.specs.Sinks.{TakesPart}
-use Rattle.cp_lang.specs.Held.{Held, held_of}
+use Rattle.cp_lang.specs.Held.{held_of}
 use Rattle.cp_lang.specs.declared.cut.Cut.{Cut}
 use Rattle.cp_lang.specs.declared.stmt.Stmt.{Stmt}
 use Rattle.cp_lang.specs.Written.{IsWrittenStmt}
@@ -13,7 +13,9 @@ use Rattle.cp_session.specs.Session.{says, unread, replies_to, session_after}
 use Rattle.cpdb.specs.Words.{memory_line}
 use Rattle.cpdb.specs.Job.{Ended, told, setting, is_run, reading}
 use Rattle.cpdb.specs.Play.{Seen, plays, after_play, closes, plays_all}
-use Rattle.cpdb.specs.Stores.{Ledger, Stands}
+use Rattle.cp_model.specs.Tree.{Tree}
+use Rattle.cpdb.specs.Databases.{Stands}
+use Rattle.cpdb.specs.declared.session.Session.{Session as Kept}
 use Rattle.cpdb.specs.Story.{WritesLast, RanOn}
 use Rattle.cpdb.specs.declared.end.End.{End}
 use Rattle.cpdb.specs.declared.end.End.TheVariants as how
@@ -25,15 +27,13 @@ abbrev pub Reads : List ℕ → Result Stmt Why → Type 0
 Reads text (Ok s) = (reading text ≡ says s) × (is_run s ≡ true) × IsWrittenStmt s
 Reads text (Err w) = reading text ≡ unread w
 
--- what the code keeps of a session: of its scan, of its tree, and whether a refusal was written
-pub record Kept : Type 0 where
-  pub held : Held
-  pub ledger : Ledger
-  pub refused : Bool
-
 -- the code stands where the session does
-abbrev pub Follows : Kept → Seen → Type 0
-Follows k s = (k.held ≡ held_of s.scan) × Stands k.ledger s.session
+abbrev pub Follows : {R : Type 0} → (R → Tree) → Kept R → Seen → Type 0
+Follows view x s = (x.cutter ≡ held_of s.scan) × Stands view x.database s.session
+
+-- it stands where some session does
+abbrev pub FollowsOne : {R : Type 0} → (R → Tree) → Kept R → Type 0
+FollowsOne view x = (s : Seen) × Follows view x s
 
 -- Bytes were written; or the output refused a write; or nothing was written.
 abbrev pub Written : List ℕ → Option (List ℕ) → Option (List ℕ) → Result ⊤ Stop → Type 0
@@ -43,11 +43,11 @@ Written text before after (Err Full) = TakesPart before after text
 Written text before after (Err Memory) = Appends before after []
 
 -- Lines were written, and the code follows what is seen then; or the output refused a write; or nothing was written.
-abbrev pub Goes : Ended → Seen → Kept → Kept → Option (List ℕ) → Option (List ℕ) → Result ⊤ Stop → Type 0
-Goes e next old new before after (Ok x) = Follows new next × (new.refused ≡ (old.refused || e.refused)) × Appends before after e.out
-Goes e next old new before after (Err Output) = TakesPart before after e.out
-Goes e next old new before after (Err Full) = TakesPart before after e.out
-Goes e next old new before after (Err Memory) = Appends before after []
+abbrev pub Goes : {R : Type 0} → (R → Tree) → Ended → Seen → Kept R → Kept R → Option (List ℕ) → Option (List ℕ) → Result ⊤ Stop → Type 0
+Goes view e next old new before after (Ok x) = Follows view new next × (new.refused ≡ (old.refused || e.refused)) × Appends before after e.out
+Goes view e next old new before after (Err Output) = TakesPart before after e.out
+Goes view e next old new before after (Err Full) = TakesPart before after e.out
+Goes view e next old new before after (Err Memory) = Appends before after []
 
 -- what these cuts write
 abbrev pub cuts_play : Seen → List Cut → Ended
@@ -58,14 +58,14 @@ abbrev pub after_cuts : Seen → List Cut → Seen
 after_cuts s cuts = record { scan = s.scan; session = session_after setting s.session cuts }
 
 -- Bytes were played, or a front part of them where memory ran out.
-abbrev pub Fed : Seen → List ℕ → Kept → Kept → Option (List ℕ) → Option (List ℕ) → Result ⊤ Stop → Type 0
-Fed s bytes old new before after (Ok x) = Goes (plays s bytes) (after_play s bytes) old new before after (Ok x)
-Fed s bytes old new before after (Err Output) = TakesPart before after (plays s bytes).out
-Fed s bytes old new before after (Err Full) = TakesPart before after (plays s bytes).out
-Fed s bytes old new before after (Err Memory) = (k : ℕ) × (k ≤ length bytes) × Appends before after (plays s (take k bytes)).out
+abbrev pub Fed : {R : Type 0} → (R → Tree) → Seen → List ℕ → Kept R → Kept R → Option (List ℕ) → Option (List ℕ) → Result ⊤ Stop → Type 0
+Fed view s bytes old new before after (Ok x) = Goes view (plays s bytes) (after_play s bytes) old new before after (Ok x)
+Fed view s bytes old new before after (Err Output) = TakesPart before after (plays s bytes).out
+Fed view s bytes old new before after (Err Full) = TakesPart before after (plays s bytes).out
+Fed view s bytes old new before after (Err Memory) = (k : ℕ) × (k ≤ length bytes) × Appends before after (plays s (take k bytes)).out
 
 -- The cut at the end of the input was run, and the code knows whether a refusal was written; or as with other lines.
-abbrev pub Closed : Seen → Kept → Kept → Option (List ℕ) → Option (List ℕ) → Result ⊤ Stop → Type 0
+abbrev pub Closed : {R : Type 0} → Seen → Kept R → Kept R → Option (List ℕ) → Option (List ℕ) → Result ⊤ Stop → Type 0
 Closed s old new before after (Ok x) = (new.refused ≡ (old.refused || (closes s).refused)) × Appends before after (closes s).out
 Closed s old new before after (Err Output) = TakesPart before after (closes s).out
 Closed s old new before after (Err Full) = TakesPart before after (closes s).out
@@ -111,9 +111,9 @@ abbrev pub RanFrom : Seen → Bool → ℕ → Option (List ℕ) → Option (Lis
 RanFrom s refused count = RanOn (plays s) (λ bytes. marked refused (plays_all s bytes)) count
 
 -- The next bytes were taken and played.
-abbrev pub Turned : Seen → Kept → Kept → ℕ → ℕ → Option (List ℕ) → Option (List ℕ) → Option (List ℕ) → Option (List ℕ) → Type 0
-Turned s old new count now left_before left before after =
-    (bytes : List ℕ) × Consumes left_before left bytes × (now ≡ count + length bytes) × Goes (plays s bytes) (after_play s bytes) old new before after (Ok tt)
+abbrev pub Turned : {R : Type 0} → (R → Tree) → Seen → Kept R → Kept R → ℕ → ℕ → Option (List ℕ) → Option (List ℕ) → Option (List ℕ) → Option (List ℕ) → Type 0
+Turned view s old new count now left_before left before after =
+    (bytes : List ℕ) × Consumes left_before left bytes × (now ≡ count + length bytes) × Goes view (plays s bytes) (after_play s bytes) old new before after (Ok tt)
 
 -- the end of a turn, if it has one
 abbrev pub status_or_done : Result ℕ End → End

@@ -1,12 +1,12 @@
 //! The program: the real input and output, and the one call that does everything.
 #![tactic(auto)]
 
+mod database;
 mod end;
 mod host;
 mod run;
 mod session;
 mod stop;
-mod store;
 mod turn;
 
 use host::{StdinSource, StdoutSink};
@@ -15,7 +15,11 @@ use std::io::ErrorKind;
 use std::process::ExitCode;
 
 #[cfg(test)]
+mod differential;
+#[cfg(test)]
 mod examples;
+#[cfg(test)]
+mod histories;
 #[cfg(test)]
 mod limits;
 #[cfg(test)]

@@ -5,13 +5,17 @@ ghost use Rattle.cpdb.specs.Words.{fits, most_input, most_piece, memory_line};
 ghost use Rattle.cpdb.specs.Play.{Seen, start};
 ghost use Rattle.cpdb.specs.Ends.{code_of, end_of};
 ghost use Rattle.cpdb.specs.Story.{WritesLast, Ran, Whole, IsShort, IsAnswer, IsCalm, HasCauses};
-ghost use Rattle.cpdb.specs.Turns.{Follows, WroteLast, Closes, RanFrom, Turned, status_of, status_or_done};
+ghost use Rattle.cpdb.specs.Turns.{Follows, FollowsOne, WroteLast, Closes, RanFrom, Turned, status_of, status_or_done};
 
 use crate::end::{End, Status};
 use crate::session::Session;
 use crate::stop::Stop;
+use cp_flat::NaiveStore;
+use cp_model::Content;
 use cp_outside::{Sink, Source, write_all};
-use std::alloc::Global;
+use cp_tree::TreeRep;
+use cp_tree_box::BoxTree;
+use std::alloc::{AllocError, Global};
 
 /// The most bytes of input that a call takes.
 const MOST_INPUT: u64 = 68_719_476_736;
@@ -71,8 +75,10 @@ fn stopped<O: Sink>(output: &mut O, stop: Stop) -> End
 }
 
 /// The input has ended.
-fn closing<O: Sink>(session: &mut Session, output: &mut O) -> End
-    ensures went { (s : Seen) → Follows session.old s
+fn closing<R: TreeRep, O: Sink>(session: &mut Session<R>, output: &mut O) -> End
+    requires stands { FollowsOne R.contents session.old }
+    requires room { session.old.database.runs ≤ most_input }
+    ensures went { (s : Seen) → Follows R.contents session.old s
         → Closes s session.old.refused (O.contents output.old) (O.contents output.new) (O.refusals output.old) (O.refusals output.new) result }
     ensures later { O.faults output.old ≤ O.faults output.new }
     ensures kept { O.refusals output.old ≤ O.refusals output.new }
@@ -88,20 +94,22 @@ fn closing<O: Sink>(session: &mut Session, output: &mut O) -> End
 }
 
 /// Takes the next piece of the input and runs the statements that end in it.
-fn turn<I: Source, O: Sink>(
-    session: &mut Session,
+fn turn<R: TreeRep, I: Source, O: Sink>(
+    session: &mut Session<R>,
     piece: &mut [u8],
     input: &mut I,
     output: &mut O,
     before: u64,
 ) -> Result<u64, End>
+    requires stands { FollowsOne R.contents session.old }
+    requires few { session.old.database.runs ≤ before }
     requires taken { before ≤ most_input }
     requires room { 0 < length piece.old }
     requires bounded { length piece.old ≤ most_piece }
-    ensures goes_on { IfOk result (λ n. (before < n) × (n ≤ most_input)
-        × ((s : Seen) → Follows session.old s
-        → Turned s session.old session.new before n (I.left input.old) (I.left input.new) (O.contents output.old) (O.contents output.new))) }
-    ensures ends { IfErr result (λ end. (s : Seen) → Follows session.old s → RanFrom s session.old.refused before
+    ensures goes_on { IfOk result (λ n. (before < n) × (n ≤ most_input) × (session.new.database.runs ≤ n)
+        × ((s : Seen) → Follows R.contents session.old s
+        → Turned R.contents s session.old session.new before n (I.left input.old) (I.left input.new) (O.contents output.old) (O.contents output.new))) }
+    ensures ends { IfErr result (λ end. (s : Seen) → Follows R.contents session.old s → RanFrom s session.old.refused before
         (I.left input.old) (I.left input.new) (O.contents output.old) (O.contents output.new) (O.refusals output.old) (O.refusals output.new) end) }
     ensures causes { HasCauses (I.faults input.old) (I.faults input.new) (O.faults output.old) (O.faults output.new) (status_or_done result) }
     ensures kept { O.refusals output.old ≤ O.refusals output.new }
@@ -125,15 +133,17 @@ fn turn<I: Source, O: Sink>(
 }
 
 /// Runs a session until it ends.
-fn turns<I: Source, O: Sink>(
-    session: &mut Session,
+fn turns<R: TreeRep, I: Source, O: Sink>(
+    session: &mut Session<R>,
     piece: &mut [u8],
     input: &mut I,
     output: &mut O,
 ) -> End
+    requires stands { FollowsOne R.contents session.old }
+    requires few { session.old.database.runs ≡ 0 }
     requires room { 0 < length piece.old }
     requires bounded { length piece.old ≤ most_piece }
-    ensures ran { (s : Seen) → Follows session.old s → RanFrom s session.old.refused 0 (I.left input.old) (I.left input.new)
+    ensures ran { (s : Seen) → Follows R.contents session.old s → RanFrom s session.old.refused 0 (I.left input.old) (I.left input.new)
         (O.contents output.old) (O.contents output.new) (O.refusals output.old) (O.refusals output.new) result }
     ensures causes { HasCauses (I.faults input.old) (I.faults input.new) (O.faults output.old) (O.faults output.new) result }
 {
@@ -146,8 +156,19 @@ fn turns<I: Source, O: Sink>(
     }
 }
 
+/// A session on a root alone.
+fn begin<R: TreeRep>(alloc: Global) -> Result<Session<R>, AllocError>
+    ensures start { IfOk result (λ x. Follows R.contents x start) }
+    ensures refused { IfOk result (λ x. x.refused ≡ false) }
+    ensures runs { IfOk result (λ x. x.database.runs ≡ 0) }
+{
+    let tree = R::single(alloc, &Content::Node)?;
+    let store = NaiveStore::new(alloc, 0)?;
+    Ok(Session::new(alloc, tree, store))
+}
+
 /// A session over the input, from its start.
-fn session<I: Source, O: Sink>(
+fn session<R: TreeRep, I: Source, O: Sink>(
     alloc: Global,
     piece: &mut [u8],
     input: &mut I,
@@ -159,20 +180,20 @@ fn session<I: Source, O: Sink>(
         (O.contents output.old) (O.contents output.new) (O.refusals output.old) (O.refusals output.new) result }
     ensures causes { HasCauses (I.faults input.old) (I.faults input.new) (O.faults output.old) (O.faults output.new) result }
 {
-    match Session::new(alloc) {
+    match begin::<R>(alloc) {
         Ok(mut session) => turns(&mut session, piece, input, output),
         Err(_) => out_of_memory(output),
     }
 }
 
 /// The session over the input, with room for a piece of it.
-fn scratch<I: Source, O: Sink>(alloc: Global, input: &mut I, output: &mut O) -> End
+fn scratch<R: TreeRep, I: Source, O: Sink>(alloc: Global, input: &mut I, output: &mut O) -> End
     ensures ran { RanFrom start false 0 (I.left input.old) (I.left input.new)
         (O.contents output.old) (O.contents output.new) (O.refusals output.old) (O.refusals output.new) result }
     ensures causes { HasCauses (I.faults input.old) (I.faults input.new) (O.faults output.old) (O.faults output.new) result }
 {
     match vec![in alloc; 0u8; MOST_PIECE] {
-        Ok(mut piece) => session(alloc, &mut piece, input, output),
+        Ok(mut piece) => session::<R, I, O>(alloc, &mut piece, input, output),
         Err(_) => out_of_memory(output),
     }
 }
@@ -209,6 +230,6 @@ pub fn run_cpdb<I: Source, O: Sink>(
             code: End::Usage.code(),
         };
     }
-    let end = scratch(alloc, input, output);
+    let end = scratch::<BoxTree, I, O>(alloc, input, output);
     Status { code: end.code() }
 }

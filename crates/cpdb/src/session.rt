@@ -1,39 +1,32 @@
-ghost use Rattle.std.specs.Prelude.{◌≡◌, ◌||◌, false, IfOk, OnOk, [], ◌∷◌};
+ghost use Rattle.std.specs.Prelude.{◌≡◌, ◌||◌, ◌≤◌, ◌<◌, ◌+◌, ◌^◌, false, length, IfOk, OnOk, [], ◌∷◌};
 ghost use Rattle.std.specs.Option.{option_to_list};
 ghost use Rattle.cp_reply.specs.Lines.{lines};
-ghost use Rattle.cpdb.specs.Job.{is_refusal};
+ghost use Rattle.cpdb.specs.Job.{empty_tree, is_refusal};
 ghost use Rattle.cpdb.specs.Play.{Seen, start, plays, after_play, closes};
 ghost use Rattle.cp_lang.specs.Cuts.{rest_of};
-ghost use Rattle.cpdb.specs.Turns.{Follows, Written, Goes, Fed, Closed, Blames, cuts_play, after_cuts};
+ghost use Rattle.cpdb.specs.Turns.{Follows, FollowsOne, Written, Goes, Fed, Closed, Blames, cuts_play, after_cuts};
 
+use crate::database::Database;
 use crate::stop::Stop;
-use crate::store::Store;
 use crate::turn::reply_to;
+use cp_flat::NaiveStore;
 use cp_lang::{Cut, Cutter};
 use cp_outside::{Sink, write_all};
 use cp_reply::{Reply, lines};
-use std::alloc::{AllocError, Global};
-use std::marker::Model;
+use cp_tree::TreeRep;
+use std::alloc::Global;
 use std::mem;
 
 /// A session between two bytes of its input.
 #[derive(Drop)]
-pub(crate) struct Session {
+pub(crate) struct Session<R: TreeRep> {
     alloc: Global,
     cutter: Cutter,
-    store: Store,
+    database: Database<R>,
     /// Room for the lines of a reply.
     text: Vec<u8>,
     /// Whether a refusal was written.
     refused: bool,
-}
-
-impl Model for Session {
-    ghost use Rattle.cpdb.specs.Turns.{Kept};
-
-    ghost Value = { Kept };
-
-    ghost view = { λ s. record { held = s.cutter; ledger = s.store; refused = s.refused } };
 }
 
 fn is_refusal(reply: &Reply) -> bool
@@ -45,17 +38,23 @@ fn is_refusal(reply: &Reply) -> bool
     }
 }
 
-impl Session {
-    pub(crate) fn new(alloc: Global) -> Result<Session, AllocError>
-        ensures { IfOk result (λ s. Follows s start × (s.refused ≡ false)) }
+impl<R: TreeRep> Session<R> {
+    /// A session on this tree, of which a store has no rows.
+    pub(crate) fn new(alloc: Global, tree: R, store: NaiveStore) -> Session<R>
+        requires tree { R.contents tree ≡ empty_tree }
+        requires rows { store.list ≡ [] }
+        requires upto { store.upto ≡ 0 }
+        ensures start { Follows R.contents result start }
+        ensures refused { result.refused ≡ false }
+        ensures runs { result.database.runs ≡ 0 }
     {
-        Ok(Session {
+        Session {
             alloc,
             cutter: Cutter::new(alloc),
-            store: Store::new(alloc)?,
+            database: Database::new(tree, store),
             text: Vec::new(alloc),
             refused: false,
-        })
+        }
     }
 
     /// Whether a refusal was written.
@@ -68,8 +67,8 @@ impl Session {
     /// Writes the lines of a reply.
     fn tell<O: Sink>(&mut self, reply: &Reply, output: &mut O) -> Result<(), Stop>
         ensures went { Written (lines reply.now) (O.contents output.old) (O.contents output.new) result }
-        ensures held { OnOk result (self.new.held ≡ self.old.held) }
-        ensures ledger { OnOk result (self.new.ledger ≡ self.old.ledger) }
+        ensures held { OnOk result (self.new.cutter ≡ self.old.cutter) }
+        ensures database { OnOk result (self.new.database ≡ self.old.database) }
         ensures refused { OnOk result (self.new.refused ≡ (self.old.refused || is_refusal reply.now)) }
         ensures cause { Blames (O.faults output.old) (O.faults output.new) (O.refusals output.old) (O.refusals output.new) result }
     {
@@ -82,22 +81,28 @@ impl Session {
 
     /// Runs a cut, if there is one, and writes what it replies.
     fn run<O: Sink>(&mut self, cut: Option<Cut>, output: &mut O) -> Result<(), Stop>
-        ensures went { (s : Seen) → Follows self.old s
-            → Goes (cuts_play s (option_to_list cut)) (after_cuts s (option_to_list cut)) self.old self.new (O.contents output.old) (O.contents output.new) result }
+        requires stands { FollowsOne R.contents self.old }
+        requires room { self.old.database.runs < 2 ^ 62 }
+        ensures runs { OnOk result (self.new.database.runs ≤ self.old.database.runs + 1) }
+        ensures went { (s : Seen) → Follows R.contents self.old s
+            → Goes R.contents (cuts_play s (option_to_list cut)) (after_cuts s (option_to_list cut)) self.old self.new (O.contents output.old) (O.contents output.new) result }
         ensures cause { Blames (O.faults output.old) (O.faults output.new) (O.refusals output.old) (O.refusals output.new) result }
     {
         let Some(cut) = cut else {
             return Ok(());
         };
-        match reply_to(&mut self.store, self.alloc, cut)? {
+        match reply_to(&mut self.database, self.alloc, cut)? {
             Some(reply) => self.tell(&reply, output),
             None => Ok(()),
         }
     }
 
     fn push<O: Sink>(&mut self, byte: u8, output: &mut O) -> Result<(), Stop>
-        ensures went { (s : Seen) → Follows self.old s
-            → Goes (plays s (byte ∷ [])) (after_play s (byte ∷ [])) self.old self.new (O.contents output.old) (O.contents output.new) result }
+        requires stands { FollowsOne R.contents self.old }
+        requires room { self.old.database.runs < 2 ^ 62 }
+        ensures runs { OnOk result (self.new.database.runs ≤ self.old.database.runs + 1) }
+        ensures went { (s : Seen) → Follows R.contents self.old s
+            → Goes R.contents (plays s (byte ∷ [])) (after_play s (byte ∷ [])) self.old self.new (O.contents output.old) (O.contents output.new) result }
         ensures cause { Blames (O.faults output.old) (O.faults output.new) (O.refusals output.old) (O.refusals output.new) result }
     {
         let cut = self.cutter.push(byte)?;
@@ -107,7 +112,10 @@ impl Session {
     /// Runs the statements that end in the next piece of the input, each reply written before the next byte is taken.
     /// Keeps the bytes since the last statement's end, up to the longest that a statement may have.
     pub(crate) fn feed<O: Sink>(&mut self, piece: &[u8], output: &mut O) -> Result<(), Stop>
-        ensures went { (s : Seen) → Follows self.old s → Fed s piece.now self.old self.new (O.contents output.old) (O.contents output.new) result }
+        requires stands { FollowsOne R.contents self.old }
+        requires room { self.old.database.runs + length piece.now ≤ 2 ^ 62 }
+        ensures runs { OnOk result (self.new.database.runs ≤ self.old.database.runs + length piece.now) }
+        ensures went { (s : Seen) → Follows R.contents self.old s → Fed R.contents s piece.now self.old self.new (O.contents output.old) (O.contents output.new) result }
         ensures cause { Blames (O.faults output.old) (O.faults output.new) (O.refusals output.old) (O.refusals output.new) result }
     {
         for byte in piece {
@@ -118,7 +126,10 @@ impl Session {
 
     /// The input has ended: a text that is left is refused.
     pub(crate) fn close<O: Sink>(&mut self, output: &mut O) -> Result<(), Stop>
-        ensures went { (s : Seen) → Follows self.old s → Closed s self.old self.new (O.contents output.old) (O.contents output.new) result }
+        requires stands { FollowsOne R.contents self.old }
+        requires room { self.old.database.runs < 2 ^ 62 }
+        ensures runs { OnOk result (self.new.database.runs ≤ self.old.database.runs + 1) }
+        ensures went { (s : Seen) → Follows R.contents self.old s → Closed s self.old self.new (O.contents output.old) (O.contents output.new) result }
         ensures cause { Blames (O.faults output.old) (O.faults output.new) (O.refusals output.old) (O.refusals output.new) result }
     {
         let cutter = mem::replace(&mut self.cutter, Cutter::new(self.alloc));

@@ -158,7 +158,7 @@ fn statements_and_their_replies(rt: HostRuntime) -> Result<(), Fail> {
         ("ins {a 1} into T;", 1, "refused: syntax at 7\n"),
         ("ins {a : 1} into T", 1, "refused: syntax at 18\n"),
         ("ins {a : 1} into T commit;", 1, "refused: syntax at 19\n"),
-        (" del a from T;", 1, "refused: syntax at 1\n"),
+        (" mod T;", 1, "refused: syntax at 1\n"),
         ("Commit; src T;", 1, "refused: syntax at 0\nsrc T: none\n"),
         ("src T/a/b;", 1, "refused: no place T/a/b\n"),
         ("?", 1, "refused: syntax at 1\n"),

@@ -1,15 +1,16 @@
-//! The turn that a cut of the input brings: what its text says, run on the store.
-ghost use Rattle.std.specs.Prelude.{◌≡◌, IfOk};
+//! The turn that a cut of the input brings: what its text says, run on the database.
+ghost use Rattle.std.specs.Prelude.{◌≡◌, ◌<◌, ◌≤◌, ◌+◌, ◌^◌, IfOk, OnOk};
 ghost use Rattle.std.specs.declared.option.Option.TheVariants.{Some};
 ghost use Rattle.cp_session.specs.Session.{Session, turn, turn_of, not_read};
 ghost use Rattle.cpdb.specs.Job.{setting, reading, is_run};
-ghost use Rattle.cpdb.specs.Stores.{Stands, Turned};
+ghost use Rattle.cpdb.specs.Databases.{Stands, IsSession, Turned};
 ghost use Rattle.cpdb.specs.Turns.{Reads};
 
-use crate::store::Store;
+use crate::database::Database;
 use cp_lang::{Cut, Stmt, StmtFault, first_offset, parse_bytes};
 use cp_model::{Op, Query};
 use cp_reply::{Of, Reply, Why};
+use cp_tree::TreeRep;
 use std::alloc::{AllocError, Global};
 
 /// Whether a statement is of a kind that is run.
@@ -17,23 +18,32 @@ fn is_run(statement: &Stmt) -> bool
     ensures { result ≡ is_run statement.now }
 {
     match statement {
-        Stmt::Op(Op::Ins { .. }) => true,
+        Stmt::Op(Op::Copy { from, .. }) => from.db.is_target(),
+        Stmt::Op(_) => true,
         Stmt::Commit => true,
         Stmt::Abort => true,
-        Stmt::Ask(Query::Src(_)) => true,
+        Stmt::Ask(Query::Src(_) | Query::Hist(_) | Query::Trace(_)) => true,
+        Stmt::Show(_) => true,
         _ => false,
     }
 }
 
 /// The refusal of a text that can't be read.
-fn refuse(store: &mut Store, why: Why) -> Reply
-    ensures { (s : Session) → Stands store.old s → Turned (not_read s why) store.new (Some result) }
+fn refuse<R: TreeRep>(
+    database: &mut Database<R>,
+    alloc: Global,
+    why: Why,
+) -> Result<Reply, AllocError>
+    requires stands { IsSession R.contents database.old }
+    requires room { database.old.runs < 2 ^ 62 }
+    ensures turned { IfOk result (λ r. (s : Session) → Stands R.contents database.old s → Turned R.contents (not_read s why) database.new (Some r)) }
+    ensures runs { OnOk result (database.new.runs ≤ database.old.runs + 1) }
 {
-    store.spoil();
-    Reply::Refused {
+    database.spoil(alloc)?;
+    Ok(Reply::Refused {
         of: Of::Statement,
         why,
-    }
+    })
 }
 
 /// What a text says: a statement of a kind that is run, or why it is refused. Costs the text's bytes.
@@ -55,27 +65,40 @@ fn read(alloc: Global, text: &[u8]) -> Result<Result<Stmt, Why>, AllocError>
     }
 }
 
-/// Runs what a text says. Costs the text's bytes, and what its statement costs the store.
-fn run_text(store: &mut Store, alloc: Global, text: &[u8]) -> Result<Option<Reply>, AllocError>
-    ensures { IfOk result (λ r. (s : Session) → Stands store.old s → Turned (turn_of setting s (reading text.now)) store.new r) }
+/// Runs what a text says. Costs the text's bytes, and what its statement costs the database.
+fn run_text<R: TreeRep>(
+    database: &mut Database<R>,
+    alloc: Global,
+    text: &[u8],
+) -> Result<Option<Reply>, AllocError>
+    requires stands { IsSession R.contents database.old }
+    requires room { database.old.runs < 2 ^ 62 }
+    ensures turned { IfOk result (λ r. (s : Session) → Stands R.contents database.old s → Turned R.contents (turn_of setting s (reading text.now)) database.new r) }
+    ensures runs { OnOk result (database.new.runs ≤ database.old.runs + 1) }
 {
     match read(alloc, text)? {
-        Ok(statement) => store.run(alloc, statement),
-        Err(why) => Ok(Some(refuse(store, why))),
+        Ok(statement) => database.run(alloc, statement),
+        Err(why) => Ok(Some(refuse(database, alloc, why)?)),
     }
 }
 
-/// What a cut replies. What stands in the store after an error isn't said.
-pub(crate) fn reply_to(
-    store: &mut Store,
+/// What a cut replies. What stands in the database after an error isn't said.
+pub(crate) fn reply_to<R: TreeRep>(
+    database: &mut Database<R>,
     alloc: Global,
     cut: Cut,
 ) -> Result<Option<Reply>, AllocError>
-    ensures { IfOk result (λ r. (s : Session) → Stands store.old s → Turned (turn setting s cut) store.new r) }
+    requires stands { IsSession R.contents database.old }
+    requires room { database.old.runs < 2 ^ 62 }
+    ensures turned { IfOk result (λ r. (s : Session) → Stands R.contents database.old s → Turned R.contents (turn setting s cut) database.new r) }
+    ensures runs { OnOk result (database.new.runs ≤ database.old.runs + 1) }
 {
     match cut {
-        Cut::Text(text) => run_text(store, alloc, text.as_slice()),
-        Cut::TooLong => Ok(Some(refuse(store, Why::StatementTooLong))),
-        Cut::Unfinished(text) => Ok(Some(refuse(store, Why::Syntax(text.as_slice().len())))),
+        Cut::Text(text) => run_text(database, alloc, text.as_slice()),
+        Cut::TooLong => Ok(Some(refuse(database, alloc, Why::StatementTooLong)?)),
+        Cut::Unfinished(text) => {
+            let why = Why::Syntax(text.as_slice().len());
+            Ok(Some(refuse(database, alloc, why)?))
+        }
     }
 }

@@ -45,10 +45,11 @@ returns-in-Err-clause-ends g c =
     let stop = c.in-Err.stop in
     let first = c.args.session.now in
     let m = (g.O.Sink.contents c.feed.new.output) in
+    let view = g.R.TreeRep.contents in
     λ s f. (let P : End → Type 0 = λ e. RanFrom s first.refused c.args.before l0 l1 b a r v e in
-    let fed : Fed s bytes first c.feed.new.self b m (Err stop) = subst (Fed s bytes first c.feed.new.self b m) c.in-Err.is (c.feed.ensures.went s f) in
+    let fed : Fed view s bytes first c.feed.new.self b m (Err stop) = subst (Fed view s bytes first c.feed.new.self b m) c.in-Err.is (c.feed.ensures.went s f) in
     subst P (sym c.stopped.ensures.status) (
-    ran-stopped s first.refused first c.feed.new.self c.args.before bytes l0 l1 b m a r (g.O.Sink.refusals c.feed.new.output) v stop
+    ran-stopped view s first.refused first c.feed.new.self c.args.before bytes l0 l1 b m a r (g.O.Sink.refusals c.feed.new.output) v stop
     (omega (arith, count, c.if-now-gt-MOST_INPUT.false)) c.in-Err.ensures.cause.kept c.stopped.ensures.kept c.in-Ok.ensures.bytes.0 fed c.stopped.ensures.wrote
     (λ full. c.in-Err.ensures.cause.full (ap (λ s. Err s) full))
     ))

@@ -10,7 +10,8 @@ decreases-loop-now g l = most_input - l.taken
 abbrev pub invariant-loop-now : goal.invariant-loop-now
 invariant-loop-now g l = record {
   within : l.taken ≤ most_input;
-  turned : (s : Seen) → Follows l.initial.session s → Turned s l.initial.session l.session 0 l.taken (g.I.Source.left l.initial.input) (g.I.Source.left l.input) (g.O.Sink.contents l.initial.output) (g.O.Sink.contents l.output);
+  few : l.session.database.runs ≤ l.taken;
+  turned : (s : Seen) → Follows g.R.TreeRep.contents l.initial.session s → Turned g.R.TreeRep.contents s l.initial.session l.session 0 l.taken (g.I.Source.left l.initial.input) (g.I.Source.left l.input) (g.O.Sink.contents l.initial.output) (g.O.Sink.contents l.output);
   in_steady : g.I.Source.faults l.input ≡ g.I.Source.faults l.initial.input;
   out_steady : g.O.Sink.faults l.output ≡ g.O.Sink.faults l.initial.output;
   kept : g.O.Sink.refusals l.initial.output ≤ g.O.Sink.refusals l.output;

@@ -1,5 +1,5 @@
 use Rattle.std.proofs.Common.{refl}
 use Rattle.cpdb.proofs.turn.refuse.Goals as goal
 
-pub returns : goal.returns
-returns c = λ s h. (refl, c.spoil.ensures s c.args.why h)
+pub returns-clause-turned : goal.returns-clause-turned
+returns-clause-turned g c = λ s h. (refl, c.in_ok-spoil.ensures.stands s c.args.why h)

@@ -1,0 +1,76 @@
+-- What the program keeps of a session: the committed tree with its rows, and the open transaction.
+use Rattle.std.specs.Prelude.{ℕ, ◌≡◌, ◌+◌, ◌-◌, ◌≤◌, ◌^◌, List, [], length, ⊤}
+use Rattle.std.specs.declared.option.Option.{Option}
+use Rattle.std.specs.declared.option.Option.TheVariants.{None, Some}
+use Rattle.cp_model.specs.Tree.{Tree}
+use Rattle.cp_model.specs.Past.{tree_of}
+use Rattle.cp_model.specs.History.{State, IsLegal, replay}
+use Rattle.cp_model.specs.declared.kind.Kind.TheVariants as kind
+use Rattle.cp_model.specs.declared.op.Op.{Op}
+use Rattle.cp_reply.specs.declared.reply.Reply.{Reply}
+use Rattle.cp_session.specs.Session.{Session, Opened, closed, going, failed, Turn}
+use Rattle.cp_engine.specs.Transactions as txn
+use Rattle.cp_engine.specs.declared.txn.Txn.{Txn}
+use Rattle.cp_engine.specs.declared.txn.Step.{Step}
+use Rattle.cpdb.specs.declared.database.Database.{Database}
+pub use Rattle.cp_lang.specs.Written.{IsWrittenStmt}
+
+-- the number of operations that are held
+abbrev pub held_in : Opened → ℕ
+held_in closed = 0
+held_in (going ops) = length ops
+held_in (failed n c) = 0
+
+-- the transaction, if one is open, has come as far as the session's
+abbrev pub Opens : {R : Type 0} → (R → Tree) → Option (Txn R) → Tree → ℕ → Opened → Type 0
+Opens view None t n closed = ⊤
+Opens view None t n (going ops) = ⊥
+Opens view None t n (failed k c) = ⊥
+Opens view (Some x) t n closed = ⊥
+Opens view (Some x) t n (going ops) = txn.Stands view x t n (txn.going ops) × (1 ≤ length ops)
+Opens view (Some x) t n (failed k c) = txn.Stands view x t n (txn.failed k c)
+
+-- the tree and the rows are those to which the session's history leads, and the transaction is the session's; no more
+-- Tids were given than statements were run
+pub record Stands {R : Type 0} (view : R → Tree) (d : Database R) (s : Session) : Type 0 where
+  pub state : State
+  pub replayed : replay s.history ≡ Some state
+  pub legal : IsLegal s.history
+  pub kind : state.kind ≡ kind.N
+  pub sources : state.sources ≡ []
+  pub tree : view d.tree ≡ tree_of state.tree
+  pub rows : d.store.list ≡ state.rows
+  pub upto : d.store.upto ≡ state.now
+  pub opened : Opens view d.transaction (tree_of state.tree) (state.now + 1) s.opened
+  pub few : state.now + held_in s.opened ≤ d.runs
+
+-- it stands for some session
+abbrev pub IsSession : {R : Type 0} → (R → Tree) → Database R → Type 0
+IsSession view d = (s : Session) × Stands view d s
+
+-- the reply is the turn's, and what is kept stands for its next state
+abbrev pub Turned : {R : Type 0} → (R → Tree) → Turn → Database R → Option Reply → Type 0
+Turned view t new r = (r ≡ t.reply) × Stands view new t.next
+
+-- how far the transaction has come once one is open: where none was, it holds no operation
+abbrev pub progress_of : Opened → txn.Progress
+progress_of closed = txn.going []
+progress_of (going ops) = txn.going ops
+progress_of (failed n c) = txn.failed n c
+
+-- the transaction is the open one, or one that begins on the committed tree
+abbrev pub IsOpened : {R : Type 0} → (R → Tree) → Database R → Txn R → Type 0
+IsOpened view d x = (s : Session) → (z : Stands view d s) → txn.Stands view x (tree_of z.state.tree) (z.state.now + 1) (progress_of s.opened)
+
+-- the transaction is open
+abbrev pub holding : {R : Type 0} → Database R → Txn R → Database R
+holding d x = record d { transaction = Some x }
+
+-- the step is the one that the open transaction, which is taken out, has made
+pub record Makes {R : Type 0} (view : R → Tree) (d : Database R) (x : Step R) (s : Session) : Type 0 where
+  pub taken : d.transaction ≡ None
+  pub transaction : Txn R
+  pub stands : Stands view (holding d transaction) s
+  pub ops : List Op
+  pub opened : s.opened ≡ going ops
+  pub step : txn.IsStep view (tree_of stands.state.tree) (stands.state.now + 1) ops (2 ^ 64 - 1) x
