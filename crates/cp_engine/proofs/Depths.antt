@@ -18,13 +18,9 @@ use Rattle.cp_model.specs.Subtrees.{below, is_there}
 use Rattle.cp_model.specs.Literals.{literal_rows, rows_under, edge_rows}
 use Rattle.cp_model.specs.Tree.{Tree, IsTree, reaches_over}
 use Rattle.cp_model.specs.Accepted.{at_most}
-use Rattle.cp_tree.specs.Rows.{greatest, row_of}
+use Rattle.cp_tree.specs.Rows.{greatest, deepest, row_of}
+use Rattle.cp_tree.specs.Counted.{greatest-append}
 use Rattle.cp_engine.proofs.Limits.{over-reached, root-below}
-use Rattle.cp_engine.proofs.Reached.{greatest-append}
-
--- the most labels of these entries
-abbrev pub deepest : List (Path × Content) → ℕ
-deepest es = greatest (λ e. length e.0) es
 
 no_left : (a b : Bool) → (a || b) ≡ false → a ≡ false
 no_left true b e = absurd (cc)

@@ -23,7 +23,8 @@ use Rattle.cp_record.specs.declared.packed.PackedRecords.{PackedRecords}
 use Rattle.cp_tree.specs.Rows.{row_of, greatest}
 use Rattle.cp_engine.specs.Held.{Appended}
 use Rattle.cp_engine.specs.RowsAlone.{behind, op_rows, copy_alone}
-use Rattle.cp_engine.proofs.Depths.{deepest, deepest-within, deepest-rows, below-within}
+use Rattle.cp_tree.specs.Rows.{deepest}
+use Rattle.cp_engine.proofs.Depths.{deepest-within, deepest-rows, below-within}
 use Rattle.cp_engine.proofs.Limits.{root-below}
 use Rattle.cp_engine.proofs.Recorded.{appended-none}
 

@@ -14,16 +14,13 @@ use Rattle.cp_model.specs.Place.{Label, Path}
 use Rattle.cp_model.specs.Literals.{literal_rows, rows_under, edge_rows}
 use Rattle.cp_model.specs.Tree.{weight_of, text_bytes}
 use Rattle.cp_tree.specs.Rows.{path_size, greatest, reach_of}
+use Rattle.cp_tree.specs.Counted.{greatest-append}
 use Rattle.cp_tree.specs.declared.reach.Reach.{Reach}
 use Rattle.cp_engine.specs.Reaching.{capped, joined, alone_at, literal_reach}
 
 -- reaches with the same numbers are the same
 same-reach : (r s : Reach) → r.nodes ≡ s.nodes → r.inner ≡ s.inner → r.depth ≡ s.depth → r.size ≡ s.size → r ≡ s
 same-reach r s a b c d = λ i. record { nodes = a i; inner = b i; depth = c i; size = d i }
-
-pub greatest-append : {X : Type 0} (f : X → ℕ) (xs ys : List X) → greatest f (xs ++ ys) ≡ max (greatest f xs) (greatest f ys)
-greatest-append f [] ys = omega arith
-greatest-append f (x ∷ xs) ys = omega (arith, greatest-append f xs ys)
 
 sum_join : (c n a b : ℕ) → min (n + (a + b)) c ≡ min (min (n + min a c) c + b) c
 sum_join c n a b = omega arith

@@ -11,14 +11,10 @@ use cp_model::{Literal, Op, Refusal};
 use cp_path::{LABELS_MAX, LOC_MAX, Label, Loc, Value};
 use cp_tree::{Reach, TreeRep};
 
-/// The most labels of a place, and its largest size.
-const DEPTH_MAX: u32 = 64;
-
-const SIZE_MAX: u32 = 1_024;
-
-/// The most nodes of a tree, and its greatest weight.
+/// The most nodes of a tree, the root counted.
 const NODES_MAX: u32 = 1_048_576;
 
+/// The most weight of a tree.
 const WEIGHT_MAX: u64 = 33_554_432;
 
 /// The first case that refuses the operation on this tree, if there is one. Takes no memory. Costs the way to the
@@ -54,6 +50,7 @@ fn check_node<R: TreeRep>(tree: &R, p: &Loc) -> Option<Refusal>
     None
 }
 
+/// Costs the way to the place.
 fn check_deletion<R: TreeRep>(tree: &R, label: &Label, from: &Loc) -> Option<Refusal>
     ensures { result ≡ refusal [] (R.contents tree.now) (Del label.now from.now) }
 {

@@ -1,7 +1,8 @@
 use Rattle.std.proofs.Common.{ap, ◌∙◌}
 use Rattle.cp_model.specs.Place.{child}
 use Rattle.cp_model.specs.Subtrees.{below, is_there}
-use Rattle.cp_engine.proofs.Depths.{deepest, below-within}
+use Rattle.cp_tree.specs.Rows.{deepest}
+use Rattle.cp_engine.proofs.Depths.{below-within}
 use Rattle.cp_engine.proofs.OpRows.{child-room, rows-within, del-added}
 use Rattle.cp_engine.proofs.rows.push_deleted.Goals as goal
 

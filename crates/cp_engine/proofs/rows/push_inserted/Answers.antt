@@ -1,5 +1,5 @@
 use Rattle.cp_model.specs.Literals.{literal_rows}
-use Rattle.cp_engine.proofs.Depths.{deepest}
+use Rattle.cp_tree.specs.Rows.{deepest}
 use Rattle.cp_engine.proofs.OpRows.{child-room, made-within, ins-added}
 use Rattle.cp_engine.proofs.rows.push_inserted.Goals as goal
 
