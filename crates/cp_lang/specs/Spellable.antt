@@ -362,7 +362,7 @@ spellable_written (stmt.Op (Del a p)) h = tt
 spellable_written (stmt.Op (Copy q p)) h = tt
 spellable_written stmt.Commit h = tt
 spellable_written stmt.Abort h = tt
-spellable_written (stmt.Load l) h = tt
+spellable_written (stmt.Load l) h = h.1
 spellable_written (stmt.Ask q) h = tt
 spellable_written (stmt.Show q) h = tt
 
