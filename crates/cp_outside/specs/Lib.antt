@@ -1,4 +1,5 @@
 pub mod Causes
+pub mod FileReads
 pub mod KnownBytes
 pub mod MemoryStates
 pub mod Sinks

@@ -1,6 +1,9 @@
--- What callers see of a source and a sink in memory.
-use Rattle.std.specs.Prelude.{ℕ, List, [], ◌++◌, drop}
+-- What callers see of a source, a sink and files in memory.
+use Rattle.std.specs.Prelude.{ℕ, List, [], ◌∷◌, ◌++◌, drop, None, Some, if◌then◌else◌}
+use Rattle.cp_path.specs.Text.{text_eq}
 use Rattle.cp_outside.specs.Causes.{one_more}
+use Rattle.cp_outside.specs.FileReads.{FileTable}
+use Rattle.cp_outside.specs.declared.memory_files.MemFile.{MemFile}
 
 -- The bytes that are left, the numbers of the reads that fail, how many reads there were, and how many of them failed.
 pub record SourceState : Type 0 where
@@ -44,3 +47,27 @@ after_failed_write s = record s { calls = one_more s.calls; faults = one_more s.
 -- A sink after a write for which it found no memory.
 abbrev pub after_refused_write : SinkState → SinkState
 after_refused_write s = record s { calls = one_more s.calls; refusals = one_more s.refusals }
+
+-- What a name names among these files: the bytes of the first file that has it.
+abbrev pub named : List MemFile → FileTable
+named [] name = None
+named (file ∷ files) name = if text_eq file.name name then Some file.bytes else named files name
+
+-- The files, the numbers of the reads that fail, how many reads there were, and how many of them failed.
+pub record FilesState : Type 0 where
+  pub files : List MemFile
+  pub fails : List ℕ
+  pub calls : ℕ
+  pub faults : ℕ
+
+-- Files before the first read.
+abbrev pub new_files : List MemFile → List ℕ → FilesState
+new_files files fails = record { files = files; fails = fails; calls = 0; faults = 0 }
+
+-- Files after a read that did not fail, be it for want of memory that it gave nothing.
+abbrev pub after_file : FilesState → FilesState
+after_file s = record s { calls = one_more s.calls }
+
+-- Files after a read that failed.
+abbrev pub after_failed_file : FilesState → FilesState
+after_failed_file s = record s { calls = one_more s.calls; faults = one_more s.faults }

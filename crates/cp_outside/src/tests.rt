@@ -1,7 +1,8 @@
 ghost use Rattle.std.specs.Prelude.{◌<◌, length};
 
 use super::*;
-use std::alloc::AllocError;
+use cp_path::{Bytes, Text};
+use std::alloc::{AllocError, Global};
 use std::test::*;
 
 // Reads `count` times into `room`, keeps what came, and says how many of the reads failed.
@@ -76,8 +77,63 @@ fn writes_append_and_fail_where_listed(rt: HostRuntime) -> Result<(), Fail> {
     Ok(())
 }
 
+fn file(alloc: Global, name: &str, bytes: &[u8]) -> Result<MemFile, AllocError> {
+    Ok(MemFile {
+        name: Text::copy_of(alloc, name)?,
+        bytes: Bytes::copy_of(alloc, bytes)?,
+    })
+}
+
+// Two files of one name, and an empty one.
+fn harbour(alloc: Global, fails: &[u64]) -> Result<MemFiles, AllocError> {
+    let files = [
+        file(alloc, "quay", b"north")?,
+        file(alloc, "quay", b"southern")?,
+        file(alloc, "pier", b"")?,
+    ];
+    MemFiles::with_faults(alloc, &files, fails)
+}
+
+#[test]
+fn files_end_as_their_lengths_say_and_fail_where_listed(rt: HostRuntime) -> Result<(), Fail> {
+    let alloc = rt.alloc();
+    // the name, the most bytes, how the read ends, what it gives
+    let cases: [(&str, u64, Result<FileEnd, FilesFault>, &str); 9] = [
+        ("quay", 5, Ok(FileEnd::Whole), "north"),
+        ("quay", 4, Ok(FileEnd::TooLong), "nort"),
+        ("quay", 0, Err(FilesFault::Failed), ""),
+        ("quay", 0, Ok(FileEnd::TooLong), ""),
+        ("quay", u64::MAX, Ok(FileEnd::Whole), "north"),
+        ("pier", 0, Ok(FileEnd::Whole), ""),
+        ("qua", 9, Ok(FileEnd::Missing), ""),
+        ("", 9, Err(FilesFault::Failed), ""),
+        ("", 9, Ok(FileEnd::Missing), ""),
+    ];
+    let mut files = harbour(alloc, &[3, 8, 20])?;
+    for (name, limit, want, bytes) in cases {
+        let mut into = b"left before".to_vec(alloc)?;
+        let end = files.read_file(name, limit, &mut into);
+        assert_eq!(rt; end, want, "{name} up to {limit}");
+        assert!(rt;
+            end.is_err() || into.as_slice() == bytes.as_bytes(),
+            "{name} up to {limit}"
+        );
+    }
+    let mut sure = MemFiles::new(alloc, &[file(alloc, "mole", b"west")?])?;
+    let mut into = Vec::new(alloc);
+    assert_eq!(rt; sure.read_file("mole", 4, &mut into), Ok(FileEnd::Whole));
+    assert_eq!(rt; into.as_slice(), b"west".as_slice());
+    Ok(())
+}
+
 // Grows a list by one, as a sink in memory might.
 fn push(list: &mut Vec<u8>, byte: u8) -> Result<(), SinkFault> {
+    list.push(byte)?;
+    Ok(())
+}
+
+// Grows a list by one, as files in memory might.
+fn push_file(list: &mut Vec<u8>, byte: u8) -> Result<(), FilesFault> {
     list.push(byte)?;
     Ok(())
 }
@@ -96,5 +152,10 @@ fn faults_have_their_texts(rt: HostRuntime) -> Result<(), Fail> {
     assert_eq!(rt; memory.as_str(), "out of memory");
     let mut list = Vec::new(alloc);
     assert_eq!(rt; push(&mut list, 1), Ok(()));
+    let failed = format!(in alloc; "{}", FilesFault::Failed)?;
+    assert_eq!(rt; failed.as_str(), "the file could not be read");
+    let memory = format!(in alloc; "{}", FilesFault::from(AllocError))?;
+    assert_eq!(rt; memory.as_str(), "out of memory");
+    assert_eq!(rt; push_file(&mut list, 2), Ok(()));
     Ok(())
 }
