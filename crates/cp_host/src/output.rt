@@ -1,0 +1,43 @@
+//! Real output.
+ghost use Rattle.std.specs.Prelude.{◌≡◌};
+ghost use Rattle.cp_host.specs.Adapters.{sink_inner, sink_faults};
+
+use cp_outside::{Sink, SinkFault};
+use std::io::Write;
+
+/// A sink over a writer, as over standard output. It tells the bytes that the writer holds, where
+/// the writer does. Every error of the writer is a failure, an interrupted write too, and so is a
+/// write that takes nothing; each is counted, and no write is refused without one.
+#[derive(Drop)]
+pub struct StdoutSink<W> {
+    inner: W,
+    faults: u64,
+}
+
+impl<W> StdoutSink<W> {
+    /// A sink over this writer, which has not failed yet.
+    pub fn new(inner: W) -> StdoutSink<W>
+        ensures inner { sink_inner result ≡ inner }
+        ensures faults { sink_faults result ≡ 0 }
+    {
+        StdoutSink { inner, faults: 0 }
+    }
+}
+
+impl<W: Write> Sink for StdoutSink<W> {
+    ghost contents = { λ s. W.contents (sink_inner s) };
+
+    ghost faults = { sink_faults };
+
+    ghost refusals = { sink_faults };
+
+    fn write(&mut self, bytes: &[u8]) -> Result<usize, SinkFault> {
+        match self.inner.write(bytes) {
+            Ok(count) if 0 < count => Ok(count),
+            _ => {
+                self.faults = self.faults.saturating_add(1);
+                Err(SinkFault::Failed)
+            }
+        }
+    }
+}

@@ -1,0 +1,128 @@
+use super::*;
+use cp_outside::{Failed, FileEnd, Files, FilesFault, Sink, SinkFault, Source, write_all};
+use std::alloc::{AllocError, Global};
+use std::io::{Error, ErrorKind, Read, Write};
+use std::test::*;
+use std::{env, fs, io, process};
+
+// A reader and a writer that fail, and that take nothing where `takes_none` says so.
+#[derive(Drop)]
+struct Broken {
+    takes_none: bool,
+}
+
+impl Read for Broken {
+    fn read(&mut self, _into: &mut [u8]) -> io::Result<usize> {
+        Err(Error::from(ErrorKind::Other))
+    }
+}
+
+impl Write for Broken {
+    fn write(&mut self, _bytes: &[u8]) -> io::Result<usize> {
+        if self.takes_none {
+            return Ok(0);
+        }
+        Err(Error::from(ErrorKind::Other))
+    }
+
+    fn flush(&mut self) -> io::Result<()> {
+        Ok(())
+    }
+}
+
+#[test]
+fn input_gives_what_its_reader_has(rt: HostRuntime) -> Result<(), Fail> {
+    let mut input = StdinSource::new(b"harbour".as_slice());
+    let mut room = [0; 4];
+    assert_eq!(rt; input.read(&mut room), Ok(4));
+    assert_eq!(rt; room, *b"harb");
+    assert_eq!(rt; input.read(&mut room), Ok(3));
+    assert_eq!(rt; room, *b"ourb");
+    assert_eq!(rt; input.read(&mut room), Ok(0));
+    let mut broken = StdinSource::new(Broken { takes_none: false });
+    assert_eq!(rt; broken.read(&mut room), Err(Failed));
+    Ok(())
+}
+
+#[test]
+fn output_reaches_its_writer(rt: HostRuntime) -> Result<(), Fail> {
+    let mut bytes = Vec::new(rt.alloc());
+    let mut output = StdoutSink::new(&mut bytes);
+    assert_eq!(rt; output.write(b"north"), Ok(5));
+    assert_eq!(rt; write_all(&mut output, b"west"), Ok(()));
+    assert_eq!(rt; bytes.as_slice(), b"northwest".as_slice());
+    for takes_none in [false, true] {
+        let mut broken = StdoutSink::new(Broken { takes_none });
+        assert_eq!(rt; broken.write(b"east"), Err(SinkFault::Failed));
+    }
+    Ok(())
+}
+
+// A folder of this process alone, with a short file and a long one.
+fn folder(rt: &HostRuntime) -> io::Result<String> {
+    let temporary = env::temp_dir(rt)?;
+    let number = process::id(rt.process());
+    let folder = format!(in rt.alloc(); "{}/cp_host_{number}", temporary.display())?;
+    fs::create_dir(rt, folder.as_str())?;
+    let short = format!(in rt.alloc(); "{folder}/short")?;
+    fs::write(rt, short.as_str(), "north")?;
+    let long = format!(in rt.alloc(); "{folder}/long")?;
+    fs::write(rt, long.as_str(), long_bytes(rt.alloc())?)?;
+    Ok(folder)
+}
+
+// More than one read of the system gives.
+fn long_bytes(alloc: Global) -> Result<Vec<u8>, AllocError> {
+    vec![in alloc; 119; 200_000]
+}
+
+// What a read of this name answers and gives; nothing counts as given after an error.
+fn read(
+    alloc: Global,
+    files: &mut HostFiles<&HostRuntime>,
+    name: &str,
+    limit: u64,
+) -> Result<(Result<FileEnd, FilesFault>, Vec<u8>), AllocError> {
+    let mut into = b"left before".to_vec(alloc)?;
+    let end = files.read_file(name, limit, &mut into);
+    if end.is_err() {
+        into.clear();
+    }
+    Ok((end, into))
+}
+
+#[test]
+fn files_are_read_up_to_the_limit(rt: HostRuntime) -> Result<(), Fail> {
+    let alloc = rt.alloc();
+    let folder = folder(&rt)?;
+    let mut files = HostFiles::new(&rt);
+    // what follows the folder's name, the most bytes, how the read ends, what it gives
+    let cases: [(&str, u64, Result<FileEnd, FilesFault>, &str); 9] = [
+        ("/short", u64::MAX, Ok(FileEnd::Whole), "north"),
+        ("/short", 5, Ok(FileEnd::Whole), "north"),
+        ("/short", 4, Ok(FileEnd::TooLong), "nort"),
+        ("/short", 0, Ok(FileEnd::TooLong), ""),
+        ("/none", 9, Ok(FileEnd::Missing), ""),
+        ("/none/below", 9, Ok(FileEnd::Missing), ""),
+        ("", 9, Err(FilesFault::Failed), ""),
+        ("/sho\0rt", 9, Err(FilesFault::Failed), ""),
+        ("/short/below", 9, Err(FilesFault::Failed), ""),
+    ];
+    for (below, limit, want, bytes) in cases {
+        let name = format!(in alloc; "{folder}{below}")?;
+        let (end, into) = read(alloc, &mut files, name.as_str(), limit)?;
+        assert_eq!(rt; end, want, "{below} up to {limit}");
+        assert_eq!(rt; into.as_slice(), bytes.as_bytes(), "{below} up to {limit}");
+    }
+    let long = format!(in alloc; "{folder}/long")?;
+    for (limit, want) in [(200_000, FileEnd::Whole), (199_999, FileEnd::TooLong)] {
+        let (end, into) = read(alloc, &mut files, long.as_str(), limit)?;
+        assert_eq!(rt; end, Ok(want), "{limit}");
+        assert_eq!(rt; into.len() as u64, limit);
+    }
+    let (end, into) = read(alloc, &mut files, "", 9)?;
+    assert_eq!(rt; end, Ok(FileEnd::Missing));
+    assert!(rt; into.is_empty());
+    fs::remove_dir_all(&rt, folder.as_str())?;
+    Ok(())
+}
