@@ -1,0 +1,359 @@
+-- A tree that is grown place by place from the listing of a value's places.
+use Rattle.std.proofs.Common.{◌≡◌, ◌≤◌, ◌<◌, ◌+◌, ◌^◌, ℕ, Bool, true, false, cond, List, [], ◌∷◌, ◌++◌, length, sum_by, is_some, decimal, refl, sym, ap, ◌∙◌, arith, length-append, append_assoc, subst}
+use Rattle.std.specs.Prelude.{⊤}
+use Rattle.std.proofs.lemmas.List.Sums.{sum_by-cons}
+use Rattle.std.proofs.lemmas.Fmt.{decimal_injective}
+use Rattle.std.specs.List.{list_all, filter_map}
+use Rattle.std.specs.Ordering.{is_eq}
+use Rattle.std.specs.Cmp.Lexicographic.{nat_list_eq_equiv, texts_ties}
+use Rattle.std.specs.declared.cmp.Ordering.TheVariants.{Less}
+use Rattle.std.specs.declared.option.Option.{Option}
+use Rattle.std.specs.declared.option.Option.TheVariants.{None, Some}
+use Rattle.serde_json.specs.Data.{Data, null, boolean, number, string, array, object, Items, no_items, item, Members, no_members, member}
+use Rattle.cp_path.specs.Text.{text_cmp}
+use Rattle.cp_model.specs.declared.row.Content.{Content}
+use Rattle.cp_model.specs.declared.row.Content.TheVariants.{Node}
+use Rattle.cp_model.specs.Place.{Label, Path, child, label_eq, path_eq, path_eq-same, path_eq_equiv, text_eq-same, strip, or_else, at_target, over_limit}
+use Rattle.cp_model.specs.Keyed as keyed
+use Rattle.cp_model.specs.Keyed.{look, Keyed}
+use Rattle.cp_model.specs.Strips.{strip_is, strip-append, strip-itself, append-nil, snoc-same}
+use Rattle.cp_model.specs.Lookups.{path_eq-append, path_eq-sym, rest_is, or_none, find-below, get-replaced, placed}
+use Rattle.cp_model.specs.Tree.{Tree, IsTree, IsRooted, weight, weight_of, text_bytes, last_bytes, most_text, most_nodes, most_weight}
+use Rattle.cp_model.specs.Sums.{below-none, len_insert_new, weight_insert_new}
+use Rattle.cp_model.specs.Rooted.{AreRows, IsUnderNode, under-child}
+use Rattle.cp_model.specs.Kept.{closed-tree}
+use Rattle.cp_tree.specs.Rows.{alone}
+use Rattle.cp_tree.specs.Fits.{tree-fits}
+use Rattle.cp_json.specs.Places.{content_of, places_below, item_places, member_places, bytes_of, weighs}
+use Rattle.cp_json.specs.JsonTrees.{held}
+use Rattle.cp_json.specs.Walks.{or_node, with_leaf, grown, items_grown, members_grown, CanPut, CanGrow, ItemsGrow, MembersGrow, AllAbove, IsOrdered, ItemsOrdered, MembersOrdered}
+
+abbrev pub Entry : Type 0
+Entry = Path × Option Content
+
+-- ---- paths that lie elsewhere
+
+path_no : (q r : Path) → strip q r ≡ None → path_eq r q ≡ false
+path_no q r h = path_eq-sym r q ∙ ap (λ z. path_eq z r) (sym (append-nil q)) ∙ path_eq-append q [] r ∙ ap (λ o. rest_is o []) h
+
+strip_child : (q : Path) (a : Label) (r : Path) → strip q r ≡ None → strip (child q a) r ≡ None
+strip_child q a r h =
+    elim (strip (child q a) r) as (λ o. strip (child q a) r ≡ o → o ≡ None) [
+      | None ↦ λ _. refl
+      | Some z ↦ λ e.
+          let at : r ≡ q ++ (a ∷ z) = strip_is (child q a) r z e ∙ append_assoc q (a ∷ []) z in
+          let is : strip q r ≡ Some (a ∷ z) = ap (strip q) at ∙ strip-append q (a ∷ z) in
+          absurd (cc)
+    ] refl
+
+strip_other : (p : Path) (a b : Label) (s : Path) → label_eq a b ≡ false → strip (child p a) (child p b ++ s) ≡ None
+strip_other [] a b s h = ap (λ x. cond x (Some s) None) h
+strip_other (x ∷ p) a b s h = ap (λ y. cond y (strip (child p a) (child p b ++ s)) None) (nat_list_eq_equiv.refl x) ∙ strip_other p a b s h
+
+strip_above : (p : Path) (a : Label) → strip (child p a) p ≡ None
+strip_above [] a = refl
+strip_above (x ∷ p) a = ap (λ y. cond y (strip (child p a) p) None) (nat_list_eq_equiv.refl x) ∙ strip_above p a
+
+longer : (q : Path) (b : Label) (s : Path) → path_eq (q ++ b ∷ s) q ≡ false
+longer q b s = path_eq-append q (b ∷ s) q ∙ ap (λ o. rest_is o (b ∷ s)) (strip-itself q)
+
+apart : (i j : ℕ) → i < j → i < 2 ^ 64 → j < 2 ^ 64 → label_eq (decimal i) (decimal j) ≡ false
+apart i j lt hi hj =
+    elim (label_eq (decimal i) (decimal j)) as (λ b. label_eq (decimal i) (decimal j) ≡ b → b ≡ false) [
+      | false ↦ λ _. refl
+      | true ↦ λ e. (let same = decimal_injective i j hi hj (text_eq-same (decimal i) (decimal j) e) in absurd (omega (arith, same, lt)))
+    ] refl
+
+less_apart : (k l : List ℕ) → text_cmp k l ≡ Less → label_eq k l ≡ false
+less_apart k l lt = texts_ties k l ∙ ap is_eq lt
+
+-- ---- places put in one after another
+
+abbrev pub inserted : Tree → List Entry → Tree
+inserted t [] = t
+inserted t (e ∷ es) = inserted (keyed.insert t e.0 (or_node e.1)) es
+
+inserted_append : (t : Tree) (es fs : List Entry) → inserted t (es ++ fs) ≡ inserted (inserted t es) fs
+inserted_append t [] fs = refl
+inserted_append t (e ∷ es) fs = inserted_append (keyed.insert t e.0 (or_node e.1)) es fs
+
+inserted_here : (t : Tree) (q : Path) (v : Content) → keyed.get (keyed.insert t q v) q ≡ Some v
+inserted_here t q v = keyed.get-insert t q v q ∙ ap (λ x. cond x (Some v) (keyed.get t q)) (path_eq_equiv.refl q)
+
+inserted_else : (t : Tree) (q : Path) (v : Content) (r : Path) → path_eq r q ≡ false → keyed.get (keyed.insert t q v) r ≡ keyed.get t r
+inserted_else t q v r h = keyed.get-insert t q v r ∙ ap (λ x. cond x (Some v) (keyed.get t r)) h
+
+under_fresh : (t : Tree) (q : Path) (v : Content) (b : Label) (s : Path) → ((z : Path) → keyed.get t (q ++ z) ≡ None) → keyed.get (keyed.insert t q v) (child q b ++ s) ≡ None
+under_fresh t q v b s f = ap (keyed.get (keyed.insert t q v)) (append_assoc q (b ∷ []) s) ∙ inserted_else t q v (q ++ b ∷ s) (longer q b s) ∙ f (b ∷ s)
+
+mutual
+  out_below : (t : Tree) (q : Path) (d : Data) (r : Path) → strip q r ≡ None → keyed.get (inserted t (places_below q d)) r ≡ keyed.get t r
+  out_below t q null r h = refl
+  out_below t q (boolean b) r h = refl
+  out_below t q (number n) r h = refl
+  out_below t q (string s) r h = refl
+  out_below t q (array ds) r h = out_items t q 0 ds r h
+  out_below t q (object ms) r h = out_members t q ms r h
+
+  out_items : (t : Tree) (q : Path) (i : ℕ) (ds : Items) (r : Path) → strip q r ≡ None → keyed.get (inserted t (item_places q i ds)) r ≡ keyed.get t r
+  out_items t q i no_items r h = refl
+  out_items t q i (item d ds) r h =
+      let c = child q (decimal i) in
+      let u = keyed.insert t c (or_node (content_of d)) in
+      let o = strip_child q (decimal i) r h in
+      ap (λ z. keyed.get z r) (inserted_append u (places_below c d) (item_places q (i + 1) ds))
+      ∙ out_items (inserted u (places_below c d)) q (i + 1) ds r h
+      ∙ out_below u c d r o
+      ∙ inserted_else t c (or_node (content_of d)) r (path_no c r o)
+
+  out_members : (t : Tree) (q : Path) (ms : Members) (r : Path) → strip q r ≡ None → keyed.get (inserted t (member_places q ms)) r ≡ keyed.get t r
+  out_members t q no_members r h = refl
+  out_members t q (member k d ms) r h =
+      let c = child q k in
+      let u = keyed.insert t c (or_node (content_of d)) in
+      let o = strip_child q k r h in
+      ap (λ z. keyed.get z r) (inserted_append u (places_below c d) (member_places q ms))
+      ∙ out_members (inserted u (places_below c d)) q ms r h
+      ∙ out_below u c d r o
+      ∙ inserted_else t c (or_node (content_of d)) r (path_no c r o)
+
+-- what lies elsewhere stays
+kept : (t : Tree) (q : Path) (d : Data) (r : Path) → strip q r ≡ None → keyed.get (inserted (keyed.insert t q (or_node (content_of d))) (places_below q d)) r ≡ keyed.get t r
+kept t q d r h = out_below (keyed.insert t q (or_node (content_of d))) q d r h ∙ inserted_else t q (or_node (content_of d)) r (path_no q r h)
+
+-- ---- each place is new, and below a node
+
+pub record IsNew (t : Tree) (e : Entry) : Type 0 where
+  pub above : Path
+  pub label : Label
+  pub is : e.0 ≡ child above label
+  pub node : keyed.get t above ≡ Some Node
+  pub new : keyed.get t e.0 ≡ None
+
+abbrev pub IsListing : Tree → List Entry → Type 0
+IsListing t [] = ⊤
+IsListing t (e ∷ es) = IsNew t e × IsListing (keyed.insert t e.0 (or_node e.1)) es
+
+listing_append : (t : Tree) (es fs : List Entry) → IsListing t es → IsListing (inserted t es) fs → IsListing t (es ++ fs)
+listing_append t [] fs h k = k
+listing_append t (e ∷ es) fs h k = (h.0, listing_append (keyed.insert t e.0 (or_node e.1)) es fs h.1 k)
+
+-- nothing stands at or below the members' places
+abbrev AllFresh : Tree → Path → Members → Type 0
+AllFresh t p no_members = ⊤
+AllFresh t p (member k d ms) = ((s : Path) → keyed.get t (child p k ++ s) ≡ None) × AllFresh t p ms
+
+all_fresh : (t : Tree) (p : Path) (ms : Members) → ((a : Label) (s : Path) → keyed.get t (child p a ++ s) ≡ None) → AllFresh t p ms
+all_fresh t p no_members f = tt
+all_fresh t p (member k d ms) f = (f k, all_fresh t p ms f)
+
+fresh_kept : (t u : Tree) (p : Path) (k : Label) (ms : Members) → AllAbove k ms → ((l : Label) (s : Path) → label_eq k l ≡ false → keyed.get u (child p l ++ s) ≡ keyed.get t (child p l ++ s)) → AllFresh t p ms → AllFresh u p ms
+fresh_kept t u p k no_members a e f = tt
+fresh_kept t u p k (member l d ms) a e f = (λ s. e l s (less_apart k l a.0) ∙ f.0 s, fresh_kept t u p k ms a.1 e f.1)
+
+mutual
+  pub listing_below : (t : Tree) (p : Path) (d : Data) → IsOrdered d → length (places_below p d) < 2 ^ 64 → keyed.get t p ≡ Some (or_node (content_of d)) → ((a : Label) (s : Path) → keyed.get t (child p a ++ s) ≡ None) → IsListing t (places_below p d)
+  listing_below t p null o l n f = tt
+  listing_below t p (boolean b) o l n f = tt
+  listing_below t p (number m) o l n f = tt
+  listing_below t p (string s) o l n f = tt
+  listing_below t p (array ds) o l n f = listing_items t p 0 ds o (omega (arith, l)) n (λ j _ _ s. f (decimal j) s)
+  listing_below t p (object ms) o l n f = listing_members t p ms o l n (all_fresh t p ms f)
+
+  listing_items : (t : Tree) (p : Path) (i : ℕ) (ds : Items) → ItemsOrdered ds → i + length (item_places p i ds) < 2 ^ 64 → keyed.get t p ≡ Some Node →
+      ((j : ℕ) → i ≤ j → j < 2 ^ 64 → (s : Path) → keyed.get t (child p (decimal j) ++ s) ≡ None) → IsListing t (item_places p i ds)
+  listing_items t p i no_items o l n f = tt
+  listing_items t p i (item d ds) o l n f =
+      let q = child p (decimal i) in
+      let v = or_node (content_of d) in
+      let u = keyed.insert t q v in
+      let here = places_below q d in
+      let rest = item_places p (i + 1) ds in
+      let size = length-append here rest in
+      let fresh : (s : Path) → keyed.get t (q ++ s) ≡ None = f i (omega arith) (omega (arith, l)) in (
+        record { above = p; label = decimal i; is = refl; node = n; new = ap (keyed.get t) (sym (append-nil q)) ∙ fresh [] },
+        listing_append u here rest
+            (listing_below u q d o.0 (omega (arith, l, size)) (inserted_here t q v) (λ b s. under_fresh t q v b s fresh))
+            (listing_items (inserted u here) p (i + 1) ds o.1 (omega (arith, l, size)) (kept t q d p (strip_above p (decimal i)) ∙ n)
+            (λ j le lt s. kept t q d (child p (decimal j) ++ s) (strip_other p (decimal i) (decimal j) s (apart i j (omega (arith, le)) (omega (arith, l)) lt)) ∙ f j (omega (arith, le)) lt s)),
+      )
+
+  listing_members : (t : Tree) (p : Path) (ms : Members) → MembersOrdered ms → length (member_places p ms) < 2 ^ 64 → keyed.get t p ≡ Some Node → AllFresh t p ms → IsListing t (member_places p ms)
+  listing_members t p no_members o l n f = tt
+  listing_members t p (member k d ms) o l n f =
+      let q = child p k in
+      let v = or_node (content_of d) in
+      let u = keyed.insert t q v in
+      let here = places_below q d in
+      let rest = member_places p ms in
+      let size = length-append here rest in (
+        record { above = p; label = k; is = refl; node = n; new = ap (keyed.get t) (sym (append-nil q)) ∙ f.0 [] },
+        listing_append u here rest
+            (listing_below u q d o.1 (omega (arith, l, size)) (inserted_here t q v) (λ b s. under_fresh t q v b s f.0))
+            (listing_members (inserted u here) p ms o.2 (omega (arith, l, size)) (kept t q d p (strip_above p k) ∙ n)
+            (fresh_kept t (inserted u here) p k ms o.0 (λ m s e. kept t q d (child p m ++ s) (strip_other p k m s e)) f.1)),
+      )
+
+-- ---- leaves added to a tree within the limits
+
+pub record IsSmall (e : Entry) : Type 0 where
+  pub holds : e.1 ≡ Some (or_node e.1)
+  pub place : over_limit (at_target e.0) ≡ false
+  pub text : text_bytes (or_node e.1) ≤ most_text
+
+abbrev pub AllSmall : List Entry → Type 0
+AllSmall [] = ⊤
+AllSmall (e ∷ es) = IsSmall e × AllSmall es
+
+abbrev pub CanPutAt : Tree → Entry → Type 0
+CanPutAt t e = (p : Path) (a : Label) → e.0 ≡ child p a → CanPut t p a e.1
+
+abbrev pub AllPut : Tree → List Entry → Type 0
+AllPut t [] = ⊤
+AllPut t (e ∷ es) = CanPutAt t e × AllPut (with_leaf t e.0 e.1) es
+
+abbrev pub leaves : Tree → List Entry → Tree
+leaves t [] = t
+leaves t (e ∷ es) = leaves (with_leaf t e.0 e.1) es
+
+leaf_is_insert : (t : Tree) (p : Path) (c : Option Content) → IsRooted t → keyed.get t p ≡ None → with_leaf t p c ≡ keyed.insert t p (or_node c)
+leaf_is_insert t p c h new =
+    keyed.same_map (with_leaf t p c) (keyed.insert t p v) (λ r. get-replaced p (alone v) t r ∙ by r (strip p r) refl ∙ sym (keyed.get-insert t p v r))
+  where
+    v : Content
+    v = or_node c
+
+    none : (s : Path) → keyed.get t (p ++ s) ≡ None
+    none s = sym (find-below p s t) ∙ ap (look s) (below-none t p (closed-tree t h) new)
+
+    at : (r z : Path) → r ≡ p ++ z → look z (alone v) ≡ cond (path_eq r p) (Some v) (keyed.get t r)
+    at r [] e = sym (ap (λ b. cond b (Some v) (keyed.get t r)) (ap (λ q. path_eq q p) (e ∙ append-nil p) ∙ path_eq_equiv.refl p))
+    at r (b ∷ z) e = sym (ap (λ b. cond b (Some v) (keyed.get t r)) (ap (λ q. path_eq q p) e ∙ longer p b z) ∙ ap (keyed.get t) e ∙ none (b ∷ z))
+
+    by : (r : Path) (o : Option Path) → strip p r ≡ o → placed o (λ s. look s (alone v)) (keyed.get t r) ≡ cond (path_eq r p) (Some v) (keyed.get t r)
+    by r None e = sym (ap (λ b. cond b (Some v) (keyed.get t r)) (path_no p r e))
+    by r (Some z) e = at r z (strip_is p r z e)
+
+leaf_rows : (v : Content) → text_bytes v ≤ most_text → AreRows (alone v)
+leaf_rows v h = record { root = refl; parents = parents; texts = texts }
+  where
+    parents : (r : Path) (a : Label) → is_some (look (r ++ a ∷ []) (alone v)) ≡ true → look r (alone v) ≡ Some Node
+    parents [] a e = absurd (cc)
+    parents (b ∷ r) a e = absurd (cc)
+
+    texts : (r : Path) (c : Content) → look r (alone v) ≡ Some c → text_bytes c ≤ most_text
+    texts [] c e = let same : v ≡ c = cc in subst (λ x. text_bytes x ≤ most_text) same h
+    texts (b ∷ r) c e = absurd (cc)
+
+leaf_tree : (t : Tree) (e : Entry) → IsTree t → IsNew t e → IsSmall e → keyed.len t + 1 ≤ most_nodes → weight t + weighs e ≤ most_weight → IsTree (with_leaf t e.0 e.1)
+leaf_tree t e h x s n w =
+    tree-fits t e.0 (alone v) h (leaf_rows v s.text) tt (subst (IsUnderNode t) (sym x.is) (under-child t x.above x.label x.node)) n
+    (omega (arith, w, sum_by-cons weight_of ([], v) [], ap bytes_of s.holds)) places
+  where
+    v : Content
+    v = or_node e.1
+
+    places : (r : Path) → is_some (look r (alone v)) ≡ true → over_limit (at_target (e.0 ++ r)) ≡ false
+    places [] i = ap (λ q. over_limit (at_target q)) (append-nil e.0) ∙ s.place
+    places (b ∷ r) i = absurd (cc)
+
+-- each can be added as a leaf, and adding them is putting them in
+pub all_put : (t : Tree) (es : List Entry) → IsTree t → IsListing t es → AllSmall es → keyed.len t + length es ≤ most_nodes → weight t + sum_by weighs es ≤ most_weight → AllPut t es × (leaves t es ≡ inserted t es)
+all_put t [] h x s n w = (tt, refl)
+all_put t (e ∷ es) h x s n w =
+    let u = with_leaf t e.0 e.1 in
+    let m = keyed.insert t e.0 (or_node e.1) in
+    let is : u ≡ m = leaf_is_insert t e.0 e.1 h.rooted x.0.new in
+    let cons = sum_by-cons weighs e es in
+    let tree : IsTree u = leaf_tree t e h x.0 s.0 (omega (arith, n)) (omega (arith, w, cons)) in
+    let weigh : weight_of (e.0, or_node e.1) ≡ weighs e = ap (λ b. 16 + last_bytes e.0 + b) (sym (ap bytes_of s.0.holds)) in
+    let rest = all_put u es tree (subst (λ z. IsListing z es) (sym is) x.1) s.1
+    (omega (arith, n, ap keyed.len is, len_insert_new t e.0 (or_node e.1) x.0.new))
+    (omega (arith, w, cons, weigh, ap weight is, weight_insert_new t e.0 (or_node e.1) x.0.new)) in (
+      (
+        λ p a k. record {
+          holds = s.0.holds;
+          node = ap (keyed.get t) (snoc-same p x.0.above a x.0.label (sym k ∙ x.0.is)) ∙ x.0.node;
+          free = ap is_some (ap (keyed.get t) (sym k) ∙ x.0.new);
+          fits = subst (λ q. IsTree (with_leaf t q e.1)) k tree;
+        },
+        rest.0,
+      ),
+      rest.1 ∙ ap (λ z. inserted z es) is,
+    )
+
+-- ---- the walk that grows the tree
+
+leaves_append : (t : Tree) (es fs : List Entry) → leaves t (es ++ fs) ≡ leaves (leaves t es) fs
+leaves_append t [] fs = refl
+leaves_append t (e ∷ es) fs = leaves_append (with_leaf t e.0 e.1) es fs
+
+put_parts : (t : Tree) (es fs : List Entry) → AllPut t (es ++ fs) → AllPut t es × AllPut (leaves t es) fs
+put_parts t [] fs h = (tt, h)
+put_parts t (e ∷ es) fs h = let q = put_parts (with_leaf t e.0 e.1) es fs h.1 in ((h.0, q.0), q.1)
+
+mutual
+  pub grown_below : (t : Tree) (p : Path) (d : Data) → grown t p d ≡ leaves t (places_below p d)
+  grown_below t p null = refl
+  grown_below t p (boolean b) = refl
+  grown_below t p (number n) = refl
+  grown_below t p (string s) = refl
+  grown_below t p (array ds) = grown_items t p 0 ds
+  grown_below t p (object ms) = grown_members t p ms
+
+  grown_items : (t : Tree) (p : Path) (i : ℕ) (ds : Items) → items_grown t p i ds ≡ leaves t (item_places p i ds)
+  grown_items t p i no_items = refl
+  grown_items t p i (item d ds) =
+      let q = child p (decimal i) in
+      let u = with_leaf t q (content_of d) in
+      ap (λ z. items_grown z p (i + 1) ds) (grown_below u q d) ∙ grown_items (leaves u (places_below q d)) p (i + 1) ds ∙ sym (leaves_append u (places_below q d) (item_places p (i + 1) ds))
+
+  grown_members : (t : Tree) (p : Path) (ms : Members) → members_grown t p ms ≡ leaves t (member_places p ms)
+  grown_members t p no_members = refl
+  grown_members t p (member k d ms) =
+      let q = child p k in
+      let u = with_leaf t q (content_of d) in
+      ap (λ z. members_grown z p ms) (grown_below u q d) ∙ grown_members (leaves u (places_below q d)) p ms ∙ sym (leaves_append u (places_below q d) (member_places p ms))
+
+mutual
+  pub can_below : (t : Tree) (p : Path) (d : Data) → AllPut t (places_below p d) → CanGrow t p d
+  can_below t p null h = tt
+  can_below t p (boolean b) h = tt
+  can_below t p (number n) h = tt
+  can_below t p (string s) h = tt
+  can_below t p (array ds) h = can_items t p 0 ds h
+  can_below t p (object ms) h = can_members t p ms h
+
+  can_items : (t : Tree) (p : Path) (i : ℕ) (ds : Items) → AllPut t (item_places p i ds) → ItemsGrow t p i ds
+  can_items t p i no_items h = tt
+  can_items t p i (item d ds) h =
+      let q = child p (decimal i) in
+      let u = with_leaf t q (content_of d) in
+      let s = put_parts u (places_below q d) (item_places p (i + 1) ds) h.1 in
+      (h.0 p (decimal i) refl, can_below u q d s.0, can_items (grown u q d) p (i + 1) ds (subst (λ z. AllPut z (item_places p (i + 1) ds)) (sym (grown_below u q d)) s.1))
+
+  can_members : (t : Tree) (p : Path) (ms : Members) → AllPut t (member_places p ms) → MembersGrow t p ms
+  can_members t p no_members h = tt
+  can_members t p (member k d ms) h =
+      let q = child p k in
+      let u = with_leaf t q (content_of d) in
+      let s = put_parts u (places_below q d) (member_places p ms) h.1 in
+      (h.0 p k refl, can_below u q d s.0, can_members (grown u q d) p ms (subst (λ z. AllPut z (member_places p ms)) (sym (grown_below u q d)) s.1))
+
+-- ---- what stands where
+
+-- what is put in goes beside what was there
+pub get_inserted : (t : Tree) (es : List Entry) → IsListing t es → list_all (λ e. is_some e.1) es ≡ true → (r : Path) → keyed.get (inserted t es) r ≡ or_else (keyed.get t r) (look r (filter_map held es))
+get_inserted t [] x s r = sym (or_none (keyed.get t r))
+get_inserted t ((q, None) ∷ es) x s r = absurd (cc)
+get_inserted t ((q, Some c) ∷ es) x s r =
+    get_inserted (keyed.insert t q c) es x.1 s r
+    ∙ ap (λ o. or_else o rest) (keyed.get-insert t q c r)
+    ∙ step (path_eq r q) refl
+  where
+    rest : Option Content
+    rest = look r (filter_map held es)
+
+    step : (b : Bool) → path_eq r q ≡ b → or_else (cond b (Some c) (keyed.get t r)) rest ≡ or_else (keyed.get t r) (cond b (Some c) rest)
+    step true e = ap (λ o. or_else o (Some c)) (sym (ap (keyed.get t) (path_eq-same r q e) ∙ x.0.new))
+    step false e = refl

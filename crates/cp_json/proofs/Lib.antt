@@ -1,0 +1,6 @@
+mod Parsing
+mod Surveying
+mod Looking
+mod Ordered
+mod Growing
+mod Fitting

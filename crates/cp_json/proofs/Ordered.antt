@@ -1,0 +1,78 @@
+-- What is read has the names of each object in order, each once.
+use Rattle.std.proofs.Common.{◌≡◌, ℕ, Bool, true, false, cond, List, refl, ap, ◌∙◌, subst}
+use Rattle.std.proofs.lemmas.Cmp.{nat_list_cmp_total}
+use Rattle.std.specs.Ordering.{match_ordering, ordering_reverse}
+use Rattle.std.specs.Option.{option_map, option_and_then}
+use Rattle.std.specs.Str.{is_utf8}
+use Rattle.std.specs.declared.cmp.Ordering.TheVariants.{Less, Equal, Greater}
+use Rattle.std.specs.declared.option.Option.{Option}
+use Rattle.std.specs.declared.option.Option.TheVariants.{None, Some}
+use Rattle.cp_path.specs.Text.{text_cmp}
+use Rattle.json.specs.Json as json
+use Rattle.json.specs.Lex.{tokens}
+use Rattle.serde_json.specs.Data.{Data, null, boolean, number, string, array, object, Items, no_items, item, Members, no_members, member, put}
+use Rattle.serde_json.specs.Read.{number_of, of_json, of_items, of_members, max_depth, read}
+use Rattle.cp_json.specs.JsonTrees.{value_of}
+use Rattle.cp_json.specs.Walks.{AllAbove, IsOrdered, ItemsOrdered, MembersOrdered}
+
+map_parts : {A B : Type 0} (f : A → B) (o : Option A) (b : B) → option_map f o ≡ Some b → (a : A) × ((o ≡ Some a) × (f a ≡ b))
+map_parts f None b h = absurd (cc)
+map_parts f (Some a) b h = (a, (refl, cc))
+
+then_parts : {A B : Type 0} (f : A → Option B) (o : Option A) (b : B) → option_and_then f o ≡ Some b → (a : A) × ((o ≡ Some a) × (f a ≡ Some b))
+then_parts f None b h = absurd (cc)
+then_parts f (Some a) b h = (a, (refl, h))
+
+above_all : (k l : List ℕ) (ms : Members) → text_cmp k l ≡ Less → AllAbove l ms → AllAbove k ms
+above_all k l no_members lt h = tt
+above_all k l (member m d ms) lt h = (nat_list_cmp_total.trans k l m lt h.0, above_all k l ms lt h.1)
+
+above_put : (l k : List ℕ) (d : Data) (ms : Members) → text_cmp l k ≡ Less → AllAbove l ms → AllAbove l (put k d ms)
+above_put l k d no_members lt h = (lt, tt)
+above_put l k d (member m e ms) lt h =
+    elim (text_cmp k m) as (λ o. AllAbove l (match_ordering o (member k d (member m e ms)) (member m d ms) (member m e (put k d ms)))) [
+      | Less ↦ (lt, h)
+      | Equal ↦ (h.0, h.1)
+      | Greater ↦ (h.0, above_put l k d ms lt h.1)
+    ]
+
+put_ordered : (k : List ℕ) (d : Data) (ms : Members) → IsOrdered d → MembersOrdered ms → MembersOrdered (put k d ms)
+put_ordered k d no_members od om = (tt, od, tt)
+put_ordered k d (member m e ms) od om =
+    elim (text_cmp k m) as (λ o. text_cmp k m ≡ o → MembersOrdered (match_ordering o (member k d (member m e ms)) (member m d ms) (member m e (put k d ms)))) [
+      | Less ↦ λ lt. ((lt, above_all k m ms lt om.0), od, om)
+      | Equal ↦ λ _. (om.0, od, om.2)
+      | Greater ↦ λ gt. (above_put m k d ms (nat_list_cmp_total.antisymm m k ∙ ap ordering_reverse gt) om.0, om.1, put_ordered k d ms od om.2)
+    ] refl
+
+mutual
+  json_ordered : (j : json.Json) (d : Data) → of_json j ≡ Some d → IsOrdered d
+  json_ordered json.null d h = let e : null ≡ d = cc in subst IsOrdered e tt
+  json_ordered (json.boolean b) d h = let e : boolean b ≡ d = cc in subst IsOrdered e tt
+  json_ordered (json.number s) d h = let m = map_parts number (number_of s) d h in subst IsOrdered m.1.1 tt
+  json_ordered (json.string s) d h = let e : string s ≡ d = cc in subst IsOrdered e tt
+  json_ordered (json.array js) d h = let m = map_parts array (of_items js) d h in subst IsOrdered m.1.1 (items_ordered js m.0 m.1.0)
+  json_ordered (json.object ms) d h = let m = map_parts object (of_members ms no_members) d h in subst IsOrdered m.1.1 (members_ordered ms no_members m.0 tt m.1.0)
+
+  items_ordered : (js : json.Items) (ds : Items) → of_items js ≡ Some ds → ItemsOrdered ds
+  items_ordered json.no_items ds h = let e : no_items ≡ ds = cc in subst ItemsOrdered e tt
+  items_ordered (json.item j js) ds h =
+      let a = then_parts (λ d. option_map (item d) (of_items js)) (of_json j) ds h in
+      let b = map_parts (item a.0) (of_items js) ds a.1.1 in
+      subst ItemsOrdered b.1.1 (json_ordered j a.0 a.1.0, items_ordered js b.0 b.1.0)
+
+  members_ordered : (js : json.Members) (found ms : Members) → MembersOrdered found → of_members js found ≡ Some ms → MembersOrdered ms
+  members_ordered json.no_members found ms o h = let e : found ≡ ms = cc in subst MembersOrdered e o
+  members_ordered (json.member k j js) found ms o h =
+      let a = then_parts (λ d. of_members js (put k d found)) (of_json j) ms h in
+      members_ordered js (put k a.0 found) ms (put_ordered k a.0 found (json_ordered j a.0 a.1.0) o) a.1.1
+
+cond_some : {A : Type 0} (b : Bool) (o : Option A) (a : A) → cond b o None ≡ Some a → o ≡ Some a
+cond_some true o a h = h
+cond_some false o a h = absurd (cc)
+
+-- a value that is read is in order
+pub read_ordered : (text : List ℕ) (d : Data) → value_of text ≡ Some d → IsOrdered d
+read_ordered text d h =
+    let a = then_parts of_json (option_and_then (λ p. json.if_last p.0 p.1) (json.value max_depth (tokens text))) d (cond_some (is_utf8 text) (read text) d h) in
+    json_ordered a.0 d a.1.1

@@ -1,0 +1,4 @@
+pub mod Places
+pub mod JsonTrees
+pub mod Surveys
+pub mod Walks

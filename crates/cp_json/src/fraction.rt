@@ -1,0 +1,120 @@
+//! The first number that isn't whole.
+ghost use Rattle.std.specs.Prelude.{◌≡◌, ◌≤◌, [], ◌∷◌, ◌++◌, IfOk, OnOk, length, false, is_some};
+ghost use Rattle.serde_json.specs.View.{view, items_view, members_view};
+ghost use Rattle.cp_model.specs.Place.{child};
+ghost use Rattle.cp_json.specs.Places.{content_of, places};
+ghost use Rattle.cp_json.specs.JsonTrees.{with_place, earlier, first_from};
+ghost use Rattle.cp_json.specs.Walks.{IsNear, AreNear, ItemsNear, MembersNear, below_first, items_first, members_first};
+
+use crate::value::{index_label, is_whole, label_of};
+use cp_path::{Label, Path, PathFault};
+use serde_json::{Map, Value};
+use std::alloc::{AllocError, Global};
+
+/// The place one label further down. Costs the path's bytes.
+pub(crate) fn child_of(at: &Path, label: Label) -> Result<Path, AllocError>
+    requires { length at.now ≤ 63 }
+    ensures { IfOk result (λ p. p ≡ child at.now label) }
+{
+    let mut below = at.clone()?;
+    match below.push(label) {
+        Ok(()) => Ok(below),
+        Err(PathFault::TooDeep) => unreachable!(),
+        Err(_) => Err(AllocError),
+    }
+}
+
+/// The earlier of two paths, kept as a path of its own.
+fn keep_earlier(first: &mut Option<Path>, at: &Path) -> Result<(), AllocError>
+    ensures { OnOk result (first.new ≡ Some (earlier first.old at.now)) }
+{
+    let is_earlier = match first {
+        Some(found) => *at < *found,
+        None => true,
+    };
+    if is_earlier {
+        *first = Some(at.clone()?);
+    }
+    Ok(())
+}
+
+fn look_at(first: &mut Option<Path>, at: &Path, value: &Value) -> Result<(), AllocError>
+    ensures { OnOk result (first.new ≡ with_place first.old at.now (content_of (view value.now))) }
+{
+    if is_whole(value) {
+        return Ok(());
+    }
+    keep_earlier(first, at)
+}
+
+/// The first place, in the order of places, of a number that isn't whole.
+/// Costs the places, and the bytes of their paths.
+#[tactic(auto, using(crate::proofs::Looking::first_is))]
+pub(crate) fn first_fraction(alloc: Global, value: &Value) -> Result<Option<Path>, AllocError>
+    requires near { AreNear [] (view value.now) }
+    ensures { IfOk result (λ o. o ≡ first_from None (places (view value.now))) }
+{
+    let mut first = None;
+    let root = Path::root(alloc);
+    look_at(&mut first, &root, value)?;
+    look_below(alloc, &mut first, &root, value)?;
+    Ok(first)
+}
+
+#[cycle(look)]
+fn look_below(
+    alloc: Global,
+    first: &mut Option<Path>,
+    at: &Path,
+    value: &Value,
+) -> Result<(), AllocError>
+    requires near { AreNear at.now (view value.now) }
+    ensures { OnOk result (first.new ≡ below_first first.old at.now (view value.now)) }
+{
+    match value {
+        Value::Array(items) => look_at_items(alloc, first, at, items),
+        Value::Object(members) => look_at_members(alloc, first, at, members),
+        _ => Ok(()),
+    }
+}
+
+#[cycle(look)]
+fn look_at_items(
+    alloc: Global,
+    first: &mut Option<Path>,
+    at: &Path,
+    items: &Vec<Value>,
+) -> Result<(), AllocError>
+    requires near { ItemsNear at.now 0 (items_view items.now.items) }
+    ensures { OnOk result (first.new ≡ items_first first.old at.now 0 (items_view items.now.items)) }
+{
+    let mut i = 0u64;
+    for item in items {
+        let name = index_label(alloc, i)?;
+        let label = label_of(alloc, name.as_str())?;
+        let below = child_of(at, label)?;
+        look_at(first, &below, item)?;
+        look_below(alloc, first, &below, item)?;
+        i += 1;
+    }
+    Ok(())
+}
+
+#[cycle(look)]
+fn look_at_members(
+    alloc: Global,
+    first: &mut Option<Path>,
+    at: &Path,
+    members: &Map<String, Value>,
+) -> Result<(), AllocError>
+    requires near { MembersNear at.now (members_view members.now.entries) }
+    ensures { OnOk result (first.new ≡ members_first first.old at.now (members_view members.now.entries)) }
+{
+    for (key, member) in members.iter() {
+        let label = label_of(alloc, key.as_str())?;
+        let below = child_of(at, label)?;
+        look_at(first, &below, member)?;
+        look_below(alloc, first, &below, member)?;
+    }
+    Ok(())
+}

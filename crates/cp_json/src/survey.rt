@@ -1,0 +1,131 @@
+//! What a value's places reach: looked at before any of them is kept.
+ghost use Rattle.std.specs.Prelude.{◌≡◌, ◌<◌, ◌^◌, IfOk, OnOk, length};
+ghost use Rattle.serde_json.specs.View.{view, items_view, members_view};
+ghost use Rattle.cp_json.specs.Places.{content_of};
+ghost use Rattle.cp_json.specs.Surveys.{root_spot, child_spot, none_seen, survey_of, noted, below_noted, items_noted, members_noted};
+
+use crate::value::{index_label, is_whole, text_bytes};
+use serde_json::{Map, Value};
+use std::alloc::{AllocError, Global};
+
+/// Where a place lies: its labels, its size with that of the name, and the bytes of its last label.
+#[derive(Clone, Copy)]
+pub(crate) struct Spot {
+    pub(crate) depth: u64,
+    pub(crate) size: u64,
+    pub(crate) last: u64,
+}
+
+/// The greatest numbers of any place, the number of places, their weight, and whether each number is whole.
+#[derive(Clone, Copy)]
+pub(crate) struct Survey {
+    pub(crate) last: u64,
+    pub(crate) depth: u64,
+    pub(crate) size: u64,
+    pub(crate) text: u64,
+    pub(crate) places: u64,
+    pub(crate) weight: u64,
+    pub(crate) whole: bool,
+}
+
+impl Spot {
+    fn child(self, label: &str) -> Spot
+        ensures { result ≡ child_spot self (length label.now) }
+    {
+        let last = label.len() as u64;
+        Spot {
+            depth: self.depth.saturating_add(1),
+            size: self.size.saturating_add(last).saturating_add(1),
+            last,
+        }
+    }
+}
+
+impl Survey {
+    /// That of a value whose root has a name of so many bytes. Costs the places and the bytes of their labels.
+    pub(crate) fn of(alloc: Global, name: &str, value: &Value) -> Result<Survey, AllocError>
+        ensures { IfOk result (λ s. s ≡ survey_of (length name.now) (view value.now)) }
+    {
+        let mut seen = Survey {
+            last: 0,
+            depth: 0,
+            size: 0,
+            text: 0,
+            places: 0,
+            weight: 0,
+            whole: true,
+        };
+        let root = Spot {
+            depth: 0,
+            size: name.len() as u64,
+            last: 0,
+        };
+        seen.note(root, value);
+        note_below(alloc, &mut seen, root, value)?;
+        Ok(seen)
+    }
+
+    fn note(&mut self, at: Spot, value: &Value)
+        ensures { self.new ≡ noted at (content_of (view value.now)) self.old }
+    {
+        let bytes = text_bytes(value);
+        let is_whole = is_whole(value);
+        let weight = self.weight.saturating_add(16).saturating_add(at.last);
+        self.last = self.last.max(at.last);
+        self.depth = self.depth.max(at.depth);
+        self.size = self.size.max(at.size);
+        self.text = self.text.max(bytes);
+        self.places = self.places.saturating_add(1);
+        self.weight = weight.saturating_add(bytes);
+        self.whole = self.whole && is_whole;
+    }
+}
+
+/// Notes the places below that of the value.
+#[cycle(note)]
+fn note_below(alloc: Global, seen: &mut Survey, at: Spot, value: &Value) -> Result<(), AllocError>
+    ensures { OnOk result (seen.new ≡ below_noted at (view value.now) seen.old) }
+{
+    match value {
+        Value::Array(items) => note_items(alloc, seen, at, items),
+        Value::Object(members) => note_members(alloc, seen, at, members),
+        _ => Ok(()),
+    }
+}
+
+#[cycle(note)]
+fn note_items(
+    alloc: Global,
+    seen: &mut Survey,
+    at: Spot,
+    items: &Vec<Value>,
+) -> Result<(), AllocError>
+    ensures { OnOk result (seen.new ≡ items_noted at 0 (items_view items.now.items) seen.old) }
+{
+    let mut i = 0u64;
+    for item in items {
+        let label = index_label(alloc, i)?;
+        let below = at.child(label.as_str());
+        seen.note(below, item);
+        note_below(alloc, seen, below, item)?;
+        i += 1;
+    }
+    Ok(())
+}
+
+#[cycle(note)]
+fn note_members(
+    alloc: Global,
+    seen: &mut Survey,
+    at: Spot,
+    members: &Map<String, Value>,
+) -> Result<(), AllocError>
+    ensures { OnOk result (seen.new ≡ members_noted at (members_view members.now.entries) seen.old) }
+{
+    for (key, member) in members.iter() {
+        let below = at.child(key.as_str());
+        seen.note(below, member);
+        note_below(alloc, seen, below, member)?;
+    }
+    Ok(())
+}
