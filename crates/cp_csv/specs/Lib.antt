@@ -1,0 +1,2 @@
+pub mod CsvTrees
+pub mod Steps

@@ -1,0 +1,107 @@
+-- Words on the steps by which a CSV text is read.
+use Rattle.std.specs.Prelude.{◌≡◌, ⊤, ℕ, suc, ◌+◌, ◌<◌, ◌≤◌, ◌⊎◌, true, false, List, [], ◌∷◌, length, if◌then◌else◌, Result, Ok, Err}
+use Rattle.std.specs.declared.option.Option.{Option}
+use Rattle.std.specs.declared.option.Option.TheVariants.{None, Some}
+use Rattle.std.specs.Borrow.{Bor}
+use Rattle.std.specs.Option.{unwrap_or}
+use Rattle.csv.specs.Machine.{ends_at_end}
+use Rattle.csv.specs.Reading.{Ready, records_from, default_config, source_of, owned_rows_reader, owned_rows_left, reader_config, reader_state, reader_trim, is_flexible}
+use Rattle.csv.specs.Records.{field_at}
+use Rattle.csv.specs.declared.parser.State.{State}
+use Rattle.csv.specs.declared.reader.Trim.TheVariants as trim
+use Rattle.csv.specs.declared.iter.ByteRecordsIntoIter.{ByteRecordsIntoIter}
+use Rattle.csv.specs.declared.error.ErrorKind.{ErrorKind}
+use Rattle.csv.specs.declared.error.ErrorKind.TheVariants as kind
+use Rattle.cp_model.specs.Place.{Label, Path, label_eq, option_map}
+use Rattle.cp_model.specs.Subtrees.{is_there}
+use Rattle.cp_model.specs.Tree.{Tree}
+use Rattle.cp_tree.specs.Rows.{path_size}
+use Rattle.cp_model.specs.Keyed as keyed
+use Rattle.cp_model.specs.declared.row.Content.TheVariants.{Node}
+use Rattle.std.specs.List.{list_any}
+use Rattle.cp_csv.specs.CsvTrees.{Fields, field_under, repeated, is_long_label}
+use Rattle.cp_csv.specs.declared.fault.CsvFault.{CsvFault}
+use Rattle.cp_csv.specs.declared.fault.CsvFault.TheVariants.{Memory}
+
+-- ---- records
+
+-- the errors that a read of records over a slice may end with
+abbrev pub IsIoOrMemory : ErrorKind → Type 0
+IsIoOrMemory (kind.Io e) = ⊤
+IsIoOrMemory kind.OutOfMemory = ⊤
+IsIoOrMemory (kind.UnequalLengths pos expected len) = ⊥
+IsIoOrMemory (kind.Utf8 pos err) = ⊥
+IsIoOrMemory (kind.Serialize text) = ⊥
+IsIoOrMemory (kind.Deserialize pos err) = ⊥
+
+-- the bytes of a slice are known
+abbrev pub known : Bor (List ℕ) → Option (List ℕ)
+known s = Some s.now
+
+-- all records of the bytes, from a state
+unfoldable pub all_from : State → List ℕ → List Fields
+all_from s xs = records_from default_config (length xs + 1) s xs
+
+-- the records that are left to be read
+abbrev pub left : ByteRecordsIntoIter (Bor (List ℕ)) → List Fields
+left it = all_from (reader_state (owned_rows_reader it)) (unwrap_or (source_of known (owned_rows_reader it)) [])
+
+-- the next read gives the next record, and nothing was read of it
+pub record IsOpen (it : ByteRecordsIntoIter (Bor (List ℕ))) : Type 0 where
+  pub turns : 0 < owned_rows_left it
+  pub plain : reader_trim (owned_rows_reader it) ≡ trim.None
+  pub flexible : is_flexible (owned_rows_reader it) ≡ true
+  pub config : reader_config (owned_rows_reader it) ≡ default_config
+  pub ready : Ready (owned_rows_reader it)
+  pub between : ends_at_end (reader_state (owned_rows_reader it)) ≡ false
+  pub bytes : (y : List ℕ) × (source_of known (owned_rows_reader it) ≡ Some y)
+
+-- ---- refusals
+
+-- the answer is the refusal, if there is one, but for want of memory
+abbrev pub Tells : {X : Type 0} → Result X CsvFault → Option CsvFault → Type 0
+Tells (Ok x) o = o ≡ None
+Tells (Err e) o = (e ≡ Memory) ⊎ (o ≡ Some e)
+
+-- ---- columns
+
+-- the first column with this header, counted from 0
+abbrev pub column_of : Label → List Label → Option ℕ
+column_of k [] = None
+column_of k (h ∷ hs) = if label_eq k h then Some 0 else option_map suc (column_of k hs)
+
+-- the header of the column that names the rows
+abbrev pub key_of : List Label → Option ℕ → Option Label
+key_of headers None = None
+key_of headers (Some i) = field_at headers i
+
+-- the field of that column is the one under its header
+abbrev pub IsKeyed : List Label → Option ℕ → Type 0
+IsKeyed headers None = ⊤
+IsKeyed headers (Some i) = (k : Label) × (field_at headers i ≡ Some k) × ((fs : Fields) → length fs ≡ length headers → field_at fs i ≡ Some (field_under k headers fs))
+
+-- the headers are short and differ, and one of them is the key, if there is one
+pub record IsColumns (headers : List Label) (place : Option ℕ) : Type 0 where
+  pub short : list_any is_long_label headers ≡ false
+  pub apart : repeated [] 1 headers ≡ None
+  pub keyed : IsKeyed headers place
+
+-- ---- places
+
+-- the row is a node, and nothing stands below it under these headers, which differ
+pub record IsBare (t : Tree) (row : Label) (headers : List Label) : Type 0 where
+  pub before : List Label
+  pub column : ℕ
+  pub apart : repeated before column headers ≡ None
+  pub free : (h : Label) → list_any (label_eq h) before ≡ false → is_there t (row ∷ h ∷ []) ≡ false
+  pub node : keyed.get t (row ∷ []) ≡ Some Node
+
+-- every place has at most two labels
+abbrev pub IsShallow : Tree → Type 0
+IsShallow t = (p : Path) → is_there t p ≡ true → (length p ≤ 2) × (path_size p ≤ 512)
+
+-- what the fields weigh under their headers
+abbrev pub fields_weight : List Label → Fields → ℕ
+fields_weight [] fs = 0
+fields_weight (h ∷ hs) [] = 0
+fields_weight (h ∷ hs) (f ∷ fs) = 16 + length h + length f + fields_weight hs fs

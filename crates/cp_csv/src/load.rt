@@ -1,0 +1,92 @@
+ghost use Rattle.std.specs.Prelude.{◌≡◌, ◌<◌, ◌≤◌, ◌^◌, ◌⊎◌, [], false, true, Ok, Err, IfOk, IfErr, OnOk};
+ghost use Rattle.std.specs.declared.option.Option.TheVariants.{Some};
+ghost use Rattle.csv.specs.Records.{fields_of};
+ghost use Rattle.cp_model.specs.Keyed.{get, len};
+ghost use Rattle.cp_model.specs.Place.{Path, over_limit, option_map};
+ghost use Rattle.cp_model.specs.Subtrees.{is_there};
+ghost use Rattle.cp_model.specs.declared.row.Content.TheVariants.{Node};
+ghost use Rattle.cp_csv.specs.CsvTrees.{Reads, csv_tree, row_fault, row_label, rows_tree, with_row};
+ghost use Rattle.cp_csv.specs.Steps.{IsColumns, IsOpen, IsShallow, Tells, key_of, left};
+ghost use Rattle.cp_csv.specs.declared.fault.CsvFault.TheVariants.{Memory};
+
+use crate::columns::{Columns, columns_of};
+use crate::fault::CsvFault;
+use crate::place::put_row;
+use crate::records::{next_record, records_of};
+use crate::row::row_of;
+use cp_model::Content;
+use cp_path::{Label, Name};
+use cp_tree::TreeRep;
+use csv::{ByteRecord, ByteRecordsIntoIter};
+use std::alloc::Global;
+
+/// Puts the record into the tree as the row of this number, if it is fit. Costs a search for each field.
+fn add_row<R: TreeRep>(
+    alloc: Global,
+    columns: &Columns,
+    number: u64,
+    raw: ByteRecord,
+    tree: &mut R,
+) -> Result<(), CsvFault>
+    requires columns { IsColumns columns.now.labels.items columns.now.key }
+    requires root { get (R.contents tree.old) [] ≡ Some Node }
+    requires shallow { IsShallow (R.contents tree.old) }
+    ensures put { OnOk result (R.contents tree.new ≡ with_row (row_label columns.now.labels.items (key_of columns.now.labels.items columns.now.key) number (fields_of raw)) columns.now.labels.items (fields_of raw) (R.contents tree.old)) }
+    ensures told { Tells result (row_fault columns.now.labels.items (key_of columns.now.labels.items columns.now.key) number (fields_of raw) (R.contents tree.old)) }
+    ensures root { OnOk result (get (R.contents tree.new) [] ≡ Some Node) }
+    ensures grows { OnOk result (len (R.contents tree.old) < len (R.contents tree.new)) }
+    ensures shallow { OnOk result (IsShallow (R.contents tree.new)) }
+{
+    let row = row_of(alloc, columns, number, raw)?;
+    put_row(alloc, columns, number, &row, tree)?;
+    Ok(())
+}
+
+/// Puts the rows into the tree one after the other.
+fn put_rows<R: TreeRep>(
+    alloc: Global,
+    columns: &Columns,
+    records: &mut ByteRecordsIntoIter<&[u8]>,
+    tree: &mut R,
+) -> Result<(), CsvFault>
+    requires open { IsOpen records.old }
+    requires columns { IsColumns columns.now.labels.items columns.now.key }
+    requires root { get (R.contents tree.old) [] ≡ Some Node }
+    requires shallow { IsShallow (R.contents tree.old) }
+    ensures put { OnOk result (rows_tree columns.now.labels.items (key_of columns.now.labels.items columns.now.key) 1 (left records.old) (R.contents tree.old) ≡ Ok (R.contents tree.new)) }
+    ensures told { IfErr result (λ e. (e ≡ Memory) ⊎ (rows_tree columns.now.labels.items (key_of columns.now.labels.items columns.now.key) 1 (left records.old) (R.contents tree.old) ≡ Err e)) }
+    ensures shallow { OnOk result (IsShallow (R.contents tree.new)) }
+{
+    let mut number = 0;
+    while let Some(raw) = next_record(records)? {
+        let _nodes = tree.count();
+        number += 1;
+        add_row(alloc, columns, number, raw, tree)?;
+    }
+    Ok(())
+}
+
+/// The tree of a CSV text that is loaded under `name`, its rows named by the key column, or else numbered. The first
+/// record is the header, and each later one a row below the root, with its fields as texts under their headers.
+/// Costs the text's bytes, and for each field a search among the rows and among the headers. A text that can't be read
+/// for want of memory is refused with `Memory`, and so would be one whose reader fails, which a slice never does.
+pub fn tree_of_csv<R: TreeRep>(
+    alloc: Global,
+    name: &Name,
+    bytes: &[u8],
+    key: Option<&Label>,
+) -> Result<R, CsvFault>
+    ensures read { Reads R.contents result (csv_tree bytes.now (option_map (λ k. k.now) key.entry)) }
+    ensures places { IfOk result (λ t. (p : Path) → is_there (R.contents t) p ≡ true → over_limit (record { db = name.now; path = p }) ≡ false) }
+{
+    let _short = name.as_str();
+    let mut records = records_of(alloc, bytes);
+    let header = match next_record(&mut records)? {
+        Some(header) => header,
+        None => return Err(CsvFault::NoHeader),
+    };
+    let columns = columns_of(alloc, header, key)?;
+    let mut tree = R::single(alloc, &Content::Node)?;
+    put_rows(alloc, &columns, &mut records, &mut tree)?;
+    Ok(tree)
+}
