@@ -8,10 +8,11 @@ use Rattle.cp_model.specs.declared.literal.Literal.{Literal}
 use Rattle.cp_model.specs.declared.op.Op.TheVariants.{Ins, Del, Copy}
 use Rattle.cp_model.specs.declared.refusal.Refusal.{Refusal}
 use Rattle.cp_model.specs.declared.refusal.Refusal.TheVariants.{LabelThere, NoLabel, NoOrigin, NoPlace, NoSource, ReadOnly, TooDeep}
-use Rattle.cp_model.specs.Place.{Label, child, below_place, in_target}
+use Rattle.cp_model.specs.Place.{Label, Path, child, below_place, in_target}
 use Rattle.cp_model.specs.Subtrees.{below, is_there, replaced}
 use Rattle.cp_model.specs.Literals.{literal_rows}
-use Rattle.cp_model.specs.Tree.{Tree, refusal, cases_of, changed, first_case, at_node, reaches_over, limits_of, origin_there, taken, database}
+use Rattle.cp_engine.specs.Reaching.{copied_cases}
+use Rattle.cp_model.specs.Tree.{Tree, Source, refusal, cases_of, changed, first_case, at_node, reaches_over, limits_of, origin_there, taken, database}
 
 -- the first case of more cases is that of the first ones, if one of them applies
 first-of : (xs ys : List (Bool × Refusal)) (r : Refusal) → first_case xs ≡ Some r → first_case (xs ++ ys) ≡ Some r
@@ -32,14 +33,14 @@ first-behind (x ∷ xs) ys h =
     ] h
 
 -- a deletion at what isn't a node is refused for that
-pub del-refused : (t : Tree) (a : Label) (p : Loc) (r : Refusal) → first_case (at_node t p) ≡ Some r → refusal [] t (Del a p) ≡ Some r
+pub del-refused : (ss : List Source) (t : Tree) (a : Label) (p : Loc) (r : Refusal) → first_case (at_node t p) ≡ Some r → refusal ss t (Del a p) ≡ Some r
 unfolding refusal cases_of
-del-refused t a p r h = first-of (at_node t p) ((not (is_there t (child p.path a)), NoLabel) ∷ []) r h
+del-refused ss t a p r h = first-of (at_node t p) ((not (is_there t (child p.path a)), NoLabel) ∷ []) r h
 
 -- a deletion at a node is decided by its label
-pub del-decided : (t : Tree) (a : Label) (p : Loc) → first_case (at_node t p) ≡ None → refusal [] t (Del a p) ≡ first_case ((not (is_there t (child p.path a)), NoLabel) ∷ [])
+pub del-decided : (ss : List Source) (t : Tree) (a : Label) (p : Loc) → first_case (at_node t p) ≡ None → refusal ss t (Del a p) ≡ first_case ((not (is_there t (child p.path a)), NoLabel) ∷ [])
 unfolding refusal cases_of
-del-decided t a p h = first-behind (at_node t p) ((not (is_there t (child p.path a)), NoLabel) ∷ []) h
+del-decided ss t a p h = first-behind (at_node t p) ((not (is_there t (child p.path a)), NoLabel) ∷ []) h
 
 -- the cases of an insertion at a free label
 abbrev ins_limits : Tree → Loc → Label → Literal → List (Bool × Refusal)
@@ -50,14 +51,14 @@ abbrev ins_cases : Tree → Loc → Label → Literal → List (Bool × Refusal)
 ins_cases t p a l = (is_there t (child p.path a), LabelThere) ∷ ins_limits t p a l
 
 -- an insertion into what isn't a node is refused for that
-pub ins-refused : (t : Tree) (p : Loc) (a : Label) (l : Literal) (r : Refusal) → first_case (at_node t p) ≡ Some r → refusal [] t (Ins p a l) ≡ Some r
+pub ins-refused : (ss : List Source) (t : Tree) (p : Loc) (a : Label) (l : Literal) (r : Refusal) → first_case (at_node t p) ≡ Some r → refusal ss t (Ins p a l) ≡ Some r
 unfolding refusal cases_of changed
-ins-refused t p a l r h = first-of (at_node t p) (ins_cases t p a l) r h
+ins-refused ss t p a l r h = first-of (at_node t p) (ins_cases t p a l) r h
 
 -- an insertion into a node is decided by the other cases
-ins-decided : (t : Tree) (p : Loc) (a : Label) (l : Literal) → first_case (at_node t p) ≡ None → refusal [] t (Ins p a l) ≡ first_case (ins_cases t p a l)
+ins-decided : (ss : List Source) (t : Tree) (p : Loc) (a : Label) (l : Literal) → first_case (at_node t p) ≡ None → refusal ss t (Ins p a l) ≡ first_case (ins_cases t p a l)
 unfolding refusal cases_of changed
-ins-decided t p a l h = first-behind (at_node t p) (ins_cases t p a l) h
+ins-decided ss t p a l h = first-behind (at_node t p) (ins_cases t p a l) h
 
 -- a case that applies
 pub case-is : (b : Bool) (r : Refusal) (cs : List (Bool × Refusal)) → b ≡ true → first_case ((b, r) ∷ cs) ≡ Some r
@@ -67,73 +68,71 @@ case-is b r cs h = ap (λ x. if x then Some r else first_case cs) h
 pub case-not : (b : Bool) (r : Refusal) (cs : List (Bool × Refusal)) → b ≡ false → first_case ((b, r) ∷ cs) ≡ first_case cs
 case-not b r cs h = ap (λ x. if x then Some r else first_case cs) h
 
--- the cases of a copy from a place that is there
-abbrev copy_limits : Tree → Loc → Loc → List (Bool × Refusal)
-copy_limits t q p = (reaches_over p (below q.path t), TooDeep) ∷ limits_of (replaced p.path (below q.path t) t)
-
--- the cases of a copy onto a place of the tree, from this tree
+-- the cases of a copy onto a place of the tree, from this tree, if there is one
 abbrev copy_cases : Tree → Loc → Loc → Option Tree → List (Bool × Refusal)
 copy_cases t q p o = origin_there o q.path ++ (reaches_over p (taken o q.path), TooDeep) ∷ limits_of (replaced p.path (taken o q.path) t)
 
 -- a copy onto a place elsewhere is refused
-pub copy-elsewhere : (t : Tree) (q p : Loc) → in_target p ≡ false → refusal [] t (Copy q p) ≡ Some ReadOnly
+pub copy-elsewhere : (ss : List Source) (t : Tree) (q p : Loc) → in_target p ≡ false → refusal ss t (Copy q p) ≡ Some ReadOnly
 unfolding refusal cases_of changed
-copy-elsewhere t q p h = case-is (not (in_target p)) ReadOnly ((not (is_there t p.path), NoPlace) ∷ copy_cases t q p (database [] t q)) (ap not h)
+copy-elsewhere ss t q p h = case-is (not (in_target p)) ReadOnly ((not (is_there t p.path), NoPlace) ∷ copy_cases t q p (database ss t q)) (ap not h)
 
 -- a copy onto a place that isn't there is refused
-pub copy-nowhere : (t : Tree) (q p : Loc) → in_target p ≡ true → is_there t p.path ≡ false → refusal [] t (Copy q p) ≡ Some NoPlace
+pub copy-nowhere : (ss : List Source) (t : Tree) (q p : Loc) → in_target p ≡ true → is_there t p.path ≡ false → refusal ss t (Copy q p) ≡ Some NoPlace
 unfolding refusal cases_of changed
-copy-nowhere t q p h i =
-    case-not (not (in_target p)) ReadOnly ((not (is_there t p.path), NoPlace) ∷ copy_cases t q p (database [] t q)) (ap not h)
-    ∙ case-is (not (is_there t p.path)) NoPlace (copy_cases t q p (database [] t q)) (ap not i)
+copy-nowhere ss t q p h i =
+    case-not (not (in_target p)) ReadOnly ((not (is_there t p.path), NoPlace) ∷ copy_cases t q p (database ss t q)) (ap not h)
+    ∙ case-is (not (is_there t p.path)) NoPlace (copy_cases t q p (database ss t q)) (ap not i)
 
 -- a copy onto a place that is there is decided by the other cases
-copy-decided : (t : Tree) (q p : Loc) → in_target p ≡ true → is_there t p.path ≡ true → refusal [] t (Copy q p) ≡ first_case (copy_cases t q p (database [] t q))
+copy-decided : (ss : List Source) (t : Tree) (q p : Loc) → in_target p ≡ true → is_there t p.path ≡ true → refusal ss t (Copy q p) ≡ first_case (copy_cases t q p (database ss t q))
 unfolding refusal cases_of changed
-copy-decided t q p h i =
-    case-not (not (in_target p)) ReadOnly ((not (is_there t p.path), NoPlace) ∷ copy_cases t q p (database [] t q)) (ap not h)
-    ∙ case-not (not (is_there t p.path)) NoPlace (copy_cases t q p (database [] t q)) (ap not i)
+copy-decided ss t q p h i =
+    case-not (not (in_target p)) ReadOnly ((not (is_there t p.path), NoPlace) ∷ copy_cases t q p (database ss t q)) (ap not h)
+    ∙ case-not (not (is_there t p.path)) NoPlace (copy_cases t q p (database ss t q)) (ap not i)
 
--- a copy from another database has no source
-pub copy-sourceless : (t : Tree) (q p : Loc) → in_target p ≡ true → is_there t p.path ≡ true → in_target q ≡ false → refusal [] t (Copy q p) ≡ Some NoSource
-copy-sourceless t q p h i j = copy-decided t q p h i ∙ ap (λ b. first_case (copy_cases t q p (if b then Some t else None))) j
+-- a copy from a database that isn't there has no source
+pub copy-sourceless : (ss : List Source) (t : Tree) (q p : Loc) → in_target p ≡ true → is_there t p.path ≡ true → database ss t q ≡ None → refusal ss t (Copy q p) ≡ Some NoSource
+copy-sourceless ss t q p h i e = copy-decided ss t q p h i ∙ ap (λ o. first_case (copy_cases t q p o)) e
 
--- a copy from a place of the tree is decided by that place and the limits
-copy-from : (t : Tree) (q p : Loc) → in_target p ≡ true → is_there t p.path ≡ true → in_target q ≡ true → refusal [] t (Copy q p) ≡ first_case (copy_cases t q p (Some t))
-copy-from t q p h i j = copy-decided t q p h i ∙ ap (λ b. first_case (copy_cases t q p (if b then Some t else None))) j
+-- a copy from a place of a tree is decided by that place and the limits
+pub copy-from : (ss : List Source) (t u : Tree) (q p : Loc) → in_target p ≡ true → is_there t p.path ≡ true → database ss t q ≡ Some u → refusal ss t (Copy q p) ≡ first_case (copied_cases u q.path t p)
+copy-from ss t u q p h i e = copy-decided ss t q p h i ∙ ap (λ o. first_case (copy_cases t q p o)) e
 
 -- an insertion at a label that is there is refused
-pub ins-there : (t : Tree) (p : Loc) (a : Label) (l : Literal) → first_case (at_node t p) ≡ None → is_there t (child p.path a) ≡ true → refusal [] t (Ins p a l) ≡ Some LabelThere
-ins-there t p a l n h = ins-decided t p a l n ∙ case-is (is_there t (child p.path a)) LabelThere (ins_limits t p a l) h
+pub ins-there : (ss : List Source) (t : Tree) (p : Loc) (a : Label) (l : Literal) → first_case (at_node t p) ≡ None → is_there t (child p.path a) ≡ true → refusal ss t (Ins p a l) ≡ Some LabelThere
+ins-there ss t p a l n h = ins-decided ss t p a l n ∙ case-is (is_there t (child p.path a)) LabelThere (ins_limits t p a l) h
 
 -- an insertion at a free label is decided by the limits
-ins-free : (t : Tree) (p : Loc) (a : Label) (l : Literal) → first_case (at_node t p) ≡ None → is_there t (child p.path a) ≡ false → refusal [] t (Ins p a l) ≡ first_case (ins_limits t p a l)
-ins-free t p a l n h = ins-decided t p a l n ∙ case-not (is_there t (child p.path a)) LabelThere (ins_limits t p a l) h
+ins-free : (ss : List Source) (t : Tree) (p : Loc) (a : Label) (l : Literal) → first_case (at_node t p) ≡ None → is_there t (child p.path a) ≡ false → refusal ss t (Ins p a l) ≡ first_case (ins_limits t p a l)
+ins-free ss t p a l n h = ins-decided ss t p a l n ∙ case-not (is_there t (child p.path a)) LabelThere (ins_limits t p a l) h
 
 -- first by those of places
-pub ins-deep : (t : Tree) (p : Loc) (a : Label) (l : Literal) → first_case (at_node t p) ≡ None → is_there t (child p.path a) ≡ false →
-    reaches_over (below_place p (a ∷ [])) (literal_rows l) ≡ true → refusal [] t (Ins p a l) ≡ Some TooDeep
-ins-deep t p a l n h i = ins-free t p a l n h ∙ case-is (reaches_over (below_place p (a ∷ [])) (literal_rows l)) TooDeep (limits_of (replaced (child p.path a) (literal_rows l) t)) i
+pub ins-deep : (ss : List Source) (t : Tree) (p : Loc) (a : Label) (l : Literal) → first_case (at_node t p) ≡ None → is_there t (child p.path a) ≡ false →
+    reaches_over (below_place p (a ∷ [])) (literal_rows l) ≡ true → refusal ss t (Ins p a l) ≡ Some TooDeep
+ins-deep ss t p a l n h i = ins-free ss t p a l n h ∙ case-is (reaches_over (below_place p (a ∷ [])) (literal_rows l)) TooDeep (limits_of (replaced (child p.path a) (literal_rows l) t)) i
 
 -- and then by those of trees
-pub ins-fits : (t : Tree) (p : Loc) (a : Label) (l : Literal) → first_case (at_node t p) ≡ None → is_there t (child p.path a) ≡ false →
-    reaches_over (below_place p (a ∷ [])) (literal_rows l) ≡ false → refusal [] t (Ins p a l) ≡ first_case (limits_of (replaced (child p.path a) (literal_rows l) t))
-ins-fits t p a l n h i = ins-free t p a l n h ∙ case-not (reaches_over (below_place p (a ∷ [])) (literal_rows l)) TooDeep (limits_of (replaced (child p.path a) (literal_rows l) t)) i
+pub ins-fits : (ss : List Source) (t : Tree) (p : Loc) (a : Label) (l : Literal) → first_case (at_node t p) ≡ None → is_there t (child p.path a) ≡ false →
+    reaches_over (below_place p (a ∷ [])) (literal_rows l) ≡ false → refusal ss t (Ins p a l) ≡ first_case (limits_of (replaced (child p.path a) (literal_rows l) t))
+ins-fits ss t p a l n h i = ins-free ss t p a l n h ∙ case-not (reaches_over (below_place p (a ∷ [])) (literal_rows l)) TooDeep (limits_of (replaced (child p.path a) (literal_rows l) t)) i
 
--- a copy from a place that isn't there has no origin
-pub copy-originless : (t : Tree) (q p : Loc) → in_target p ≡ true → is_there t p.path ≡ true → in_target q ≡ true → is_there t q.path ≡ false → refusal [] t (Copy q p) ≡ Some NoOrigin
-copy-originless t q p h i j k = copy-from t q p h i j ∙ case-is (not (is_there t q.path)) NoOrigin (copy_limits t q p) (ap not k)
+module _ (u : Tree) (q : Path) (t : Tree) (p : Loc) where
+  -- the cases of a copy of what is there
+  abbrev there_limits : List (Bool × Refusal)
+  there_limits = (reaches_over p (below q u), TooDeep) ∷ limits_of (replaced p.path (below q u) t)
 
--- a copy from a place that is there is decided by the limits
-copy-there : (t : Tree) (q p : Loc) → in_target p ≡ true → is_there t p.path ≡ true → in_target q ≡ true → is_there t q.path ≡ true → refusal [] t (Copy q p) ≡ first_case (copy_limits t q p)
-copy-there t q p h i j k = copy-from t q p h i j ∙ case-not (not (is_there t q.path)) NoOrigin (copy_limits t q p) (ap not k)
+  -- a copy from a place that isn't there has no origin
+  pub copied-originless : is_there u q ≡ false → first_case (copied_cases u q t p) ≡ Some NoOrigin
+  copied-originless k = case-is (not (is_there u q)) NoOrigin there_limits (ap not k)
 
--- first by those of places
-pub copy-deep : (t : Tree) (q p : Loc) → in_target p ≡ true → is_there t p.path ≡ true → in_target q ≡ true → is_there t q.path ≡ true →
-    reaches_over p (below q.path t) ≡ true → refusal [] t (Copy q p) ≡ Some TooDeep
-copy-deep t q p h i j k o = copy-there t q p h i j k ∙ case-is (reaches_over p (below q.path t)) TooDeep (limits_of (replaced p.path (below q.path t) t)) o
+  copied-there : is_there u q ≡ true → first_case (copied_cases u q t p) ≡ first_case there_limits
+  copied-there k = case-not (not (is_there u q)) NoOrigin there_limits (ap not k)
 
--- and then by those of trees
-pub copy-fits : (t : Tree) (q p : Loc) → in_target p ≡ true → is_there t p.path ≡ true → in_target q ≡ true → is_there t q.path ≡ true →
-    reaches_over p (below q.path t) ≡ false → refusal [] t (Copy q p) ≡ first_case (limits_of (replaced p.path (below q.path t) t))
-copy-fits t q p h i j k o = copy-there t q p h i j k ∙ case-not (reaches_over p (below q.path t)) TooDeep (limits_of (replaced p.path (below q.path t) t)) o
+  -- a copy from a place that is there is decided by the limits, first by those of places
+  pub copied-deep : is_there u q ≡ true → reaches_over p (below q u) ≡ true → first_case (copied_cases u q t p) ≡ Some TooDeep
+  copied-deep k o = copied-there k ∙ case-is (reaches_over p (below q u)) TooDeep (limits_of (replaced p.path (below q u) t)) o
+
+  -- and then by those of trees
+  pub copied-fits : is_there u q ≡ true → reaches_over p (below q u) ≡ false → first_case (copied_cases u q t p) ≡ first_case (limits_of (replaced p.path (below q u) t))
+  copied-fits k o = copied-there k ∙ case-not (reaches_over p (below q u)) TooDeep (limits_of (replaced p.path (below q u) t)) o

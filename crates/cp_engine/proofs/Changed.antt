@@ -1,58 +1,90 @@
 -- What an accepted operation gives to the change of the tree.
-use Rattle.std.specs.Prelude.{◌≡◌, [], is_some, if◌then◌else◌, Result, Ok, Err, OnOk}
+use Rattle.std.specs.Prelude.{◌≡◌, Bool, true, false, List, is_some, if◌then◌else◌, Result, Ok, Err, OnOk}
 use Rattle.std.proofs.Common.{sym, ap, subst, ◌∙◌}
+use Rattle.std.specs.declared.option.Option.{Option}
 use Rattle.std.specs.declared.option.Option.TheVariants.{None, Some}
 use Rattle.cp_path.specs.declared.loc.Loc.{Loc}
 use Rattle.cp_model.specs.declared.literal.Literal.{Literal}
 use Rattle.cp_model.specs.declared.op.Op.{Op}
 use Rattle.cp_model.specs.declared.op.Op.TheVariants.{Ins, Del, Copy}
-use Rattle.cp_model.specs.Place.{Label, child}
-use Rattle.cp_model.specs.Subtrees.{below, replaced, without}
+use Rattle.cp_model.specs.Place.{Label, child, in_target, option_map}
+use Rattle.cp_model.specs.Subtrees.{below, replaced, without, is_there}
 use Rattle.cp_model.specs.Literals.{literal_rows}
-use Rattle.cp_model.specs.Tree.{Tree, IsTree, refusal, changed, taken}
+use Rattle.cp_model.specs.Tree.{Tree, Source, source, database, IsTree, refusal, changed, taken, reaches_over}
 use Rattle.cp_model.specs.History.{IsWritten}
-use Rattle.cp_model.specs.Accepted.{ins_accepted}
-use Rattle.cp_model.specs.Kept.{tree-changed}
+use Rattle.cp_model.specs.Accepted.{ins_accepted, copy_accepted}
+use Rattle.cp_model.specs.Kept.{AreTrees, tree-changed}
 use Rattle.cp_record.specs.Packed.{IsSmall}
-use Rattle.cp_engine.specs.RowsAlone.{copy_alone}
-use Rattle.cp_engine.specs.Linked.{no_sources}
 use Rattle.cp_engine.proofs.Limits.{literal-small}
 
 -- an operation that isn't refused, seen as what it is
-pub accepts : (t : Tree) (op o : Op) → op ≡ o → refusal [] t op ≡ None → refusal [] t o ≡ None
-accepts t op o e n = ap (λ o. refusal [] t o) (sym e) ∙ n
+pub accepts : (ss : List Source) (t : Tree) (op o : Op) → op ≡ o → refusal ss t op ≡ None → refusal ss t o ≡ None
+accepts ss t op o e n = ap (λ o. refusal ss t o) (sym e) ∙ n
 
 -- an insertion puts the literal under its label
-pub ins-changed : (t : Tree) (p : Loc) (a : Label) (l : Literal) → changed [] t (Ins p a l) ≡ replaced (child p.path a) (literal_rows l) t
+pub ins-changed : (ss : List Source) (t : Tree) (p : Loc) (a : Label) (l : Literal) → changed ss t (Ins p a l) ≡ replaced (child p.path a) (literal_rows l) t
 unfolding changed
-ins-changed t p a l = λ _. replaced (child p.path a) (literal_rows l) t
+ins-changed ss t p a l = λ _. replaced (child p.path a) (literal_rows l) t
 
 -- a deletion drops what is at the label
-pub del-changed : (t : Tree) (p : Loc) (a : Label) → changed [] t (Del a p) ≡ without (child p.path a) t
+pub del-changed : (ss : List Source) (t : Tree) (p : Loc) (a : Label) → changed ss t (Del a p) ≡ without (child p.path a) t
 unfolding changed
-del-changed t p a = λ _. without (child p.path a) t
+del-changed ss t p a = λ _. without (child p.path a) t
 
--- a copy puts the subtree of the tree itself
-pub copy-changed : (t : Tree) (q p : Loc) → refusal [] t (Copy q p) ≡ None → changed [] t (Copy q p) ≡ replaced p.path (below q.path t) t
+-- a copy puts the subtree of the tree that it names
+pub copy-changed : (ss : List Source) (t u : Tree) (q p : Loc) → database ss t q ≡ Some u → changed ss t (Copy q p) ≡ replaced p.path (below q.path u) t
 unfolding changed
-copy-changed t q p n = ap (λ b. replaced p.path (taken (if b then Some t else None) q.path) t) (copy_alone t q p n).0
+copy-changed ss t u q p e = ap (λ o. replaced p.path (taken o q.path) t) e
 
-pub ins-tree : (t : Tree) (p : Loc) (a : Label) (l : Literal) → IsTree t → IsWritten (Ins p a l) → refusal [] t (Ins p a l) ≡ None → IsTree (replaced (child p.path a) (literal_rows l) t)
-ins-tree t p a l h w n = subst IsTree (ins-changed t p a l) (tree-changed [] t (Ins p a l) h no_sources w n)
+pub ins-tree : (ss : List Source) (t : Tree) (p : Loc) (a : Label) (l : Literal) → IsTree t → AreTrees ss → IsWritten (Ins p a l) → refusal ss t (Ins p a l) ≡ None → IsTree (replaced (child p.path a) (literal_rows l) t)
+ins-tree ss t p a l h k w n = subst IsTree (ins-changed ss t p a l) (tree-changed ss t (Ins p a l) h k w n)
 
-pub copy-tree : (t : Tree) (q p : Loc) → IsTree t → refusal [] t (Copy q p) ≡ None → IsTree (replaced p.path (below q.path t) t)
-copy-tree t q p h n = subst IsTree (copy-changed t q p n) (tree-changed [] t (Copy q p) h no_sources tt n)
+-- a copy that isn't refused: what is copied is there, reaches over no limit, and leaves a tree
+pub record IsCopied (t u : Tree) (q p : Loc) : Type 0 where
+  pub there : is_there t p.path ≡ true
+  pub origin : is_there u q.path ≡ true
+  pub places : reaches_over p (below q.path u) ≡ false
+  pub fits : IsTree (replaced p.path (below q.path u) t)
+
+-- a copy that isn't refused is one from the tree that it names
+pub copy-copied : (ss : List Source) (t u : Tree) (q p : Loc) → IsTree t → AreTrees ss → refusal ss t (Copy q p) ≡ None → database ss t q ≡ Some u → IsCopied t u q p
+copy-copied ss t u q p h k n e =
+    let x = copy_accepted ss t q p n in
+    let same : x.tree ≡ u = let d : Some x.tree ≡ Some u = sym x.is_tree ∙ e in cc in
+    record {
+      there = x.there;
+      origin = ap (λ v. is_there v q.path) (sym same) ∙ x.origin;
+      places = ap (λ v. reaches_over p (below q.path v)) (sym same) ∙ x.places;
+      fits = subst IsTree (copy-changed ss t u q p e) (tree-changed ss t (Copy q p) h k tt n);
+    }
+
+-- the tree itself is named by its own places
+pub named-inside : (ss : List Source) (t : Tree) (q : Loc) (b : Bool) → b ≡ in_target q → b ≡ true → database ss t q ≡ Some t
+named-inside ss t q b e i = ap (λ b. if b then Some t else source ss q.db) (sym e ∙ i)
+
+-- and a source by those of its name, where o is what was found, and p what that is
+pub named-loaded : {B : Type 0} (see : B → Tree) (ss : List Source) (t : Tree) (q : Loc) (b : Bool) (o p : Option B) → b ≡ in_target q → b ≡ false → option_map see o ≡ source ss q.db → o ≡ p → database ss t q ≡ option_map see p
+named-loaded see ss t q b o p e i f k = ap (λ b. if b then Some t else source ss q.db) (sym e ∙ i) ∙ sym f ∙ ap (option_map see) k
+
+-- a copy that isn't refused is from a database that is there
+pub never-sourceless : (ss : List Source) (t : Tree) (q p : Loc) → refusal ss t (Copy q p) ≡ None → database ss t q ≡ None → ⊥
+never-sourceless ss t q p n e = let x = copy_accepted ss t q p n in let d : None ≡ Some x.tree = sym e ∙ x.is_tree in cc
 
 -- what an operation made of the tree is what it leads to
-pub made : {E : Type 0} (result : Result (Unit {0}) E) (t new end : Tree) (op o : Op) → op ≡ o → changed [] t o ≡ end → OnOk result (new ≡ end) → OnOk result (new ≡ changed [] t op)
-made (Ok u) t new end op o e c h = h ∙ sym c ∙ ap (λ o. changed [] t o) (sym e)
-made (Err x) t new end op o e c h = tt
+pub made : {E : Type 0} (result : Result (Unit {0}) E) (ss : List Source) (t new end : Tree) (op o : Op) → op ≡ o → changed ss t o ≡ end → OnOk result (new ≡ end) → OnOk result (new ≡ changed ss t op)
+made (Ok u) ss t new end op o e c h = h ∙ sym c ∙ ap (λ o. changed ss t o) (sym e)
+made (Err x) ss t new end op o e c h = tt
+
+-- what came to one end came to an equal one
+pub then-is : {X E : Type 0} (result : Result (Unit {0}) E) (new end other : X) → other ≡ end → OnOk result (new ≡ end) → OnOk result (new ≡ other)
+then-is (Ok u) new end other e h = h ∙ sym e
+then-is (Err x) new end other e h = tt
 
 -- what an accepted operation inserts is within the limit of weight
-pub op-small : (t : Tree) (op o : Op) → IsTree t → IsWritten op → refusal [] t op ≡ None → o ≡ op → IsSmall o
-op-small t op o h w n e = subst IsSmall (sym e) (small op w n)
+pub op-small : (ss : List Source) (t : Tree) (op o : Op) → IsTree t → IsWritten op → refusal ss t op ≡ None → o ≡ op → IsSmall o
+op-small ss t op o h w n e = subst IsSmall (sym e) (small op w n)
   where
-    small : (op : Op) → IsWritten op → refusal [] t op ≡ None → IsSmall op
-    small (Ins p a l) w n = let x = ins_accepted [] t p a l n in literal-small t p a l h w (ap is_some x.free) x.fits.weighs
+    small : (op : Op) → IsWritten op → refusal ss t op ≡ None → IsSmall op
+    small (Ins p a l) w n = let x = ins_accepted ss t p a l n in literal-small t p a l h w (ap is_some x.free) x.fits.weighs
     small (Del a p) w n = tt
     small (Copy q p) w n = tt

@@ -6,3 +6,4 @@ pub mod Depths
 pub mod Recorded
 pub mod OpRows
 pub mod Going
+pub mod Loading

@@ -29,6 +29,7 @@ use Rattle.cp_model.specs.Kept.{closed-tree}
 use Rattle.cp_model.specs.Rooted.{rows-literal}
 use Rattle.cp_model.specs.Tree.{Tree, IsTree, first_case, limits_of, reaches_over, weight, weight_of, most_nodes, most_weight}
 use Rattle.cp_tree.specs.Rows.{path_size, greatest, reach_of, reach_at}
+use Rattle.cp_tree.specs.declared.reach.Reach.{Reach}
 use Rattle.cp_engine.specs.Reaching.{over_by, limit_passed, literal_reach}
 
 -- a sum with the greater of two is over where it is with one of them
@@ -146,13 +147,17 @@ copy-over t q p h = not_empty (below q t) (root-below t q h)
     not_empty [] i = absurd (cc)
     not_empty (e ∷ es) i = over-reached p e es
 
--- the numbers after a copy
-pub copy-numbers : (t : Tree) (q p : Path) → is_there t q ≡ true → is_there t p ≡ true →
-    (keyed.len (replaced p (below q t) t) + (reach_at t p).nodes ≡ keyed.len t + (reach_at t q).nodes)
-    × (weight (replaced p (below q t) t) + (reach_at t p).inner ≡ weight t + (reach_at t q).inner)
+-- the same, of a reach that was told
+pub copy-reaches : (u : Tree) (q : Path) (p : Loc) (r : Reach) (b : Bool) → is_there u q ≡ true → r ≡ reach_at u q → over_by p r.depth r.size ≡ b → reaches_over p (below q u) ≡ b
+copy-reaches u q p r b h e o = copy-over u q p h ∙ ap (λ r. over_by p r.depth r.size) (sym e) ∙ o
+
+-- the numbers after a copy of what u has at q
+pub copy-numbers : (t u : Tree) (q p : Path) → is_there u q ≡ true → is_there t p ≡ true →
+    (keyed.len (replaced p (below q u) t) + (reach_at t p).nodes ≡ keyed.len t + (reach_at u q).nodes)
+    × (weight (replaced p (below q u) t) + (reach_at t p).inner ≡ weight t + (reach_at u q).inner)
 unfolding reach_of
-copy-numbers t q p h i =
-    (len-replaced p (below q t) t (sorted-below q t), weight-swapped p (below q t) t (sorted-below q t) (root-below t q h) i)
+copy-numbers t u q p h i =
+    (len-replaced p (below q u) t (sorted-below q u), weight-swapped p (below q u) t (sorted-below q u) (root-below u q h) i)
 
 -- a subtree has no more nodes and no more weight than the tree
 pub reach-within : (t : Tree) (p : Path) → is_there t p ≡ true → ((reach_at t p).nodes ≤ keyed.len t) × ((reach_at t p).inner ≤ weight t)
@@ -160,15 +165,25 @@ unfolding reach_of
 reach-within t p h =
     (omega (arith, len-without p t), omega (arith, weight-without p t, sum_by-moved weight_of p (below p t), weight-moved p (below p t) (sorted-below p t) (root-below t p h)))
 
--- why a tree is over a limit after a copy, if it is
-pub copy-limits : (t : Tree) (q p : Path) → is_there t q ≡ true → is_there t p ≡ true →
-    first_case (limits_of (replaced p (below q t) t)) ≡ limit_passed (keyed.len t - (reach_at t p).nodes + (reach_at t q).nodes) (weight t - (reach_at t p).inner + (reach_at t q).inner)
-copy-limits t q p h i =
-    let both = copy-numbers t q p h i in
+-- why a tree is over a limit after a copy of what u has at q, if it is
+pub copy-limits : (t u : Tree) (q p : Path) → is_there u q ≡ true → is_there t p ≡ true →
+    first_case (limits_of (replaced p (below q u) t)) ≡ limit_passed (keyed.len t - (reach_at t p).nodes + (reach_at u q).nodes) (weight t - (reach_at t p).inner + (reach_at u q).inner)
+copy-limits t u q p h i =
+    let both = copy-numbers t u q p h i in
     let most = reach-within t p i in
-    let nodes : keyed.len (replaced p (below q t) t) ≡ keyed.len t - (reach_at t p).nodes + (reach_at t q).nodes = omega (arith, both.0, most.0) in
-    let weighs : weight (replaced p (below q t) t) ≡ weight t - (reach_at t p).inner + (reach_at t q).inner = omega (arith, both.1, most.1) in
-    ap (λ n. limit_passed n (weight (replaced p (below q t) t))) nodes ∙ ap (limit_passed (keyed.len t - (reach_at t p).nodes + (reach_at t q).nodes)) weighs
+    let nodes : keyed.len (replaced p (below q u) t) ≡ keyed.len t - (reach_at t p).nodes + (reach_at u q).nodes = omega (arith, both.0, most.0) in
+    let weighs : weight (replaced p (below q u) t) ≡ weight t - (reach_at t p).inner + (reach_at u q).inner = omega (arith, both.1, most.1) in
+    ap (λ n. limit_passed n (weight (replaced p (below q u) t))) nodes ∙ ap (limit_passed (keyed.len t - (reach_at t p).nodes + (reach_at u q).nodes)) weighs
+
+-- the same, of numbers that were told
+pub copy-passed : (t u : Tree) (q p : Path) (n w : ℕ) (old new : Reach) → is_there u q ≡ true → is_there t p ≡ true → n ≡ keyed.len t → w ≡ weight t → old ≡ reach_at t p → new ≡ reach_at u q →
+    limit_passed (n - old.nodes + new.nodes) (w - old.inner + new.inner) ≡ first_case (limits_of (replaced p (below q u) t))
+copy-passed t u q p n w old new h i a b c d =
+    ap (λ n. limit_passed (n - old.nodes + new.nodes) (w - old.inner + new.inner)) a
+    ∙ ap (λ w. limit_passed (keyed.len t - old.nodes + new.nodes) (w - old.inner + new.inner)) b
+    ∙ ap (λ (r : Reach). limit_passed (keyed.len t - r.nodes + new.nodes) (weight t - r.inner + new.inner)) c
+    ∙ ap (λ (r : Reach). limit_passed (keyed.len t - (reach_at t p).nodes + r.nodes) (weight t - (reach_at t p).inner + r.inner)) d
+    ∙ sym (copy-limits t u q p h i)
 
 -- what is inserted weighs no more than a tree may
 pub literal-small : (t : Tree) (p : Loc) (a : Label) (l : Literal) → IsTree t → IsLiteral (literal_rows l) → is_there t (child p.path a) ≡ false → weight (replaced (child p.path a) (literal_rows l) t) ≤ most_weight → sum_by weight_of (literal_rows l) ≤ most_weight

@@ -4,4 +4,5 @@ pub mod RowsAlone
 pub mod Linked
 pub mod Rising
 pub mod Held
+pub mod Loaded
 pub mod Transactions

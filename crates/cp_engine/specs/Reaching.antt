@@ -1,13 +1,14 @@
 -- What a literal reaches, in numbers that stop one past their limits.
-use Rattle.std.specs.Prelude.{ℕ, ◌+◌, Bool, ◌||◌, [], ◌∷◌, length, max, min, nat_lt}
+use Rattle.std.specs.Prelude.{ℕ, ◌+◌, Bool, not, ◌||◌, List, [], ◌∷◌, length, max, min, nat_lt}
 use Rattle.std.specs.declared.option.Option.{Option}
 use Rattle.cp_path.specs.declared.loc.Loc.{Loc}
-use Rattle.cp_model.specs.Place.{Label, size}
-use Rattle.cp_model.specs.Tree.{first_case, most_nodes, most_weight}
+use Rattle.cp_model.specs.Place.{Label, Path, size}
+use Rattle.cp_model.specs.Subtrees.{below, is_there, replaced}
+use Rattle.cp_model.specs.Tree.{Tree, first_case, limits_of, reaches_over, most_nodes, most_weight}
 use Rattle.cp_model.specs.Literals.{literal_rows, rows_under}
 use Rattle.cp_model.specs.declared.literal.Literal.{Literal}
 use Rattle.cp_model.specs.declared.refusal.Refusal.{Refusal}
-use Rattle.cp_model.specs.declared.refusal.Refusal.TheVariants.{TooMany, TooBig}
+use Rattle.cp_model.specs.declared.refusal.Refusal.TheVariants.{NoOrigin, TooDeep, TooMany, TooBig}
 use Rattle.cp_tree.specs.Rows.{reach_of}
 use Rattle.cp_tree.specs.declared.reach.Reach.{Reach}
 
@@ -34,3 +35,7 @@ over_by p depth more = nat_lt 64 (length p.path + depth) || nat_lt 1024 (size p 
 -- why a tree of so many nodes and so much weight is refused, if it is
 abbrev pub limit_passed : ℕ → ℕ → Option Refusal
 limit_passed nodes weight = first_case ((nat_lt most_nodes nodes, TooMany) ∷ (nat_lt most_weight weight, TooBig) ∷ [])
+
+-- the cases of a copy of what u has at q onto a place of t that is there
+abbrev pub copied_cases : Tree → Path → Tree → Loc → List (Bool × Refusal)
+copied_cases u q t p = (not (is_there u q), NoOrigin) ∷ (reaches_over p (below q u), TooDeep) ∷ limits_of (replaced p.path (below q u) t)

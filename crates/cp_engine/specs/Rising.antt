@@ -12,7 +12,7 @@ use Rattle.cp_model.specs.declared.record.Record.{Record}
 use Rattle.cp_model.specs.declared.record.RowMark.{RowMark as Mark}
 use Rattle.cp_model.specs.declared.record.RowMark.TheVariants.{Made as I, Copied as C, Gone as D, Kept as K}
 use Rattle.cp_model.specs.Place.{Path, path_cmp, in_target, at_target}
-use Rattle.cp_model.specs.Tree.{Tree}
+use Rattle.cp_model.specs.Tree.{Tree, Source}
 use Rattle.cp_model.specs.Step.{opened, applied}
 use Rattle.cp_model.specs.Rows.{full_rows}
 use Rattle.cp_model.specs.History.{record_of, with_tid}
@@ -114,15 +114,15 @@ next-step low high rs rows l h s = record {
       ∙ and_both (list_all (is_between low (high + 1)) rs) (list_all (is_between low (high + 1)) (with_tid (high + 1) rows)) (all-weaker (is_between low high) (is_between low (high + 1)) (between_more low high) rs h.between) (between_all low high rows l);
 }
 
-next_from : (x : Passed) (low high : ℕ) (ops : List Op) → x.next ≡ high + 1 → low ≤ high → AreNext low high x.records → AreNext low (high + length ops) (fold pass x ops).records
+next_from : (ss : List Source) (x : Passed) (low high : ℕ) (ops : List Op) → x.next ≡ high + 1 → low ≤ high → AreNext low high x.records → AreNext low (high + length ops) (fold (pass ss) x ops).records
 unfolding pass
-next_from x low high [] e l h = subst (λ n. AreNext low n x.records) (omega arith) h
-next_from x low high (op ∷ ops) e l h =
-    let rows = full_rows x.tree (applied [] (opened x.tree) op) in
-    let more : AreNext low (high + 1) (x.records ++ with_tid x.next rows) = subst (λ n. AreNext low (high + 1) (x.records ++ with_tid n rows)) (sym e) (next-step low high x.records rows l h (sorted-full_rows x.tree (applied [] (opened x.tree) op))) in
-    subst (λ n. AreNext low n (fold pass (pass x op) ops).records) (omega arith) (next_from (pass x op) low (high + 1) ops (omega (arith, e)) (omega (arith, l)) more)
+next_from ss x low high [] e l h = subst (λ n. AreNext low n x.records) (omega arith) h
+next_from ss x low high (op ∷ ops) e l h =
+    let rows = full_rows x.tree (applied ss (opened x.tree) op) in
+    let more : AreNext low (high + 1) (x.records ++ with_tid x.next rows) = subst (λ n. AreNext low (high + 1) (x.records ++ with_tid n rows)) (sym e) (next-step low high x.records rows l h (sorted-full_rows x.tree (applied ss (opened x.tree) op))) in
+    subst (λ n. AreNext low n (fold (pass ss) (pass ss x op) ops).records) (omega arith) (next_from ss (pass ss x op) low (high + 1) ops (omega (arith, e)) (omega (arith, l)) more)
 
 -- the records of operations one by one are rows of T that rise, of the steps after m
-pub rising-passed : (t : Tree) (m : ℕ) (ops : List Op) → AreNext m (m + length ops) (passed t (m + 1) ops).records
+pub rising-passed : (ss : List Source) (t : Tree) (m : ℕ) (ops : List Op) → AreNext m (m + length ops) (passed ss t (m + 1) ops).records
 unfolding passed
-rising-passed t m ops = next_from (record { tree = t; next = m + 1; records = [] }) m m ops refl (omega arith) (record { rise = refl; between = refl })
+rising-passed ss t m ops = next_from ss (record { tree = t; next = m + 1; records = [] }) m m ops refl (omega arith) (record { rise = refl; between = refl })

@@ -18,11 +18,11 @@ use Rattle.cp_model.specs.Keyed as keyed
 use Rattle.cp_model.specs.Keyed.{look, look-find}
 use Rattle.cp_model.specs.Subtrees.{is_there, below, moved, without, replaced, with_values, mapped}
 use Rattle.cp_model.specs.Literals.{literal_rows}
-use Rattle.cp_model.specs.Tree.{Tree, IsTree, IsRooted, refusal}
+use Rattle.cp_model.specs.Tree.{Tree, Source, source, database, taken, IsTree, IsRooted, refusal}
 use Rattle.cp_model.specs.declared.origin.Origin.TheVariants.{New as new, Was as was}
 use Rattle.cp_model.specs.declared.record.RowMark.{RowMark as Mark}
 use Rattle.cp_model.specs.declared.record.RowMark.TheVariants.{Made as I, Copied as C, Gone as D}
-use Rattle.cp_model.specs.Step.{Worked, Working, opened, as_new, carried, applied}
+use Rattle.cp_model.specs.Step.{Worked, Working, opened, as_new, from_source, carried, applied}
 use Rattle.cp_model.specs.Rows.{Effect, same, from, effect, effect_at, full_mark, is_same, above, nearest_effect, full_here, marked, all_paths, full_rows}
 use Rattle.cp_model.specs.History.{IsWritten}
 use Rattle.cp_model.specs.Strips.{strip_is, strip-append, append-nil, nearest-below}
@@ -38,10 +38,10 @@ abbrev pub behind : {X : Type 0} → Path → (Path → Mark) → List (Path × 
 behind p f es = map (λ e. (p ++ e.0, f e.0)) es
 
 -- the full rows of one operation: what is inserted, what is gone, or what each place is a copy of
-unfoldable pub op_rows : Tree → Op → List (Path × Mark)
-op_rows t (Ins p a l) = behind (child p.path a) (λ _. I) (literal_rows l)
-op_rows t (Del a p) = behind (child p.path a) (λ _. D) (below (child p.path a) t)
-op_rows t (Copy q p) = if place_eq q p then [] else behind p.path (λ s. C (below_place q s)) (below q.path t)
+unfoldable pub op_rows : List Source → Tree → Op → List (Path × Mark)
+op_rows ss t (Ins p a l) = behind (child p.path a) (λ _. I) (literal_rows l)
+op_rows ss t (Del a p) = behind (child p.path a) (λ _. D) (below (child p.path a) t)
+op_rows ss t (Copy q p) = if place_eq q p then [] else behind p.path (λ s. C (below_place q s)) (taken (database ss t q) q.path)
 
 -- ---- rows that rise
 
@@ -251,10 +251,73 @@ module _ (t : Tree) (p : Loc) (a : Label) (x : DelAccepted t p a) where
         | Some s ↦ λ k. deleted r s k
       ] refl
 
-module _ (t : Tree) (q p : Loc) (i : in_target q ≡ true) (j : in_target p ≡ true) (origin : is_there t q.path ≡ true) where
-  abbrev after_copy : Working
-  after_copy = replaced p.path (below q.path (opened t)) (opened t)
+-- what is copied from q carries its place there
+abbrev copied_from : Loc → Path → Content → Worked
+copied_from q s c = record { content = c; origin = was (below_place q s) }
 
+module _ (t : Tree) (q p : Loc) (es : List (Path × Content)) (ws : List (Path × Worked)) (carries : (s : Path) → look s ws ≡ option_map (copied_from q s) (look s es)) (root : is_some (look [] es) ≡ true)
+    (moves : (s : Path) → effect (p.path ++ s) (was (below_place q s)) ≡ (if place_eq q p then same else from (below_place q s))) (stays : place_eq q p ≡ true → (s : Path) → keyed.get t (p.path ++ s) ≡ look s es) where
+  abbrev after_copy : Working
+  after_copy = replaced p.path ws (opened t)
+
+  at_copy : (r s : Path) → strip p.path r ≡ Some s → keyed.get after_copy r ≡ option_map (copied_from q s) (look s es)
+  at_copy r s k = put_at p.path r ws (opened t) (Some s) k ∙ carries s
+
+  effect_copy : (s : Path) → effect_at after_copy (p.path ++ s) ≡ option_map (λ _. if place_eq q p then same else from (below_place q s)) (look s es)
+  effect_copy s =
+      ap (option_map (λ (x : Worked). effect (p.path ++ s) x.origin)) (at_copy (p.path ++ s) s (strip-append p.path s))
+      ∙ elim (look s es) as (λ o. option_map (λ (x : Worked). effect (p.path ++ s) x.origin) (option_map (copied_from q s) o) ≡ option_map (λ _. if place_eq q p then same else from (below_place q s)) o) [
+        | None ↦ refl
+        | Some c ↦ ap (λ e. Some e) (moves s)
+      ]
+
+  root_copy : place_eq q p ≡ false → effect_at after_copy p.path ≡ Some (from (below_place q []))
+  root_copy n =
+      ap (effect_at after_copy) (sym (append-nil p.path)) ∙ effect_copy []
+      ∙ elim (look [] es) as (λ o. is_some o ≡ true → option_map (λ _. if place_eq q p then same else from (below_place q [])) o ≡ Some (from (below_place q []))) [
+        | None ↦ λ e. absurd (cc)
+        | Some c ↦ λ _. ap (λ b. Some (if b then same else from (below_place q []))) n
+      ] root
+
+  -- what is left above a place that a copy replaces isn't the same
+  above_copy : (s : Path) → place_eq q p ≡ false → is_same (above after_copy (p.path ++ s)) ≡ false
+  above_copy s n =
+      ap (λ o. is_same (nearest_effect o)) (nearest-below (effect_at after_copy) p.path s (from (below_place q [])) (root_copy n))
+      ∙ nearest-changed (λ r. effect_at after_copy (p.path ++ r)) s (λ r. ap is_kept (effect_copy r ∙ ap (λ b. option_map (λ _. if b then same else from (below_place q r)) (look r es)) n) ∙ changed_at r (look r es))
+    where
+      changed_at : (r : Path) (o : Option Content) → is_kept (option_map (λ _. from (below_place q r)) o) ≡ false
+      changed_at r None = refl
+      changed_at r (Some c) = refl
+
+  copied : (s : Path) (o : Option Content) → look s es ≡ o → full_here t after_copy (p.path ++ s) ≡ mark_copy q p s o
+  copied s (Some c) e =
+      here_by t after_copy (p.path ++ s) (Some (copied_from q s c)) (at_copy (p.path ++ s) s (strip-append p.path s) ∙ ap (option_map (copied_from q s)) e)
+      ∙ ap full_mark (moves s)
+      ∙ elim (place_eq q p) as (λ b. full_mark (if b then same else from (below_place q s)) ≡ (if b then None else Some (C (below_place q s)))) [ true ↦ refl | false ↦ refl ]
+  copied s None e =
+      here_by t after_copy (p.path ++ s) None (at_copy (p.path ++ s) s (strip-append p.path s) ∙ ap (option_map (copied_from q s)) e)
+      ∙ elim (place_eq q p) as (λ b. place_eq q p ≡ b → mark_at t after_copy (p.path ++ s) None ≡ (if b then None else None)) [
+        | true ↦ λ b. ap (λ o. if is_some o && is_same (above after_copy (p.path ++ s)) then Some D else None) (stays b s ∙ e)
+        | false ↦ λ b. ap (λ c. if is_there t (p.path ++ s) && c then Some D else None) (above_copy s b) ∙ never (is_there t (p.path ++ s))
+      ] refl
+    where
+      never : (b : Bool) → (if b && false then Some D else None) ≡ None
+      never true = refl
+      never false = refl
+
+  here_copy : (r : Path) → full_here t after_copy r ≡ placed (strip p.path r) (λ s. mark_copy q p s (look s es)) None
+  here_copy r =
+      elim (strip p.path r) as (λ o. strip p.path r ≡ o → full_here t after_copy r ≡ placed o (λ s. mark_copy q p s (look s es)) None) [
+        | None ↦ λ k. untouched t after_copy r (put_at p.path r ws (opened t) None k)
+        | Some s ↦ λ k. ap (full_here t after_copy) (strip_is p.path r s k) ∙ copied s (look s es) refl
+      ] refl
+
+-- the subtree at a place that is there has a root
+rooted_below : (t : Tree) (q : Path) → is_there t q ≡ true → is_some (look [] (below q t)) ≡ true
+rooted_below t q h = ap is_some (find-below q [] t) ∙ ap (is_there t) (append-nil q) ∙ h
+
+-- a copy inside the tree
+module _ (t : Tree) (q p : Loc) (i : in_target q ≡ true) (j : in_target p ≡ true) (origin : is_there t q.path ≡ true) where
   place : (s : Path) → at_target (q.path ++ s) ≡ below_place q s
   place s = ap (λ (d : List ℕ). record { db = d; path = q.path ++ s }) (sym (text_eq-same q.db target i))
 
@@ -264,105 +327,90 @@ module _ (t : Tree) (q p : Loc) (i : in_target q ≡ true) (j : in_target p ≡ 
       ∙ ap (λ d. text_eq d target && path_eq q.path p.path) (sym (text_eq-same q.db target i))
       ∙ ap (λ d. text_eq q.db d && path_eq q.path p.path) (sym (text_eq-same p.db target j))
 
-  copied_effect : (s : Path) → effect (p.path ++ s) (was (at_target (q.path ++ s))) ≡ (if place_eq q p then same else from (below_place q s))
-  copied_effect s = ap (λ b. if b then same else from (at_target (q.path ++ s))) (same_place s) ∙ ap (λ r. if place_eq q p then same else from r) (place s)
+  moves_inside : (s : Path) → effect (p.path ++ s) (was (below_place q s)) ≡ (if place_eq q p then same else from (below_place q s))
+  moves_inside s =
+      ap (λ r. effect (p.path ++ s) (was r)) (sym (place s))
+      ∙ ap (λ b. if b then same else from (at_target (q.path ++ s))) (same_place s)
+      ∙ ap (λ r. if place_eq q p then same else from r) (place s)
 
-  taken_at : (s : Path) → look s (below q.path (opened t)) ≡ option_map (itself (q.path ++ s)) (keyed.get t (q.path ++ s))
-  taken_at s = find-below q.path s (opened t) ∙ get-mapped itself t (q.path ++ s)
+  carries_inside : (s : Path) → look s (below q.path (opened t)) ≡ option_map (copied_from q s) (look s (below q.path t))
+  carries_inside s =
+      find-below q.path s (opened t) ∙ get-mapped itself t (q.path ++ s)
+      ∙ ap (λ r. option_map (λ (c : Content). record { content = c; origin = was r }) (keyed.get t (q.path ++ s))) (place s)
+      ∙ ap (option_map (copied_from q s)) (sym (find-below q.path s t))
 
-  at_copy : (r s : Path) → strip p.path r ≡ Some s → keyed.get after_copy r ≡ option_map (itself (q.path ++ s)) (keyed.get t (q.path ++ s))
-  at_copy r s k = put_at p.path r (below q.path (opened t)) (opened t) (Some s) k ∙ taken_at s
+  stays_inside : place_eq q p ≡ true → (s : Path) → keyed.get t (p.path ++ s) ≡ look s (below q.path t)
+  stays_inside b s = ap (λ (r : Loc). keyed.get t (r.path ++ s)) (sym (place_eq-same q p b)) ∙ sym (find-below q.path s t)
 
-  effect_copy : (s : Path) → effect_at after_copy (p.path ++ s) ≡ option_map (λ _. if place_eq q p then same else from (below_place q s)) (keyed.get t (q.path ++ s))
-  effect_copy s =
-      ap (option_map (λ (x : Worked). effect (p.path ++ s) x.origin)) (at_copy (p.path ++ s) s (strip-append p.path s))
-      ∙ elim (keyed.get t (q.path ++ s)) as (λ o. option_map (λ (x : Worked). effect (p.path ++ s) x.origin) (option_map (itself (q.path ++ s)) o) ≡ option_map (λ _. if place_eq q p then same else from (below_place q s)) o) [
-        | None ↦ refl
-        | Some c ↦ ap (λ e. Some e) (copied_effect s)
-      ]
+  here_inside : (r : Path) → full_here t (replaced p.path (below q.path (opened t)) (opened t)) r ≡ placed (strip p.path r) (λ s. mark_copy q p s (look s (below q.path t))) None
+  here_inside = here_copy t q p (below q.path t) (below q.path (opened t)) carries_inside (rooted_below t q.path origin) moves_inside stays_inside
 
-  root_copy : place_eq q p ≡ false → effect_at after_copy p.path ≡ Some (from (below_place q []))
-  root_copy n =
-      ap (effect_at after_copy) (sym (append-nil p.path)) ∙ effect_copy []
-      ∙ elim (keyed.get t (q.path ++ [])) as (λ o. is_some o ≡ true → option_map (λ _. if place_eq q p then same else from (below_place q [])) o ≡ Some (from (below_place q []))) [
-        | None ↦ λ e. absurd (cc)
-        | Some c ↦ λ _. ap (λ b. Some (if b then same else from (below_place q []))) n
-      ] (ap (is_there t) (append-nil q.path) ∙ origin)
+-- a copy from a source with the tree u
+module _ (t u : Tree) (q p : Loc) (i : in_target q ≡ false) (j : in_target p ≡ true) (origin : is_there u q.path ≡ true) where
+  other_place : place_eq q p ≡ false
+  other_place = ap (λ d. text_eq q.db d && path_eq q.path p.path) (text_eq-same p.db target j) ∙ ap (λ b. b && path_eq q.path p.path) i
 
-  -- what is left above a place that a copy replaces isn't the same
-  above_copy : (s : Path) → place_eq q p ≡ false → is_same (above after_copy (p.path ++ s)) ≡ false
-  above_copy s n =
-      ap (λ o. is_same (nearest_effect o)) (nearest-below (effect_at after_copy) p.path s (from (below_place q [])) (root_copy n))
-      ∙ nearest-changed (λ r. effect_at after_copy (p.path ++ r)) s (λ r. ap is_kept (effect_copy r ∙ ap (λ b. option_map (λ _. if b then same else from (below_place q r)) (keyed.get t (q.path ++ r))) n) ∙ changed_at r (keyed.get t (q.path ++ r)))
-    where
-      changed_at : (r : Path) (o : Option Content) → is_kept (option_map (λ _. from (below_place q r)) o) ≡ false
-      changed_at r None = refl
-      changed_at r (Some c) = refl
+  moves_loaded : (s : Path) → effect (p.path ++ s) (was (below_place q s)) ≡ (if place_eq q p then same else from (below_place q s))
+  moves_loaded s =
+      ap (λ b. if b && path_eq (q.path ++ s) (p.path ++ s) then same else from (below_place q s)) i
+      ∙ sym (ap (λ b. if b then same else from (below_place q s)) other_place)
 
-  copied : (s : Path) (o : Option Content) → keyed.get t (q.path ++ s) ≡ o → full_here t after_copy (p.path ++ s) ≡ mark_copy q p s o
-  copied s (Some c) e =
-      here_by t after_copy (p.path ++ s) (Some (itself (q.path ++ s) c)) (at_copy (p.path ++ s) s (strip-append p.path s) ∙ ap (option_map (itself (q.path ++ s))) e)
-      ∙ ap full_mark (copied_effect s)
-      ∙ elim (place_eq q p) as (λ b. full_mark (if b then same else from (below_place q s)) ≡ (if b then None else Some (C (below_place q s)))) [ true ↦ refl | false ↦ refl ]
-  copied s None e =
-      here_by t after_copy (p.path ++ s) None (at_copy (p.path ++ s) s (strip-append p.path s) ∙ ap (option_map (itself (q.path ++ s))) e)
-      ∙ elim (place_eq q p) as (λ b. place_eq q p ≡ b → mark_at t after_copy (p.path ++ s) None ≡ (if b then None else None)) [
-        | true ↦ λ b. ap (λ (r : Loc). if is_there t (r.path ++ s) && is_same (above after_copy (p.path ++ s)) then Some D else None) (sym (place_eq-same q p b)) ∙ ap (λ o. if is_some o && is_same (above after_copy (p.path ++ s)) then Some D else None) e
-        | false ↦ λ b. ap (λ c. if is_there t (p.path ++ s) && c then Some D else None) (above_copy s b) ∙ never (is_there t (p.path ++ s))
-      ] refl
-    where
-      never : (b : Bool) → (if b && false then Some D else None) ≡ None
-      never true = refl
-      never false = refl
+  carries_loaded : (s : Path) → look s (from_source q (below q.path u)) ≡ option_map (copied_from q s) (look s (below q.path u))
+  carries_loaded s = find-with_values (copied_from q) s (below q.path u)
 
-  here_copy : (r : Path) → full_here t after_copy r ≡ placed (strip p.path r) (λ s. mark_copy q p s (look s (below q.path t))) None
-  here_copy r =
-      elim (strip p.path r) as (λ o. strip p.path r ≡ o → full_here t after_copy r ≡ placed o (λ s. mark_copy q p s (look s (below q.path t))) None) [
-        | None ↦ λ k. untouched t after_copy r (put_at p.path r (below q.path (opened t)) (opened t) None k)
-        | Some s ↦ λ k. ap (full_here t after_copy) (strip_is p.path r s k) ∙ copied s (keyed.get t (q.path ++ s)) refl ∙ ap (mark_copy q p s) (sym (find-below q.path s t))
-      ] refl
+  here_loaded : (r : Path) → full_here t (replaced p.path (from_source q (below q.path u)) (opened t)) r ≡ placed (strip p.path r) (λ s. mark_copy q p s (look s (below q.path u))) None
+  here_loaded =
+      here_copy t q p (below q.path u) (from_source q (below q.path u)) carries_loaded (rooted_below u q.path origin) moves_loaded
+      (λ b. let n = other_place in absurd (cc))
 
-find_copy : (t : Tree) (q p : Loc) (r : Path) → look r (op_rows t (Copy q p)) ≡ placed (strip p.path r) (λ s. mark_copy q p s (look s (below q.path t))) None
+-- what an operation that isn't refused copies onto a place, its rows say
+here_copied : (ss : List Source) (t u : Tree) (q p : Loc) (b : Bool) → in_target q ≡ b → cond b (Some t) (source ss q.db) ≡ Some u → in_target p ≡ true → is_there u q.path ≡ true → (r : Path) →
+    full_here t (replaced p.path (carried ss (opened t) q b) (opened t)) r ≡ placed (strip p.path r) (λ s. mark_copy q p s (look s (taken (cond b (Some t) (source ss q.db)) q.path))) None
+here_copied ss t u q p true i e j o r = let k : t ≡ u = cc in here_inside t q p i j (ap (λ u. is_there u q.path) k ∙ o) r
+here_copied ss t u q p false i e j o r =
+    ap (λ o. full_here t (replaced p.path (from_source q (taken o q.path)) (opened t)) r) e
+    ∙ here_loaded t u q p i j o r
+    ∙ sym (ap (λ o. placed (strip p.path r) (λ s. mark_copy q p s (look s (taken o q.path))) None) e)
+
+find_copy : (ss : List Source) (t : Tree) (q p : Loc) (r : Path) → look r (op_rows ss t (Copy q p)) ≡ placed (strip p.path r) (λ s. mark_copy q p s (look s (taken (database ss t q) q.path))) None
 unfolding op_rows
-find_copy t q p r =
-    elim (place_eq q p) as (λ b. look r (if b then [] else behind p.path (λ s. C (below_place q s)) (below q.path t)) ≡ placed (strip p.path r) (λ s. if b then None else option_map (λ _. C (below_place q s)) (look s (below q.path t))) None) [
-      | true ↦ elim (strip p.path r) as (λ o. ◌≡◌ {A = Option Mark} None (placed o (λ _. None) None)) [ None ↦ refl | Some s ↦ refl ]
-      | false ↦ find-behind p.path (λ s. C (below_place q s)) r (below q.path t)
-    ]
+find_copy ss t q p r = by (taken (database ss t q) q.path)
+  where
+    by : (es : List (Path × Content)) → look r (if place_eq q p then [] else behind p.path (λ s. C (below_place q s)) es) ≡ placed (strip p.path r) (λ s. mark_copy q p s (look s es)) None
+    by es =
+        elim (place_eq q p) as (λ b. look r (if b then [] else behind p.path (λ s. C (below_place q s)) es) ≡ placed (strip p.path r) (λ s. if b then None else option_map (λ _. C (below_place q s)) (look s es)) None) [
+          | true ↦ elim (strip p.path r) as (λ o. ◌≡◌ {A = Option Mark} None (placed o (λ _. None) None)) [ None ↦ refl | Some s ↦ refl ]
+          | false ↦ find-behind p.path (λ s. C (below_place q s)) r es
+        ]
+
+-- what is taken of a tree rises
+sorted-taken : (o : Option Tree) (q : Path) → T (is_sorted path_cmp (taken o q))
+sorted-taken None q = tt
+sorted-taken (Some t) q = sorted-below q t
 
 -- the rows of one operation rise
-pub sorted-op_rows : (t : Tree) (op : Op) → IsWritten op → T (is_sorted path_cmp (op_rows t op))
+pub sorted-op_rows : (ss : List Source) (t : Tree) (op : Op) → IsWritten op → T (is_sorted path_cmp (op_rows ss t op))
 unfolding op_rows
-sorted-op_rows t (Ins p a l) h = sorted-behind (child p.path a) (λ _. I) (literal_rows l) h.sorted
-sorted-op_rows t (Del a p) h = sorted-behind (child p.path a) (λ _. D) (below (child p.path a) t) (sorted-below (child p.path a) t)
-sorted-op_rows t (Copy q p) h =
-    elim (place_eq q p) as (λ b. T (is_sorted path_cmp (if b then [] else behind p.path (λ s. C (below_place q s)) (below q.path t)))) [
+sorted-op_rows ss t (Ins p a l) h = sorted-behind (child p.path a) (λ _. I) (literal_rows l) h.sorted
+sorted-op_rows ss t (Del a p) h = sorted-behind (child p.path a) (λ _. D) (below (child p.path a) t) (sorted-below (child p.path a) t)
+sorted-op_rows ss t (Copy q p) h =
+    elim (place_eq q p) as (λ b. T (is_sorted path_cmp (if b then [] else behind p.path (λ s. C (below_place q s)) (taken (database ss t q) q.path)))) [
       | true ↦ tt
-      | false ↦ sorted-behind p.path (λ s. C (below_place q s)) (below q.path t) (sorted-below q.path t)
+      | false ↦ sorted-behind p.path (λ s. C (below_place q s)) (taken (database ss t q) q.path) (sorted-taken (database ss t q) q.path)
     ]
 
--- without sources what is copied is a place of the tree
-pub copy_alone : (t : Tree) (q p : Loc) → refusal [] t (Copy q p) ≡ None → (in_target q ≡ true) × (is_there t q.path ≡ true)
-copy_alone t q p n =
-    let x = copy_accepted [] t q p n in
-    elim (in_target q) as (λ b. (if b then Some t else None) ≡ Some x.tree → (b ≡ true) × (is_there t q.path ≡ true)) [
-      | true ↦ λ e. let k : t ≡ x.tree = cc in (refl, ap (λ u. is_there u q.path) k ∙ x.origin)
-      | false ↦ λ e. absurd (cc)
-    ] x.is_tree
-
 -- what one operation that isn't refused does to a place, its rows say
-pub here-alone : (t : Tree) (op : Op) → IsTree t → refusal [] t op ≡ None → (r : Path) → full_here t (applied [] (opened t) op) r ≡ look r (op_rows t op)
+pub here-alone : (ss : List Source) (t : Tree) (op : Op) → IsTree t → refusal ss t op ≡ None → (r : Path) → full_here t (applied ss (opened t) op) r ≡ look r (op_rows ss t op)
 unfolding applied op_rows
-here-alone t (Ins p a l) h n r = here_ins t p a l h.rooted (ins_accepted [] t p a l n) r ∙ sym (find-behind (child p.path a) (λ _. I) r (literal_rows l))
-here-alone t (Del a p) h n r = here_del t p a (del_accepted [] t p a n) r ∙ sym (find-behind (child p.path a) (λ _. D) r (below (child p.path a) t))
-here-alone t (Copy q p) h n r =
-    let x = copy_alone t q p n in
-    ap (λ b. full_here t (replaced p.path (carried [] (opened t) q b) (opened t)) r) x.0
-    ∙ here_copy t q p x.0 (copy_accepted [] t q p n).target x.1 r
-    ∙ sym (find_copy t q p r)
+here-alone ss t (Ins p a l) h n r = here_ins t p a l h.rooted (ins_accepted ss t p a l n) r ∙ sym (find-behind (child p.path a) (λ _. I) r (literal_rows l))
+here-alone ss t (Del a p) h n r = here_del t p a (del_accepted ss t p a n) r ∙ sym (find-behind (child p.path a) (λ _. D) r (below (child p.path a) t))
+here-alone ss t (Copy q p) h n r =
+    let x = copy_accepted ss t q p n in
+    here_copied ss t x.tree q p (in_target q) refl x.is_tree x.target x.origin r
+    ∙ sym (find_copy ss t q p r)
 
 -- the full rows of a step of one operation that isn't refused are the operation's rows
-pub rows-alone : (t : Tree) (op : Op) → IsTree t → IsWritten op → refusal [] t op ≡ None → full_rows t (applied [] (opened t) op) ≡ op_rows t op
-rows-alone t op h i n =
-    same_rows (full_rows t (applied [] (opened t) op)) (op_rows t op) (sorted-full_rows t (applied [] (opened t) op)) (sorted-op_rows t op i)
-    (λ r. find-full_rows t (applied [] (opened t) op) r ∙ here-alone t op h n r)
+pub rows-alone : (ss : List Source) (t : Tree) (op : Op) → IsTree t → IsWritten op → refusal ss t op ≡ None → full_rows t (applied ss (opened t) op) ≡ op_rows ss t op
+rows-alone ss t op h i n =
+    same_rows (full_rows t (applied ss (opened t) op)) (op_rows ss t op) (sorted-full_rows t (applied ss (opened t) op)) (sorted-op_rows ss t op i)
+    (λ r. find-full_rows t (applied ss (opened t) op) r ∙ here-alone ss t op h n r)

@@ -1,7 +1,7 @@
 -- A transaction: what it holds, and what each call does to it.
 use Rattle.std.specs.Prelude.{ℕ, ◌+◌, ◌-◌, ◌≡◌, ◌≤◌, ◌<◌, ◌^◌, List, [], ◌∷◌, ◌++◌, length, Result, Ok, Err, ⊤}
 use Rattle.std.specs.declared.option.Option.TheVariants.{None, Some}
-use Rattle.cp_model.specs.Tree.{Tree, IsTree}
+use Rattle.cp_model.specs.Tree.{Tree, Source, IsTree}
 use Rattle.cp_model.specs.History.{AreWritten, most_ops}
 use Rattle.cp_model.specs.declared.op.Op.{Op}
 use Rattle.cp_model.specs.declared.refusal.Cause.{Cause}
@@ -38,53 +38,53 @@ abbrev pub given_up : Progress → ℕ
 given_up (going ops) = length ops
 given_up (failed n c) = n - 1
 
--- the transaction holds these operations, which lead from the tree t, the first with the Tid n
-pub record IsGoing {R : Type 0} (view : R → Tree) (x : Txn R) (t : Tree) (n : ℕ) (ops : List Op) : Type 0 where
+-- the transaction holds these operations, which lead from the tree t with these sources, the first with the Tid n
+pub record IsGoing {R : Type 0} (view : R → Tree) (x : Txn R) (ss : List Source) (t : Tree) (n : ℕ) (ops : List Op) : Type 0 where
   pub start : IsTree t
   pub first : n ≤ 2 ^ 63
   pub few : length ops ≤ most_ops
   pub written : AreWritten ops
-  pub accepted : AllAccepted t ops
+  pub accepted : AllAccepted ss t ops
   pub held : x.ops ≡ ops
   pub tid : x.first ≡ n
-  pub tree : view x.tree ≡ (passed t n ops).tree
-  pub rows : Holds x.rows (passed t n ops).records
+  pub tree : view x.tree ≡ (passed ss t n ops).tree
+  pub rows : Holds x.rows (passed ss t n ops).records
   pub failure : x.failure ≡ None
 
 -- the transaction stands where this progress was made from the tree t
-abbrev pub Stands : {R : Type 0} → (R → Tree) → Txn R → Tree → ℕ → Progress → Type 0
-Stands view x t n (going ops) = IsGoing view x t n ops
-Stands view x t n (failed k c) = x.failure ≡ Some (record { number = k; cause = c })
+abbrev pub Stands : {R : Type 0} → (R → Tree) → Txn R → List Source → Tree → ℕ → Progress → Type 0
+Stands view x ss t n (going ops) = IsGoing view x ss t n ops
+Stands view x ss t n (failed k c) = x.failure ≡ Some (record { number = k; cause = c })
 
 -- an operation is held behind the others, or refused by the first case that applies, or there was no memory for it
-abbrev pub Applies : {R : Type 0} → (R → Tree) → Tree → ℕ → Progress → Op → Txn R → Result ⊤ ApplyFault → Type 0
-Applies view t n (going ops) op new (Ok x) = (refusal_behind t n ops op ≡ None) × Stands view new t n (going (ops ++ op ∷ []))
-Applies view t n (going ops) op new (Err (denied.Failed k)) = ⊥
-Applies view t n (going ops) op new (Err (denied.Refused r)) = (refusal_behind t n ops op ≡ Some r) × Stands view new t n (failed (length ops + 1) (Refused r))
-Applies view t n (going ops) op new (Err denied.Memory) = Stands view new t n (going ops)
-Applies view t n (failed k c) op new (Ok x) = ⊥
-Applies view t n (failed k c) op new (Err (denied.Failed j)) = (j ≡ k) × Stands view new t n (failed k c)
-Applies view t n (failed k c) op new (Err (denied.Refused r)) = ⊥
-Applies view t n (failed k c) op new (Err denied.Memory) = ⊥
+abbrev pub Applies : {R : Type 0} → (R → Tree) → List Source → Tree → ℕ → Progress → Op → Txn R → Result ⊤ ApplyFault → Type 0
+Applies view ss t n (going ops) op new (Ok x) = (refusal_behind ss t n ops op ≡ None) × Stands view new ss t n (going (ops ++ op ∷ []))
+Applies view ss t n (going ops) op new (Err (denied.Failed k)) = ⊥
+Applies view ss t n (going ops) op new (Err (denied.Refused r)) = (refusal_behind ss t n ops op ≡ Some r) × Stands view new ss t n (failed (length ops + 1) (Refused r))
+Applies view ss t n (going ops) op new (Err denied.Memory) = Stands view new ss t n (going ops)
+Applies view ss t n (failed k c) op new (Ok x) = ⊥
+Applies view ss t n (failed k c) op new (Err (denied.Failed j)) = (j ≡ k) × Stands view new ss t n (failed k c)
+Applies view ss t n (failed k c) op new (Err (denied.Refused r)) = ⊥
+Applies view ss t n (failed k c) op new (Err denied.Memory) = ⊥
 
 -- the operations, the tree to which they lead, their records and their number, within the limit of a commit's bytes
-pub record IsStep {R : Type 0} (view : R → Tree) (t : Tree) (n : ℕ) (ops : List Op) (limit : ℕ) (x : Step R) : Type 0 where
+pub record IsStep {R : Type 0} (view : R → Tree) (ss : List Source) (t : Tree) (n : ℕ) (ops : List Op) (limit : ℕ) (x : Step R) : Type 0 where
   pub some : 1 ≤ length ops
   pub held : x.ops ≡ ops
-  pub tree : view x.tree ≡ (passed t n ops).tree
-  pub rows : x.rows ≡ (passed t n ops).records
+  pub tree : view x.tree ≡ (passed ss t n ops).tree
+  pub rows : x.rows ≡ (passed ss t n ops).records
   pub tids : x.tids ≡ length ops
-  pub small : commit_length ops (passed t n ops).records ≤ limit
+  pub small : commit_length ops (passed ss t n ops).records ≤ limit
 
 -- the step that a transaction makes, or why it makes none
-abbrev pub Finishes : {R : Type 0} → (R → Tree) → Tree → ℕ → Progress → ℕ → Result (Step R) FinishFault → Type 0
-Finishes view t n (going ops) limit (Ok x) = IsStep view t n ops limit x
-Finishes view t n (going ops) limit (Err unfinished.Empty) = ops ≡ []
-Finishes view t n (going ops) limit (Err (unfinished.Failed k c)) = ⊥
-Finishes view t n (going ops) limit (Err unfinished.TooLarge) = (1 ≤ length ops) × (limit < commit_length ops (passed t n ops).records) × (commit_length ops (passed t n ops).records < 2 ^ 64)
-Finishes view t n (going ops) limit (Err unfinished.Memory) = 1 ≤ length ops
-Finishes view t n (failed k c) limit (Ok x) = ⊥
-Finishes view t n (failed k c) limit (Err unfinished.Empty) = ⊥
-Finishes view t n (failed k c) limit (Err (unfinished.Failed j d)) = (j ≡ k) × (d ≡ c)
-Finishes view t n (failed k c) limit (Err unfinished.TooLarge) = ⊥
-Finishes view t n (failed k c) limit (Err unfinished.Memory) = ⊥
+abbrev pub Finishes : {R : Type 0} → (R → Tree) → List Source → Tree → ℕ → Progress → ℕ → Result (Step R) FinishFault → Type 0
+Finishes view ss t n (going ops) limit (Ok x) = IsStep view ss t n ops limit x
+Finishes view ss t n (going ops) limit (Err unfinished.Empty) = ops ≡ []
+Finishes view ss t n (going ops) limit (Err (unfinished.Failed k c)) = ⊥
+Finishes view ss t n (going ops) limit (Err unfinished.TooLarge) = (1 ≤ length ops) × (limit < commit_length ops (passed ss t n ops).records) × (commit_length ops (passed ss t n ops).records < 2 ^ 64)
+Finishes view ss t n (going ops) limit (Err unfinished.Memory) = 1 ≤ length ops
+Finishes view ss t n (failed k c) limit (Ok x) = ⊥
+Finishes view ss t n (failed k c) limit (Err unfinished.Empty) = ⊥
+Finishes view ss t n (failed k c) limit (Err (unfinished.Failed j d)) = (j ≡ k) × (d ≡ c)
+Finishes view ss t n (failed k c) limit (Err unfinished.TooLarge) = ⊥
+Finishes view ss t n (failed k c) limit (Err unfinished.Memory) = ⊥

@@ -1,12 +1,14 @@
-ghost use Rattle.std.specs.Prelude.{◌≡◌, ◌≤◌, ◌<◌, ◌+◌, ◌^◌, [], length};
-ghost use Rattle.cp_model.specs.Place.{in_target};
-ghost use Rattle.cp_model.specs.Tree.{refusal, first_case, at_node, text_bytes};
+ghost use Rattle.std.specs.Prelude.{◌≡◌, true, ◌≤◌, ◌<◌, ◌+◌, ◌^◌, List, length};
+ghost use Rattle.cp_model.specs.Subtrees.{is_there};
+ghost use Rattle.cp_model.specs.Tree.{Source, refusal, first_case, at_node, text_bytes};
 ghost use Rattle.cp_model.specs.History.{IsWritten, IsLiteral};
 ghost use Rattle.cp_model.specs.Literals.{literal_rows};
 ghost use Rattle.cp_model.specs.declared.op.Op.TheVariants.{Ins, Del, Copy};
 ghost use Rattle.cp_model.specs.declared.row.Content.TheVariants.{Leaf};
-ghost use Rattle.cp_engine.specs.Reaching.{joined, alone_at, literal_reach, over_by, limit_passed};
+ghost use Rattle.cp_engine.specs.Loaded.{sources_in};
+ghost use Rattle.cp_engine.specs.Reaching.{joined, alone_at, literal_reach, over_by, limit_passed, copied_cases};
 
+use crate::sources::Sources;
 use cp_model::{Literal, Op, Refusal};
 use cp_path::{LABELS_MAX, LOC_MAX, Label, Loc, Value};
 use cp_tree::{Reach, TreeRep};
@@ -17,11 +19,11 @@ const NODES_MAX: u32 = 1_048_576;
 /// The most weight of a tree.
 const WEIGHT_MAX: u64 = 33_554_432;
 
-/// The first case that refuses the operation on this tree, if there is one. Takes no memory. Costs the way to the
-/// places that it names, the literal of an insertion, and the two subtrees of a copy.
-pub fn check<R: TreeRep>(tree: &R, op: &Op) -> Option<Refusal>
+/// The first case that refuses the operation on this tree with these sources, if there is one. Takes no memory. Costs
+/// the way to the places that it names, the literal of an insertion, and the two subtrees of a copy.
+pub fn check<R: TreeRep, S: TreeRep>(tree: &R, sources: &Sources<S>, op: &Op) -> Option<Refusal>
     requires written { IsWritten op.now }
-    ensures { result ≡ refusal [] (R.contents tree.now) op.now }
+    ensures { result ≡ refusal (sources_in S.contents sources.now) (R.contents tree.now) op.now }
 {
     match op {
         Op::Ins {
@@ -30,7 +32,7 @@ pub fn check<R: TreeRep>(tree: &R, op: &Op) -> Option<Refusal>
             tree: literal,
         } => check_insertion(tree, into, label, literal),
         Op::Del { label, from } => check_deletion(tree, label, from),
-        Op::Copy { from, into } => check_copy(tree, from, into),
+        Op::Copy { from, into } => check_copy(tree, sources, from, into),
     }
 }
 
@@ -52,7 +54,7 @@ fn check_node<R: TreeRep>(tree: &R, p: &Loc) -> Option<Refusal>
 
 /// Costs the way to the place.
 fn check_deletion<R: TreeRep>(tree: &R, label: &Label, from: &Loc) -> Option<Refusal>
-    ensures { result ≡ refusal [] (R.contents tree.now) (Del label.now from.now) }
+    ensures { (ss : List Source) → result ≡ refusal ss (R.contents tree.now) (Del label.now from.now) }
 {
     if let Some(why) = check_node(tree, from) {
         return Some(why);
@@ -71,7 +73,7 @@ fn check_insertion<R: TreeRep>(
     literal: &Literal,
 ) -> Option<Refusal>
     requires written { IsLiteral (literal_rows literal.now) }
-    ensures { result ≡ refusal [] (R.contents tree.now) (Ins into.now label.now literal.now) }
+    ensures { (ss : List Source) → result ≡ refusal ss (R.contents tree.now) (Ins into.now label.now literal.now) }
 {
     if let Some(why) = check_node(tree, into) {
         return Some(why);
@@ -86,9 +88,14 @@ fn check_insertion<R: TreeRep>(
     check_limits(tree.count() + added.nodes, tree.weight() + added.inner)
 }
 
-/// Costs the ways to both places, and their subtrees where the tree doesn't keep what they reach.
-fn check_copy<R: TreeRep>(tree: &R, from: &Loc, into: &Loc) -> Option<Refusal>
-    ensures { result ≡ refusal [] (R.contents tree.now) (Copy from.now into.now) }
+/// Costs the ways to both places, and their subtrees where the trees don't keep what they reach.
+fn check_copy<R: TreeRep, S: TreeRep>(
+    tree: &R,
+    sources: &Sources<S>,
+    from: &Loc,
+    into: &Loc,
+) -> Option<Refusal>
+    ensures { result ≡ refusal (sources_in S.contents sources.now) (R.contents tree.now) (Copy from.now into.now) }
 {
     if !into.db.is_target() {
         return Some(Refusal::ReadOnly);
@@ -96,13 +103,29 @@ fn check_copy<R: TreeRep>(tree: &R, from: &Loc, into: &Loc) -> Option<Refusal>
     if !tree.is_there(&into.path) {
         return Some(Refusal::NoPlace);
     }
-    if !from.db.is_target() {
-        return Some(Refusal::NoSource);
+    if from.db.is_target() {
+        return check_copied(tree, tree, from, into);
     }
-    if !tree.is_there(&from.path) {
+    match sources.get(&from.db) {
+        Some(source) => check_copied(tree, source, from, into),
+        None => Some(Refusal::NoSource),
+    }
+}
+
+/// Why a copy of a place of `other` onto a place that is there is refused, if it is.
+fn check_copied<R: TreeRep, O: TreeRep>(
+    tree: &R,
+    other: &O,
+    from: &Loc,
+    into: &Loc,
+) -> Option<Refusal>
+    requires there { is_there (R.contents tree.now) into.now.path ≡ true }
+    ensures { result ≡ first_case (copied_cases (O.contents other.now) from.now.path (R.contents tree.now) into.now) }
+{
+    if !other.is_there(&from.path) {
         return Some(Refusal::NoOrigin);
     }
-    let copied = tree.reach(&from.path);
+    let copied = other.reach(&from.path);
     if is_over(into, copied.depth, copied.size) {
         return Some(Refusal::TooDeep);
     }

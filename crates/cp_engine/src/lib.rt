@@ -7,10 +7,12 @@ mod copy;
 mod fault;
 mod held;
 mod rows;
+mod sources;
 mod state;
 mod txn;
 
 pub use checks::check;
 pub use fault::{ApplyFault, FinishFault};
+pub use sources::Sources;
 pub use state::TxnState;
 pub use txn::{Step, Txn};

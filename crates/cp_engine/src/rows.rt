@@ -1,19 +1,21 @@
 //! The records of one operation.
-ghost use Rattle.std.specs.Prelude.{◌≡◌, true, ◌≤◌, ◌<◌, ◌+◌, [], ◌∷◌, length, map, OnOk, OnErr, IfOk};
+ghost use Rattle.std.specs.Prelude.{◌≡◌, true, false, ◌≤◌, ◌<◌, ◌+◌, List, length, map, OnOk, OnErr, IfOk};
 ghost use Rattle.std.specs.declared.option.Option.TheVariants.{None, Some};
-ghost use Rattle.cp_model.specs.Place.{child};
-ghost use Rattle.cp_model.specs.Subtrees.{is_there, moved};
+ghost use Rattle.cp_model.specs.Place.{child, below_place};
+ghost use Rattle.cp_model.specs.Subtrees.{below, is_there, moved};
 ghost use Rattle.cp_model.specs.Literals.{literal_rows};
 ghost use Rattle.cp_model.specs.History.{with_tid};
-ghost use Rattle.cp_model.specs.Tree.{refusal};
+ghost use Rattle.cp_model.specs.Tree.{Source, refusal, reaches_over};
 ghost use Rattle.cp_model.specs.declared.op.Op.TheVariants.{Del, Copy};
 ghost use Rattle.cp_model.specs.declared.record.RecOp.TheVariants as letter;
 ghost use Rattle.cp_record.specs.Bytes.{record_below};
 ghost use Rattle.cp_tree.specs.Rows.{greatest};
 ghost use Rattle.cp_engine.specs.Held.{Appended, Grown, Restored};
+ghost use Rattle.cp_engine.specs.Loaded.{sources_in};
 ghost use Rattle.cp_engine.specs.RowsAlone.{behind, op_rows};
 ghost use Rattle.cp_model.specs.declared.record.RowMark.TheVariants as mark;
 
+use crate::sources::Sources;
 use cp_model::{LitList, Literal, Op, RowList};
 use cp_path::{Label, Loc, Path, PathFault};
 use cp_record::{PackedRecords, RecOp};
@@ -22,19 +24,20 @@ use std::alloc::{AllocError, Global};
 
 /// Appends the records of an operation that the tree, as it was before, doesn't refuse. After an error the records are
 /// as they were. Costs the bytes of the places.
-pub(crate) fn push_op<R: TreeRep>(
+pub(crate) fn push_op<R: TreeRep, S: TreeRep>(
     alloc: Global,
     rows: &mut PackedRecords,
     tid: u64,
     tree: &R,
+    sources: &Sources<S>,
     op: &Op,
 ) -> Result<(), AllocError>
-    requires accepted { refusal [] (R.contents tree.now) op.now ≡ None }
-    ensures ok { OnOk result (Appended rows.old rows.new (with_tid tid (op_rows (R.contents tree.now) op.now))) }
+    requires accepted { refusal (sources_in S.contents sources.now) (R.contents tree.now) op.now ≡ None }
+    ensures ok { OnOk result (Appended rows.old rows.new (with_tid tid (op_rows (sources_in S.contents sources.now) (R.contents tree.now) op.now))) }
     ensures err { OnErr result (Restored rows.old rows.new) }
 {
     let bytes = rows.len();
-    match push_places(alloc, rows, tid, tree, op) {
+    match push_places(alloc, rows, tid, tree, sources, op) {
         Ok(()) => Ok(()),
         Err(fault) => {
             rows.truncate(bytes);
@@ -44,15 +47,16 @@ pub(crate) fn push_op<R: TreeRep>(
 }
 
 /// After an error there may be more records.
-fn push_places<R: TreeRep>(
+fn push_places<R: TreeRep, S: TreeRep>(
     alloc: Global,
     rows: &mut PackedRecords,
     tid: u64,
     tree: &R,
+    sources: &Sources<S>,
     op: &Op,
 ) -> Result<(), AllocError>
-    requires accepted { refusal [] (R.contents tree.now) op.now ≡ None }
-    ensures ok { OnOk result (Appended rows.old rows.new (with_tid tid (op_rows (R.contents tree.now) op.now))) }
+    requires accepted { refusal (sources_in S.contents sources.now) (R.contents tree.now) op.now ≡ None }
+    ensures ok { OnOk result (Appended rows.old rows.new (with_tid tid (op_rows (sources_in S.contents sources.now) (R.contents tree.now) op.now))) }
     ensures err { OnErr result (Grown rows.old rows.new) }
 {
     match op {
@@ -62,7 +66,7 @@ fn push_places<R: TreeRep>(
             tree: literal,
         } => push_inserted(alloc, rows, tid, into, label, literal),
         Op::Del { label, from } => push_deleted(alloc, rows, tid, tree, label, from),
-        Op::Copy { from, into } => push_copied(alloc, rows, tid, tree, from, into),
+        Op::Copy { from, into } => push_copied(alloc, rows, tid, tree, sources, from, into),
     }
 }
 
@@ -93,7 +97,7 @@ fn push_deleted<R: TreeRep>(
     from: &Loc,
 ) -> Result<(), AllocError>
     requires there { is_there (R.contents tree.now) (child from.now.path label.now) ≡ true }
-    ensures ok { OnOk result (Appended rows.old rows.new (with_tid tid (op_rows (R.contents tree.now) (Del label.now from.now)))) }
+    ensures ok { (ss : List Source) → OnOk result (Appended rows.old rows.new (with_tid tid (op_rows ss (R.contents tree.now) (Del label.now from.now)))) }
     ensures err { OnErr result (Grown rows.old rows.new) }
 {
     let base = child_of(&from.path, label)?;
@@ -102,22 +106,46 @@ fn push_deleted<R: TreeRep>(
 }
 
 /// A copy of a place onto itself has no record. After an error there may be more records.
-fn push_copied<R: TreeRep>(
+fn push_copied<R: TreeRep, S: TreeRep>(
     alloc: Global,
     rows: &mut PackedRecords,
     tid: u64,
     tree: &R,
+    sources: &Sources<S>,
     from: &Loc,
     into: &Loc,
 ) -> Result<(), AllocError>
-    requires accepted { refusal [] (R.contents tree.now) (Copy from.now into.now) ≡ None }
-    ensures ok { OnOk result (Appended rows.old rows.new (with_tid tid (op_rows (R.contents tree.now) (Copy from.now into.now)))) }
+    requires accepted { refusal (sources_in S.contents sources.now) (R.contents tree.now) (Copy from.now into.now) ≡ None }
+    ensures ok { OnOk result (Appended rows.old rows.new (with_tid tid (op_rows (sources_in S.contents sources.now) (R.contents tree.now) (Copy from.now into.now)))) }
     ensures err { OnErr result (Grown rows.old rows.new) }
 {
     if from.is_at(into) {
         return Ok(());
     }
-    let list = tree.rows(alloc, &from.path)?;
+    if from.db.is_target() {
+        return push_subtree(alloc, rows, tid, tree, from, into);
+    }
+    match sources.get(&from.db) {
+        Some(source) => push_subtree(alloc, rows, tid, source, from, into),
+        None => unreachable!(),
+    }
+}
+
+/// Appends a record for each place of the subtree of `other` at `from`. After an error there may be more records.
+fn push_subtree<O: TreeRep>(
+    alloc: Global,
+    rows: &mut PackedRecords,
+    tid: u64,
+    other: &O,
+    from: &Loc,
+    into: &Loc,
+) -> Result<(), AllocError>
+    requires there { is_there (O.contents other.now) from.now.path ≡ true }
+    requires places { reaches_over into.now (below from.now.path (O.contents other.now)) ≡ false }
+    ensures ok { OnOk result (Appended rows.old rows.new (with_tid tid (behind into.now.path (λ s. mark.Copied (below_place from.now s)) (below from.now.path (O.contents other.now))))) }
+    ensures err { OnErr result (Grown rows.old rows.new) }
+{
+    let list = other.rows(alloc, &from.path)?;
     push_copies(rows, tid, &into.path, &list, from)
 }
 

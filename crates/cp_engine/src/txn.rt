@@ -1,12 +1,13 @@
 ghost use Rattle.std.specs.Prelude.{◌≡◌, ◌==◌, ◌≤◌, ◌<◌, ◌+◌, ◌^◌, ℕ, List, [], ◌∷◌, ◌++◌, length, if◌then◌else◌, IfOk, OnOk, OnErr};
 ghost use Rattle.std.specs.declared.option.Option.TheVariants.{None, Some};
-ghost use Rattle.cp_model.specs.Tree.{Tree, refusal};
+ghost use Rattle.cp_model.specs.Tree.{Tree, Source, refusal};
 ghost use Rattle.cp_model.specs.History.{IsWritten, most_ops};
 ghost use Rattle.cp_model.specs.declared.op.Op.{Op};
 ghost use Rattle.cp_model.specs.declared.record.Record.{Record};
 ghost use Rattle.cp_model.specs.declared.refusal.Refusal.TheVariants.{TooManyOps};
 ghost use Rattle.cp_record.specs.Bytes.{commit_length};
 ghost use Rattle.cp_record.specs.Packed.{Holds};
+ghost use Rattle.cp_engine.specs.Loaded.{sources_in};
 ghost use Rattle.cp_engine.specs.Passed.{passed};
 ghost use Rattle.cp_engine.specs.Transactions.{Progress, going, Stands, Applies, Finishes, IsGoing, state_of, spoiled, given_up};
 
@@ -16,6 +17,7 @@ use crate::copy::copy_op;
 use crate::fault::{ApplyFault, FinishFault};
 use crate::held::{FirstTid, HeldOps};
 use crate::rows::push_op;
+use crate::sources::Sources;
 use crate::state::{Failure, TxnState};
 use cp_model::{Cause, Op, OpList, RecordList, Refusal};
 use cp_record::PackedRecords;
@@ -45,7 +47,7 @@ impl<R: TreeRep> Txn<R> {
     /// A transaction on a copy of the tree, whose first operation gets the Tid `first`. Costs the copy.
     pub fn begin(alloc: Global, tree: &R, first: u64) -> Result<Txn<R>, AllocError>
         requires first { first ≤ 2 ^ 63 }
-        ensures { IfOk result (λ x. Stands R.contents x (R.contents tree.now) first (going [])) }
+        ensures { IfOk result (λ x. (ss : List Source) → Stands R.contents x ss (R.contents tree.now) first (going [])) }
     {
         Ok(Txn {
             tree: tree.copy(alloc)?,
@@ -56,55 +58,65 @@ impl<R: TreeRep> Txn<R> {
         })
     }
 
-    /// Applies the operation, unless it is refused; a refusal fails the transaction. Costs its check, its change of the
-    /// tree and its records.
-    pub fn apply(&mut self, alloc: Global, op: &Op) -> Result<(), ApplyFault>
+    /// Applies the operation with these sources, unless it is refused; a refusal fails the transaction. Costs its check,
+    /// its change of the tree and its records.
+    pub fn apply<S: TreeRep>(
+        &mut self,
+        alloc: Global,
+        op: &Op,
+        sources: &Sources<S>,
+    ) -> Result<(), ApplyFault>
         requires written { IsWritten op.now }
-        ensures { (t : Tree) (n : ℕ) (p : Progress) → Stands R.contents self.old t n p → Applies R.contents t n p op.now self.new result }
+        ensures { (t : Tree) (n : ℕ) (p : Progress) → Stands R.contents self.old (sources_in S.contents sources.now) t n p → Applies R.contents (sources_in S.contents sources.now) t n p op.now self.new result }
     {
         if let Some(failure) = self.failure {
             return Err(ApplyFault::Failed(failure.number));
         }
-        if let Some(why) = self.refusal(op) {
+        if let Some(why) = self.refusal(op, sources) {
             self.fail(Cause::Refused(why));
             return Err(ApplyFault::Refused(why));
         }
-        match self.hold(alloc, op) {
+        match self.hold(alloc, op, sources) {
             Ok(()) => Ok(()),
             Err(_) => Err(ApplyFault::Memory),
         }
     }
 
     /// The first case that refuses the operation behind the held ones, if there is one.
-    fn refusal(&self, op: &Op) -> Option<Refusal>
+    fn refusal<S: TreeRep>(&self, op: &Op, sources: &Sources<S>) -> Option<Refusal>
         requires written { IsWritten op.now }
-        ensures case { result ≡ (if length self.now.ops == most_ops then Some TooManyOps else refusal [] (R.contents self.now.tree) op.now) }
+        ensures case { result ≡ (if length self.now.ops == most_ops then Some TooManyOps else refusal (sources_in S.contents sources.now) (R.contents self.now.tree) op.now) }
         ensures few { length self.now.ops ≤ 65535 }
     {
         if self.ops.is_full() {
             return Some(Refusal::TooManyOps);
         }
-        check(&self.tree, op)
+        check(&self.tree, sources, op)
     }
 
     /// Holds an operation that isn't refused, with its records and its change of the tree. After an error the
     /// transaction is as it was.
-    fn hold(&mut self, alloc: Global, op: &Op) -> Result<(), AllocError>
+    fn hold<S: TreeRep>(
+        &mut self,
+        alloc: Global,
+        op: &Op,
+        sources: &Sources<S>,
+    ) -> Result<(), AllocError>
         requires written { IsWritten op.now }
         requires few { length self.old.ops < 65535 }
-        requires accepted { refusal [] (R.contents self.old.tree) op.now ≡ None }
-        ensures ok { (t : Tree) (n : ℕ) (ops : List Op) → IsGoing R.contents self.old t n ops → OnOk result (IsGoing R.contents self.new t n (ops ++ op.now ∷ [])) }
-        ensures err { (t : Tree) (n : ℕ) (ops : List Op) → IsGoing R.contents self.old t n ops → OnErr result (IsGoing R.contents self.new t n ops) }
+        requires accepted { refusal (sources_in S.contents sources.now) (R.contents self.old.tree) op.now ≡ None }
+        ensures ok { (t : Tree) (n : ℕ) (ops : List Op) → IsGoing R.contents self.old (sources_in S.contents sources.now) t n ops → OnOk result (IsGoing R.contents self.new (sources_in S.contents sources.now) t n (ops ++ op.now ∷ [])) }
+        ensures err { (t : Tree) (n : ℕ) (ops : List Op) → IsGoing R.contents self.old (sources_in S.contents sources.now) t n ops → OnErr result (IsGoing R.contents self.new (sources_in S.contents sources.now) t n ops) }
     {
         let held = copy_op(alloc, op)?;
         let bytes = self.rows.len();
         let tid = self.first.after(self.ops.len());
-        push_op(alloc, &mut self.rows, tid, &self.tree, op)?;
+        push_op(alloc, &mut self.rows, tid, &self.tree, sources, op)?;
         if let Err(fault) = self.ops.push(held) {
             self.rows.truncate(bytes);
             return Err(fault);
         }
-        if let Err(fault) = change(alloc, &mut self.tree, op) {
+        if let Err(fault) = change(alloc, &mut self.tree, sources, op) {
             self.ops.pop();
             self.rows.truncate(bytes);
             return Err(fault);
@@ -124,7 +136,7 @@ impl<R: TreeRep> Txn<R> {
 
     /// Counts a text that couldn't be read as the next operation, at which a going transaction fails.
     pub fn spoil(&mut self)
-        ensures { (t : Tree) (n : ℕ) (p : Progress) → Stands R.contents self.old t n p → Stands R.contents self.new t n (spoiled p) }
+        ensures { (ss : List Source) (t : Tree) (n : ℕ) (p : Progress) → Stands R.contents self.old ss t n p → Stands R.contents self.new ss t n (spoiled p) }
     {
         if self.failure.is_none() {
             self.fail(Cause::Unread);
@@ -133,14 +145,14 @@ impl<R: TreeRep> Txn<R> {
 
     /// The working tree.
     pub fn tree(&self) -> &R
-        ensures { (t : Tree) (n : ℕ) (ops : List Op) → Stands R.contents self.now t n (going ops) → R.contents result.now ≡ (passed t n ops).tree }
+        ensures { (ss : List Source) (t : Tree) (n : ℕ) (ops : List Op) → Stands R.contents self.now ss t n (going ops) → R.contents result.now ≡ (passed ss t n ops).tree }
     {
         &self.tree
     }
 
     /// How far the transaction has come.
     pub fn state(&self) -> TxnState
-        ensures { (t : Tree) (n : ℕ) (p : Progress) → Stands R.contents self.now t n p → result ≡ state_of p }
+        ensures { (ss : List Source) (t : Tree) (n : ℕ) (p : Progress) → Stands R.contents self.now ss t n p → result ≡ state_of p }
     {
         match self.failure {
             Some(failure) => TxnState::Failed(failure.number, failure.cause),
@@ -151,7 +163,7 @@ impl<R: TreeRep> Txn<R> {
     /// Ends the transaction with the step that it makes, whose bytes in a commit are at most `limit`. The transaction is
     /// given up where it gives none. Costs the bytes of its records.
     pub fn finish(self, alloc: Global, limit: u64) -> Result<Step<R>, FinishFault>
-        ensures { (t : Tree) (n : ℕ) (p : Progress) → Stands R.contents self t n p → Finishes R.contents t n p limit result }
+        ensures { (ss : List Source) (t : Tree) (n : ℕ) (p : Progress) → Stands R.contents self ss t n p → Finishes R.contents ss t n p limit result }
     {
         if let Some(failure) = self.failure {
             return Err(FinishFault::Failed(failure.number, failure.cause));
@@ -182,7 +194,7 @@ impl<R: TreeRep> Txn<R> {
 
     /// Gives the transaction up, and says how many accepted operations it held.
     pub fn abort(self) -> u32
-        ensures { (t : Tree) (n : ℕ) (p : Progress) → Stands R.contents self t n p → result ≡ given_up p }
+        ensures { (ss : List Source) (t : Tree) (n : ℕ) (p : Progress) → Stands R.contents self ss t n p → result ≡ given_up p }
     {
         match self.failure {
             Some(failure) => failure.number.saturating_sub(1),

@@ -2,6 +2,8 @@ mod Standing
 mod Operating
 mod Committing
 mod Answering
+mod Loading
+mod Fetched
 pub mod Readings
 pub mod Plays
 pub mod Runs

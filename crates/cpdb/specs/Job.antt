@@ -1,36 +1,40 @@
 -- What a call replies: the session over its whole input.
 use Rattle.std.specs.Prelude.{ℕ, List, [], ◌∷◌, Bool, true, false, Result, Ok, Err, length, if◌then◌else◌}
 use Rattle.std.specs.List.{flat_map, list_any}
-use Rattle.cp_model.specs.Place.{in_target}
+use Rattle.cp_model.specs.Place.{target}
 use Rattle.cp_model.specs.Keyed as keyed
 use Rattle.cp_model.specs.Tree.{Tree}
 use Rattle.cp_model.specs.declared.kind.Kind.TheVariants as kind
 use Rattle.cp_model.specs.declared.row.Content.TheVariants.{Node}
-use Rattle.cp_model.specs.declared.op.Op.TheVariants.{Ins, Del, Copy}
 use Rattle.cp_model.specs.declared.query.Query.TheVariants as query
+use Rattle.cp_model.specs.declared.query.Form.TheVariants.{Json}
 use Rattle.cp_lang.specs.Cuts.{cuts_in, cuts_of}
 use Rattle.cp_lang.specs.Lexer.{tokens_of, first_offset}
 use Rattle.cp_lang.specs.Grammar.{bytes_reading}
 use Rattle.cp_lang.specs.declared.stmt.Stmt.{Stmt}
 use Rattle.cp_lang.specs.declared.stmt.Stmt.TheVariants as stmt
+use Rattle.cp_lang.specs.declared.stmt.Load.{Load}
 use Rattle.cp_lang.specs.declared.stmt.StmtFault.{StmtFault}
 use Rattle.cp_lang.specs.declared.stmt.StmtFault.TheVariants as fault
 use Rattle.cp_reply.specs.Lines.{lines}
+use Rattle.cp_reply.specs.declared.reply.Of.TheVariants as of
+use Rattle.cp_reply.specs.declared.reply.Why.{Why}
 use Rattle.cp_reply.specs.declared.reply.Why.TheVariants as why
 use Rattle.cp_reply.specs.declared.reply.Reply.{Reply}
 use Rattle.cp_reply.specs.declared.reply.Reply.TheVariants as reply
-use Rattle.cp_session.specs.Session.{Reading, says, unread, Setting, withholds, Session, fresh, replies_to}
+use Rattle.cp_session.specs.Session.{Reading, says, unread, Setting, Fetched, gives, Session, fresh, replies_to}
+use Rattle.cp_outside.specs.FileReads.{FileTable}
+use Rattle.cpdb.specs.Words.{Start, alone, tree_in}
+use Rattle.cpdb.specs.Fetching.{fetch}
 
 -- ---- what a text says
 
--- the statements that are run: operations but for copies from sources, commit, abort, src, hist, trace and show
+-- the statements that are run: operations, commit, abort, load, src, hist, trace and show
 abbrev pub is_run : Stmt → Bool
-is_run (stmt.Op (Ins p a t)) = true
-is_run (stmt.Op (Del a p)) = true
-is_run (stmt.Op (Copy q p)) = in_target q
+is_run (stmt.Op op) = true
 is_run stmt.Commit = true
 is_run stmt.Abort = true
-is_run (stmt.Load l) = false
+is_run (stmt.Load l) = true
 is_run (stmt.Ask (query.Src q)) = true
 is_run (stmt.Ask (query.Hist q)) = true
 is_run (stmt.Ask (query.Mod q)) = false
@@ -39,6 +43,15 @@ is_run (stmt.Ask (query.From q)) = false
 is_run (stmt.Ask (query.Records t)) = false
 is_run (stmt.Ask query.Stats) = false
 is_run (stmt.Show q) = true
+
+-- a statement that reads a file
+abbrev pub is_load : Stmt → Bool
+is_load (stmt.Op op) = false
+is_load stmt.Commit = false
+is_load stmt.Abort = false
+is_load (stmt.Load l) = true
+is_load (stmt.Ask q) = false
+is_load (stmt.Show q) = false
 
 -- a statement of another kind is refused at its first token
 abbrev pub if_run : List ℕ → Stmt → Reading
@@ -57,17 +70,26 @@ reading text = read_as text (bytes_reading text)
 
 -- ---- sessions
 
--- the whole language is read, and no file is loaded
-abbrev pub setting : Setting
-setting = record { read = reading; fetch = λ l. withholds why.NoFile; fits = λ stamp ops records. true; has_room = λ n t. true; curator = [] }
+-- the whole language is read, and sources are loaded from these files
+abbrev pub setting : FileTable → Setting
+setting files = record { read = reading; fetch = fetch files; fits = λ stamp ops records. true; has_room = λ n t. true; curator = [] }
 
 -- a root alone
 abbrev pub empty_tree : Tree
 empty_tree = keyed.from_entries (([], Node) ∷ [])
 
--- a naive store that starts from an empty tree
-abbrev pub begun_session : Session
-begun_session = fresh kind.N empty_tree []
+-- a naive store that starts from this tree
+abbrev pub begun_session : Tree → Session
+begun_session t = fresh kind.N t []
+
+-- the tree of a JSON file, as if it were loaded under the name T
+abbrev pub start_load : List ℕ → Load
+start_load file = record { name = target; form = Json; file = file }
+
+-- the tree that a session starts from, or why it starts from none
+abbrev pub start_given : FileTable → Start → Fetched
+start_given files alone = gives empty_tree
+start_given files (tree_in file) = fetch files (start_load file)
 
 -- the reply is a refusal
 abbrev pub is_refusal : Reply → Bool
@@ -83,10 +105,14 @@ pub record Ended : Type 0 where
 abbrev pub told : List Reply → Ended
 told rs = record { out = flat_map lines rs; refused = list_any is_refusal rs }
 
--- the statements that end in these bytes
-unfoldable pub played : List ℕ → Ended
-played bytes = told (replies_to setting begun_session (cuts_in bytes))
+-- the statements that end in these bytes, with these files and this start tree
+unfoldable pub played : FileTable → Tree → List ℕ → Ended
+played files t bytes = told (replies_to (setting files) (begun_session t) (cuts_in bytes))
 
 -- all statements of a whole input
-unfoldable pub job : List ℕ → Ended
-job bytes = told (replies_to setting begun_session (cuts_of bytes))
+unfoldable pub job : FileTable → Tree → List ℕ → Ended
+job files t bytes = told (replies_to (setting files) (begun_session t) (cuts_of bytes))
+
+-- the line of a start tree that is refused
+abbrev pub refused_start : Why → List ℕ
+refused_start w = lines (reply.Refused of.Scratch w)

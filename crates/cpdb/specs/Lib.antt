@@ -1,7 +1,10 @@
 pub mod Words
+pub mod Fetching
+pub mod Fetched
 pub mod Job
 pub mod Play
 pub mod Ends
 pub mod Story
+pub mod Starts
 pub mod Turns
 pub mod Databases

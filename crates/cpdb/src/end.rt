@@ -12,6 +12,8 @@ pub enum End {
     Usage,
     /// The input failed.
     Input,
+    /// A file failed.
+    File,
     /// The output failed.
     Output,
     Memory,
@@ -19,7 +21,7 @@ pub enum End {
     TooLong,
 }
 
-/// The exit status of the program: 0 done, 1 refused, 2 usage, 3 input, 4 output, 7 memory, 8 input too long.
+/// The exit status of the program: 0 done, 1 refused, 2 usage, 3 input or file, 4 output, 7 memory, 8 input too long.
 #[derive(Clone, Copy, Debug, Drop, PartialEq, Eq)]
 pub struct Status {
     pub code: u8,
@@ -33,7 +35,7 @@ impl End {
             End::Done => 0,
             End::Refused => 1,
             End::Usage => 2,
-            End::Input => 3,
+            End::Input | End::File => 3,
             End::Output => 4,
             End::Memory => 7,
             End::TooLong => 8,

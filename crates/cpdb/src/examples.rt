@@ -23,9 +23,9 @@ fn the_examples_of_the_document(rt: HostRuntime) -> Result<(), Fail> {
             "committed 1\nsrc T/into/by: 1\nsrc T/into/from: 1\n",
         ),
         (
-            "mod T; copy S/x into T; commit;",
+            "mod T; copy S/x into T; commit; copy S/x into T; abort;",
             1,
-            "refused: syntax at 0\nrefused: syntax at 1\nrefused commit: failed at 1\n",
+            "refused: syntax at 0\nrefused: transaction failed at 1\nrefused commit: failed at 1\nrefused: no source S\naborted 0\n",
         ),
         (
             "ins {a~1b : 1} into T; ins {~0 : 2} into T; ins {\"\" : 3} into T; ins {\"x y\" : 4} into T; commit; src T/a~1b; src T/~0; src T/; src \"T/x y\";",

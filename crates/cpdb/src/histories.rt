@@ -75,10 +75,10 @@ fn refusals_in_their_order(rt: HostRuntime) -> Result<(), Fail> {
         ("copy T/x into S/y;", "refused: read only S/y\n"),
         ("copy T/x into T/y;", "refused: no place T/y\n"),
         ("copy T/x into T;", "refused: no origin T/x\n"),
-        // there is no source yet
+        // there is no such source
         (
             "copy S/x into T; show S; show T/x;",
-            "refused: syntax at 0\nrefused: no source S\nrefused: no place T/x\n",
+            "refused: no source S\nrefused: no source S\nrefused: no place T/x\n",
         ),
         // places that were there and are gone
         (

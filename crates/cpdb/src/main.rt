@@ -1,15 +1,15 @@
-//! The program: the real input and output, and the one call that does everything.
+//! The program: the real files, input and output, and the one call that does everything.
 #![tactic(auto)]
 
 mod database;
 mod end;
-mod host;
+mod fetch;
 mod run;
 mod session;
 mod stop;
 mod turn;
 
-use host::{StdinSource, StdoutSink};
+use cp_host::{HostFiles, StdinSource, StdoutSink};
 use run::run_cpdb;
 use std::io::ErrorKind;
 use std::process::ExitCode;
@@ -23,6 +23,8 @@ mod histories;
 #[cfg(test)]
 mod limits;
 #[cfg(test)]
+mod sources;
+#[cfg(test)]
 mod tests;
 
 fn main(rt: HostRuntime) -> ExitCode {
@@ -35,8 +37,9 @@ fn main(rt: HostRuntime) -> ExitCode {
     let Ok(words) = args.collect::<Vec<String>>(alloc) else {
         return ExitCode::from(7);
     };
+    let mut files = HostFiles::new(&rt);
     let mut input = StdinSource::new(rt.stdin());
     let mut output = StdoutSink::new(rt.stdout());
-    let status = run_cpdb(alloc, words.as_slice(), &mut input, &mut output);
+    let status = run_cpdb(alloc, words.as_slice(), &mut files, &mut input, &mut output);
     ExitCode::from(status.code)
 }

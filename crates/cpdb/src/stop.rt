@@ -1,4 +1,4 @@
-use cp_outside::SinkFault;
+use cp_outside::{FilesFault, SinkFault};
 use std::alloc::{AllocError, AllocFailed};
 use thiserror::Error;
 
@@ -10,6 +10,8 @@ pub enum Stop {
     /// The output's own want of memory.
     #[error("the output ran out of memory")]
     Full,
+    #[error("a file failed")]
+    File,
     #[error("out of memory")]
     Memory,
 }
@@ -47,6 +49,21 @@ impl From<SinkFault> for Stop {
         match fault {
             SinkFault::Failed => Stop::Output,
             SinkFault::Memory => Stop::Full,
+        }
+    }
+}
+
+impl From<FilesFault> for Stop {
+    ghost use Rattle.std.specs.Prelude.{◌≡◌};
+    ghost use Rattle.cp_outside.specs.declared.files.FilesFault.TheVariants as fault;
+    ghost use Rattle.cpdb.specs.declared.stop.Stop.TheVariants.{File, Memory};
+
+    ghost from_gives = { λ f e. (f ≡ fault.Failed → e ≡ File) × (f ≡ fault.Memory → e ≡ Memory) };
+
+    fn from(fault: FilesFault) -> Stop {
+        match fault {
+            FilesFault::Failed => Stop::File,
+            FilesFault::Memory => Stop::Memory,
         }
     }
 }

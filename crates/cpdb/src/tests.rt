@@ -1,7 +1,7 @@
 use crate::end::Status;
-use crate::host::{StdinSource, StdoutSink};
 use crate::run::run_cpdb;
-use cp_outside::{MemSink, MemSource, Source};
+use cp_host::{StdinSource, StdoutSink};
+use cp_outside::{MemFiles, MemSink, MemSource, Source};
 use std::alloc::Global;
 use std::io;
 use std::io::{Read, Write};
@@ -24,7 +24,8 @@ usage: cpdb gen SEED COUNT KIND
 usage: cpdb log STORE
 ";
 
-fn owned(alloc: Global, words: &[&str]) -> Result<Vec<String>, Fail> {
+// These words, as the program gets them.
+pub(crate) fn owned(alloc: Global, words: &[&str]) -> Result<Vec<String>, Fail> {
     let mut list = Vec::new(alloc);
     for word in words {
         list.push(String::from_str(alloc, word)?)?;
@@ -44,9 +45,10 @@ fn runs(
 ) -> Result<usize, Fail> {
     let alloc = rt.alloc();
     let words = owned(alloc, words)?;
+    let mut files = MemFiles::new(alloc, &[])?;
     let mut input = MemSource::with_faults(alloc, text.as_bytes(), fails.0)?;
     let mut output = MemSink::with_faults(alloc, fails.1)?;
-    let status = run_cpdb(alloc, words.as_slice(), &mut input, &mut output);
+    let status = run_cpdb(alloc, words.as_slice(), &mut files, &mut input, &mut output);
     assert_eq!(rt; output.bytes(), written.as_bytes(), "{text}");
     assert_eq!(rt; status, Status { code }, "{text}");
     let mut room = [0; 8];
@@ -62,9 +64,10 @@ pub(crate) fn replies(
 ) -> Result<(), Fail> {
     let alloc = rt.alloc();
     let words = owned(alloc, SCRATCH)?;
+    let mut files = MemFiles::new(alloc, &[])?;
     let mut input = MemSource::new(alloc, text)?;
     let mut output = MemSink::new(alloc)?;
-    let status = run_cpdb(alloc, words.as_slice(), &mut input, &mut output);
+    let status = run_cpdb(alloc, words.as_slice(), &mut files, &mut input, &mut output);
     assert_eq!(rt; output.bytes(), written.as_bytes());
     assert_eq!(rt; status, Status { code });
     Ok(())
@@ -171,14 +174,17 @@ fn statements_and_their_replies(rt: HostRuntime) -> Result<(), Fail> {
 
 #[test]
 fn other_words_bring_the_usage_and_take_no_input(rt: HostRuntime) -> Result<(), Fail> {
-    let cases: [&[&str]; 10] = [
+    let cases: [&[&str]; 13] = [
         &[],
         &["cpdb"],
         &["cpdb", "run"],
         &["cpdb", "run", "-x"],
         &["cpdb", "scratch"],
         &["cpdb", "scratch", "z"],
-        &["cpdb", "scratch", "n", "n"],
+        &["cpdb", "scratch", "n", ""],
+        &["cpdb", "scratch", "n", "-x"],
+        &["cpdb", "scratch", "z", "x"],
+        &["cpdb", "scratch", "n", "x", "x"],
         &["cpdb", "gen", "1", "0", "n"],
         &["cpdb", "query", "s", "commit"],
         &["cpdb", "help"],
@@ -359,6 +365,7 @@ fn the_systems_input_and_output_fail_as_they_should(rt: HostRuntime) -> Result<(
         (true, 14, 3, "src T: none\ner"),
         (false, 5, 4, "src T"),
     ];
+    let mut files = MemFiles::new(alloc, &[])?;
     for (fails, room, code, took) in cases {
         let mut input = StdinSource::new(Keys {
             left: b"src T;",
@@ -369,7 +376,7 @@ fn the_systems_input_and_output_fail_as_they_should(rt: HostRuntime) -> Result<(
             room,
         };
         let mut output = StdoutSink::new(&mut screen);
-        let status = run_cpdb(alloc, words.as_slice(), &mut input, &mut output);
+        let status = run_cpdb(alloc, words.as_slice(), &mut files, &mut input, &mut output);
         assert_eq!(rt; status, Status { code }, "{took}");
         assert_eq!(rt; screen.took.as_slice(), took.as_bytes(), "{took}");
     }

@@ -1,14 +1,17 @@
 //! The turn that a cut of the input brings: what its text says, run on the database.
 ghost use Rattle.std.specs.Prelude.{◌≡◌, ◌<◌, ◌≤◌, ◌+◌, ◌^◌, IfOk, OnOk};
 ghost use Rattle.std.specs.declared.option.Option.TheVariants.{Some};
+ghost use Rattle.cp_outside.specs.FileReads.{FileTable};
 ghost use Rattle.cp_session.specs.Session.{Session, turn, turn_of, not_read};
 ghost use Rattle.cpdb.specs.Job.{setting, reading, is_run};
 ghost use Rattle.cpdb.specs.Databases.{Stands, IsSession, Turned};
-ghost use Rattle.cpdb.specs.Turns.{Reads};
+ghost use Rattle.cpdb.specs.Turns.{Reads, BlamesFiles, IsOwn};
 
 use crate::database::Database;
+use crate::stop::Stop;
 use cp_lang::{Cut, Stmt, StmtFault, first_offset, parse_bytes};
-use cp_model::{Op, Query};
+use cp_model::Query;
+use cp_outside::Files;
 use cp_reply::{Of, Reply, Why};
 use cp_tree::TreeRep;
 use std::alloc::{AllocError, Global};
@@ -18,10 +21,7 @@ fn is_run(statement: &Stmt) -> bool
     ensures { result ≡ is_run statement.now }
 {
     match statement {
-        Stmt::Op(Op::Copy { from, .. }) => from.db.is_target(),
-        Stmt::Op(_) => true,
-        Stmt::Commit => true,
-        Stmt::Abort => true,
+        Stmt::Op(_) | Stmt::Commit | Stmt::Abort | Stmt::Load(_) => true,
         Stmt::Ask(Query::Src(_) | Query::Hist(_) | Query::Trace(_)) => true,
         Stmt::Show(_) => true,
         _ => false,
@@ -66,35 +66,47 @@ fn read(alloc: Global, text: &[u8]) -> Result<Result<Stmt, Why>, AllocError>
 }
 
 /// Runs what a text says. Costs the text's bytes, and what its statement costs the database.
-fn run_text<R: TreeRep>(
+fn run_text<R: TreeRep, F: Files>(
     database: &mut Database<R>,
     alloc: Global,
     text: &[u8],
-) -> Result<Option<Reply>, AllocError>
+    files: &mut F,
+) -> Result<Option<Reply>, Stop>
     requires stands { IsSession R.contents database.old }
     requires room { database.old.runs < 2 ^ 62 }
-    ensures turned { IfOk result (λ r. (s : Session) → Stands R.contents database.old s → Turned R.contents (turn_of setting s (reading text.now)) database.new r) }
+    ensures turned { IfOk result (λ r. (t : FileTable) → F.found files.old ≡ Some t → (s : Session) → Stands R.contents database.old s
+        → Turned R.contents (turn_of (setting t) s (reading text.now)) database.new r) }
+    ensures stands { OnOk result (IsSession R.contents database.new) }
     ensures runs { OnOk result (database.new.runs ≤ database.old.runs + 1) }
+    ensures same { F.found files.new ≡ F.found files.old }
+    ensures blamed { BlamesFiles (F.faults files.old) (F.faults files.new) result }
+    ensures own { IsOwn result }
 {
     match read(alloc, text)? {
-        Ok(statement) => database.run(alloc, statement),
+        Ok(statement) => database.run(alloc, statement, files),
         Err(why) => Ok(Some(refuse(database, alloc, why)?)),
     }
 }
 
 /// What a cut replies. What stands in the database after an error isn't said.
-pub(crate) fn reply_to<R: TreeRep>(
+pub(crate) fn reply_to<R: TreeRep, F: Files>(
     database: &mut Database<R>,
     alloc: Global,
     cut: Cut,
-) -> Result<Option<Reply>, AllocError>
+    files: &mut F,
+) -> Result<Option<Reply>, Stop>
     requires stands { IsSession R.contents database.old }
     requires room { database.old.runs < 2 ^ 62 }
-    ensures turned { IfOk result (λ r. (s : Session) → Stands R.contents database.old s → Turned R.contents (turn setting s cut) database.new r) }
+    ensures turned { IfOk result (λ r. (t : FileTable) → F.found files.old ≡ Some t → (s : Session) → Stands R.contents database.old s
+        → Turned R.contents (turn (setting t) s cut) database.new r) }
+    ensures stands { OnOk result (IsSession R.contents database.new) }
     ensures runs { OnOk result (database.new.runs ≤ database.old.runs + 1) }
+    ensures same { F.found files.new ≡ F.found files.old }
+    ensures blamed { BlamesFiles (F.faults files.old) (F.faults files.new) result }
+    ensures own { IsOwn result }
 {
     match cut {
-        Cut::Text(text) => run_text(database, alloc, text.as_slice()),
+        Cut::Text(text) => run_text(database, alloc, text.as_slice(), files),
         Cut::TooLong => Ok(Some(refuse(database, alloc, Why::StatementTooLong)?)),
         Cut::Unfinished(text) => {
             let why = Why::Syntax(text.as_slice().len());

@@ -1,5 +1,6 @@
 ghost use Rattle.std.specs.Prelude.{◌≡◌, true, IfOk};
 ghost use Rattle.std.specs.declared.option.Option.TheVariants.{Some};
+ghost use Rattle.cp_outside.specs.FileReads.{FileTable};
 ghost use Rattle.cp_session.specs.Session.{Session, says, turn_of};
 ghost use Rattle.cpdb.specs.Job.{setting, is_run};
 ghost use Rattle.cpdb.specs.Databases.{Stands, Turned};
@@ -28,7 +29,7 @@ fn unanswered(fault: QueryFault, place: Loc) -> Result<Reply, AllocError>
 
 impl<R: TreeRep> Database<R> {
     fn answer_src(&mut self, alloc: Global, place: Loc) -> Result<Reply, AllocError>
-        ensures turned { IfOk result (λ r. (s : Session) → Stands R.contents self.old s → Turned R.contents (turn_of setting s (says (Stmt.Ask (Query.Src place)))) self.new (Some r)) }
+        ensures turned { IfOk result (λ r. (t : FileTable) (s : Session) → Stands R.contents self.old s → Turned R.contents (turn_of (setting t) s (says (Stmt.Ask (Query.Src place)))) self.new (Some r)) }
         ensures runs { self.new.runs ≡ self.old.runs }
     {
         match src(alloc, &mut self.store, &self.tree, &place) {
@@ -41,7 +42,7 @@ impl<R: TreeRep> Database<R> {
     }
 
     fn answer_hist(&mut self, alloc: Global, place: Loc) -> Result<Reply, AllocError>
-        ensures turned { IfOk result (λ r. (s : Session) → Stands R.contents self.old s → Turned R.contents (turn_of setting s (says (Stmt.Ask (Query.Hist place)))) self.new (Some r)) }
+        ensures turned { IfOk result (λ r. (t : FileTable) (s : Session) → Stands R.contents self.old s → Turned R.contents (turn_of (setting t) s (says (Stmt.Ask (Query.Hist place)))) self.new (Some r)) }
         ensures runs { self.new.runs ≡ self.old.runs }
     {
         match hist(alloc, &mut self.store, &self.tree, &place) {
@@ -54,7 +55,7 @@ impl<R: TreeRep> Database<R> {
     }
 
     fn answer_trace(&mut self, alloc: Global, place: Loc) -> Result<Reply, AllocError>
-        ensures turned { IfOk result (λ r. (s : Session) → Stands R.contents self.old s → Turned R.contents (turn_of setting s (says (Stmt.Ask (Query.Trace place)))) self.new (Some r)) }
+        ensures turned { IfOk result (λ r. (t : FileTable) (s : Session) → Stands R.contents self.old s → Turned R.contents (turn_of (setting t) s (says (Stmt.Ask (Query.Trace place)))) self.new (Some r)) }
         ensures runs { self.new.runs ≡ self.old.runs }
     {
         match trace(alloc, &mut self.store, &self.tree, &place) {
@@ -69,7 +70,7 @@ impl<R: TreeRep> Database<R> {
     /// Answers a query of a place on the committed state. Costs as the query.
     pub(super) fn ask(&mut self, alloc: Global, query: Query) -> Result<Reply, AllocError>
         requires built { is_run (Stmt.Ask query) ≡ true }
-        ensures turned { IfOk result (λ r. (s : Session) → Stands R.contents self.old s → Turned R.contents (turn_of setting s (says (Stmt.Ask query))) self.new (Some r)) }
+        ensures turned { IfOk result (λ r. (t : FileTable) (s : Session) → Stands R.contents self.old s → Turned R.contents (turn_of (setting t) s (says (Stmt.Ask query))) self.new (Some r)) }
         ensures runs { self.new.runs ≡ self.old.runs }
     {
         match query {

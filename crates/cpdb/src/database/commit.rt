@@ -1,5 +1,6 @@
 ghost use Rattle.std.specs.Prelude.{◌≡◌, ◌+◌, ◌<◌, ◌≤◌, ◌^◌, IfOk};
 ghost use Rattle.std.specs.declared.option.Option.TheVariants.{Some};
+ghost use Rattle.cp_outside.specs.FileReads.{FileTable};
 ghost use Rattle.cp_session.specs.Session.{Session, says, turn_of};
 ghost use Rattle.cpdb.specs.Job.{setting};
 ghost use Rattle.cpdb.specs.Databases.{Stands, IsSession, Turned, Makes};
@@ -18,7 +19,7 @@ impl<R: TreeRep> Database<R> {
     fn keep(&mut self, alloc: Global, step: Step<R>) -> Result<Reply, AllocError>
         requires makes { (s : Session) × Makes R.contents self.old step s }
         requires room { self.old.runs < 2 ^ 62 }
-        ensures turned { IfOk result (λ r. (s : Session) → Makes R.contents self.old step s → Turned R.contents (turn_of setting s (says Stmt.Commit)) self.new (Some r)) }
+        ensures turned { IfOk result (λ r. (t : FileTable) (s : Session) → Makes R.contents self.old step s → Turned R.contents (turn_of (setting t) s (says Stmt.Commit)) self.new (Some r)) }
         ensures runs { self.new.runs ≡ self.old.runs }
     {
         let low = self.store.upto() + 1;
@@ -39,7 +40,7 @@ impl<R: TreeRep> Database<R> {
     pub(super) fn commit(&mut self, alloc: Global) -> Result<Reply, AllocError>
         requires stands { IsSession R.contents self.old }
         requires room { self.old.runs < 2 ^ 62 }
-        ensures turned { IfOk result (λ r. (s : Session) → Stands R.contents self.old s → Turned R.contents (turn_of setting s (says Stmt.Commit)) self.new (Some r)) }
+        ensures turned { IfOk result (λ r. (t : FileTable) (s : Session) → Stands R.contents self.old s → Turned R.contents (turn_of (setting t) s (says Stmt.Commit)) self.new (Some r)) }
         ensures runs { self.new.runs ≡ self.old.runs }
     {
         let Some(transaction) = self.transaction.take() else {
@@ -57,7 +58,7 @@ impl<R: TreeRep> Database<R> {
     /// Gives the open transaction up.
     pub(super) fn abort(&mut self) -> Reply
         requires stands { IsSession R.contents self.old }
-        ensures turned { (s : Session) → Stands R.contents self.old s → Turned R.contents (turn_of setting s (says Stmt.Abort)) self.new (Some result) }
+        ensures turned { (t : FileTable) (s : Session) → Stands R.contents self.old s → Turned R.contents (turn_of (setting t) s (says Stmt.Abort)) self.new (Some result) }
         ensures runs { self.new.runs ≡ self.old.runs }
     {
         let count = match self.transaction.take() {

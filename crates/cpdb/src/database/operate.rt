@@ -2,6 +2,7 @@ ghost use Rattle.std.specs.Prelude.{◌≡◌, ◌+◌, ◌<◌, ◌≤◌, ◌^
 ghost use Rattle.std.specs.declared.option.Option.TheVariants.{None};
 ghost use Rattle.cp_model.specs.History.{IsWritten};
 ghost use Rattle.cp_reply.specs.declared.reply.Why.{Why as WhyValue};
+ghost use Rattle.cp_outside.specs.FileReads.{FileTable};
 ghost use Rattle.cp_session.specs.Session.{Session, says, turn_of, not_read};
 ghost use Rattle.cpdb.specs.Job.{setting};
 ghost use Rattle.cpdb.specs.Databases.{Stands, IsSession, Turned, IsOpened};
@@ -35,11 +36,11 @@ impl<R: TreeRep> Database<R> {
         requires stands { IsSession R.contents self.old }
         requires room { self.old.runs < 2 ^ 62 }
         requires written { IsWritten op }
-        ensures turned { IfOk result (λ r. (s : Session) → Stands R.contents self.old s → Turned R.contents (turn_of setting s (says (Stmt.Op op))) self.new r) }
+        ensures turned { IfOk result (λ r. (t : FileTable) (s : Session) → Stands R.contents self.old s → Turned R.contents (turn_of (setting t) s (says (Stmt.Op op))) self.new r) }
         ensures runs { OnOk result (self.new.runs ≤ self.old.runs + 1) }
     {
         let mut transaction = self.take_opened(alloc)?;
-        let applied = transaction.apply(alloc, &op);
+        let applied = transaction.apply(alloc, &op, &self.sources);
         self.transaction = Some(transaction);
         self.runs += 1;
         match applied {

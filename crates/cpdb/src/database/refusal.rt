@@ -27,6 +27,13 @@ pub(super) fn refused_commit(why: Why) -> Reply
     }
 }
 
+/// The refusal of a load.
+pub(super) fn refused_load(why: Why) -> Reply
+    ensures { result ≡ Reply.Refused Of.Load why }
+{
+    Reply::Refused { of: Of::Load, why }
+}
+
 /// Why a change at the label below the place is refused.
 fn why_of_change(refusal: Refusal, place: Loc, label: Label) -> Why
     ensures insertion { (tree : LiteralValue) → result ≡ why_refused (Ins place label tree) refusal }

@@ -1,8 +1,10 @@
 ghost use Rattle.std.specs.Prelude.{◌≡◌, IfOk};
+ghost use Rattle.std.specs.Option.{option_map};
 ghost use Rattle.std.specs.declared.option.Option.TheVariants.{Some};
+ghost use Rattle.cp_outside.specs.FileReads.{FileTable};
 ghost use Rattle.cp_session.specs.Session.{Session, says, turn_of, current_tree};
 ghost use Rattle.cpdb.specs.Job.{setting};
-ghost use Rattle.cpdb.specs.Databases.{Stands, Turned};
+ghost use Rattle.cpdb.specs.Databases.{Stands, Turned, shown_tree};
 
 use crate::database::Database;
 use crate::database::refusal::refused;
@@ -26,14 +28,23 @@ impl<R: TreeRep> Database<R> {
         &self.tree
     }
 
-    /// What stands at and below a place of T, the only database. Costs the rows' bytes.
-    pub(super) fn show(&self, alloc: Global, place: Loc) -> Result<Reply, AllocError>
-        ensures { IfOk result (λ r. (s : Session) → Stands R.contents self.now s → Turned R.contents (turn_of setting s (says (Stmt.Show place))) self.now (Some r)) }
+    /// The tree of a place's database, if there is such a database.
+    fn tree_of(&self, place: &Loc) -> Option<&R>
+        ensures { (s : Session) → (z : Stands R.contents self.now s) → option_map (λ t. R.contents t.now) result ≡ shown_tree z.state s.opened place.now }
     {
-        if !place.db.is_target() {
-            return Ok(refused(Why::NoSource(place.db)));
+        if place.db.is_target() {
+            return Some(self.current_tree());
         }
-        let tree = self.current_tree();
+        self.sources.get(&place.db)
+    }
+
+    /// What stands at and below a place of T or of a source. Costs the rows' bytes.
+    pub(super) fn show(&self, alloc: Global, place: Loc) -> Result<Reply, AllocError>
+        ensures { IfOk result (λ r. (t : FileTable) (s : Session) → Stands R.contents self.now s → Turned R.contents (turn_of (setting t) s (says (Stmt.Show place))) self.now (Some r)) }
+    {
+        let Some(tree) = self.tree_of(&place) else {
+            return Ok(refused(Why::NoSource(place.db)));
+        };
         if !tree.is_there(&place.path) {
             return Ok(refused(Why::NoPlace(place)));
         }

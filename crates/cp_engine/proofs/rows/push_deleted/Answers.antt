@@ -24,4 +24,4 @@ push_gone-requires g c =
 pub returns-clause-ok : goal.returns-clause-ok
 returns-clause-ok g c =
     let t = g.R.TreeRep.contents c.args.tree.now in
-    del-added c.push_gone.result c.args.tid t c.in_ok-base.base c.args.from.now c.args.label.now c.in_ok-list.list _ _ c.in_ok-base.ensures c.in_ok-list.ensures c.push_gone.ensures.ok
+    λ ss. del-added c.push_gone.result c.args.tid ss t c.in_ok-base.base c.args.from.now c.args.label.now c.in_ok-list.list _ _ c.in_ok-base.ensures c.in_ok-list.ensures c.push_gone.ensures.ok

@@ -1,22 +1,19 @@
-use Rattle.std.proofs.Common.{◌≡◌, sym, ap, ◌∙◌}
-use Rattle.cpdb.specs.Ends.{end_of}
-use Rattle.cpdb.proofs.Whole.{ran-is, whole, end_again}
+use Rattle.std.proofs.Common.{◌≡◌, ◌∙◌, sym, ap, subst, refl}
+use Rattle.std.specs.Option.{option_map}
+use Rattle.std.specs.declared.option.Option.{Option}
+use Rattle.std.specs.declared.option.Option.TheVariants.{None, Some}
+use Rattle.cpdb.specs.Starts.{asked}
+use Rattle.cpdb.proofs.Whole.{called, called-usage, usage_number}
 use Rattle.cpdb.proofs.run.run_cpdb.Goals as goal
 
-pub returns-clause-ran : goal.returns-clause-ran
-returns-clause-ran g c =
-    let end : end_of c.code-2.result ≡ c.scratch-end.result = ap end_of c.code-2.ensures ∙ end_again c.scratch-end.result in
-    rw (sym c.fits.ensures ∙ c.if-not-fits.false, end) (
-    ran-is (g.I.Source.left c.args.input.now) (g.I.Source.left c.scratch-end.new.input) (g.O.Sink.contents c.args.output.now) (g.O.Sink.contents c.scratch-end.new.output)
-    (g.O.Sink.refusals c.args.output.now) (g.O.Sink.refusals c.scratch-end.new.output) c.scratch-end.result c.scratch-end.ensures.ran
-    )
+pub returns-clause-call : goal.returns-clause-call
+returns-clause-call g c =
+    let fits = sym c.start_of.ensures ∙ ap (option_map asked) c.in-Some.is in
+    rw fits
+    (called (asked c.in-Some.start) (g.F.Files.found c.args.files.now) _ _ _ _ _ _ _ _ c.scratch-end.result _ c.code-2.ensures c.scratch-end.ensures.ran c.scratch-end.ensures.causes)
 
-pub returns-clause-whole : goal.returns-clause-whole
-returns-clause-whole g c = λ _.
-    (let end : end_of c.code-2.result ≡ c.scratch-end.result = ap end_of c.code-2.ensures ∙ end_again c.scratch-end.result in
-    rw end (
-    whole (g.I.Source.left c.args.input.now) (g.I.Source.left c.scratch-end.new.input) (g.O.Sink.contents c.args.output.now) (g.O.Sink.contents c.scratch-end.new.output)
-    (g.O.Sink.refusals c.args.output.now) (g.O.Sink.refusals c.scratch-end.new.output) c.scratch-end.result
-    (ran-is (g.I.Source.left c.args.input.now) (g.I.Source.left c.scratch-end.new.input) (g.O.Sink.contents c.args.output.now) (g.O.Sink.contents c.scratch-end.new.output)
-    (g.O.Sink.refusals c.args.output.now) (g.O.Sink.refusals c.scratch-end.new.output) c.scratch-end.result c.scratch-end.ensures.ran)
-    ))
+pub returns-in_default-clause-call : goal.returns-in_default-clause-call
+returns-in_default-clause-call g c =
+    let fits = sym c.start_of.ensures ∙ ap (option_map asked) c.in_default.is in
+    rw fits
+    (called-usage (g.F.Files.found c.args.files.now) _ _ _ _ _ _ _ _ _ _ c.code.ensures c.last_line.ensures.wrote c.last_line.ensures.later)

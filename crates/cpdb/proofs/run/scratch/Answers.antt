@@ -1,8 +1,11 @@
-use Rattle.cpdb.proofs.Runs.{ran-nothing}
+use Rattle.cpdb.specs.Job.{start_given}
+use Rattle.cpdb.specs.Starts.{asked}
+use Rattle.cpdb.specs.declared.stop.Stop.TheVariants.{Memory}
+use Rattle.cpdb.proofs.Whole.{ran-early}
 use Rattle.cpdb.proofs.run.scratch.Goals as goal
 
 pub returns-in-Err-clause-ran : goal.returns-in-Err-clause-ran
 returns-in-Err-clause-ran g c =
     rw c.out_of_memory.ensures.end
-    (ran-nothing (g.I.Source.left c.args.input.now) (g.O.Sink.contents c.args.output.now) (g.O.Sink.contents c.out_of_memory.new.output)
-    (g.O.Sink.refusals c.args.output.now) (g.O.Sink.refusals c.out_of_memory.new.output) c.out_of_memory.ensures.wrote)
+    (ran-early (g.F.Files.found c.args.files.now) (λ files. start_given files (asked c.args.start)) (g.I.Source.left c.args.input.now) (g.O.Sink.contents c.args.output.now) (g.O.Sink.contents c.out_of_memory.new.output)
+    (g.O.Sink.refusals c.args.output.now) (g.O.Sink.refusals c.out_of_memory.new.output) Memory tt c.out_of_memory.ensures.wrote)

@@ -1,20 +1,30 @@
-use Rattle.std.proofs.Common.{Bool, subst}
-use Rattle.cpdb.specs.Play.{start}
-use Rattle.cpdb.specs.Turns.{RanFrom}
-use Rattle.cpdb.proofs.Runs.{ran-nothing}
+use Rattle.std.proofs.Common.{◌≡◌, subst, sym, Ok, Err}
+use Rattle.std.specs.declared.option.Option.TheVariants.{Some}
+use Rattle.cp_outside.specs.FileReads.{FileTable}
+use Rattle.cp_session.specs.Session.{gives, withholds}
+use Rattle.cpdb.specs.Fetched.{Gives}
+use Rattle.cpdb.specs.Job.{start_given}
+use Rattle.cpdb.specs.Starts.{asked}
+use Rattle.cpdb.specs.Story.{RanAs}
+use Rattle.cpdb.specs.declared.end.End.{End}
+use Rattle.cpdb.proofs.Whole.{ran-early, ran-refused, ran-given, given-tree, given-why}
 use Rattle.cpdb.proofs.run.session.Goals as goal
+
+pub returns-in-Ok-Ok-clause-ran : goal.returns-in-Ok-Ok-clause-ran
+returns-in-Ok-Ok-clause-ran g c =
+    ran-given (g.F.Files.found c.args.files.now) (λ files. start_given files (asked c.args.start)) (g.R.TreeRep.contents c.in-Ok-Ok.tree) (g.I.Source.left c.args.input.now) (g.I.Source.left c.session_on.new.input) (g.O.Sink.contents c.args.output.now) (g.O.Sink.contents c.session_on.new.output)
+    (g.O.Sink.refusals c.args.output.now) (g.O.Sink.refusals c.session_on.new.output) c.session_on.result
+    (λ files told. given-tree g.R.TreeRep.contents _ c.in-Ok-Ok.tree (subst (Gives g.R.TreeRep.contents (start_given files (asked c.args.start))) c.in-Ok-Ok.field-0-is (c.in-Ok-Ok.ensures.gives files told)))
+    (subst (λ f. RanAs f (λ files. gives (g.R.TreeRep.contents c.in-Ok-Ok.tree)) (g.I.Source.left c.args.input.now) (g.I.Source.left c.session_on.new.input) (g.O.Sink.contents c.args.output.now) (g.O.Sink.contents c.session_on.new.output) (g.O.Sink.refusals c.args.output.now) (g.O.Sink.refusals c.session_on.new.output) c.session_on.result) c.start_tree.ensures.same c.session_on.ensures.ran)
+
+pub returns-in-Ok-Err-clause-ran : goal.returns-in-Ok-Err-clause-ran
+returns-in-Ok-Err-clause-ran g c =
+    ran-refused (g.F.Files.found c.args.files.now) (λ files. start_given files (asked c.args.start)) c.in-Ok-Err.why (g.I.Source.left c.args.input.now) (g.O.Sink.contents c.args.output.now) (g.O.Sink.contents c.refuse_start.new.output)
+    (g.O.Sink.refusals c.args.output.now) (g.O.Sink.refusals c.refuse_start.new.output) c.refuse_start.result
+    (λ files told. given-why g.R.TreeRep.contents _ c.in-Ok-Err.why (subst (Gives g.R.TreeRep.contents (start_given files (asked c.args.start))) c.in-Ok-Err.field-0-is (c.in-Ok-Err.ensures.gives files told))) c.refuse_start.ensures.own c.refuse_start.ensures.wrote
 
 pub returns-in-Err-clause-ran : goal.returns-in-Err-clause-ran
 returns-in-Err-clause-ran g c =
-    rw c.out_of_memory.ensures.end
-    (ran-nothing (g.I.Source.left c.args.input.now) (g.O.Sink.contents c.args.output.now) (g.O.Sink.contents c.out_of_memory.new.output)
-    (g.O.Sink.refusals c.args.output.now) (g.O.Sink.refusals c.out_of_memory.new.output) c.out_of_memory.ensures.wrote)
-
-pub returns-in-Ok-clause-ran : goal.returns-in-Ok-clause-ran
-returns-in-Ok-clause-ran g c =
-    let P : Bool → Type 0 = λ v. RanFrom start v 0 (g.I.Source.left c.args.input.now) (g.I.Source.left c.turns.new.input) (g.O.Sink.contents c.args.output.now) (g.O.Sink.contents c.turns.new.output)
-    (g.O.Sink.refusals c.args.output.now) (g.O.Sink.refusals c.turns.new.output) c.turns.result in
-    subst P c.in-Ok.ensures.refused (c.turns.ensures.ran start c.in-Ok.ensures.start)
-
-pub turns-requires-clause-stands : goal.turns-requires-clause-stands
-turns-requires-clause-stands g c = (start, c.in-Ok.ensures.start)
+    rw c.stopped.ensures.status
+    (ran-early (g.F.Files.found c.args.files.now) (λ files. start_given files (asked c.args.start)) (g.I.Source.left c.args.input.now) (g.O.Sink.contents c.args.output.now) (g.O.Sink.contents c.stopped.new.output)
+    (g.O.Sink.refusals c.args.output.now) (g.O.Sink.refusals c.stopped.new.output) c.in-Err.stop c.in-Err.ensures.own c.stopped.ensures.wrote)

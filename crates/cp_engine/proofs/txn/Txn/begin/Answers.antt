@@ -4,4 +4,4 @@ use Rattle.cp_engine.proofs.txn.Txn.begin.Goals as goal
 
 pub returns : goal.returns
 returns g c =
-    going-begun g.R.TreeRep.contents _ (g.R.TreeRep.contents c.args.tree.now) c.args.first (g.met.R.TreeRep.is_tree c.args.tree.now) c.requires.first c.new-2.ensures c.new.ensures c.in_ok-copy.ensures c.new-3.ensures refl
+    λ ss. going-begun g.R.TreeRep.contents ss _ (g.R.TreeRep.contents c.args.tree.now) c.args.first (g.met.R.TreeRep.is_tree c.args.tree.now) c.requires.first c.new-2.ensures c.new.ensures c.in_ok-copy.ensures c.new-3.ensures refl

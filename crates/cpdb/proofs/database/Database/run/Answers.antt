@@ -1,31 +1,26 @@
-use Rattle.std.proofs.Common.{sym, subst, IfOk}
-use Rattle.std.specs.declared.option.Option.TheVariants.{Some}
+use Rattle.std.proofs.Common.{◌≡◌, sym, subst, refl, arith}
+use Rattle.std.specs.declared.option.Option.TheVariants.{None, Some}
+use Rattle.cp_outside.specs.FileReads.{FileTable}
 use Rattle.cp_session.specs.Session.{Session, says, turn_of}
 use Rattle.cpdb.specs.Job.{setting}
 use Rattle.cpdb.specs.Databases.{Stands, Turned}
 use Rattle.cpdb.proofs.database.Database.run.Goals as goal
 
-pub returns-in-Op-clause-turned : goal.returns-in-Op-clause-turned
-returns-in-Op-clause-turned g c =
+pub returns-in_ok-load-in-Load-clause-turned : goal.returns-in_ok-load-in-Load-clause-turned
+returns-in_ok-load-in-Load-clause-turned g c =
     let view = g.R.TreeRep.contents in
-    subst (λ x. IfOk c.operate.result (λ r. (s : Session) → Stands view c.args.self.now s → Turned view (turn_of setting s (says x)) c.operate.new.self r)) (sym c.in-Op.is) c.operate.ensures.turned
+    subst (λ x. (files : FileTable) → g.F.Files.found c.args.files.now ≡ Some files → (s : Session) → Stands view c.args.self.now s → Turned view (turn_of (setting files) s (says x)) c.load.new.self (Some c.in_ok-load-in-Load.field-0)) (sym c.in-Load.is)
+    c.in_ok-load-in-Load.ensures.turned
 
-pub returns-in_ok-commit-in-Commit-clause-turned : goal.returns-in_ok-commit-in-Commit-clause-turned
-returns-in_ok-commit-in-Commit-clause-turned g c =
-    let view = g.R.TreeRep.contents in
-    subst (λ x. (s : Session) → Stands view c.args.self.now s → Turned view (turn_of setting s (says x)) c.commit.new.self (Some c.in_ok-commit-in-Commit.field-0)) (sym c.in-Commit.is) c.in_ok-commit-in-Commit.ensures.turned
-
-pub returns-in-Abort-clause-turned : goal.returns-in-Abort-clause-turned
-returns-in-Abort-clause-turned g c =
-    let view = g.R.TreeRep.contents in
-    subst (λ x. (s : Session) → Stands view c.args.self.now s → Turned view (turn_of setting s (says x)) c.abort.new.self (Some c.abort.result)) (sym c.in-Abort.is) c.abort.ensures.turned
-
-pub returns-in_ok-ask-in-Ask-clause-turned : goal.returns-in_ok-ask-in-Ask-clause-turned
-returns-in_ok-ask-in-Ask-clause-turned g c =
-    let view = g.R.TreeRep.contents in
-    subst (λ x. (s : Session) → Stands view c.args.self.now s → Turned view (turn_of setting s (says x)) c.ask.new.self (Some c.in_ok-ask-in-Ask.field-0)) (sym c.in-Ask.is) c.in_ok-ask-in-Ask.ensures.turned
-
-pub returns-in_ok-show-in-Show-clause-turned : goal.returns-in_ok-show-in-Show-clause-turned
-returns-in_ok-show-in-Show-clause-turned g c =
-    let view = g.R.TreeRep.contents in
-    subst (λ x. (s : Session) → Stands view c.args.self.now s → Turned view (turn_of setting s (says x)) c.args.self.now (Some c.in_ok-show-in-Show.field-0)) (sym c.in-Show.is) c.in_ok-show-in-Show.ensures
+pub returns-in_ok-run_inside-in_default : goal.returns-in_ok-run_inside-in_default
+returns-in_ok-run_inside-in_default g c =
+    let turned = c.in_ok-run_inside-in_default.ensures.turned in
+    let y = turned (λ _. None) c.requires.stands.0 c.requires.stands.1 in
+    record {
+      turned = λ files told s z. turned files s z;
+      stands = (_, y.1);
+      runs = c.in_ok-run_inside-in_default.ensures.runs;
+      same = refl;
+      blamed = record { later = omega arith; file = λ e. absurd (cc); steady = refl };
+      own = tt;
+    }

@@ -12,5 +12,5 @@ pub returns-clause-went : goal.returns-clause-went
 returns-clause-went g c =
     let old = c.args.self.now in
     let mid = after_cutter old c.replace-cutter.new.dest in
-    λ s f. closed g.R.TreeRep.contents s (option_to_list c.rest.result) old mid c.run.new.self (g.O.Sink.contents c.args.output.now) (g.O.Sink.contents c.run.new.output) c.run.result f
-    (λ t e. c.rest.ensures t (c.replace-cutter.ensures.value ∙ e)) refl refl c.run.ensures.went scan_start (c.replace-cutter.ensures.after ∙ c.new.ensures)
+    λ files told s f. closed files g.R.TreeRep.contents s (option_to_list c.rest.result) old mid c.run.new.self (g.O.Sink.contents c.args.output.now) (g.O.Sink.contents c.run.new.output) c.run.result f
+    (λ t e. c.rest.ensures t (c.replace-cutter.ensures.value ∙ e)) refl refl (c.run.ensures.went files told) scan_start (c.replace-cutter.ensures.after ∙ c.new.ensures)

@@ -11,5 +11,5 @@ returns-clause-went g c =
     let old = c.args.self.now in
     let mid = after_cutter old c.push.new.self in
     let met = c.in_ok-cut.ensures.ok in
-    λ s f. pushed g.R.TreeRep.contents s c.args.byte (option_to_list c.in_ok-cut.cut) old mid c.run.new.self (g.O.Sink.contents c.args.output.now) (g.O.Sink.contents c.run.new.output) c.run.result f
-    met.0 met.1 refl refl c.run.ensures.went
+    λ files told s f. pushed files g.R.TreeRep.contents s c.args.byte (option_to_list c.in_ok-cut.cut) old mid c.run.new.self (g.O.Sink.contents c.args.output.now) (g.O.Sink.contents c.run.new.output) c.run.result f
+    met.0 met.1 refl refl (c.run.ensures.went files told)

@@ -1,0 +1,18 @@
+-- What the code made of a source file.
+use Rattle.std.specs.Prelude.{ℕ, ◌≡◌, List, true, false, Result, Ok, Err}
+use Rattle.cp_model.specs.Place.{Path, over_limit}
+use Rattle.cp_model.specs.Subtrees.{is_there}
+use Rattle.cp_model.specs.Tree.{Tree}
+use Rattle.cp_reply.specs.declared.reply.Why.{Why}
+use Rattle.cp_session.specs.Session.{Fetched, gives, withholds}
+
+-- the tree that the file gives, or why it gives none
+abbrev pub Gives : {R : Type 0} → (R → Tree) → Fetched → Result R Why → Type 0
+Gives view (gives t) (Ok x) = view x ≡ t
+Gives view (gives t) (Err w) = ⊥
+Gives view (withholds v) (Ok x) = ⊥
+Gives view (withholds v) (Err w) = w ≡ v
+
+-- the tree's places are within the limits of places under the name
+abbrev pub FitsUnder : List ℕ → Tree → Type 0
+FitsUnder name t = (p : Path) → is_there t p ≡ true → over_limit (record { db = name; path = p }) ≡ false
