@@ -85,29 +85,6 @@ pub(crate) fn replies_with(
     Ok(())
 }
 
-// A source that is loaded from the bytes, and what it shows.
-fn gives(
-    rt: &(impl Abort + AllocGlobal),
-    how: &str,
-    bytes: &[u8],
-    written: &str,
-) -> Result<(), Fail> {
-    let text = format!(in rt.alloc(); "load S {how};show S;")?;
-    replies_with(rt, &[("f", bytes)], SCRATCH, &text, 0, written)
-}
-
-// A source that is loaded from the bytes, and the number of its places.
-fn counts(
-    rt: &(impl Abort + AllocGlobal),
-    how: &str,
-    bytes: &[u8],
-    places: u32,
-) -> Result<(), Fail> {
-    let text = format!(in rt.alloc(); "load S {how};")?;
-    let written = format!(in rt.alloc(); "loaded S {places}\n")?;
-    replies_with(rt, &[("f", bytes)], SCRATCH, &text, 0, &written)
-}
-
 // A load that is refused leaves no source, opens no transaction, and leaves the tree as it was.
 fn refuses(
     rt: &(impl Abort + AllocGlobal),
@@ -127,56 +104,6 @@ const JSON: &str = "json \"f\"";
 const CSV: &str = "csv \"f\"";
 
 const CSV_BY_A: &str = "csv \"f\" by a";
-
-#[test]
-fn json_texts_give_their_trees(rt: HostRuntime) -> Result<(), Fail> {
-    // the file, what is written
-    let cases: [(&[u8], &str); 14] = [
-        (
-            b"{\"l\":[18446744073709551615,null]}",
-            "loaded S 4\nshow S: {l : {0 : 18446744073709551615, 1 : null}}\n",
-        ),
-        (b"{\"x\":5}", "loaded S 2\nshow S: {x : 5}\n"),
-        (b" 5\n", "loaded S 1\nshow S: 5\n"),
-        (b"\"x\"", "loaded S 1\nshow S: \"x\"\n"),
-        (b"{}", "loaded S 1\nshow S: {}\n"),
-        (b"[]", "loaded S 1\nshow S: {}\n"),
-        (
-            b"[true,false,null,-9223372036854775808]",
-            "loaded S 5\nshow S: {0 : true, 1 : false, 2 : null, 3 : -9223372036854775808}\n",
-        ),
-        // the label 10 comes before 2
-        (
-            b"[0,0,0,0,0,0,0,0,0,0,{}]",
-            "loaded S 12\nshow S: {0 : 0, 1 : 0, 10 : {}, 2 : 0, 3 : 0, 4 : 0, 5 : 0, 6 : 0, 7 : 0, 8 : 0, 9 : 0}\n",
-        ),
-        // of two values with one name the later one counts
-        (b"{\"a\":0.5,\"a\":2}", "loaded S 2\nshow S: {a : 2}\n"),
-        // labels that are quoted or escaped
-        (
-            b"{\"\":1,\"a/b\":2,\"x y\":3,\"~\":4}",
-            "loaded S 5\nshow S: {\"\" : 1, a~1b : 2, \"x y\" : 3, ~0 : 4}\n",
-        ),
-        (
-            b"{\"t\":\"\\u00e9\\n\\\"\\/\\ud83d\\ude00\"}",
-            "loaded S 2\nshow S: {t : \"\u{e9}\\n\\\"/\u{1f600}\"}\n",
-        ),
-        // a byte order mark in front
-        (b"\xef\xbb\xbf[7]", "loaded S 2\nshow S: {0 : 7}\n"),
-        (
-            b"{\"b\":{\"c\":{}},\"a\":1}",
-            "loaded S 4\nshow S: {a : 1, b : {c : {}}}\n",
-        ),
-        (
-            b"{\"A\":1,\"a\":2,\"B\":3}",
-            "loaded S 4\nshow S: {A : 1, B : 3, a : 2}\n",
-        ),
-    ];
-    for (bytes, written) in cases {
-        gives(&rt, JSON, bytes, written)?;
-    }
-    Ok(())
-}
 
 #[test]
 fn json_texts_that_give_no_tree(rt: HostRuntime) -> Result<(), Fail> {
@@ -220,151 +147,6 @@ fn json_texts_that_give_no_tree(rt: HostRuntime) -> Result<(), Fail> {
     Ok(())
 }
 
-// So many arrays, each in the one before, around the text.
-fn nested(alloc: Global, arrays: usize, inside: &str) -> Result<String, AllocError> {
-    let opened = "[".repeat(alloc, arrays)?;
-    let closed = "]".repeat(alloc, arrays)?;
-    format!(in alloc; "{opened}{inside}{closed}")
-}
-
-// Three labels of 255 bytes and one of this length, each below the one before, around the text.
-fn long_place(alloc: Global, last: usize, inside: &str) -> Result<String, AllocError> {
-    let label = "x".repeat(alloc, 255)?;
-    let last = "x".repeat(alloc, last)?;
-    format!(in alloc; "{{\"{label}\":{{\"{label}\":{{\"{label}\":{{\"{last}\":{inside}}}}}}}}}")
-}
-
-#[test]
-fn json_places_have_at_most_64_labels(rt: HostRuntime) -> Result<(), Fail> {
-    let alloc = rt.alloc();
-    counts(&rt, JSON, nested(alloc, 65, "")?.as_bytes(), 65)?;
-    // the arrays, what is in them, the cause
-    let cases: [(usize, &str, &str); 5] = [
-        (66, "", "place too deep"),
-        (66, "0.5", "place too deep"),
-        (127, "", "place too deep"),
-        (128, "", "not JSON"),
-        (100_000, "", "not JSON"),
-    ];
-    for (arrays, inside, cause) in cases {
-        let text = nested(alloc, arrays, inside)?;
-        refuses(&rt, JSON, text.as_bytes(), cause)?;
-    }
-    Ok(())
-}
-
-#[test]
-fn json_places_have_a_size_of_at_most_1024(rt: HostRuntime) -> Result<(), Fail> {
-    let alloc = rt.alloc();
-    let most = long_place(alloc, 254, "0")?;
-    counts(&rt, JSON, most.as_bytes(), 5)?;
-    // a name of one letter more
-    replies_with(
-        &rt,
-        &[("f", most.as_bytes())],
-        SCRATCH,
-        "load SS json \"f\"; load S json \"f\";",
-        1,
-        "refused load: place too long\nloaded S 5\n",
-    )?;
-    let more = long_place(alloc, 255, "0.5")?;
-    refuses(&rt, JSON, more.as_bytes(), "place too long")?;
-    Ok(())
-}
-
-#[test]
-fn labels_and_texts_of_json_have_their_limits(rt: HostRuntime) -> Result<(), Fail> {
-    let alloc = rt.alloc();
-    let label = "x".repeat(alloc, 255)?;
-    let most = format!(in alloc; "{{\"{label}\":0}}")?;
-    counts(&rt, JSON, most.as_bytes(), 2)?;
-    // before the depth and the number
-    let more = format!(in alloc; "{{\"a\":{},\"x{label}\":0.5}}", nested(alloc, 65, "")?)?;
-    refuses(&rt, JSON, more.as_bytes(), "label too long")?;
-    let text = "x".repeat(alloc, 1_048_576)?;
-    let most = format!(in alloc; "\"{text}\"")?;
-    counts(&rt, JSON, most.as_bytes(), 1)?;
-    // before the number
-    let more = format!(in alloc; "[0.5,\"x{text}\"]")?;
-    refuses(&rt, JSON, more.as_bytes(), "text too long")?;
-    Ok(())
-}
-
-#[test]
-fn csv_texts_give_their_trees(rt: HostRuntime) -> Result<(), Fail> {
-    // how it is loaded, the file, what is written
-    let cases: [(&str, &[u8], &str); 15] = [
-        (CSV, b"a,b\n", "loaded S 1\nshow S: {}\n"),
-        // a line without bytes is no record, and one empty field in quotation marks is
-        (
-            CSV,
-            b"\na\n\n1\n\n",
-            "loaded S 3\nshow S: {1 : {a : \"1\"}}\n",
-        ),
-        (CSV, b"a\n\"\"\n", "loaded S 3\nshow S: {1 : {a : \"\"}}\n"),
-        (CSV_BY_A, b"a,b", "loaded S 1\nshow S: {}\n"),
-        (
-            CSV,
-            b"\xef\xbb\xbfa\n1\n",
-            "loaded S 3\nshow S: {1 : {a : \"1\"}}\n",
-        ),
-        (CSV, b"a\n1", "loaded S 3\nshow S: {1 : {a : \"1\"}}\n"),
-        (
-            CSV,
-            b"b,a\r\n1,2\r\n3,4\r\n",
-            "loaded S 7\nshow S: {1 : {a : \"2\", b : \"1\"}, 2 : {a : \"4\", b : \"3\"}}\n",
-        ),
-        (
-            CSV_BY_A,
-            b"b,a\n1,y\n3,x\n",
-            "loaded S 7\nshow S: {x : {a : \"x\", b : \"3\"}, y : {a : \"y\", b : \"1\"}}\n",
-        ),
-        // quoted fields with a comma, quotation marks, a line's end
-        (
-            CSV,
-            b"a,\"b,c\"\n\"1,\"\"2\"\"\",\"3\n4\"\n",
-            "loaded S 4\nshow S: {1 : {a : \"1,\\\"2\\\"\", \"b,c\" : \"3\\n4\"}}\n",
-        ),
-        // nothing is trimmed
-        (
-            CSV,
-            b" a,b \n 1, \n",
-            "loaded S 4\nshow S: {1 : {\" a\" : \" 1\", \"b \" : \" \"}}\n",
-        ),
-        (
-            CSV,
-            b"a,\n,\n",
-            "loaded S 4\nshow S: {1 : {\"\" : \"\", a : \"\"}}\n",
-        ),
-        (
-            CSV_BY_A,
-            b"a,b\n,2\n",
-            "loaded S 4\nshow S: {\"\" : {a : \"\", b : \"2\"}}\n",
-        ),
-        // every number's spelling stays
-        (
-            CSV,
-            b"a\n-0\n1e400\n",
-            "loaded S 5\nshow S: {1 : {a : \"-0\"}, 2 : {a : \"1e400\"}}\n",
-        ),
-        (
-            CSV_BY_A,
-            b"a\nx/y\n",
-            "loaded S 3\nshow S: {x~1y : {a : \"x/y\"}}\n",
-        ),
-        // without a key no row is a second one
-        (
-            CSV,
-            b"a\n1\n1\n",
-            "loaded S 5\nshow S: {1 : {a : \"1\"}, 2 : {a : \"1\"}}\n",
-        ),
-    ];
-    for (how, bytes, written) in cases {
-        gives(&rt, how, bytes, written)?;
-    }
-    Ok(())
-}
-
 #[test]
 fn csv_texts_that_give_no_tree(rt: HostRuntime) -> Result<(), Fail> {
     // how it is loaded, the file, the cause
@@ -400,46 +182,6 @@ fn csv_texts_that_give_no_tree(rt: HostRuntime) -> Result<(), Fail> {
     for (how, bytes, cause) in cases {
         refuses(&rt, how, bytes, cause)?;
     }
-    Ok(())
-}
-
-#[test]
-fn labels_of_csv_have_at_most_255_bytes(rt: HostRuntime) -> Result<(), Fail> {
-    let alloc = rt.alloc();
-    let label = "x".repeat(alloc, 255)?;
-    // how it is loaded, what stands before and after a label of 255 bytes, the number of places
-    let kept = [(CSV, "", "\n1\n", 3), (CSV_BY_A, "a\n", "\n", 3)];
-    for (how, before, after, places) in kept {
-        let text = format!(in alloc; "{before}{label}{after}")?;
-        counts(&rt, how, text.as_bytes(), places)?;
-    }
-    // and around one of 256 bytes, the cause
-    let cases: [(&str, &str, &str, &str); 6] = [
-        (CSV, "", ",b\n", "label too long"),
-        (CSV_BY_A, "b,b,", "\n", "label too long"),
-        (CSV_BY_A, "a,b\n1,2\n", ",3\n", "label too long"),
-        (CSV_BY_A, "a,b\n1,2\n", "\n", "row 2 is ragged"),
-        (CSV_BY_A, "a\n", "\n1\n1\n", "label too long"),
-        (CSV_BY_A, "a\n1\n1\n", "\n", "repeated key at row 2"),
-    ];
-    for (how, before, after, cause) in cases {
-        let text = format!(in alloc; "{before}x{label}{after}")?;
-        refuses(&rt, how, text.as_bytes(), cause)?;
-    }
-    Ok(())
-}
-
-#[test]
-fn texts_of_csv_have_at_most_1048576_bytes(rt: HostRuntime) -> Result<(), Fail> {
-    let alloc = rt.alloc();
-    let text = "x".repeat(alloc, 1_048_576)?;
-    let most = format!(in alloc; "a\n{text}\n")?;
-    counts(&rt, CSV, most.as_bytes(), 3)?;
-    let more = format!(in alloc; "a\nx{text}\n")?;
-    refuses(&rt, CSV, more.as_bytes(), "text too long")?;
-    // before the same bytes are too long for a label
-    refuses(&rt, CSV_BY_A, more.as_bytes(), "text too long")?;
-    refuses(&rt, CSV_BY_A, most.as_bytes(), "label too long")?;
     Ok(())
 }
 
@@ -485,81 +227,34 @@ fn a_start_tree_is_edited_from_two_sources(rt: HostRuntime) -> Result<(), Fail> 
 }
 
 #[test]
-fn a_start_tree_is_as_the_file_says(rt: HostRuntime) -> Result<(), Fail> {
-    // the file, the input, the status, the output
-    let cases: [(&[u8], &str, u8, &str); 5] = [
-        (T0, "", 0, ""),
-        (
-            b"5",
-            "show T; ins {a : 1} into T; abort; copy T into T; commit; trace T;",
-            1,
-            "show T: 5\nrefused: not a node T\naborted 0\ncommitted 1\ntrace T: T@0..1 < start\n",
-        ),
-        (
-            b"\xef\xbb\xbf[{\"a\":\"x\"}]",
-            "show T; src T/0/a; hist T/0; trace T/0/a;",
-            0,
-            "show T: {0 : {a : \"x\"}}\nsrc T/0/a: none\nhist T/0: none\ntrace T/0/a: T/0/a@0..0 < start\n",
-        ),
-        (
-            b"{\"r\":{\"a\":5}}",
-            "ins {s : {}} into T; copy T/r into T/s; del r from T; commit; trace T/s/a; show T;",
-            0,
-            "committed 1..3\ntrace T/s/a: T/s/a@2..3 < T/r/a@0..1 < start\nshow T: {s : {a : 5}}\n",
-        ),
-        // a start tree is no source
-        (
-            b"{\"a\":1}",
-            "load S json \"f\"; copy S/a into T; commit; load S json \"f\"; trace T;",
-            1,
-            "loaded S 2\ncommitted 1\nrefused load: source S is there\ntrace T: T@1..1 < S/a\n",
-        ),
+fn start_trees_are_refused_before_the_input_is_read(rt: HostRuntime) -> Result<(), Fail> {
+    let files: Table<'_> = &[("f", b"{\"p\":1.5}"), ("n", b"nil")];
+    let whole: &[&str] = &["cpdb", "scratch", "n", "f"];
+    let form: &[&str] = &["cpdb", "scratch", "n", "n"];
+    let none: &[&str] = &["cpdb", "scratch", "n", "z"];
+    let cases: [(&[&str], &str); 3] = [
+        (whole, "refused scratch: number not whole at T/p\n"),
+        (form, "refused scratch: not JSON\n"),
+        (none, "refused scratch: no file\n"),
     ];
-    for (bytes, text, code, written) in cases {
-        let words = &["cpdb", "scratch", "n", "f"];
-        replies_with(&rt, &[("f", bytes)], words, text, code, written)?;
+    for (words, written) in cases {
+        let left = ends(&rt, files, words, "commit;", NONE, 1, written)?;
+        assert_eq!(rt; left, 7);
     }
-    Ok(())
-}
-
-// The start tree is refused for this cause, and nothing of the input is taken.
-fn starts_not(
-    rt: &(impl Abort + AllocGlobal),
-    name: &str,
-    bytes: &[u8],
-    cause: &str,
-) -> Result<(), Fail> {
-    let words = &["cpdb", "scratch", "n", name];
-    let written = format!(in rt.alloc(); "refused scratch: {cause}\n")?;
-    let left = ends(rt, &[("f", bytes)], words, "commit;", NONE, 1, &written)?;
-    assert_eq!(rt; left, 7, "{cause}");
     Ok(())
 }
 
 #[test]
-fn start_trees_are_refused_before_the_input_is_read(rt: HostRuntime) -> Result<(), Fail> {
-    let alloc = rt.alloc();
-    let deep = nested(alloc, 66, "0.5")?;
-    let long = long_place(alloc, 255, "0.5")?;
-    let label = format!(in alloc; "{{\"{}\":0.5}}", "x".repeat(alloc, 256)?)?;
-    let text = format!(in alloc; "[\"{}\",0.5]", "x".repeat(alloc, 1_048_577)?)?;
-    // the file's name, the file, the cause
-    let cases: [(&str, &[u8], &str); 10] = [
-        ("none.json", b"{}", "no file"),
-        ("./-x", b"{}", "no file"),
-        ("f", b"{\"p\":1.5}", "number not whole at T/p"),
-        ("f", b"-0", "number not whole at T"),
-        ("f", b"", "not JSON"),
-        ("f", b"{\"p\":", "not JSON"),
-        ("f", deep.as_bytes(), "place too deep"),
-        ("f", long.as_bytes(), "place too long"),
-        ("f", label.as_bytes(), "label too long"),
-        ("f", text.as_bytes(), "text too long"),
-    ];
-    for (name, bytes, cause) in cases {
-        starts_not(&rt, name, bytes, cause)?;
-    }
-    Ok(())
+fn arrays_have_numbers_as_labels(rt: HostRuntime) -> Result<(), Fail> {
+    let files: Table<'_> = &[("f", b"{\"l\":[18446744073709551615,null]}")];
+    replies_with(
+        &rt,
+        files,
+        SCRATCH,
+        "load S json \"f\"; show S;",
+        0,
+        "loaded S 4\nshow S: {l : {0 : 18446744073709551615, 1 : null}}\n",
+    )
 }
 
 #[test]
@@ -639,58 +334,6 @@ fn at_most_32_sources_are_loaded(rt: HostRuntime) -> Result<(), Fail> {
 }
 
 #[test]
-fn copies_from_sources_and_their_provenance(rt: HostRuntime) -> Result<(), Fail> {
-    let files: Table<'_> = &[("s1", S1), ("leaf", b"\"x\"")];
-    // the input, the output
-    let cases: [(&str, &str); 8] = [
-        // a whole source onto the root
-        (
-            "load S1 json \"s1\"; copy S1 into T; commit; hist T; trace T; trace T/a3/y; src T; src T/a3/y; show T;",
-            "loaded S1 9\ncommitted 1\nhist T: 1\ntrace T: T@1..1 < S1\ntrace T/a3/y: T/a3/y@1..1 < S1/a3/y\nsrc T: none\nsrc T/a3/y: none\nshow T: {a1 : {x : 1, y : 2}, a2 : {x : 3}, a3 : {x : 7, y : 6}}\n",
-        ),
-        // over a place, and then on inside T
-        (
-            "load S1 json \"s1\"; ins {a : {z : 1}} into T; commit; copy S1/a1 into T/a; ins {b : {}} into T; copy T/a into T/b; commit; trace T/b/x; trace T/b; hist T/b/x; src T/b/x; trace T/a; del a from T; commit; trace T/b/x; show T;",
-            "loaded S1 9\ncommitted 1\ncommitted 2..4\ntrace T/b/x: T/b/x@4..4 < T/a/x@2..3 < S1/a1/x\ntrace T/b: T/b@4..4 < T/a@2..3 < S1/a1\nhist T/b/x: 2 4\nsrc T/b/x: none\ntrace T/a: T/a@2..4 < S1/a1\ncommitted 5\ntrace T/b/x: T/b/x@4..5 < T/a/x@2..3 < S1/a1/x\nshow T: {b : {x : 1, y : 2}}\n",
-        ),
-        // the same place a second time: what was copied before is gone
-        (
-            "load S1 json \"s1\"; ins {a : 1} into T; copy S1/a1 into T/a; copy S1/a1 into T/a; commit; trace T/a; hist T/a/x; copy S1/a2/x into T/a/x; commit; trace T/a/x; trace T/a/y; trace T/a;",
-            "loaded S1 9\ncommitted 1..3\ntrace T/a: T/a@3..3 < S1/a1\nhist T/a/x: 3\ncommitted 4\ntrace T/a/x: T/a/x@4..4 < S1/a2/x\ntrace T/a/y: T/a/y@3..4 < S1/a1/y\ntrace T/a: T/a@3..4 < S1/a1\n",
-        ),
-        // an insertion below what was copied is new
-        (
-            "load S1 json \"s1\"; ins {a : {}} into T; copy S1/a2 into T/a; ins {y : 9} into T/a; commit; src T/a/y; trace T/a/y; src T/a/x; del x from T/a; ins {x : 3} into T/a; commit; trace T/a/x;",
-            "loaded S1 9\ncommitted 1..3\nsrc T/a/y: 3\ntrace T/a/y: T/a/y@3..3 < new\nsrc T/a/x: none\ncommitted 4..5\ntrace T/a/x: T/a/x@5..5 < new\n",
-        ),
-        // a source that is a leaf
-        (
-            "load L json \"leaf\"; show L; ins {a : {b : 1}} into T; copy L into T/a; commit; show T; trace T/a; copy L into T; commit; show T; trace T;",
-            "loaded L 1\nshow L: \"x\"\ncommitted 1..2\nshow T: {a : \"x\"}\ntrace T/a: T/a@2..2 < L\ncommitted 3\nshow T: \"x\"\ntrace T: T@3..3 < L\n",
-        ),
-        // a copy that was given up leaves nothing, and the source stays
-        (
-            "load S1 json \"s1\"; copy S1 into T; show T/a2; abort; show T; show S1/a2; trace T; copy S1/a2 into T; commit; show T;",
-            "loaded S1 9\nshow T/a2: {x : 3}\naborted 1\nshow T: {}\nshow S1/a2: {x : 3}\ntrace T: T@0..0 < start\ncommitted 1\nshow T: {x : 3}\n",
-        ),
-        // a source is loaded after commits, and is shown inside a transaction
-        (
-            "ins {a : 1} into T; commit; load S1 json \"s1\"; copy S1/a2 into T/a; show S1/a1; commit; hist T/a; trace T/a/x;",
-            "committed 1\nloaded S1 9\nshow S1/a1: {x : 1, y : 2}\ncommitted 2\nhist T/a: 2\ntrace T/a/x: T/a/x@2..2 < S1/a2/x\n",
-        ),
-        // the root below itself, with what came from a source
-        (
-            "load S1 json \"s1\"; copy S1/a2 into T; ins {t : {}} into T; copy T into T/t; commit; show T; trace T/t/x; trace T/t; trace T/t/t;",
-            "loaded S1 9\ncommitted 1..3\nshow T: {t : {t : {}, x : 3}, x : 3}\ntrace T/t/x: T/t/x@3..3 < T/x@1..2 < S1/a2/x\ntrace T/t: T/t@3..3 < T@1..2 < S1/a2\ntrace T/t/t: T/t/t@3..3 < T/t@2..2 < new\n",
-        ),
-    ];
-    for (text, written) in cases {
-        replies_with(&rt, files, SCRATCH, text, 0, written)?;
-    }
-    Ok(())
-}
-
-#[test]
 fn copies_and_questions_that_sources_refuse(rt: HostRuntime) -> Result<(), Fail> {
     let files: Table<'_> = &[("f", b"{\"a\":{\"b\":1}}")];
     // what comes after the source S is loaded, the output
@@ -744,48 +387,6 @@ fn copies_and_questions_that_sources_refuse(rt: HostRuntime) -> Result<(), Fail>
     Ok(())
 }
 
-// Sessions over these files, each with a refusal: their inputs and whole outputs.
-fn all_reply(
-    rt: &(impl Abort + AllocGlobal),
-    files: Table<'_>,
-    cases: &[(&str, &str)],
-) -> Result<(), Fail> {
-    for (text, written) in cases {
-        replies_with(rt, files, SCRATCH, text, 1, written)?;
-    }
-    Ok(())
-}
-
-#[test]
-fn copies_from_sources_meet_the_limits_of_places(rt: HostRuntime) -> Result<(), Fail> {
-    let alloc = rt.alloc();
-    let deep = nested(alloc, 65, "")?;
-    let less = nested(alloc, 64, "")?;
-    let long = long_place(alloc, 254, "0")?;
-    let files: Table<'_> = &[
-        ("deep", deep.as_bytes()),
-        ("less", less.as_bytes()),
-        ("long", long.as_bytes()),
-    ];
-    // the input, the output
-    let cases: [(&str, &str); 3] = [
-        (
-            "load S json \"deep\"; ins {a : {}} into T; copy S into T/a; commit; copy S into T; copy S/0 into T; commit;",
-            "loaded S 65\nrefused: too deep\nrefused commit: failed at 2\ncommitted 1..2\n",
-        ),
-        (
-            "load S json \"less\"; ins {a : {b : {}}} into T; copy S into T/a; commit; copy S into T/a/0; commit; hist T/a;",
-            "loaded S 64\ncommitted 1..2\nrefused: too deep\nrefused commit: failed at 1\nhist T/a: 2\n",
-        ),
-        // the label of T/a is no longer than the name of the source's
-        (
-            "load S json \"long\"; ins {a : {}} into T; copy S into T/a; abort; copy S into T; commit; hist T;",
-            "loaded S 5\nrefused: too deep\naborted 1\ncommitted 1\nhist T: 1\n",
-        ),
-    ];
-    all_reply(&rt, files, &cases)
-}
-
 #[test]
 fn a_file_that_fails_ends_the_call(rt: HostRuntime) -> Result<(), Fail> {
     let files: Table<'_> = &[("f", b"{\"x\":5}"), ("t0.json", T0)];
@@ -836,159 +437,6 @@ fn a_file_that_fails_ends_the_call(rt: HostRuntime) -> Result<(), Fail> {
         };
         ends(&rt, files, words, text, fails, code, written)?;
     }
-    Ok(())
-}
-
-#[test]
-fn a_start_tree_that_fails_leaves_the_input(rt: HostRuntime) -> Result<(), Fail> {
-    let files: Table<'_> = &[("t0.json", T0), ("bad", b"?")];
-    let bad: &[&str] = &["cpdb", "scratch", "n", "bad"];
-    let none: &[&str] = &["cpdb", "scratch", "n", "none"];
-    // the words, the files' reads and the writes that fail, the status, the output
-    let cases: [(&[&str], &[u64], &[u64], u8, &str); 6] = [
-        (FROM_T0, &[1], &[], 3, "error: file\n"),
-        (FROM_T0, &[1], &[1], 3, ""),
-        (none, &[1], &[], 3, "error: file\n"),
-        (none, &[], &[1], 4, ""),
-        (bad, &[], &[], 1, "refused scratch: not JSON\n"),
-        (bad, &[], &[1], 4, ""),
-    ];
-    for (words, reads, writes, code, written) in cases {
-        let fails = Fails {
-            files: reads,
-            reads: &[1],
-            writes,
-        };
-        assert_eq!(rt;
-            ends(&rt, files, words, "abort;", fails, code, written)?,
-            8,
-            "{written}"
-        );
-    }
-    Ok(())
-}
-
-#[test]
-fn a_failed_read_or_write_ends_a_session_with_loads(rt: HostRuntime) -> Result<(), Fail> {
-    let alloc = rt.alloc();
-    let files: Table<'_> = &[("f", b"{\"x\":5}")];
-    let text = "load S json \"f\"; copy S into T; commit; load S json \"none\"; show T;";
-    let cut = "load S json \"f\"; load U json \"f";
-    let across = format!(in alloc; "{}load S json \"f\";", " ".repeat(alloc, 65_530)?)?;
-    // the input, the input's reads and the writes that fail, the status, the output
-    let cases: [(&str, &[u64], &[u64], u8, &str); 10] = [
-        (text, &[], &[1], 4, ""),
-        (text, &[], &[2], 4, "loaded S 2\n"),
-        (text, &[], &[3], 4, "loaded S 2\ncommitted 1\n"),
-        (
-            text,
-            &[],
-            &[4],
-            4,
-            "loaded S 2\ncommitted 1\nrefused load: source S is there\n",
-        ),
-        (
-            text,
-            &[],
-            &[5],
-            1,
-            "loaded S 2\ncommitted 1\nrefused load: source S is there\nshow T: {x : 5}\n",
-        ),
-        (cut, &[2], &[], 3, "loaded S 2\nerror: input\n"),
-        (cut, &[2], &[2], 3, "loaded S 2\n"),
-        (cut, &[], &[], 1, "loaded S 2\nrefused: syntax at 15\n"),
-        (&across, &[2], &[], 3, "error: input\n"),
-        (&across, &[3], &[], 3, "loaded S 2\nerror: input\n"),
-    ];
-    for (text, reads, writes, code, written) in cases {
-        let fails = Fails {
-            files: &[],
-            reads,
-            writes,
-        };
-        ends(&rt, files, SCRATCH, text, fails, code, written)?;
-    }
-    Ok(())
-}
-
-// So many zeros in an array.
-fn zeros(alloc: Global, count: usize) -> Result<String, AllocError> {
-    let mut text = "0,".repeat(alloc, count)?;
-    text.pop();
-    format!(in alloc; "[{text}]")
-}
-
-#[test]
-fn a_source_has_at_most_1048576_places(rt: HostRuntime) -> Result<(), Fail> {
-    let alloc = rt.alloc();
-    let more = zeros(alloc, 1_048_576)?;
-    refuses(&rt, JSON, more.as_bytes(), "too many nodes")?;
-    // so many are a source, and are too many below a place of T
-    let most = zeros(alloc, 1_048_575)?;
-    replies_with(
-        &rt,
-        &[("f", most.as_bytes())],
-        SCRATCH,
-        "load S json \"f\"; ins {a : {}} into T; copy S into T/a; commit; show S/1048574;",
-        1,
-        "loaded S 1048576\nrefused: too many nodes\nrefused commit: failed at 2\nshow S/1048574: 0\n",
-    )?;
-    Ok(())
-}
-
-#[test]
-fn a_table_has_at_most_1048576_places(rt: HostRuntime) -> Result<(), Fail> {
-    let alloc = rt.alloc();
-    // a root, and two places for each row
-    let most = format!(in alloc; "a\n{}", "1\n".repeat(alloc, 524_287)?)?;
-    counts(&rt, CSV, most.as_bytes(), 1_048_575)?;
-    let more = format!(in alloc; "{most}1\n")?;
-    refuses(&rt, CSV, more.as_bytes(), "too many nodes")?;
-    Ok(())
-}
-
-#[test]
-fn a_table_weighs_at_most_33554432(rt: HostRuntime) -> Result<(), Fail> {
-    let alloc = rt.alloc();
-    // 114,508 rows with a text of one byte weigh 169 less than that
-    let header = "x".repeat(alloc, 255)?;
-    let rows = "1\n".repeat(alloc, 114_507)?;
-    let last = "1".repeat(alloc, 170)?;
-    let most = format!(in alloc; "{header}\n{rows}{last}\n")?;
-    replies_with(
-        &rt,
-        &[("f", most.as_bytes())],
-        SCRATCH,
-        "load S csv \"f\"; ins {a : {}} into T; copy S into T/a; commit;",
-        1,
-        "loaded S 229017\nrefused: tree too big\nrefused commit: failed at 2\n",
-    )?;
-    let more = format!(in alloc; "{header}\n{rows}1{last}\n")?;
-    refuses(&rt, CSV, more.as_bytes(), "tree too big")?;
-    let rows = format!(in alloc; "{header}\n{rows}1\n1\n")?;
-    refuses(&rt, CSV, rows.as_bytes(), "tree too big")?;
-    Ok(())
-}
-
-#[test]
-fn texts_of_json_weigh_at_most_33554432(rt: HostRuntime) -> Result<(), Fail> {
-    let alloc = rt.alloc();
-    let text = format!(in alloc; "\"{}\",", "x".repeat(alloc, 1_048_576)?)?;
-    // before the number
-    let more = format!(in alloc; "[{}0.5]", text.repeat(alloc, 32)?)?;
-    refuses(&rt, JSON, more.as_bytes(), "tree too big")?;
-    Ok(())
-}
-
-#[test]
-fn a_file_has_at_most_67108864_bytes(rt: HostRuntime) -> Result<(), Fail> {
-    let alloc = rt.alloc();
-    // white space alone
-    let most = " ".repeat(alloc, 67_108_864)?;
-    refuses(&rt, JSON, most.as_bytes(), "not JSON")?;
-    let more = format!(in alloc; "{most} ")?;
-    refuses(&rt, JSON, more.as_bytes(), "file too long")?;
-    starts_not(&rt, "f", more.as_bytes(), "file too long")?;
     Ok(())
 }
 
