@@ -8,7 +8,7 @@ ghost use Rattle.cp_csv.specs.CsvTrees.{is_long_label, repeated, header_fault};
 ghost use Rattle.cp_csv.specs.Steps.{column_of, key_of, IsColumns, Tells};
 
 use crate::fault::CsvFault;
-use cp_path::{LABEL_MAX, Label, PathFault};
+use cp_path::{LABEL_MAX, Label};
 use csv::{ByteRecord, StringRecord};
 use std::alloc::{AllocError, Global};
 use std::collections::BTreeSet;
@@ -42,18 +42,6 @@ pub(crate) fn has_longer(fields: &StringRecord, most: usize) -> bool
     false
 }
 
-/// The label with this text. Costs its bytes.
-pub(crate) fn label_of(alloc: Global, text: &str) -> Result<Label, AllocError>
-    requires short { is_long_label text.now ≡ false }
-    ensures { IfOk result (λ a. a ≡ text.now) }
-{
-    match Label::new(alloc, text) {
-        Ok(label) => Ok(label),
-        Err(PathFault::LabelTooLong) => unreachable!(),
-        Err(_) => Err(AllocError),
-    }
-}
-
 /// The fields as labels. Costs their bytes.
 fn labels_of(alloc: Global, fields: &StringRecord) -> Result<Vec<Label>, AllocError>
     requires short { list_any is_long_label (fields_of fields.now) ≡ false }
@@ -61,7 +49,7 @@ fn labels_of(alloc: Global, fields: &StringRecord) -> Result<Vec<Label>, AllocEr
 {
     let mut labels = Vec::new(alloc);
     for field in fields {
-        labels.push(label_of(alloc, field)?)?;
+        labels.push(Label::copy_of(alloc, field)?)?;
     }
     Ok(labels)
 }

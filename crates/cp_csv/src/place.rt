@@ -12,31 +12,10 @@ ghost use Rattle.cp_csv.specs.Steps.{IsBare, IsColumns, Tells, fields_weight};
 use crate::columns::Columns;
 use crate::fault::CsvFault;
 use crate::row::Row;
-use cp_model::Content;
-use cp_path::{Label, Path, PathFault, Text, Value};
+use cp_model::{Content, NODES_MAX, PLACE_WEIGHT, WEIGHT_MAX};
+use cp_path::{Path, Text, Value};
 use cp_tree::TreeRep;
 use std::alloc::{AllocError, Global};
-
-/// The most places of a tree, its root counted.
-const NODES_MAX: u32 = 1_048_576;
-
-/// The most weight of a tree.
-const WEIGHT_MAX: u64 = 33_554_432;
-
-/// What a place weighs beside the bytes of its label and of its text.
-const PLACE_WEIGHT: u64 = 16;
-
-/// The path of a place right below the root.
-fn below_root(alloc: Global, label: &Label) -> Result<Path, AllocError>
-    ensures { IfOk result (λ p. p ≡ label.now ∷ []) }
-{
-    let mut path = Path::root(alloc);
-    match path.push(label.clone()?) {
-        Ok(()) => Ok(path),
-        Err(PathFault::TooDeep) => unreachable!(),
-        Err(_) => Err(AllocError),
-    }
-}
 
 /// A leaf with this text. Costs its bytes.
 fn leaf_of(alloc: Global, text: &str) -> Result<Content, AllocError>
@@ -81,7 +60,7 @@ fn put_fields<R: TreeRep>(
     requires light { weight (R.contents tree.old) + fields_weight columns.now.labels.items (fields_of row.now.fields) ≤ most_weight }
     ensures put { OnOk result (R.contents tree.new ≡ with_fields row.now.label columns.now.labels.items (fields_of row.now.fields) (R.contents tree.old)) }
 {
-    let place = below_root(alloc, &row.label)?;
+    let place = Path::root(alloc).child(&row.label)?;
     let mut texts = row.fields.iter();
     for label in &columns.labels {
         match texts.next() {

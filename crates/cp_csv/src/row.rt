@@ -7,7 +7,7 @@ ghost use Rattle.cp_csv.specs.CsvTrees.{row_label, field_fault, is_long_label, i
 ghost use Rattle.cp_csv.specs.Steps.{key_of, IsColumns, Tells};
 ghost use Rattle.cp_csv.specs.declared.fault.CsvFault.TheVariants.{LabelTooLong};
 
-use crate::columns::{Columns, has_longer, label_of, text_of};
+use crate::columns::{Columns, has_longer, text_of};
 use crate::fault::CsvFault;
 use cp_path::{LABEL_MAX, Label, TEXT_MAX};
 use csv::{ByteRecord, StringRecord};
@@ -28,7 +28,7 @@ fn short_label(alloc: Global, text: &str) -> Result<Label, CsvFault>
     if text.len() > LABEL_MAX {
         return Err(CsvFault::LabelTooLong);
     }
-    Ok(label_of(alloc, text)?)
+    Ok(Label::copy_of(alloc, text)?)
 }
 
 /// The label of the row of this number.

@@ -58,19 +58,6 @@ done-accepted ss t ops h =
 pub accepted-done : (ss : List Source) (t : Tree) (ops : List Op) → AllAccepted ss t ops → is_done (step t ss ops) ≡ true
 accepted-done ss t ops a = ap is_done (accepted-step ss t 0 ops a).1
 
--- the contents of a step that is done are the tree that its operations lead to
-pub passed-contents : (ss : List Source) (t : Tree) (n : ℕ) (ops : List Op) (k : ℕ) (w : Working) → step t ss ops ≡ done k w → (passed ss t n ops).tree ≡ contents w
-passed-contents ss t n ops k w e =
-    let x = accepted-step ss t n ops (done-accepted ss t ops (ap is_done e)) in
-    sym (x.2) ∙ same_end (length ops) k (x.0) w (sym (x.1) ∙ e)
-  where
-    same_end : (j k : ℕ) (v w : Working) → done j v ≡ done k w → contents v ≡ contents w
-    same_end j k v w d = let same : v ≡ w = cc in ap contents same
-
--- an operation behind others is refused as it is by the contents of their step
-pub refusal-contents : (ss : List Source) (t : Tree) (n : ℕ) (ops : List Op) (k : ℕ) (w : Working) (op : Op) → step t ss ops ≡ done k w → refusal ss (passed ss t n ops).tree op ≡ refusal ss (contents w) op
-refusal-contents ss t n ops k w op e = ap (λ u. refusal ss u op) (passed-contents ss t n ops k w e)
-
 -- ---- one operation more
 
 -- one operation more passes behind the others

@@ -9,15 +9,9 @@ ghost use Rattle.cp_engine.specs.Loaded.{sources_in};
 ghost use Rattle.cp_engine.specs.Reaching.{joined, alone_at, literal_reach, over_by, limit_passed, copied_cases};
 
 use crate::sources::Sources;
-use cp_model::{Literal, Op, Refusal};
+use cp_model::{Literal, NODES_MAX, Op, PLACE_WEIGHT, Refusal, WEIGHT_MAX};
 use cp_path::{LABELS_MAX, LOC_MAX, Label, Loc, Value};
 use cp_tree::{Reach, TreeRep};
-
-/// The most nodes of a tree, the root counted.
-const NODES_MAX: u32 = 1_048_576;
-
-/// The most weight of a tree.
-const WEIGHT_MAX: u64 = 33_554_432;
 
 /// The first case that refuses the operation on this tree with these sources, if there is one. Takes no memory. Costs
 /// the way to the places that it names, the literal of an insertion, and the two subtrees of a copy.
@@ -199,7 +193,7 @@ fn reach_alone(label: &Label, text: u64) -> Reach
     let bytes = label.as_str().len() as u32;
     Reach {
         nodes: 1,
-        inner: (16 + bytes as u64 + text).min(WEIGHT_MAX + 1),
+        inner: (PLACE_WEIGHT + bytes as u64 + text).min(WEIGHT_MAX + 1),
         depth: 1,
         size: bytes + 1,
     }

@@ -17,7 +17,7 @@ ghost use Rattle.cp_model.specs.declared.record.RowMark.TheVariants as mark;
 
 use crate::sources::Sources;
 use cp_model::{LitList, Literal, Op, RowList};
-use cp_path::{Label, Loc, Path, PathFault};
+use cp_path::{Label, Loc, Path};
 use cp_record::{PackedRecords, RecOp};
 use cp_tree::TreeRep;
 use std::alloc::{AllocError, Global};
@@ -83,7 +83,7 @@ fn push_inserted(
     ensures ok { OnOk result (Appended rows.old rows.new (with_tid tid (behind (child into.now.path label.now) (λ _. mark.Made) (literal_rows literal.now)))) }
     ensures err { OnErr result (Grown rows.old rows.new) }
 {
-    let base = child_of(&into.path, label)?;
+    let base = into.path.child(label)?;
     push_literal(rows, tid, &base, Path::root(alloc), literal)
 }
 
@@ -100,7 +100,7 @@ fn push_deleted<R: TreeRep>(
     ensures ok { (ss : List Source) → OnOk result (Appended rows.old rows.new (with_tid tid (op_rows ss (R.contents tree.now) (Del label.now from.now)))) }
     ensures err { OnErr result (Grown rows.old rows.new) }
 {
-    let base = child_of(&from.path, label)?;
+    let base = from.path.child(label)?;
     let list = tree.rows(alloc, &base)?;
     push_gone(rows, tid, &base, &list)
 }
@@ -149,19 +149,6 @@ fn push_subtree<O: TreeRep>(
     push_copies(rows, tid, &into.path, &list, from)
 }
 
-/// The path one label further down. Costs its labels.
-fn child_of(at: &Path, label: &Label) -> Result<Path, AllocError>
-    requires { length at.now < 64 }
-    ensures { IfOk result (λ q. q ≡ child at.now label.now) }
-{
-    let mut path = at.clone()?;
-    match path.push(label.clone()?) {
-        Ok(()) => Ok(path),
-        Err(PathFault::TooDeep) => unreachable!(),
-        Err(_) => Err(AllocError),
-    }
-}
-
 /// Appends a record for each place of a literal tree whose root stands at `at` below the base.
 #[cycle(inserting)]
 fn push_literal(
@@ -196,7 +183,7 @@ fn push_edges(
     ensures err { OnErr result (Grown rows.old rows.new) }
 {
     for edge in &below.items {
-        let path = child_of(at, &edge.label)?;
+        let path = at.child(&edge.label)?;
         push_literal(rows, tid, base, path, &edge.tree)?;
     }
     Ok(())

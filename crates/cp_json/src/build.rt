@@ -7,8 +7,7 @@ ghost use Rattle.cp_tree.specs.Rows.{single};
 ghost use Rattle.cp_json.specs.Places.{content_of};
 ghost use Rattle.cp_json.specs.Walks.{IsNear, AreNear, ItemsNear, MembersNear, or_node, with_leaf, grown, items_grown, members_grown, CanPut, CanGrow, ItemsGrow, MembersGrow, IsFit, grown_whole};
 
-use crate::fraction::child_of;
-use crate::value::{content_of, index_label, label_of};
+use crate::value::{content_of, index_label};
 use cp_path::{Label, Path};
 use cp_tree::TreeRep;
 use serde_json::{Map, Value};
@@ -74,9 +73,9 @@ fn add_items<R: TreeRep>(
     let mut i = 0u64;
     for item in items {
         let name = index_label(alloc, i)?;
-        let label = label_of(alloc, name.as_str())?;
+        let label = Label::copy_of(alloc, name.as_str())?;
         add(alloc, tree, at, &label, item)?;
-        let below = child_of(at, label)?;
+        let below = at.child(&label)?;
         add_below(alloc, tree, &below, item)?;
         i += 1;
     }
@@ -95,9 +94,9 @@ fn add_members<R: TreeRep>(
     ensures { OnOk result (R.contents tree.new ≡ members_grown (R.contents tree.old) at.now (members_view members.now.entries)) }
 {
     for (key, member) in members.iter() {
-        let label = label_of(alloc, key.as_str())?;
+        let label = Label::copy_of(alloc, key.as_str())?;
         add(alloc, tree, at, &label, member)?;
-        let below = child_of(at, label)?;
+        let below = at.child(&label)?;
         add_below(alloc, tree, &below, member)?;
     }
     Ok(())

@@ -1,28 +1,14 @@
 //! The first number that isn't whole.
 ghost use Rattle.std.specs.Prelude.{◌≡◌, ◌≤◌, [], ◌∷◌, ◌++◌, IfOk, OnOk, length, false, is_some};
 ghost use Rattle.serde_json.specs.View.{view, items_view, members_view};
-ghost use Rattle.cp_model.specs.Place.{child};
 ghost use Rattle.cp_json.specs.Places.{content_of, places};
 ghost use Rattle.cp_json.specs.JsonTrees.{with_place, earlier, first_from};
 ghost use Rattle.cp_json.specs.Walks.{IsNear, AreNear, ItemsNear, MembersNear, below_first, items_first, members_first};
 
-use crate::value::{index_label, is_whole, label_of};
-use cp_path::{Label, Path, PathFault};
+use crate::value::{index_label, is_whole};
+use cp_path::{Label, Path};
 use serde_json::{Map, Value};
 use std::alloc::{AllocError, Global};
-
-/// The place one label further down. Costs the path's bytes.
-pub(crate) fn child_of(at: &Path, label: Label) -> Result<Path, AllocError>
-    requires { length at.now ≤ 63 }
-    ensures { IfOk result (λ p. p ≡ child at.now label) }
-{
-    let mut below = at.clone()?;
-    match below.push(label) {
-        Ok(()) => Ok(below),
-        Err(PathFault::TooDeep) => unreachable!(),
-        Err(_) => Err(AllocError),
-    }
-}
 
 /// The earlier of two paths, kept as a path of its own.
 fn keep_earlier(first: &mut Option<Path>, at: &Path) -> Result<(), AllocError>
@@ -91,8 +77,8 @@ fn look_at_items(
     let mut i = 0u64;
     for item in items {
         let name = index_label(alloc, i)?;
-        let label = label_of(alloc, name.as_str())?;
-        let below = child_of(at, label)?;
+        let label = Label::copy_of(alloc, name.as_str())?;
+        let below = at.child(&label)?;
         look_at(first, &below, item)?;
         look_below(alloc, first, &below, item)?;
         i += 1;
@@ -111,8 +97,8 @@ fn look_at_members(
     ensures { OnOk result (first.new ≡ members_first first.old at.now (members_view members.now.entries)) }
 {
     for (key, member) in members.iter() {
-        let label = label_of(alloc, key.as_str())?;
-        let below = child_of(at, label)?;
+        let label = Label::copy_of(alloc, key.as_str())?;
+        let below = at.child(&label)?;
         look_at(first, &below, member)?;
         look_below(alloc, first, &below, member)?;
     }

@@ -14,17 +14,12 @@ use crate::build::tree_of;
 use crate::fault::JsonFault;
 use crate::fraction::first_fraction;
 use crate::survey::Survey;
+use cp_model::{NODES_MAX, WEIGHT_MAX};
 use cp_path::{LABEL_MAX, LABELS_MAX, LOC_MAX, Name, Path, TEXT_MAX};
 use cp_tree::TreeRep;
 use serde_json::Value;
 use serde_json::error::Category;
 use std::alloc::{AllocError, Global};
-
-/// The most places of a tree.
-const NODES_MAX: u64 = 1_048_576;
-
-/// The most weight of a tree.
-const WEIGHT_MAX: u64 = 33_554_432;
 
 /// The bytes behind a byte order mark, if one stands in front.
 fn without_mark(bytes: &[u8]) -> &[u8]
@@ -69,7 +64,7 @@ fn refusal(survey: Survey) -> Option<JsonFault>
     if survey.text > TEXT_MAX as u64 {
         return Some(JsonFault::TextTooLong);
     }
-    if survey.places > NODES_MAX {
+    if survey.places > u64::from(NODES_MAX) {
         return Some(JsonFault::TooMany);
     }
     if survey.weight > WEIGHT_MAX {

@@ -5,6 +5,7 @@ ghost use Rattle.cp_json.specs.Places.{content_of};
 ghost use Rattle.cp_json.specs.Surveys.{root_spot, child_spot, none_seen, survey_of, noted, below_noted, items_noted, members_noted};
 
 use crate::value::{index_label, is_whole, text_bytes};
+use cp_model::PLACE_WEIGHT;
 use serde_json::{Map, Value};
 use std::alloc::{AllocError, Global};
 
@@ -70,7 +71,10 @@ impl Survey {
     {
         let bytes = text_bytes(value);
         let is_whole = is_whole(value);
-        let weight = self.weight.saturating_add(16).saturating_add(at.last);
+        let weight = self
+            .weight
+            .saturating_add(PLACE_WEIGHT)
+            .saturating_add(at.last);
         self.last = self.last.max(at.last);
         self.depth = self.depth.max(at.depth);
         self.size = self.size.max(at.size);

@@ -1,12 +1,12 @@
 //! What one value of a JSON text is as the content of a place.
-ghost use Rattle.std.specs.Prelude.{◌≡◌, ◌≤◌, true, IfOk, Some, is_some, length, decimal, string_bytes};
+ghost use Rattle.std.specs.Prelude.{◌≡◌, true, IfOk, Some, is_some, decimal, string_bytes};
 ghost use Rattle.serde_json.specs.View.{view, number_view};
 ghost use Rattle.cp_path.specs.declared.value.Value.TheVariants as leaf;
 ghost use Rattle.cp_model.specs.declared.row.Content.TheVariants as content;
 ghost use Rattle.cp_json.specs.Places.{content_of, number_content, bytes_of};
 
 use cp_model::Content;
-use cp_path::{Label, PathFault, Text, Value as Leaf, Whole};
+use cp_path::{Text, Value as Leaf, Whole};
 use serde_json::{Number, Value};
 use std::alloc::{AllocError, Global};
 
@@ -70,16 +70,4 @@ pub(crate) fn index_label(alloc: Global, index: u64) -> Result<String, AllocErro
     ensures { IfOk result (λ s. string_bytes s ≡ decimal index) }
 {
     index.to_string(alloc)
-}
-
-/// The label with this text, which isn't too long. Costs its bytes.
-pub(crate) fn label_of(alloc: Global, text: &str) -> Result<Label, AllocError>
-    requires { length text.now ≤ 255 }
-    ensures { IfOk result (λ a. a ≡ text.now) }
-{
-    match Label::new(alloc, text) {
-        Ok(label) => Ok(label),
-        Err(PathFault::LabelTooLong) => unreachable!(),
-        Err(_) => Err(AllocError),
-    }
 }

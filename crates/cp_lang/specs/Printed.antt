@@ -1,18 +1,18 @@
 -- The text of a literal, edge by edge.
-use Rattle.std.specs.Prelude.{ℕ, suc, zero, ◌<◌, ◌≡◌, List, [], ◌∷◌, ◌++◌, map, length, codes, ⊤, false, refl, if◌then◌else◌}
+use Rattle.std.specs.Prelude.{ℕ, suc, zero, ◌<◌, ◌≡◌, List, [], ◌∷◌, ◌++◌, map, length, codes, ⊤, true, false, refl}
 use Rattle.std.proofs.Common.{T, ap, sym, subst, ◌∙◌, arith, append-nil}
 use Rattle.std.specs.Ordering.{is_lt, ordering_then}
 use Rattle.std.specs.declared.cmp.Ordering.TheVariants.{Less, Equal, Greater}
 use Rattle.std.specs.declared.cmp.Ordering.{Ordering}
 use Rattle.cp_path.specs.Text.{text_cmp}
 use Rattle.std.specs.FinMap.Entries.{is_sorted, below_all}
-use Rattle.std.specs.Cmp.Lexicographic.{nat_list_eq_equiv}
 use Rattle.cp_path.specs.Place.{Label, Path, path_cmp, label_eq}
 use Rattle.cp_path.specs.Spelling.{label_text, value_text}
 use Rattle.cp_path.specs.declared.value.Value.{Value}
 use Rattle.cp_model.specs.Sorted.{parts_of}
 use Rattle.cp_model.specs.Literals.{literal_rows, rows_under, edge_rows}
-use Rattle.cp_model.specs.Trees.{Group, into_groups, groups, between, tree_at}
+use Rattle.cp_model.specs.Trees.{groups, between, tree_at}
+use Rattle.cp_model.specs.Grouping.{neighbours_differ, edge_group, groups-edges}
 use Rattle.cp_model.specs.declared.row.Content.{Content}
 use Rattle.cp_model.specs.declared.row.Content.TheVariants.{Node, Leaf}
 use Rattle.cp_model.specs.declared.literal.Literal.{Literal}
@@ -51,30 +51,6 @@ node_edges_text n rows = between (codes ", ") (map (group_text n) (groups rows))
 
 -- ---- groups of edges
 
-abbrev group_of : LitEdge → Group
-group_of e = record { label = e.label; rows = literal_rows e.tree }
-
--- the label of the first group is another
-abbrev IsApart : Label → List Group → Type 0
-IsApart a [] = ⊤
-IsApart a (g ∷ gs) = label_eq a g.label ≡ false
-
-into_new : (a : Label) (r : Path × Content) (gs : List Group) → IsApart a gs → into_groups a r gs ≡ record { label = a; rows = r ∷ [] } ∷ gs
-into_new a r [] h = refl
-into_new a r (g ∷ gs) h = ap (λ b. if b then record { label = a; rows = r ∷ g.rows } ∷ gs else record { label = a; rows = r ∷ [] } ∷ g ∷ gs) h
-
-groups-under : (a : Label) (r : Path × Content) (rs more : Rows) → IsApart a (groups more) → groups (rows_under a (r ∷ rs) ++ more) ≡ record { label = a; rows = r ∷ rs } ∷ groups more
-groups-under a r [] more h = into_new a r (groups more) h
-groups-under a r (s ∷ rs) more h =
-    ap (into_groups a r) (groups-under a s rs more h)
-    ∙ ap (λ b. if b then record { label = a; rows = r ∷ s ∷ rs } ∷ groups more else record { label = a; rows = r ∷ [] } ∷ record { label = a; rows = s ∷ rs } ∷ groups more) (nat_list_eq_equiv.refl a)
-
-groups-edge : (e : LitEdge) (more : Rows) → IsApart e.label (groups more) → groups (rows_under e.label (literal_rows e.tree) ++ more) ≡ group_of e ∷ groups more
-groups-edge e more h = elim e.tree as (λ t. groups (rows_under e.label (literal_rows t) ++ more) ≡ record { label = e.label; rows = literal_rows t } ∷ groups more) [
-  | literal.Leaf v ↦ groups-under e.label ([], Leaf v) [] more h
-  | literal.Node below ↦ groups-under e.label ([], Node) below more h
-]
-
 -- a literal's first row is its root
 root_first : (t : Literal) → (c : Content) × (below : Rows) × (literal_rows t ≡ ([], c) ∷ below)
 root_first (literal.Leaf v) = (Leaf v, [], refl)
@@ -103,16 +79,11 @@ apart_edges e f es h =
     let one = below-after (e.label ∷ []) (rows_under e.label x.1) ((f.label ∷ [], y.0) ∷ after) below in
     less-apart e.label f.label (one_less (text_cmp e.label f.label) (parts_of (is_lt (path_cmp (e.label ∷ []) (f.label ∷ []))) (below_all path_cmp (e.label ∷ []) after) one).0)
 
--- each edge is a group
-pub groups-edges : (es : List LitEdge) → T (is_sorted path_cmp (edge_rows es)) → groups (edge_rows es) ≡ map group_of es
-groups-edges [] h = refl
-groups-edges (e ∷ es) h =
-    let later = groups-edges es (sorted-after (rows_under e.label (literal_rows e.tree)) (edge_rows es) h) in
-    groups-edge e (edge_rows es) (subst (IsApart e.label) (sym later) (apart es h)) ∙ ap (λ gs. group_of e ∷ gs) later
-  where
-    apart : (es : List LitEdge) → T (is_sorted path_cmp (edge_rows (e ∷ es))) → IsApart e.label (map group_of es)
-    apart [] h = tt
-    apart (f ∷ es) h = apart_edges e f es h
+-- so no two neighbours share a label
+neighbours_apart : (es : List LitEdge) → T (is_sorted path_cmp (edge_rows es)) → neighbours_differ (map (λ e. e.label) es) ≡ true
+neighbours_apart [] h = refl
+neighbours_apart (e ∷ []) h = refl
+neighbours_apart (e ∷ f ∷ es) h = rw (apart_edges e f es h) (neighbours_apart (f ∷ es) (sorted-after (rows_under e.label (literal_rows e.tree)) (edge_rows (f ∷ es)) h))
 
 -- ---- limits of edges
 
@@ -138,11 +109,11 @@ edges_ordered n (e ∷ es) s h =
 
 -- ---- a node
 
-between-edges : (n : ℕ) (e : LitEdge) (es : List LitEdge) → between (codes ", ") (map (group_text n) (map group_of (e ∷ es))) ≡ edges_text n [] (e ∷ es)
+between-edges : (n : ℕ) (e : LitEdge) (es : List LitEdge) → between (codes ", ") (map (group_text n) (map edge_group (e ∷ es))) ≡ edges_text n [] (e ∷ es)
 between-edges n e [] = sym (append-nil (edge_text n e))
 between-edges n e (f ∷ es) = ap (λ bs. edge_text n e ++ (codes ", " ++ bs)) (between-edges n f es)
 
-between_edges : (n : ℕ) (es : List LitEdge) → between (codes ", ") (map (group_text n) (map group_of es)) ≡ edges_text n [] es
+between_edges : (n : ℕ) (es : List LitEdge) → between (codes ", ") (map (group_text n) (map edge_group es)) ≡ edges_text n [] es
 between_edges n [] = refl
 between_edges n (e ∷ es) = between-edges n e es
 
@@ -150,7 +121,7 @@ between_edges n (e ∷ es) = between-edges n e es
 pub node_edges : (n : ℕ) (es : List LitEdge) → IsOrdered (suc n) (([], Node) ∷ edge_rows es) → AreOrdered n es × (node_edges_text n (edge_rows es) ≡ edges_text n [] es)
 node_edges n es h =
     let s = (parts_of (below_all path_cmp [] (edge_rows es)) (is_sorted path_cmp (edge_rows es)) h.sorted).1 in
-    (edges_ordered n es s h.within.1, ap (λ gs. between (codes ", ") (map (group_text n) gs)) (groups-edges es s) ∙ between_edges n es)
+    (edges_ordered n es s h.within.1, ap (λ gs. between (codes ", ") (map (group_text n) gs)) (groups-edges es (neighbours_apart es s)) ∙ between_edges n es)
 
 -- the text of a node
 pub node_text : (n : ℕ) (rows : Rows) → IsOrdered n (([], Node) ∷ rows) → (m : ℕ) × (n ≡ suc m) × (tree_at n (([], Node) ∷ rows) ≡ codes "{" ++ (node_edges_text m rows ++ codes "}"))

@@ -3,16 +3,10 @@ ghost use Rattle.std.specs.List.{list_all};
 ghost use Rattle.cp_path.specs.Text.{is_digit};
 ghost use Rattle.cp_lang.specs.Decimal as form;
 
-fn is_digit(byte: u8) -> bool
-    ensures { result ≡ is_digit byte }
-{
-    b'0' <= byte && byte <= b'9'
-}
-
 fn all_digits(word: &[u8]) -> bool
     ensures { result ≡ list_all is_digit word.now }
 {
-    word.iter().all(|x| is_digit(*x))
+    word.iter().all(|x| x.is_ascii_digit())
 }
 
 fn is_decimal(word: &[u8]) -> bool

@@ -1,10 +1,10 @@
 ghost use Rattle.std.specs.Prelude.{◌≡◌, ◌<◌, [], ◌∷◌, false, length, drop, slice_index, MatchOption};
-ghost use Rattle.cp_path.specs.Spelling.{is_trigger};
 ghost use Rattle.cp_lang.specs.Lexer.{tokens_of, run, closing, mark};
 ghost use Rattle.cp_lang.specs.LexerLaws.{spaces, first_lexed};
 ghost use Rattle.cp_lang.specs.Tokenized.{token_of, shape_of};
 
 use crate::cut::is_space;
+use cp_path::is_trigger;
 use std::marker::Model;
 
 /// What a token is; words and quoted tokens are slices of the text.
@@ -47,19 +47,6 @@ impl<'a> Model for Lexer<'a> {
     ghost view = { λ l. tokens_at l.at l.text.now };
 
     ghost invariant = { λ l. l.at + length l.text.now < 2 ^ 64 };
-}
-
-/// Whether no unquoted word holds the byte.
-fn is_trigger(byte: u8) -> bool
-    ensures { result ≡ is_trigger byte }
-{
-    byte <= b' '
-        || byte == b'"'
-        || byte == b';'
-        || byte == b'{'
-        || byte == b'}'
-        || byte == b':'
-        || byte == b','
 }
 
 /// How many bytes of white space the text begins with.

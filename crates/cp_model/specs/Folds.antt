@@ -1,6 +1,6 @@
 -- A step, operation by operation.
-use Rattle.std.specs.Prelude.{ℕ, ◌+◌, ◌≡◌, true, List, [], ◌∷◌, ◌++◌, length, fold, refl}
-use Rattle.std.proofs.Common.{ap, subst, arith}
+use Rattle.std.specs.Prelude.{ℕ, ◌+◌, ◌≡◌, true, List, [], ◌∷◌, ◌++◌, fold, refl}
+use Rattle.std.proofs.Common.{ap, subst}
 use Rattle.std.proofs.lemmas.List.Sums.{fold-append}
 use Rattle.std.specs.declared.option.Option.TheVariants.{None, Some}
 use Rattle.cp_model.specs.declared.op.Op.{Op}
@@ -35,16 +35,6 @@ module _ (ss : List Source) where
   pub then-accepted : (op : Op) (j : ℕ) (w : Working) → refusal ss (contents w) op ≡ None → then_op ss (done j w) op ≡ done (j + 1) (applied ss w op)
   unfolding then_op
   then-accepted op j w n = ap (judged ss j w op) n
-
-  -- as many operations are counted as there are
-  pub counted-fold : (ops : List Op) (j : ℕ) (w : Working) (k : ℕ) (v : Working) → fold (then_op ss) (done j w) ops ≡ done k v → k ≡ j + length ops
-  counted-fold [] j w k v e = let d : j ≡ k = cc in omega (arith, d)
-  counted-fold (op ∷ ops) j w k v e = omega (arith, counted-fold ops (j + 1) (applied ss w op) k v (first-accepted op ops j w k v e).1)
-
-  -- a step that is done counts its operations
-  pub counted-step : (t : Tree) (ops : List Op) (k : ℕ) (v : Working) → step t ss ops ≡ done k v → k ≡ length ops
-  unfolding step
-  counted-step t ops k v e = omega (arith, counted-fold ops 0 (opened t) k v e)
 
   -- one operation more is one operation after the others
   pub step-snoc : (t : Tree) (ops : List Op) (op : Op) → step t ss (ops ++ op ∷ []) ≡ then_op ss (step t ss ops) op

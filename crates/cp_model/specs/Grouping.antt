@@ -1,16 +1,15 @@
 -- The rows of edges with different neighbours are grouped into the edges again.
-use Rattle.std.specs.Prelude.{ℕ, suc, ◌≡◌, Bool, true, false, not, ◌&&◌, List, [], ◌∷◌, ◌++◌, map, codes, refl}
+use Rattle.std.specs.Prelude.{◌≡◌, Bool, true, false, not, ◌&&◌, List, [], ◌∷◌, ◌++◌, map, refl}
 use Rattle.std.proofs.Common.{ap, sym, ◌∙◌}
 use Rattle.std.specs.Cmp.Lexicographic.{nat_list_eq_equiv}
 use Rattle.cp_path.specs.Place.{Label, Path, label_eq}
-use Rattle.cp_path.specs.Spelling.{label_text}
 use Rattle.cp_model.specs.declared.row.Content.{Content}
 use Rattle.cp_model.specs.declared.row.Content.TheVariants.{Node, Leaf}
 use Rattle.cp_model.specs.declared.literal.Literal.{Literal}
 use Rattle.cp_model.specs.declared.literal.Literal.TheVariants as literal
 use Rattle.cp_model.specs.declared.literal.LitEdge.{LitEdge}
 use Rattle.cp_model.specs.Literals.{literal_rows, rows_under, edge_rows}
-use Rattle.cp_model.specs.Trees.{Group, into_groups, groups, between, tree_at}
+use Rattle.cp_model.specs.Trees.{Group, into_groups, groups}
 
 -- no label is its neighbour's
 abbrev pub neighbours_differ : List Label → Bool
@@ -63,15 +62,3 @@ groups-edges (e ∷ es) apart =
     let more : groups (edge_rows es) ≡ map edge_group es = groups-edges es (later e.label es apart) in
     let begins : Begins e.label (groups (edge_rows es)) = λ r. rw more (begins_apart e.label es apart r) in
     under_literal e.label e.tree (edge_rows es) begins ∙ ap (λ gs. edge_group e ∷ gs) more
-
-texts_of : (f : Group → List ℕ) (es : List LitEdge) → map f (map edge_group es) ≡ map (λ e. f (edge_group e)) es
-texts_of f [] = refl
-texts_of f (e ∷ es) = ap (λ ts. f (edge_group e) ∷ ts) (texts_of f es)
-
--- so a node's text has each edge's label and tree
-pub tree-edges : (n : ℕ) (p : Path) (es : List LitEdge) → neighbours_differ (map (λ e. e.label) es) ≡ true
-    → tree_at (suc n) ((p, Node) ∷ edge_rows es) ≡ codes "{" ++ (between (codes ", ") (map (λ e. label_text e.label ++ (codes " : " ++ tree_at n (literal_rows e.tree))) es) ++ codes "}")
-unfolding tree_at
-tree-edges n p es apart =
-    ap (λ ts. codes "{" ++ (between (codes ", ") ts ++ codes "}"))
-    (ap (map (λ (g : Group). label_text g.label ++ (codes " : " ++ tree_at n g.rows))) (groups-edges es apart) ∙ texts_of (λ g. label_text g.label ++ (codes " : " ++ tree_at n g.rows)) es)

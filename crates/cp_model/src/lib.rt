@@ -5,6 +5,7 @@
 
 mod answer;
 mod kind;
+mod limits;
 mod literal;
 mod op;
 mod origin;
@@ -19,6 +20,7 @@ pub use answer::{
     Answer, FromAnswer, LogLine, LogList, Segment, SegmentList, Stats, TidList, Trace, TraceEnd,
 };
 pub use kind::Kind;
+pub use limits::{NODES_MAX, PLACE_WEIGHT, WEIGHT_MAX};
 pub use literal::{LitEdge, LitList, Literal};
 pub use op::{Op, OpList};
 pub use origin::Origin;

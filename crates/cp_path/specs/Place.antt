@@ -4,7 +4,7 @@ use Rattle.std.specs.declared.option.Option.{Option}
 use Rattle.std.specs.declared.option.Option.TheVariants.{None, Some}
 use Rattle.std.specs.Option.{option_map, unwrap_or}
 use Rattle.std.specs.declared.cmp.Ordering.{Ordering}
-use Rattle.std.specs.Ordering.{eq_by_cmp, ordering_then}
+use Rattle.std.specs.Ordering.{eq_by_cmp}
 use Rattle.std.specs.Cmp.{IsTotalOrder, IsEquivalence, IsPartialOrder, partial_order_from_agreeing_total}
 use Rattle.std.specs.Cmp.Lexicographic.{slice_cmp, pointwise, lists_equiv, lists_total, lists_ties, nat_list_eq_equiv, nat_list_cmp_total, texts_ties}
 use Rattle.cp_path.specs.Text.{text_eq, text_cmp}
@@ -41,10 +41,6 @@ path_ties = lists_ties text_cmp texts_ties
 
 pub path_po : IsPartialOrder path_eq (λ x y. Some (path_cmp x y))
 path_po = partial_order_from_agreeing_total path_cmp path_total (λ x y. refl) path_ties
-
--- the name first, then the path
-abbrev pub loc_cmp : Loc → Loc → Ordering
-loc_cmp p q = ordering_then (text_cmp p.db q.db) (path_cmp p.path q.path)
 
 -- the same place
 abbrev pub place_eq : Loc → Loc → Bool

@@ -36,14 +36,6 @@ run_more d s t u v x e h = run_on d s t v (x ∷ []) e ∙ run_one d t x ∙ h
 pub part_more : (d : Bool) (s t u : Part) (v : List ℕ) (x : ℕ) → part_run d s v ≡ Some t → part_step d t x ≡ Some u → part_run d s (v ++ x ∷ []) ≡ Some u
 part_more d s t u v x e h = part_run_on d s t v (x ∷ []) e ∙ part_run_one d t x ∙ h
 
--- a beginning of a word that runs through runs through
-pub run_part : (d : Bool) (s u : Spot) (v w : List ℕ) → run d s (v ++ w) ≡ Some u → (t : Spot) × (run d s v ≡ Some t) × (run d t w ≡ Some u)
-run_part d s u v w e = by (run d s v) refl
-  where
-    by : (o : Option Spot) → run d s v ≡ o → (t : Spot) × (run d s v ≡ Some t) × (run d t w ≡ Some u)
-    by None h = let bad : None ≡ Some u = sym (run-append d s v w ∙ ap (λ o. option_and_then (λ t. run d t w) o) h) ∙ e in absurd (cc)
-    by (Some t) h = (t, h, sym (run_on d s t v w h) ∙ e)
-
 pub next_part : (d : Bool) (s : Part) (u : Part) (x : ℕ) (w : List ℕ) → part_run d s (x ∷ w) ≡ Some u → (t : Part) × (part_step d s x ≡ Some t) × (part_run d t w ≡ Some u)
 next_part d s u x w e = by (part_step d s x) refl
   where

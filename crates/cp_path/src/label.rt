@@ -41,6 +41,14 @@ impl Label {
         if text.len() > LABEL_MAX {
             return Err(PathFault::LabelTooLong);
         }
+        Ok(Label::copy_of(alloc, text)?)
+    }
+
+    /// A label of its own with this text, which isn't too long. Costs its bytes.
+    pub fn copy_of(alloc: Global, text: &str) -> Result<Label, AllocError>
+        requires short { length text.now ≤ 255 }
+        ensures { IfOk result (λ a. a ≡ text.now) }
+    {
         Ok(Label {
             text: String::from_str(alloc, text)?,
         })

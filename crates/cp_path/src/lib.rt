@@ -26,6 +26,7 @@ pub use stated::laws;
 pub use text::{Bytes, TEXT_MAX, Text};
 pub use value::Value;
 pub use whole::Whole;
+pub use write::is_trigger;
 
 #[cfg(test)]
 mod tests;

@@ -74,6 +74,16 @@ impl Path {
         }
     }
 
+    /// The path one label further down. Costs its bytes.
+    pub fn child(&self, a: &Label) -> Result<Path, AllocError>
+        requires room { length self.now < 64 }
+        ensures { IfOk result (λ p. p ≡ self.now ++ a.now ∷ []) }
+    {
+        let Path { mut labels } = self.clone()?;
+        labels.push(a.clone()?)?;
+        Ok(Path { labels })
+    }
+
     /// These labels, and below them those.
     #[tactic(auto, using(crate::proofs::Relating::none_more))]
     pub(crate) fn joined(&self, labels: &[Label]) -> Result<Path, AllocError>

@@ -8,7 +8,8 @@ use crate::loc::Loc;
 use crate::value::Value;
 use std::alloc::{AllocError, Global};
 
-pub(crate) fn is_trigger(byte: u8) -> bool
+/// Whether no unquoted word holds the byte: white space, a control byte, or one of `" ; { } : ,`.
+pub fn is_trigger(byte: u8) -> bool
     ensures { result ≡ is_trigger byte }
 {
     byte <= b' '

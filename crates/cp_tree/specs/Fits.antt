@@ -9,7 +9,7 @@ use Rattle.cp_model.specs.declared.row.Content.{Content}
 use Rattle.cp_model.specs.Place.{Label, Path, path_cmp, path_eq, path_eq-same, at_target, over_limit, size, strip}
 use Rattle.cp_model.specs.Keyed as keyed
 use Rattle.cp_model.specs.Keyed.{look}
-use Rattle.cp_model.specs.Subtrees.{is_there, replaced}
+use Rattle.cp_model.specs.Subtrees.{replaced}
 use Rattle.cp_model.specs.Tree.{Tree, IsTree, most_nodes, most_weight, weight, weight_of, last_bytes}
 use Rattle.cp_model.specs.Strips.{strip_is}
 use Rattle.cp_model.specs.Lookups.{get-replaced, placed}

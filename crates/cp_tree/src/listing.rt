@@ -1,27 +1,13 @@
 //! The rows of a literal tree.
-ghost use Rattle.std.specs.Prelude.{◌≡◌, ◌≤◌, ◌<◌, ◌+◌, ◌++◌, length, IfOk, OnOk};
-ghost use Rattle.cp_model.specs.Place.{child};
+ghost use Rattle.std.specs.Prelude.{◌≡◌, ◌≤◌, ◌+◌, ◌++◌, length, IfOk, OnOk};
 ghost use Rattle.cp_model.specs.Subtrees.{moved};
 ghost use Rattle.cp_model.specs.Literals.{literal_rows};
 ghost use Rattle.cp_model.specs.declared.row.Content.TheVariants.{Leaf};
 ghost use Rattle.cp_tree.specs.Rows.{entries_in, deepest};
 
 use cp_model::{Content, LitList, Literal, Row};
-use cp_path::{Label, Path, PathFault, Value};
+use cp_path::{Path, Value};
 use std::alloc::{AllocError, Global};
-
-/// The path one label further down. Costs its labels.
-fn child_of(at: &Path, label: &Label) -> Result<Path, AllocError>
-    requires { length at.now < 64 }
-    ensures { IfOk result (λ q. q ≡ child at.now label.now) }
-{
-    let mut path = at.clone()?;
-    match path.push(label.clone()?) {
-        Ok(()) => Ok(path),
-        Err(PathFault::TooDeep) => unreachable!(),
-        Err(_) => Err(AllocError),
-    }
-}
 
 /// A leaf with this value. Costs its bytes.
 fn leaf_of(value: &Value) -> Result<Content, AllocError>
@@ -60,7 +46,7 @@ fn list_edges(at: &Path, below: &LitList, rows: &mut Vec<Row>) -> Result<(), All
     ensures { OnOk result (entries_in rows.new.items ≡ entries_in rows.old.items ++ moved at.now below.now) }
 {
     for edge in &below.items {
-        let path = child_of(at, &edge.label)?;
+        let path = at.child(&edge.label)?;
         list_tree(path, &edge.tree, rows)?;
     }
     Ok(())

@@ -5,7 +5,7 @@ ghost use Rattle.cp_tree_box.specs.Tallies.{IsNear, AreNear, Gauge, one, tree_co
 use crate::node::BoxNode;
 use crate::spot::Spot;
 use crate::tally::Tally;
-use cp_model::Content;
+use cp_model::{Content, PLACE_WEIGHT};
 use cp_path::{LABELS_MAX, Value};
 use cp_tree::Reach;
 use std::alloc::{AllocError, Global};
@@ -60,7 +60,7 @@ impl Tally {
         ensures { (g : Gauge) → kept self.new g ≡ kept self.old g + one g at content.now }
     {
         self.places += 1;
-        self.weight += 16 + u64::from(at.last) + text_bytes(content);
+        self.weight += PLACE_WEIGHT + u64::from(at.last) + text_bytes(content);
         self.depths[at.depth as usize] += 1;
         self.sizes[at.size as usize] += 1;
     }
@@ -71,7 +71,7 @@ impl Tally {
         ensures { (g : Gauge) → kept self.new g + one g at content.now ≡ kept self.old g }
     {
         self.places -= 1;
-        self.weight -= 16 + u64::from(at.last) + text_bytes(content);
+        self.weight -= PLACE_WEIGHT + u64::from(at.last) + text_bytes(content);
         self.depths[at.depth as usize] -= 1;
         self.sizes[at.size as usize] -= 1;
     }

@@ -6,7 +6,7 @@ ghost use Rattle.cp_tree_box.specs.Tallies.{AreNear, places, weighs, one, tree_c
 use crate::count::text_bytes;
 use crate::node::BoxNode;
 use crate::spot::Spot;
-use cp_model::Content;
+use cp_model::{Content, PLACE_WEIGHT};
 use cp_tree::Reach;
 
 fn stretch_one(reach: &mut Reach, at: Spot, content: &Content)
@@ -18,7 +18,7 @@ fn stretch_one(reach: &mut Reach, at: Spot, content: &Content)
     ensures size { reach.new.size ≡ max reach.old.size at.size }
 {
     reach.nodes += 1;
-    reach.inner += 16 + u64::from(at.last) + text_bytes(content);
+    reach.inner += PLACE_WEIGHT + u64::from(at.last) + text_bytes(content);
     reach.depth = reach.depth.max(at.depth);
     reach.size = reach.size.max(at.size);
 }

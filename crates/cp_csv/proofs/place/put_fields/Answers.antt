@@ -39,7 +39,8 @@ insert_leaf-requires-clause-fits g c =
     let narrow : length h ≤ 255 = short_so h (none_left_pass is_long_label hs i h (drop (i + 1) hs) c.requires.headers label) in
     let fits = leaf_fits t (c.args.row.now.label ∷ []) h (Leaf (Text f)) (g.met.R.TreeRep.is_tree c.loop-label.tree) inv.bare.node (omega arith) (omega (arith, c.requires.short)) narrow (omega (arith, short))
     (omega (arith, inv.few, ap length label)) (omega (arith, inv.light, step)) in
-    rw (c.in_ok-place.ensures, c.in_ok-leaf_of-in-Some.ensures) fits
+    let place : c.in_ok-place.place ≡ c.args.row.now.label ∷ [] = c.in_ok-place.ensures ∙ ap (λ r. child r c.args.row.now.label) c.root.ensures in
+    rw (place, c.in_ok-leaf_of-in-Some.ensures) fits
 
 pub loop-label-preserved : goal.loop-label-preserved
 loop-label-preserved g c =
@@ -58,7 +59,8 @@ loop-label-preserved g c =
     let label : drop i hs ≡ h ∷ drop (i + 1) hs = ap (drop i) (sym items) ∙ drop_more c.deref-label-items.result.now i h c.loop-label-test.true ∙ ap (λ x. x ∷ drop (i + 1) c.deref-label-items.result.now) (sym c.label-item.is) ∙ ap (λ z. h ∷ drop (i + 1) z) items in
     let text : drop i fs ≡ f ∷ drop (i + 1) fs = some_at fs i f e in
     let step : fields_weight (drop i hs) (drop i fs) ≡ 16 + length h + length f + fields_weight (drop (i + 1) hs) (drop (i + 1) fs) = ap (λ z. fields_weight z (drop i fs)) label ∙ ap (fields_weight (h ∷ drop (i + 1) hs)) text in
-    let put : t1 ≡ replaced (row ∷ h ∷ []) (alone (Leaf (Text f))) t = c.in_ok-insert_leaf-in-Some.ensures.ok ∙ ap (λ p. replaced (child p h) (alone c.in_ok-leaf_of-in-Some.field-0) t) c.in_ok-place.ensures ∙ ap (λ d. replaced (row ∷ h ∷ []) (alone d) t) c.in_ok-leaf_of-in-Some.ensures in
+    let place : c.in_ok-place.place ≡ row ∷ [] = c.in_ok-place.ensures ∙ ap (λ r. child r row) c.root.ensures in
+    let put : t1 ≡ replaced (row ∷ h ∷ []) (alone (Leaf (Text f))) t = c.in_ok-insert_leaf-in-Some.ensures.ok ∙ ap (λ p. replaced (child p h) (alone c.in_ok-leaf_of-in-Some.field-0) t) place ∙ ap (λ d. replaced (row ∷ h ∷ []) (alone d) t) c.in_ok-leaf_of-in-Some.ensures in
     let is = next_put t1 t row h f (drop (i + 1) hs) (g.met.R.TreeRep.is_tree c.loop-label.tree) (subst (IsBare t row) label inv.bare) put in
     record {
       next = tt;

@@ -50,10 +50,10 @@ push_edges-loop-edge-init t c =
     let f = λ (e : Path × Content). record_below c.args.tid letter.I c.args.base.now e.0 None in
     edges-none f c.args.at.now c.deref-edge-items.result.now c.args.rows.now
 
-pub push_edges-child_of-requires : goal.push_edges-child_of-requires
-push_edges-child_of-requires t c =
+pub push_edges-child-requires : goal.push_edges-child-requires
+push_edges-child-requires t c =
     let edges = c.deref-edge-items.result.now in
     let i = c.loop-edge.edge-index in
     let e = c.edge-item.result in
     let split = drop-one edges i e c.loop-edge-test.true c.edge-item.is in
-    edge-room (length c.args.base.now) c.args.at.now e (drop (i + 1) edges) i edges c.args.below.now split (ap edge_rows c.deref-edge-items.ensures.value ∙ c.below.view_is) c.requires.shallow
+    record { room = edge-room (length c.args.base.now) c.args.at.now e (drop (i + 1) edges) i edges c.args.below.now split (ap edge_rows c.deref-edge-items.ensures.value ∙ c.below.view_is) c.requires.shallow }

@@ -6,11 +6,11 @@ use Rattle.cp_engine.proofs.Depths.{below-within}
 use Rattle.cp_engine.proofs.OpRows.{child-room, rows-within, del-added}
 use Rattle.cp_engine.proofs.rows.push_deleted.Goals as goal
 
-pub child_of-requires : goal.child_of-requires
-child_of-requires g c =
+pub child-requires : goal.child-requires
+child-requires g c =
     let t = g.R.TreeRep.contents c.args.tree.now in
     let q = child c.args.from.now.path c.args.label.now in
-    child-room c.args.from.now.path c.args.label.now (deepest (below q t)) (below-within t q (g.met.R.TreeRep.is_tree c.args.tree.now) c.requires.there)
+    record { room = child-room c.args.from.now.path c.args.label.now (deepest (below q t)) (below-within t q (g.met.R.TreeRep.is_tree c.args.tree.now) c.requires.there) }
 
 pub rows-requires : goal.rows-requires
 rows-requires g c = record { there = ap (is_there (g.R.TreeRep.contents c.args.tree.now)) c.in_ok-base.ensures ∙ c.requires.there }

@@ -3,8 +3,8 @@ use Rattle.cp_tree.specs.Rows.{deepest}
 use Rattle.cp_engine.proofs.OpRows.{child-room, made-within, ins-added}
 use Rattle.cp_engine.proofs.rows.push_inserted.Goals as goal
 
-pub child_of-requires : goal.child_of-requires
-child_of-requires c = child-room c.args.into.now.path c.args.label.now (deepest (literal_rows c.args.literal.now)) c.requires.shallow
+pub child-requires : goal.child-requires
+child-requires c = record { room = child-room c.args.into.now.path c.args.label.now (deepest (literal_rows c.args.literal.now)) c.requires.shallow }
 
 pub push_literal-requires : goal.push_literal-requires
 push_literal-requires c =
