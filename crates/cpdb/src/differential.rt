@@ -1,8 +1,8 @@
 //! A few hundred scripts, run by the program and by a plain slow one, whose places carry their whole past.
 ghost use Rattle.std.specs.Prelude.{◌<◌};
 
-use crate::tests::replies;
-use std::alloc::Global;
+use crate::sources::{SCRATCH, replies_with};
+use std::alloc::{AllocError, Global};
 use std::test::*;
 
 /// The places that are asked of after each commit, without the name of the database.
@@ -12,6 +12,69 @@ const ASKED: [&str; 15] = [
 ];
 
 const LABELS: [&str; 2] = ["a", "b"];
+
+// A file that is loaded: how, its bytes, and the places that it gives, with the values of its leaves.
+#[derive(Clone, Copy)]
+struct File {
+    name: &'static str,
+    load: &'static str,
+    bytes: &'static [u8],
+    places: &'static [(&'static str, Option<&'static str>)],
+}
+
+const FILES: [File; 5] = [
+    File {
+        name: "nested",
+        load: "json \"nested\"",
+        bytes: b"{\"a\":7,\"b\":{\"a\":\"x\",\"b\":{}}}",
+        places: &[
+            ("", None),
+            ("/a", Some("7")),
+            ("/b", None),
+            ("/b/a", Some("\"x\"")),
+            ("/b/b", None),
+        ],
+    },
+    File {
+        name: "flat",
+        load: "json \"flat\"",
+        bytes: b"{\"b\":null}",
+        places: &[("", None), ("/b", Some("null"))],
+    },
+    File {
+        name: "leaf",
+        load: "json \"leaf\"",
+        bytes: b"-1",
+        places: &[("", Some("-1"))],
+    },
+    File {
+        name: "keyed",
+        load: "csv \"keyed\" by a",
+        bytes: b"b,a\n1,a\n,b\n",
+        places: &[
+            ("", None),
+            ("/a", None),
+            ("/a/a", Some("\"a\"")),
+            ("/a/b", Some("\"1\"")),
+            ("/b", None),
+            ("/b/a", Some("\"b\"")),
+            ("/b/b", Some("\"\"")),
+        ],
+    },
+    File {
+        name: "header",
+        load: "csv \"header\"",
+        bytes: b"a,b\n",
+        places: &[("", None)],
+    },
+];
+
+fn held(file: File) -> (&'static str, &'static [u8]) {
+    (file.name, file.bytes)
+}
+
+/// The names that sources are loaded under.
+const SOURCES: [&str; 2] = ["A", "B"];
 
 /// More levels than a script makes.
 const LEVELS: u32 = 40;
@@ -23,12 +86,20 @@ struct Copied {
     from: String,
 }
 
-// A place, its number where it is a leaf, and its past.
+// Where data began: in the start tree, in an insertion, or at a place of a source.
+#[derive(Drop)]
+enum Origin {
+    Start,
+    New(u64),
+    Source(String),
+}
+
+// A place, its value where it is a leaf, and its past.
 #[derive(Drop)]
 struct Place {
     path: String,
-    leaf: Option<u64>,
-    born: Option<u64>,
+    leaf: Option<String>,
+    origin: Origin,
     copies: Vec<Copied>,
 }
 
@@ -44,6 +115,7 @@ struct Slow {
     held: u64,
     failed: Option<u64>,
     last: u64,
+    loaded: Vec<File>,
 }
 
 // What of the path follows the place, if it lies at or below it.
@@ -84,10 +156,27 @@ fn moved(
     }
     Ok(Place {
         path,
-        leaf: place.leaf,
-        born: place.born,
+        leaf: copy_of(&place.leaf)?,
+        origin: place.origin.copy()?,
         copies,
     })
+}
+
+fn copy_of(text: &Option<String>) -> Result<Option<String>, AllocError> {
+    match text {
+        Some(text) => Ok(Some(text.clone()?)),
+        None => Ok(None),
+    }
+}
+
+impl Origin {
+    fn copy(&self) -> Result<Origin, AllocError> {
+        match self {
+            Origin::Start => Ok(Origin::Start),
+            Origin::New(tid) => Ok(Origin::New(*tid)),
+            Origin::Source(place) => Ok(Origin::Source(place.clone()?)),
+        }
+    }
 }
 
 // All places but those at or below this one, or the places at or below it.
@@ -101,13 +190,49 @@ fn chosen(alloc: Global, places: &[Place], path: &str, inside: bool) -> Result<V
     Ok(list)
 }
 
+// Whether there is a file and it gives this place.
+fn has(file: Option<File>, path: &str) -> bool {
+    let Some(file) = file else {
+        return false;
+    };
+    for place in file.places {
+        if place.0 == path {
+            return true;
+        }
+    }
+    false
+}
+
+// A place that was copied from a source with this Tid.
+fn copied_place(
+    alloc: Global,
+    tid: u64,
+    path: String,
+    leaf: Option<&str>,
+    origin: String,
+) -> Result<Place, AllocError> {
+    let leaf = match leaf {
+        Some(value) => Some(String::from_str(alloc, value)?),
+        None => None,
+    };
+    let mut copies = Vec::new(alloc);
+    let from = origin.clone()?;
+    copies.push(Copied { tid, from })?;
+    Ok(Place {
+        path,
+        leaf,
+        origin: Origin::Source(origin),
+        copies,
+    })
+}
+
 impl Slow {
     fn new(alloc: Global) -> Result<Slow, Fail> {
         let mut committed = Vec::new(alloc);
         committed.push(Place {
             path: String::new(alloc),
             leaf: None,
-            born: None,
+            origin: Origin::Start,
             copies: Vec::new(alloc),
         })?;
         let working = chosen(alloc, &committed, "", true)?;
@@ -121,6 +246,7 @@ impl Slow {
             held: 0,
             failed: None,
             last: 0,
+            loaded: Vec::new(alloc),
         })
     }
 
@@ -172,9 +298,13 @@ impl Slow {
         }
     }
 
-    fn insert(&mut self, label: &str, leaf: Option<u64>, into: &str) -> Result<(), Fail> {
-        let tree = match leaf {
-            Some(number) => format!(in self.alloc; "{number}")?,
+    fn insert(&mut self, label: &str, number: Option<u64>, into: &str) -> Result<(), Fail> {
+        let leaf = match number {
+            Some(number) => Some(format!(in self.alloc; "{number}")?),
+            None => None,
+        };
+        let tree = match &leaf {
+            Some(value) => value.clone()?,
             None => String::from_str(self.alloc, "{}")?,
         };
         let text = format!(in self.alloc; "ins {{{label} : {tree}}} into T{into};")?;
@@ -185,12 +315,12 @@ impl Slow {
             cause = Some(format!(in self.alloc; ": label {label} is there in T{into}")?);
         }
         if self.passes(cause)? {
-            let born = Some(self.tid());
+            let origin = Origin::New(self.tid());
             let copies = Vec::new(self.alloc);
             self.working.push(Place {
                 path,
                 leaf,
-                born,
+                origin,
                 copies,
             })?;
         }
@@ -244,6 +374,60 @@ impl Slow {
         Ok(())
     }
 
+    // The file is loaded under the next name.
+    fn load(&mut self, file: File) -> Result<(), Fail> {
+        let Some(name) = SOURCES.get(self.loaded.len()) else {
+            return Ok(());
+        };
+        let text = format!(in self.alloc; "load {name} {};", file.load)?;
+        self.says(&text)?;
+        let line = format!(in self.alloc; "loaded {name} {}", file.places.len())?;
+        self.writes(&line)?;
+        self.loaded.push(file)?;
+        Ok(())
+    }
+
+    // The file of the source with this number, if so many are loaded.
+    fn source(&self, number: usize) -> Option<File> {
+        self.loaded.get(number).copied()
+    }
+
+    fn copy_source(&mut self, number: usize, from: &str, into: &str) -> Result<(), Fail> {
+        let name = SOURCES.get(number).copied().unwrap_or("X");
+        let text = format!(in self.alloc; "copy {name}{from} into T{into};")?;
+        self.says(&text)?;
+        let file = self.source(number);
+        let mut cause = None;
+        if find(&self.working, into).is_none() {
+            cause = Some(format!(in self.alloc; ": no place T{into}")?);
+        } else if file.is_none() {
+            cause = Some(format!(in self.alloc; ": no source {name}")?);
+        } else if !has(file, from) {
+            cause = Some(format!(in self.alloc; ": no origin {name}{from}")?);
+        }
+        if self.passes(cause)? {
+            if let Some(file) = file {
+                self.replace_from(name, file, from, into)?;
+            }
+        }
+        Ok(())
+    }
+
+    // The subtree at `into` becomes that of the source at `from`, each place with the copy alone as its past.
+    fn replace_from(&mut self, name: &str, file: File, from: &str, into: &str) -> Result<(), Fail> {
+        let tid = self.tid();
+        let mut places = chosen(self.alloc, &self.working, into, false)?;
+        for (path, leaf) in file.places {
+            if let Some(rest) = rest_of(path, from) {
+                let path = format!(in self.alloc; "{into}{rest}")?;
+                let origin = format!(in self.alloc; "{name}{from}{rest}")?;
+                places.push(copied_place(self.alloc, tid, path, *leaf, origin)?)?;
+            }
+        }
+        self.working = places;
+        Ok(())
+    }
+
     fn begin_again(&mut self) -> Result<(), Fail> {
         self.working = chosen(self.alloc, &self.committed, "", true)?;
         self.held = 0;
@@ -290,11 +474,11 @@ impl Slow {
             path = copy.from.clone()?;
             high = copy.tid.saturating_sub(1);
         }
-        let (low, end) = match place.born {
-            Some(tid) => (tid, "new"),
-            None => (0, "start"),
+        let last = match &place.origin {
+            Origin::Start => format!(in self.alloc; "T{path}@0..{high} < start")?,
+            Origin::New(tid) => format!(in self.alloc; "T{path}@{tid}..{high} < new")?,
+            Origin::Source(place) => place.clone()?,
         };
-        let last = format!(in self.alloc; "T{path}@{low}..{high} < {end}")?;
         text.push_str(&last)?;
         Ok(text)
     }
@@ -314,9 +498,9 @@ impl Slow {
     // The three answers for a place of the committed tree.
     fn answers(&mut self, place: &Place) -> Result<(), Fail> {
         let path = place.path.as_str();
-        let source = match place.born {
-            Some(tid) => format!(in self.alloc; "src T{path}: {tid}")?,
-            None => format!(in self.alloc; "src T{path}: none")?,
+        let source = match &place.origin {
+            Origin::New(tid) => format!(in self.alloc; "src T{path}: {tid}")?,
+            _ => format!(in self.alloc; "src T{path}: none")?,
         };
         let copies = format!(in self.alloc; "hist T{path}:{}", self.copies_of(place)?)?;
         let trace = format!(in self.alloc; "trace T{path}: {}", self.trace_of(place)?)?;
@@ -356,8 +540,8 @@ impl Slow {
         let Some(place) = find(self.shown(), path) else {
             return Ok(String::new(self.alloc));
         };
-        if let Some(number) = place.leaf {
-            return Ok(format!(in self.alloc; "{number}")?);
+        if let Some(value) = &place.leaf {
+            return Ok(value.clone()?);
         }
         let mut text = String::from_str(self.alloc, "{")?;
         for label in LABELS {
@@ -412,18 +596,23 @@ impl Draws {
 }
 
 fn operate(slow: &mut Slow, draws: &mut Draws) -> Result<(), Fail> {
-    match draws.next(8) {
+    match draws.next(11) {
         0 => slow.insert(draws.label(), Some(draws.next(100) as u64), draws.place()),
         1 | 2 | 3 => slow.insert(draws.label(), None, draws.place()),
         4 => slow.delete(draws.label(), draws.place()),
+        5 | 6 => slow.copy_source(0, draws.place(), draws.place()),
+        7 => slow.copy_source(1, draws.place(), draws.place()),
         _ => slow.copy(draws.place(), draws.place()),
     }
 }
 
-// Three transactions, each followed by what is asked of every place.
+// At most two sources, and then three transactions, each followed by what is asked of every place.
 fn script(alloc: Global, seed: u64) -> Result<Slow, Fail> {
     let mut slow = Slow::new(alloc)?;
     let mut draws = Draws { state: seed };
+    for _ in 0..draws.next(3) {
+        slow.load(FILES[draws.next(5)])?;
+    }
     for _ in 0..3 {
         for _ in 0..draws.next(6) {
             operate(&mut slow, &mut draws)?;
@@ -443,10 +632,17 @@ fn script(alloc: Global, seed: u64) -> Result<Slow, Fail> {
 
 #[test]
 fn scripts_agree_with_a_slow_replay(rt: HostRuntime) -> Result<(), Fail> {
+    let files = [
+        held(FILES[0]),
+        held(FILES[1]),
+        held(FILES[2]),
+        held(FILES[3]),
+        held(FILES[4]),
+    ];
     for seed in 0..300 {
         let slow = script(rt.alloc(), seed)?;
         let code = if slow.refusals == 0 { 0 } else { 1 };
-        replies(&rt, slow.script.as_bytes(), code, &slow.written)?;
+        replies_with(&rt, &files, SCRATCH, &slow.script, code, &slow.written)?;
     }
     Ok(())
 }

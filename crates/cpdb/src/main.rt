@@ -1,29 +1,31 @@
 //! The program: the real files, input and output, and the one call that does everything.
 #![tactic(auto)]
 
-mod database;
-mod end;
-mod fetch;
-mod run;
-mod session;
-mod stop;
-mod turn;
-
 use cp_host::{HostFiles, StdinSource, StdoutSink};
-use run::run_cpdb;
+use cp_program::run_cpdb;
 use std::io::ErrorKind;
 use std::process::ExitCode;
 
+#[cfg(test)]
+mod curation;
 #[cfg(test)]
 mod differential;
 #[cfg(test)]
 mod examples;
 #[cfg(test)]
+mod failing_files;
+#[cfg(test)]
 mod histories;
 #[cfg(test)]
 mod limits;
 #[cfg(test)]
+mod source_copies;
+#[cfg(test)]
+mod source_limits;
+#[cfg(test)]
 mod sources;
+#[cfg(test)]
+mod starts;
 #[cfg(test)]
 mod tests;
 

@@ -1,7 +1,6 @@
-use crate::end::Status;
-use crate::run::run_cpdb;
 use cp_host::{StdinSource, StdoutSink};
 use cp_outside::{MemFiles, MemSink, MemSource, Source};
+use cp_program::{Status, run_cpdb};
 use std::alloc::Global;
 use std::io;
 use std::io::{Read, Write};

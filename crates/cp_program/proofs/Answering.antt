@@ -1,0 +1,177 @@
+-- What is shown, and what is answered.
+use Rattle.std.specs.Prelude.{ℕ, ◌≡◌, ◌+◌, ◌&&◌, Bool, true, false, List, [], map, refl, if◌then◌else◌}
+use Rattle.std.proofs.Common.{sym, ap, subst, ◌∙◌}
+use Rattle.std.specs.declared.option.Option.{Option}
+use Rattle.std.specs.declared.option.Option.TheVariants.{None, Some}
+use Rattle.cp_path.specs.declared.loc.Loc.{Loc}
+use Rattle.cp_model.specs.Place.{in_target}
+use Rattle.cp_model.specs.Subtrees.{is_there, below}
+use Rattle.cp_model.specs.Tree.{Tree, Source}
+use Rattle.cp_model.specs.Step.{step}
+use Rattle.cp_model.specs.Past.{tree_of}
+use Rattle.cp_model.specs.History.{State}
+use Rattle.cp_model.specs.Lookups.{there-mapped}
+use Rattle.cp_model.specs.Answers.{answer_to, has_place, at_place, src, hist, trace}
+use Rattle.cp_model.specs.declared.kind.Kind.TheVariants as kind
+use Rattle.cp_model.specs.declared.answer.Answer.{Answer}
+use Rattle.cp_model.specs.declared.answer.Answer.TheVariants as answer
+use Rattle.cp_model.specs.declared.answer.Trace.{Trace}
+use Rattle.cp_model.specs.declared.query.Query.TheVariants as query
+use Rattle.cp_model.specs.declared.op.Op.{Op}
+use Rattle.cp_model.specs.declared.query.Query.{Query}
+use Rattle.cp_model.specs.declared.row.Row.{Row}
+use Rattle.cp_lang.specs.declared.stmt.Stmt.TheVariants as stmt
+use Rattle.cp_reply.specs.declared.reply.Of.TheVariants as of
+use Rattle.cp_reply.specs.declared.reply.Why.TheVariants as why
+use Rattle.cp_reply.specs.declared.reply.Reply.{Reply}
+use Rattle.cp_reply.specs.declared.reply.Reply.TheVariants as reply
+use Rattle.cp_session.specs.Session.{Session, Opened, closed, going, failed, says, turn_of, row_of, shown, current_tree, outcome_tree, answered, no_place_of, replies, refuses}
+use Rattle.cp_engine.specs.Passed.{passed, AllAccepted}
+use Rattle.cp_engine.specs.Linked.{accepted-step}
+use Rattle.cp_engine.specs.Transactions as txn
+use Rattle.cp_engine.specs.declared.txn.Txn.{Txn}
+use Rattle.cp_engine.specs.declared.state.TxnState.{TxnState}
+use Rattle.cp_engine.specs.declared.state.TxnState.TheVariants as state
+use Rattle.cp_query.specs.Asked.{IsCommitted, is_in}
+use Rattle.cp_outside.specs.FileReads.{FileTable}
+use Rattle.cp_program.specs.Job.{setting}
+use Rattle.cp_program.specs.Databases.{Stands, Opens, Turned, shown_tree}
+use Rattle.cp_program.specs.declared.database.Database.{Database}
+use Rattle.cp_program.proofs.Standing.{turned-on}
+
+-- ---- the tree that is shown
+
+-- accepted operations lead to the tree after them
+working_tree : (t : State) (n : ℕ) (ops : List Op) → AllAccepted t.sources (tree_of t.tree) ops → (passed t.sources (tree_of t.tree) n ops).tree ≡ outcome_tree t (step (tree_of t.tree) t.sources ops)
+working_tree t n ops a =
+    let x = accepted-step t.sources (tree_of t.tree) n ops a in
+    sym (ap (outcome_tree t) x.1 ∙ x.2)
+
+module _ {R : Type 0} (view : R → Tree) (d : Database R) (s : Session) (z : Stands view d s) where
+  abbrev t : Tree
+  t = tree_of z.state.tree
+
+  abbrev n : ℕ
+  n = z.state.now + 1
+
+  abbrev ss : List Source
+  ss = z.state.sources
+
+  closed_tree : (o : Opened) → Opens view None ss t n o → t ≡ current_tree z.state o
+  closed_tree closed h = refl
+  closed_tree (going ops) h = absurd h
+  closed_tree (failed k c) h = absurd h
+
+  -- where no transaction is open, the committed tree is shown
+  pub tree-closed : d.transaction ≡ None → view d.tree ≡ current_tree z.state s.opened
+  tree-closed e = z.tree ∙ closed_tree s.opened (subst (λ y. Opens view y ss t n s.opened) e z.opened)
+
+  module _ (x : Txn R) (there : d.transaction ≡ Some x) (k : TxnState) (is : (ss : List Source) (t : Tree) (n : ℕ) (p : txn.Progress) → txn.Stands view x ss t n p → k ≡ txn.state_of p) where
+    stands_open : Opens view (Some x) ss t n s.opened
+    stands_open = subst (λ y. Opens view y ss t n s.opened) there z.opened
+
+    going_tree : (j : ℕ) (u : Tree) (o : Opened) → Opens view (Some x) ss t n o → k ≡ state.Going j → ((ops : List Op) → txn.Stands view x ss t n (txn.going ops) → u ≡ (passed ss t n ops).tree) → u ≡ current_tree z.state o
+    going_tree j u closed h e f = absurd h
+    going_tree j u (going ops) h e f = f ops h.0 ∙ working_tree z.state n ops h.0.accepted
+    going_tree j u (failed i c) h e f = let same = is ss t n (txn.failed i c) h in absurd (cc)
+
+    -- where it is going, its working tree is shown
+    pub tree-going : (j : ℕ) (u : Tree) → k ≡ state.Going j → ((ss : List Source) (t : Tree) (n : ℕ) (ops : List Op) → txn.Stands view x ss t n (txn.going ops) → u ≡ (passed ss t n ops).tree) → u ≡ current_tree z.state s.opened
+    tree-going j u e f = going_tree j u s.opened stands_open e (f ss t n)
+
+    failed_tree : (o : Opened) → Opens view (Some x) ss t n o → ((j : ℕ) → k ≡ state.Going j → ⊥) → t ≡ current_tree z.state o
+    failed_tree closed h e = absurd h
+    failed_tree (going ops) h e = absurd (e _ (is ss t n (txn.going ops) h.0))
+    failed_tree (failed i c) h e = refl
+
+    -- where it has failed, the committed tree is shown
+    pub tree-failed : ((j : ℕ) → k ≡ state.Going j → ⊥) → view d.tree ≡ current_tree z.state s.opened
+    tree-failed e = z.tree ∙ failed_tree s.opened stands_open e
+    -- ---- show
+
+module _ {R : Type 0} (view : R → Tree) (files : FileTable) (d : Database R) (s : Session) (z : Stands view d s) where
+  shows : (q : Loc) (r : Option Reply) → Turned view (shown s q (shown_tree z.state s.opened q)) d r → Turned view (turn_of (setting files) s (says (stmt.Show q))) d r
+  shows q r h = turned-on view files d d s z (stmt.Show q) r h
+
+  -- there is no such database
+  pub turned-no_source : (q : Loc) → shown_tree z.state s.opened q ≡ None → Turned view (turn_of (setting files) s (says (stmt.Show q))) d (Some (reply.Refused of.Statement (why.NoSource q.db)))
+  turned-no_source q e =
+      let r = Some (reply.Refused of.Statement (why.NoSource q.db)) in
+      shows q r (subst (λ o. Turned view (shown s q o) d r) (sym e) (refl, z))
+
+  -- nothing is shown of a place that isn't there
+  pub turned-no_place : (q : Loc) (u : Tree) → shown_tree z.state s.opened q ≡ Some u → is_there u q.path ≡ false → Turned view (turn_of (setting files) s (says (stmt.Show q))) d (Some (reply.Refused of.Statement (why.NoPlace q)))
+  turned-no_place q u e there =
+      let r = Some (reply.Refused of.Statement (why.NoPlace q)) in
+      shows q r
+      (subst (λ o. Turned view (shown s q o) d r) (sym e)
+      (subst (λ b. Turned view (if b then replies (reply.Show q (map row_of (below q.path u))) s else refuses (why.NoPlace q) s) d r) (sym there) (refl, z)))
+
+  -- the rows at and below the place are shown
+  pub turned-shown : (q : Loc) (u : Tree) (rows : List Row) → shown_tree z.state s.opened q ≡ Some u → is_there u q.path ≡ true → rows ≡ map row_of (below q.path u) →
+      Turned view (turn_of (setting files) s (says (stmt.Show q))) d (Some (reply.Show q rows))
+  turned-shown q u rows e there is =
+      let r = Some (reply.Show q rows) in
+      shows q r
+      (subst (λ o. Turned view (shown s q o) d r) (sym e)
+      (subst (λ b. Turned view (if b then replies (reply.Show q (map row_of (below q.path u))) s else refuses (why.NoPlace q) s) d r) (sym there) (ap (λ rs. Some (reply.Show q rs)) is, z)))
+
+-- ---- queries
+
+is_true : (b : Bool) → (b ≡ false → ⊥) → b ≡ true
+is_true true h = refl
+is_true false h = absurd (h refl)
+
+module _ {R : Type 0} (view : R → Tree) (files : FileTable) (d m : Database R) (s : Session) (z : Stands view d s) (y : Stands view m s) where
+  -- the rows and the tree are those of the session's history
+  pub committed-rows : IsCommitted kind.N d.store.upto d.store.list (view d.tree) z.state
+  committed-rows = record { history = s.history; legal = z.legal; replayed = z.replayed; kind = z.kind; now = sym z.upto; rows = sym z.rows; tree = sym z.tree }
+
+  place_is : (q : Loc) → has_place z.state q ≡ is_in (view d.tree) q
+  place_is q = ap (λ b. in_target q && b) (sym (there-mapped (λ _ x. x.content) z.state.tree q.path) ∙ ap (λ u. is_there u q.path) (sym z.tree))
+
+  asked : (p : Query) (r : Option Reply) → Turned view (answered s p (answer_to z.state p)) m r → Turned view (turn_of (setting files) s (says (stmt.Ask p))) m r
+  asked p r h = turned-on view files d m s z (stmt.Ask p) r h
+
+  answers : (p : Query) (q : Loc) (a b : Answer) → answer_to z.state p ≡ at_place z.state q b → (is_in (view d.tree) q ≡ false → ⊥) → a ≡ b → Turned view (turn_of (setting files) s (says (stmt.Ask p))) m (Some (reply.Answered p a))
+  answers p q a b e there same =
+      asked p (Some (reply.Answered p a))
+      (subst (λ o. Turned view (answered s p o) m (Some (reply.Answered p a))) (sym (e ∙ ap (λ c. if c then Some b else None) (place_is q ∙ is_true (is_in (view d.tree) q) there)))
+      (ap (λ x. Some (reply.Answered p x)) same, y))
+
+  unanswered : (p : Query) (q : Loc) (b : Answer) → answer_to z.state p ≡ at_place z.state q b → no_place_of p ≡ why.NoPlace q → is_in (view d.tree) q ≡ false →
+      Turned view (turn_of (setting files) s (says (stmt.Ask p))) m (Some (reply.Refused of.Statement (why.NoPlace q)))
+  unanswered p q b e w there =
+      asked p (Some (reply.Refused of.Statement (why.NoPlace q)))
+      (subst (λ o. Turned view (answered s p o) m (Some (reply.Refused of.Statement (why.NoPlace q)))) (sym (e ∙ ap (λ c. if c then Some b else None) (place_is q ∙ there)))
+      (ap (λ x. Some (reply.Refused of.Statement x)) (sym w), y))
+
+  -- the step of the insertion is answered
+  pub turned-src : (q : Loc) (tid : Option ℕ) → (is_in (view d.tree) q ≡ false → ⊥) → tid ≡ src z.state.tree q.path → Turned view (turn_of (setting files) s (says (stmt.Ask (query.Src q)))) m (Some (reply.Answered (query.Src q) (answer.Src tid)))
+  unfolding answer_to
+  turned-src q tid there e = answers (query.Src q) q (answer.Src tid) (answer.Src (src z.state.tree q.path)) refl there (ap (λ x. answer.Src x) e)
+
+  -- of a place that isn't there none is
+  pub turned-no_src : (q : Loc) → is_in (view d.tree) q ≡ false → Turned view (turn_of (setting files) s (says (stmt.Ask (query.Src q)))) m (Some (reply.Refused of.Statement (why.NoPlace q)))
+  unfolding answer_to
+  turned-no_src q there = unanswered (query.Src q) q (answer.Src (src z.state.tree q.path)) refl refl there
+
+  -- the steps of the copies are answered
+  pub turned-hist : (q : Loc) (tids : List ℕ) → (is_in (view d.tree) q ≡ false → ⊥) → tids ≡ hist z.state.tree q.path → Turned view (turn_of (setting files) s (says (stmt.Ask (query.Hist q)))) m (Some (reply.Answered (query.Hist q) (answer.Tids tids)))
+  unfolding answer_to
+  turned-hist q tids there e = answers (query.Hist q) q (answer.Tids tids) (answer.Tids (hist z.state.tree q.path)) refl there (ap (λ x. answer.Tids x) e)
+
+  -- of a place that isn't there none are
+  pub turned-no_hist : (q : Loc) → is_in (view d.tree) q ≡ false → Turned view (turn_of (setting files) s (says (stmt.Ask (query.Hist q)))) m (Some (reply.Refused of.Statement (why.NoPlace q)))
+  unfolding answer_to
+  turned-no_hist q there = unanswered (query.Hist q) q (answer.Tids (hist z.state.tree q.path)) refl refl there
+
+  -- the trace is answered
+  pub turned-trace : (q : Loc) (t : Trace) → (is_in (view d.tree) q ≡ false → ⊥) → t ≡ trace z.state.now z.state.tree q.path → Turned view (turn_of (setting files) s (says (stmt.Ask (query.Trace q)))) m (Some (reply.Answered (query.Trace q) (answer.Trace t)))
+  unfolding answer_to
+  turned-trace q t there e = answers (query.Trace q) q (answer.Trace t) (answer.Trace (trace z.state.now z.state.tree q.path)) refl there (ap (λ x. answer.Trace x) e)
+
+  -- of a place that isn't there none is
+  pub turned-no_trace : (q : Loc) → is_in (view d.tree) q ≡ false → Turned view (turn_of (setting files) s (says (stmt.Ask (query.Trace q)))) m (Some (reply.Refused of.Statement (why.NoPlace q)))
+  unfolding answer_to
+  turned-no_trace q there = unanswered (query.Trace q) q (answer.Trace (trace z.state.now z.state.tree q.path)) refl refl there

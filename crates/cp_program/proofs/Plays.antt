@@ -1,0 +1,267 @@
+-- Bytes played one after another, and what was written for them.
+use Rattle.std.proofs.Common.{◌≡◌, ℕ, ◌+◌, ◌<◌, get_or, List, [], ◌∷◌, ◌++◌, take, drop, length, Bool, true, false, Option, Result, Ok, Err, OnOk, refl, sym, ap, ◌∙◌, subst, append_assoc, append-nil, arith}
+use Rattle.std.specs.Prelude.{◌||◌, ⊤}
+use Rattle.std.specs.List.{flat_map, list_any}
+use Rattle.std.specs.declared.option.Option.TheVariants.{None, Some}
+use Rattle.std.proofs.Math.Seq.{take-append-add, take-append_seam}
+use Rattle.std.proofs.lemmas.Grind.{flat_map-append}
+use Rattle.std.proofs.lemmas.List.Folds.{list_any-append}
+use Rattle.std.proofs.lemmas.List.{take-append-le, length-append, take_more, take-append-drop}
+use Rattle.std.specs.Io.KnownBytes.{Appends}
+use Rattle.cp_outside.specs.FileReads.{FileTable}
+use Rattle.cp_outside.specs.Sinks.{TakesPart}
+use Rattle.cp_outside.specs.KnownBytes.{Appends-none, Appends-then}
+use Rattle.cp_lang.specs.declared.cut.Cut.{Cut}
+use Rattle.cp_lang.specs.Cuts.{Scan, scan_byte, scanned, rest_of}
+use Rattle.cp_lang.specs.Pieces.{scan-append, cuts-append}
+use Rattle.cp_lang.specs.Held.{Held, held_of, byte_cuts, byte_held}
+use Rattle.cp_lang.specs.Bytewise.{byte_cuts-is, byte_held-is}
+use Rattle.cp_reply.specs.Lines.{lines}
+use Rattle.cp_reply.specs.declared.reply.Reply.{Reply}
+use Rattle.cp_session.specs.Session.{Session, turn, replies_to, session_after}
+use Rattle.cp_session.specs.Appended.{replies_to-append, session_after-append}
+use Rattle.cp_program.specs.Job.{Ended, told, setting, is_refusal}
+use Rattle.cp_program.specs.Play.{Seen, plays, after_play, closes, plays_all}
+use Rattle.cp_model.specs.Tree.{Tree}
+use Rattle.cp_program.specs.Databases.{Stands, IsSession, Turned}
+use Rattle.cp_program.specs.declared.session.Session.{Session as Kept}
+use Rattle.cp_program.specs.declared.database.Database.{Database}
+use Rattle.cp_program.specs.Turns.{Follows, FollowsOne, Written, Goes, Fed, Closed, cuts_play, after_cuts}
+use Rattle.cp_program.specs.declared.stop.Stop.{Stop}
+use Rattle.cp_program.specs.declared.stop.Stop.TheVariants.{Output, Full, File, Memory}
+
+-- which of three is true
+pub or-assoc : (a b c : Bool) → ((a || b) || c) ≡ (a || (b || c))
+or-assoc true b c = refl
+or-assoc false b c = refl
+
+-- false adds nothing
+pub or-false : (b : Bool) → b ≡ (b || false)
+or-false true = refl
+or-false false = refl
+
+-- ---- lines one after another
+
+-- what was written first, and then
+abbrev pub joined : Ended → Ended → Ended
+joined e f = record { out = e.out ++ f.out; refused = e.refused || f.refused }
+
+ended : List ℕ → Bool → Ended
+ended out refused = record { out = out; refused = refused }
+
+-- the lines of replies one after another
+pub told-append : (xs ys : List Reply) → told (xs ++ ys) ≡ joined (told xs) (told ys)
+unfolding ended
+told-append xs ys =
+    ap (λ o. ended o (list_any is_refusal (xs ++ ys))) (flat_map-append lines xs ys) ∙ ap (ended (flat_map lines xs ++ flat_map lines ys)) (list_any-append is_refusal xs ys)
+
+-- ---- parts of texts
+
+-- a part of the second text, behind the first
+pub part-then : (b m a : Option (List ℕ)) (xs ys : List ℕ) → Appends b m xs → TakesPart m a ys → TakesPart b a (xs ++ ys)
+part-then b m a xs ys h t =
+    (length xs + t.0, omega (arith, length-append xs ys, t.1), subst (Appends b a) (sym (take-append-add xs ys t.0)) (Appends-then b m a xs (take t.0 ys) h t.2))
+
+-- a part of a text is a part of a longer one
+pub part-more : (b a : Option (List ℕ)) (xs ys : List ℕ) → TakesPart b a xs → TakesPart b a (xs ++ ys)
+part-more b a xs ys t = (t.0, omega (arith, length-append xs ys, t.1), subst (Appends b a) (sym (take-append-le t.0 xs ys t.1)) t.2)
+
+-- nothing written behind a text
+pub nothing-more : (b m a : Option (List ℕ)) (xs : List ℕ) → Appends b m xs → Appends m a [] → Appends b a xs
+nothing-more b m a xs h k = subst (Appends b a) (append-nil xs) (Appends-then b m a xs [] h k)
+
+-- the bytes up to one, that one, and the rest
+pub split_at : (xs : List ℕ) (i : ℕ) → i < length xs → xs ≡ take i xs ++ get_or xs i 0 ∷ drop (i + 1) xs
+split_at xs i h =
+    sym (take-append-drop (i + 1) xs) ∙ ap (λ z. z ++ drop (i + 1) xs) (take_more xs i 0 h) ∙ append_assoc (take i xs) (get_or xs i 0 ∷ []) (drop (i + 1) xs)
+
+seen : Scan → Session → Seen
+seen c s = record { scan = c; session = s }
+
+-- what is kept behind a reply, where the database is this
+abbrev pub after_reply : {R : Type 0} → Kept R → Database R → Kept R
+after_reply k d = record { alloc = k.alloc; cutter = k.cutter; database = d; text = k.text; refused = k.refused }
+
+-- what is kept where the cutter is this
+abbrev pub after_cutter : {R : Type 0} → Kept R → Held → Kept R
+after_cutter k h = record { alloc = k.alloc; cutter = h; database = k.database; text = k.text; refused = k.refused }
+
+-- what the code keeps follows the scan
+pub follows-byte : {R : Type 0} (view : R → Tree) (k : Kept R) (s : Seen) (x : ℕ) (h : Held) → Follows view k s → h ≡ byte_held k.cutter x → h ≡ held_of (scan_byte s.scan x).scan
+follows-byte view k s x h f e = e ∙ ap (λ z. byte_held z x) f.0 ∙ byte_held-is s.scan x
+
+-- behind a byte too it stands where some session does
+pub one-byte : {R : Type 0} (view : R → Tree) (x : ℕ) (old mid : Kept R) → FollowsOne view old → mid.cutter ≡ byte_held old.cutter x → mid.database ≡ old.database → FollowsOne view mid
+one-byte view x old mid f h l = (
+  record { scan = (scan_byte f.0.scan x).scan; session = f.0.session },
+  (follows-byte view old f.0 x mid.cutter f.1 h, subst (λ z. Stands view z f.0.session) (sym l) f.1.1),
+)
+
+-- a scan that begins again stands where some session does
+pub one-begun : {R : Type 0} (view : R → Tree) (c : Scan) (old mid : Kept R) → FollowsOne view old → mid.cutter ≡ held_of c → mid.database ≡ old.database → FollowsOne view mid
+one-begun view c old mid f h l = (record { scan = c; session = f.0.session }, (h, subst (λ z. Stands view z f.0.session) (sym l) f.1.1))
+
+-- behind a reply that was written it stands where the database does
+pub one-told : {R : Type 0} (view : R → Tree) (old new : Kept R) (d : Database R) (result : Result ⊤ Stop) → FollowsOne view old → IsSession view d → OnOk result (new.cutter ≡ old.cutter) → OnOk result (new.database ≡ d)
+    → OnOk result (FollowsOne view new)
+one-told view old new d (Ok x) f i h l = (record { scan = f.0.scan; session = i.0 }, (h ∙ f.1.0, subst (λ z. Stands view z i.0) (sym l) i.1))
+one-told view old new d (Err e) f i h l = tt
+
+module _ (files : FileTable) where
+  -- the lines for cuts one after another
+  pub cuts-then : (s : Session) (xs ys : List Cut) → told (replies_to (setting files) s (xs ++ ys)) ≡ joined (told (replies_to (setting files) s xs)) (told (replies_to (setting files) (session_after (setting files) s xs) ys))
+  cuts-then s xs ys = ap told (replies_to-append (setting files) s xs ys) ∙ told-append (replies_to (setting files) s xs) (replies_to (setting files) (session_after (setting files) s xs) ys)
+
+  -- bytes are played in any pieces
+  pub plays-append : (s : Seen) (xs ys : List ℕ) → plays files s (xs ++ ys) ≡ joined (plays files s xs) (plays files (after_play files s xs) ys)
+  unfolding plays after_play
+  plays-append s xs ys = ap (λ c. told (replies_to (setting files) s.session c)) (cuts-append s.scan xs ys) ∙ cuts-then s.session (scanned s.scan xs).cuts (scanned (scanned s.scan xs).scan ys).cuts
+
+  -- what is seen behind them is the same
+  pub after-append : (s : Seen) (xs ys : List ℕ) → after_play files s (xs ++ ys) ≡ after_play files (after_play files s xs) ys
+  unfolding after_play seen
+  after-append s xs ys =
+      ap (λ c. seen c (session_after (setting files) s.session (scanned s.scan (xs ++ ys)).cuts)) (scan-append s.scan xs ys)
+      ∙ ap (seen (scanned (scanned s.scan xs).scan ys).scan)
+      (ap (session_after (setting files) s.session) (cuts-append s.scan xs ys) ∙ session_after-append (setting files) s.session (scanned s.scan xs).cuts (scanned (scanned s.scan xs).scan ys).cuts)
+
+  -- what all the rest writes is what the bytes write, and then the cut at their end
+  pub all-closes : (s : Seen) (xs : List ℕ) → plays_all files s xs ≡ joined (plays files s xs) (closes files (after_play files s xs))
+  unfolding plays plays_all after_play closes
+  all-closes s xs = cuts-then s.session (scanned s.scan xs).cuts (rest_of (scanned s.scan xs).scan)
+
+  joined-assoc : (d e f : Ended) → joined (joined d e) f ≡ joined d (joined e f)
+  unfolding ended
+  joined-assoc d e f = ap (λ o. ended o ((d.refused || e.refused) || f.refused)) (append_assoc d.out e.out f.out) ∙ ap (ended (d.out ++ (e.out ++ f.out))) (or-assoc d.refused e.refused f.refused)
+
+  -- the rest may begin with bytes that are played
+  pub all-append : (s : Seen) (xs ys : List ℕ) → plays_all files s (xs ++ ys) ≡ joined (plays files s xs) (plays_all files (after_play files s xs) ys)
+  all-append s xs ys =
+      all-closes s (xs ++ ys)
+      ∙ ap (λ e. joined e (closes files (after_play files s (xs ++ ys)))) (plays-append s xs ys)
+      ∙ ap (λ t. joined (joined (plays files s xs) (plays files (after_play files s xs) ys)) (closes files t)) (after-append s xs ys)
+      ∙ joined-assoc (plays files s xs) (plays files (after_play files s xs) ys) (closes files (after_play files (after_play files s xs) ys))
+      ∙ ap (joined (plays files s xs)) (sym (all-closes (after_play files s xs) ys))
+
+  -- no byte writes nothing
+  pub plays-none : (s : Seen) → (plays files s []).out ≡ []
+  unfolding plays scanned replies_to
+  plays-none s = refl
+
+  -- at the end of the input
+  pub all-none : (s : Seen) → plays_all files s [] ≡ closes files s
+  unfolding plays_all closes scanned
+  all-none s = refl
+
+  -- ---- cuts
+
+  -- a cut brought no reply
+  pub ran-silent : {R : Type 0} (view : R → Tree) (s : Seen) (cut : Cut) (old new : Kept R) (a : Option (List ℕ)) → Turned view (turn (setting files) s.session cut) new.database None → new.cutter ≡ held_of s.scan → new.refused ≡ old.refused
+      → Goes view (cuts_play files s (cut ∷ [])) (after_cuts files s (cut ∷ [])) old new a a (Ok tt)
+  unfolding replies_to session_after
+  ran-silent view s cut old new a t h f = rw (sym t.0) ((h, t.1), f ∙ or-false old.refused, Appends-none a)
+
+  -- the lines of a cut's reply were written
+  pub ran-said : {R : Type 0} (view : R → Tree) (s : Seen) (cut : Cut) (r : Reply) (old mid new : Kept R) (b a : Option (List ℕ)) (result : Result ⊤ Stop)
+      → Turned view (turn (setting files) s.session cut) mid.database (Some r) → mid.cutter ≡ held_of s.scan → mid.refused ≡ old.refused
+      → Written (lines r) b a result → OnOk result (new.cutter ≡ mid.cutter) → OnOk result (new.database ≡ mid.database) → OnOk result (new.refused ≡ (mid.refused || is_refusal r))
+      → Goes view (cuts_play files s (cut ∷ [])) (after_cuts files s (cut ∷ [])) old new b a result
+  unfolding replies_to session_after
+  ran-said view s cut r old mid new b a (Ok x) t h f w h' l' f' =
+      rw (sym t.0) (
+        (h' ∙ h, subst (λ z. Stands view z (turn (setting files) s.session cut).next) (sym l') t.1),
+        f' ∙ ap (λ v. v || is_refusal r) f ∙ ap (λ v. old.refused || v) (or-false (is_refusal r)),
+        subst (Appends b a) (sym (append-nil (lines r))) w,
+      )
+  ran-said view s cut r old mid new b a (Err Output) t h f w h' l' f' = rw (sym t.0) (subst (TakesPart b a) (sym (append-nil (lines r))) w)
+  ran-said view s cut r old mid new b a (Err Full) t h f w h' l' f' = rw (sym t.0) (subst (TakesPart b a) (sym (append-nil (lines r))) w)
+  ran-said view s cut r old mid new b a (Err File) t h f w h' l' f' = w
+  ran-said view s cut r old mid new b a (Err Memory) t h f w h' l' f' = w
+
+  -- no cut
+  pub ran-none : {R : Type 0} (view : R → Tree) (s : Seen) (k : Kept R) (a : Option (List ℕ)) → Follows view k s → Goes view (cuts_play files s []) (after_cuts files s []) k k a a (Ok tt)
+  unfolding replies_to session_after
+  ran-none view s k a h = (h, or-false k.refused, Appends-none a)
+
+  -- ---- bytes
+
+  -- one byte and the cut that ends with it
+  pub plays-one : (s : Seen) (x : ℕ) → (plays files s (x ∷ []) ≡ cuts_play files s (byte_cuts (held_of s.scan) x)) × (after_play files s (x ∷ []) ≡ after_cuts files (record { scan = (scan_byte s.scan x).scan; session = s.session }) (byte_cuts (held_of s.scan) x))
+  unfolding plays after_play scanned seen
+  plays-one s x = (
+    ap (λ c. told (replies_to (setting files) s.session c)) one,
+    ap (λ c. seen (scan_byte s.scan x).scan (session_after (setting files) s.session c)) one,
+  )
+    where
+      one : (scan_byte s.scan x).cuts ++ [] ≡ byte_cuts (held_of s.scan) x
+      one = append-nil (scan_byte s.scan x).cuts ∙ sym (byte_cuts-is s.scan x)
+
+  -- the cut that a byte ends was run
+  pub pushed : {R : Type 0} (view : R → Tree) (s : Seen) (x : ℕ) (cuts : List Cut) (old mid new : Kept R) (b a : Option (List ℕ)) (result : Result ⊤ Stop)
+      → Follows view old s → cuts ≡ byte_cuts old.cutter x → mid.cutter ≡ byte_held old.cutter x → mid.database ≡ old.database → mid.refused ≡ old.refused
+      → ((t : Seen) → Follows view mid t → Goes view (cuts_play files t cuts) (after_cuts files t cuts) mid new b a result)
+      → Goes view (plays files s (x ∷ [])) (after_play files s (x ∷ [])) old new b a result
+  pushed view s x cuts old mid new b a result f c h l r go = rw ((plays-one s x).0, (plays-one s x).1) (moved result (subst at (c ∙ ap (λ z. byte_cuts z x) f.0) (go t (follows-byte view old s x mid.cutter f h, subst (λ z. Stands view z s.session) (sym l) f.1))))
+    where
+      t : Seen
+      t = record { scan = (scan_byte s.scan x).scan; session = s.session }
+
+      at : List Cut → Type 0
+      at z = Goes view (cuts_play files t z) (after_cuts files t z) mid new b a result
+
+      moved : (v : Result ⊤ Stop) → Goes view (cuts_play files t (byte_cuts (held_of s.scan) x)) (after_cuts files t (byte_cuts (held_of s.scan) x)) mid new b a v
+          → Goes view (cuts_play files s (byte_cuts (held_of s.scan) x)) (after_cuts files t (byte_cuts (held_of s.scan) x)) old new b a v
+      moved (Ok y) g = (g.0, g.1 ∙ ap (λ z. z || (cuts_play files t (byte_cuts (held_of s.scan) x)).refused) r, g.2)
+      moved (Err Output) g = g
+      moved (Err Full) g = g
+      moved (Err File) g = g
+      moved (Err Memory) g = g
+
+  -- no byte is played at once
+  pub goes-none : {R : Type 0} (view : R → Tree) (s : Seen) (k : Kept R) (a : Option (List ℕ)) → Follows view k s → Goes view (plays files s []) (after_play files s []) k k a a (Ok tt)
+  unfolding plays after_play scanned replies_to session_after
+  goes-none view s k a h = (h, or-false k.refused, Appends-none a)
+
+  -- bytes, and then others
+  pub goes-then : {R : Type 0} (view : R → Tree) (s : Seen) (xs ys : List ℕ) (old mid new : Kept R) (b m a : Option (List ℕ)) → Goes view (plays files s xs) (after_play files s xs) old mid b m (Ok tt)
+      → Goes view (plays files (after_play files s xs) ys) (after_play files (after_play files s xs) ys) mid new m a (Ok tt) → Goes view (plays files s (xs ++ ys)) (after_play files s (xs ++ ys)) old new b a (Ok tt)
+  goes-then view s xs ys old mid new b m a g h =
+      rw (plays-append s xs ys, after-append s xs ys) (
+        h.0,
+        h.1 ∙ ap (λ z. z || (plays files (after_play files s xs) ys).refused) g.1 ∙ or-assoc old.refused (plays files s xs).refused (plays files (after_play files s xs) ys).refused,
+        Appends-then b m a (plays files s xs).out (plays files (after_play files s xs) ys).out g.2 h.2,
+      )
+
+  -- a byte at which the session stops, whatever would come next
+  pub fed-stopped : {R : Type 0} (view : R → Tree) (s : Seen) (xs : List ℕ) (x : ℕ) (ys : List ℕ) (old mid new : Kept R) (b m a : Option (List ℕ)) (e : Stop) → Goes view (plays files s xs) (after_play files s xs) old mid b m (Ok tt)
+      → Goes view (plays files (after_play files s xs) (x ∷ [])) (after_play files (after_play files s xs) (x ∷ [])) mid new m a (Err e) → Fed view files s (xs ++ x ∷ ys) old new b a (Err e)
+  fed-stopped view s xs x ys old mid new b m a Output g h =
+      rw (plays-append s xs (x ∷ ys), plays-append (after_play files s xs) (x ∷ []) ys)
+      (part-then b m a (plays files s xs).out _ g.2 (part-more m a (plays files (after_play files s xs) (x ∷ [])).out _ h))
+  fed-stopped view s xs x ys old mid new b m a Full g h =
+      rw (plays-append s xs (x ∷ ys), plays-append (after_play files s xs) (x ∷ []) ys)
+      (part-then b m a (plays files s xs).out _ g.2 (part-more m a (plays files (after_play files s xs) (x ∷ [])).out _ h))
+  fed-stopped view s xs x ys old mid new b m a File g h =
+      (length xs, omega (arith, length-append xs (x ∷ ys)), rw (take-append_seam xs (x ∷ ys)) (nothing-more b m a (plays files s xs).out g.2 h))
+  fed-stopped view s xs x ys old mid new b m a Memory g h =
+      (length xs, omega (arith, length-append xs (x ∷ ys)), rw (take-append_seam xs (x ∷ ys)) (nothing-more b m a (plays files s xs).out g.2 h))
+
+  -- ---- the end of the input
+
+  -- the cut at the end was run
+  pub closed : {R : Type 0} (view : R → Tree) (s : Seen) (cuts : List Cut) (old mid new : Kept R) (b a : Option (List ℕ)) (result : Result ⊤ Stop)
+      → Follows view old s → ((c : Scan) → old.cutter ≡ held_of c → cuts ≡ rest_of c) → mid.database ≡ old.database → mid.refused ≡ old.refused
+      → ((t : Seen) → Follows view mid t → Goes view (cuts_play files t cuts) (after_cuts files t cuts) mid new b a result) → (c : Scan) → mid.cutter ≡ held_of c → Closed files s old new b a result
+  unfolding closes
+  closed view s cuts old mid new b a result f rest l r go c h =
+      moved result (go (record { scan = c; session = s.session }) (h, subst (λ z. Stands view z s.session) (sym l) f.1))
+    where
+      same : told (replies_to (setting files) s.session cuts) ≡ told (replies_to (setting files) s.session (rest_of s.scan))
+      same = ap (λ z. told (replies_to (setting files) s.session z)) (rest s.scan f.0)
+
+      moved : (v : Result ⊤ Stop) → Goes view (cuts_play files (record { scan = c; session = s.session }) cuts) (after_cuts files (record { scan = c; session = s.session }) cuts) mid new b a v → Closed files s old new b a v
+      moved (Ok y) g = (g.1 ∙ ap (λ z. z || (told (replies_to (setting files) s.session cuts)).refused) r ∙ ap (λ (e : Ended). old.refused || e.refused) same, subst (λ (e : Ended). Appends b a e.out) same g.2)
+      moved (Err Output) g = subst (λ (e : Ended). TakesPart b a e.out) same g
+      moved (Err Full) g = subst (λ (e : Ended). TakesPart b a e.out) same g
+      moved (Err File) g = g
+      moved (Err Memory) g = g

@@ -1,0 +1,29 @@
+use Rattle.std.proofs.Common.{sym, ap, subst, ◌∙◌, refl, Err}
+use Rattle.std.specs.declared.option.Option.TheVariants.{Some}
+use Rattle.cp_session.specs.Session.{says, turn_of}
+use Rattle.cp_lang.specs.declared.stmt.Stmt.TheVariants as stmt
+use Rattle.cp_model.specs.declared.query.Query.TheVariants as query
+use Rattle.cp_program.specs.Job.{setting}
+use Rattle.cp_program.specs.Databases.{Turned}
+use Rattle.cp_program.proofs.Standing.{stands-same, if-ok, ok-not-err}
+use Rattle.cp_program.proofs.Answering.{committed-rows, turned-hist, turned-no_hist}
+use Rattle.cp_program.proofs.database.Database.answer_hist.Goals as goal
+
+pub returns-in-Ok-clause-turned : goal.returns-in-Ok-clause-turned
+returns-in-Ok-clause-turned g c = λ files s z.
+    let view = g.R.TreeRep.contents in
+    let d = c.args.self.now in
+    let m = record d { store = c.hist.new.store } in
+    let y = stands-same view d m s z refl refl c.hist.ensures.rows c.hist.ensures.last refl refl in
+    turned-hist view files d m s z y c.args.place c.in-Ok.tids (λ out. ok-not-err c.hist.result _ _ c.in-Ok.is (c.hist.ensures.place.1 out)) (c.in-Ok.ensures.answer z.state (committed-rows view files d m s z y))
+
+pub returns-in-Err-clause-turned : goal.returns-in-Err-clause-turned
+returns-in-Err-clause-turned g c =
+    let view = g.R.TreeRep.contents in
+    let d = c.args.self.now in
+    let m = record d { store = c.hist.new.store } in
+    if-ok _ _
+    (λ r p. λ files s z.
+    let y = stands-same view d m s z refl refl c.hist.ensures.rows c.hist.ensures.last refl refl in
+    subst (λ x. Turned view (turn_of (setting files) s (says (stmt.Ask (query.Hist c.args.place)))) m (Some x)) (sym p.1) (turned-no_hist view files d m s z y c.args.place (c.hist.ensures.place.0 (c.in-Err.is ∙ ap (λ e. Err e) p.0))))
+    c.unanswered.result c.unanswered.ensures

@@ -1,0 +1,40 @@
+use Rattle.std.proofs.Common.{sym, subst, ◌∙◌}
+use Rattle.std.specs.declared.option.Option.TheVariants.{Some}
+use Rattle.cp_lang.specs.declared.stmt.Load.{Load}
+use Rattle.cp_lang.specs.declared.stmt.Stmt.TheVariants as stmt
+use Rattle.cp_reply.specs.declared.reply.Of.TheVariants as of
+use Rattle.cp_reply.specs.declared.reply.Reply.TheVariants as reply
+use Rattle.cp_session.specs.Session.{says, turn_of}
+use Rattle.cp_program.specs.Job.{setting}
+use Rattle.cp_program.specs.Databases.{Turned}
+use Rattle.cp_program.proofs.Loading.{turned-not_loaded, turned-withheld, turned-loaded}
+use Rattle.cp_program.proofs.Whole.{given-tree, given-why}
+use Rattle.cp_program.proofs.database.Database.load.Goals as goal
+
+pub returns-in-Some-clause-turned : goal.returns-in-Some-clause-turned
+returns-in-Some-clause-turned g c = λ files told s z.
+    let view = g.R.TreeRep.contents in
+    rw (c.refused_load.ensures)
+    (subst (λ (x : Load). Turned view (turn_of (setting files) s (says (stmt.Load x))) c.args.self.now (Some (reply.Refused of.Load c.in-Some.why))) c.load.view_is
+    (turned-not_loaded view files c.args.self.now c.args.self.now s z _ c.in-Some.why (sym c.in-Some.is ∙ c.in_ok-why.ensures.why s z) z))
+
+pub returns-in_ok-keep_source-in-Ok-clause-turned : goal.returns-in_ok-keep_source-in-Ok-clause-turned
+returns-in_ok-keep_source-in-Ok-clause-turned g c = λ files told s z.
+    let view = g.R.TreeRep.contents in
+    subst (λ (x : Load). Turned view (turn_of (setting files) s (says (stmt.Load x))) c.keep_source.new.self (Some c.in_ok-keep_source-in-Ok.field-0)) c.load.view_is
+    (turned-loaded view files c.args.self.now c.keep_source.new.self s z _ (view c.in-Ok.tree) c.in_ok-keep_source-in-Ok.field-0 (sym c.in_default.is ∙ c.in_ok-why.ensures.why s z)
+    (given-tree view _ c.in-Ok.tree (rw (sym c.as_str.ensures.value, sym c.in-Ok.is) (c.in_ok-tree.ensures.gives files told)))
+    (c.in_ok-keep_source-in-Ok.ensures.loads s z))
+
+pub returns-in_ok-keep_source-in-Ok-clause-stands : goal.returns-in_ok-keep_source-in-Ok-clause-stands
+returns-in_ok-keep_source-in-Ok-clause-stands g c =
+    let s = c.requires.stands.0 in
+    let y = c.in_ok-keep_source-in-Ok.ensures.loads s c.requires.stands.1 in (_, y.1)
+
+pub returns-in-Err-clause-turned : goal.returns-in-Err-clause-turned
+returns-in-Err-clause-turned g c = λ files told s z.
+    let view = g.R.TreeRep.contents in
+    rw (c.refused_load-in-Err.ensures)
+    (subst (λ (x : Load). Turned view (turn_of (setting files) s (says (stmt.Load x))) c.args.self.now (Some (reply.Refused of.Load c.in-Err.why))) c.load.view_is
+    (turned-withheld view files c.args.self.now c.args.self.now s z _ c.in-Err.why (sym c.in_default.is ∙ c.in_ok-why.ensures.why s z)
+    (given-why view _ c.in-Err.why (rw (sym c.as_str.ensures.value, sym c.in-Err.is) (c.in_ok-tree.ensures.gives files told))) z))

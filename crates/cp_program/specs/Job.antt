@@ -1,0 +1,118 @@
+-- What a call replies: the session over its whole input.
+use Rattle.std.specs.Prelude.{ℕ, List, [], ◌∷◌, Bool, true, false, Result, Ok, Err, length, if◌then◌else◌}
+use Rattle.std.specs.List.{flat_map, list_any}
+use Rattle.cp_model.specs.Place.{target}
+use Rattle.cp_model.specs.Keyed as keyed
+use Rattle.cp_model.specs.Tree.{Tree}
+use Rattle.cp_model.specs.declared.kind.Kind.TheVariants as kind
+use Rattle.cp_model.specs.declared.row.Content.TheVariants.{Node}
+use Rattle.cp_model.specs.declared.query.Query.TheVariants as query
+use Rattle.cp_model.specs.declared.query.Form.TheVariants.{Json}
+use Rattle.cp_lang.specs.Cuts.{cuts_in, cuts_of}
+use Rattle.cp_lang.specs.Lexer.{tokens_of, first_offset}
+use Rattle.cp_lang.specs.Grammar.{bytes_reading}
+use Rattle.cp_lang.specs.declared.stmt.Stmt.{Stmt}
+use Rattle.cp_lang.specs.declared.stmt.Stmt.TheVariants as stmt
+use Rattle.cp_lang.specs.declared.stmt.Load.{Load}
+use Rattle.cp_lang.specs.declared.stmt.StmtFault.{StmtFault}
+use Rattle.cp_lang.specs.declared.stmt.StmtFault.TheVariants as fault
+use Rattle.cp_reply.specs.Lines.{lines}
+use Rattle.cp_reply.specs.declared.reply.Of.TheVariants as of
+use Rattle.cp_reply.specs.declared.reply.Why.{Why}
+use Rattle.cp_reply.specs.declared.reply.Why.TheVariants as why
+use Rattle.cp_reply.specs.declared.reply.Reply.{Reply}
+use Rattle.cp_reply.specs.declared.reply.Reply.TheVariants as reply
+use Rattle.cp_session.specs.Session.{Reading, says, unread, Setting, Fetched, gives, Session, fresh, replies_to}
+use Rattle.cp_outside.specs.FileReads.{FileTable}
+use Rattle.cp_program.specs.Words.{Start, alone, tree_in}
+use Rattle.cp_program.specs.Fetching.{fetch}
+
+-- ---- what a text says
+
+-- the statements that are run: operations, commit, abort, load, src, hist, trace and show
+abbrev pub is_run : Stmt → Bool
+is_run (stmt.Op op) = true
+is_run stmt.Commit = true
+is_run stmt.Abort = true
+is_run (stmt.Load l) = true
+is_run (stmt.Ask (query.Src q)) = true
+is_run (stmt.Ask (query.Hist q)) = true
+is_run (stmt.Ask (query.Mod q)) = false
+is_run (stmt.Ask (query.Trace q)) = true
+is_run (stmt.Ask (query.From q)) = false
+is_run (stmt.Ask (query.Records t)) = false
+is_run (stmt.Ask query.Stats) = false
+is_run (stmt.Show q) = true
+
+-- a statement that reads a file
+abbrev pub is_load : Stmt → Bool
+is_load (stmt.Op op) = false
+is_load stmt.Commit = false
+is_load stmt.Abort = false
+is_load (stmt.Load l) = true
+is_load (stmt.Ask q) = false
+is_load (stmt.Show q) = false
+
+-- a statement of another kind is refused at its first token
+abbrev pub if_run : List ℕ → Stmt → Reading
+if_run text s = if is_run s then says s else unread (why.Syntax (first_offset (length text) (tokens_of text)))
+
+-- a statement, or why the text is none
+abbrev pub read_as : List ℕ → Result Stmt StmtFault → Reading
+read_as text (Ok s) = if_run text s
+read_as text (Err (fault.Syntax at)) = unread (why.Syntax at)
+read_as text (Err (fault.Place at e)) = unread (why.Place at e)
+read_as text (Err fault.Memory) = unread (why.Syntax (length text))
+
+-- what a text says
+unfoldable pub reading : List ℕ → Reading
+reading text = read_as text (bytes_reading text)
+
+-- ---- sessions
+
+-- the whole language is read, and sources are loaded from these files
+abbrev pub setting : FileTable → Setting
+setting files = record { read = reading; fetch = fetch files; fits = λ stamp ops records. true; has_room = λ n t. true; curator = [] }
+
+-- a root alone
+abbrev pub empty_tree : Tree
+empty_tree = keyed.from_entries (([], Node) ∷ [])
+
+-- a naive store that starts from this tree
+abbrev pub begun_session : Tree → Session
+begun_session t = fresh kind.N t []
+
+-- the tree of a JSON file, as if it were loaded under the name T
+abbrev pub start_load : List ℕ → Load
+start_load file = record { name = target; form = Json; file = file }
+
+-- the tree that a session starts from, or why it starts from none
+abbrev pub start_given : FileTable → Start → Fetched
+start_given files alone = gives empty_tree
+start_given files (tree_in file) = fetch files (start_load file)
+
+-- the reply is a refusal
+abbrev pub is_refusal : Reply → Bool
+is_refusal (reply.Refused o w) = true
+is_refusal r = false
+
+-- what is written, and whether some line is a refusal
+pub record Ended : Type 0 where
+  pub out : List ℕ
+  pub refused : Bool
+
+-- the lines of the replies
+abbrev pub told : List Reply → Ended
+told rs = record { out = flat_map lines rs; refused = list_any is_refusal rs }
+
+-- the statements that end in these bytes, with these files and this start tree
+unfoldable pub played : FileTable → Tree → List ℕ → Ended
+played files t bytes = told (replies_to (setting files) (begun_session t) (cuts_in bytes))
+
+-- all statements of a whole input
+unfoldable pub job : FileTable → Tree → List ℕ → Ended
+job files t bytes = told (replies_to (setting files) (begun_session t) (cuts_of bytes))
+
+-- the line of a start tree that is refused
+abbrev pub refused_start : Why → List ℕ
+refused_start w = lines (reply.Refused of.Scratch w)

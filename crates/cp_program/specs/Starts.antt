@@ -1,0 +1,9 @@
+-- What the code made of the words.
+use Rattle.cp_program.specs.Words.{Start, alone, tree_in}
+use Rattle.cp_program.specs.declared.run.Start.{Start as Kept}
+use Rattle.cp_program.specs.declared.run.Start.TheVariants.{Alone, TreeIn}
+
+-- what a session starts from
+abbrev pub asked : Kept → Start
+asked Alone = alone
+asked (TreeIn file) = tree_in file.now

@@ -1,0 +1,99 @@
+ghost use Rattle.std.specs.Prelude.{◌≡◌, ◌<◌, ◌^◌, false, length, is_some, IfOk, OnOk};
+ghost use Rattle.std.specs.declared.option.Option.TheVariants.{Some};
+ghost use Rattle.cp_outside.specs.FileReads.{FileTable};
+ghost use Rattle.cp_model.specs.Place.{label_eq, target};
+ghost use Rattle.cp_model.specs.Tree.{source};
+ghost use Rattle.cp_engine.specs.Loaded.{sources_in};
+ghost use Rattle.cp_session.specs.Session.{Session, says, turn_of};
+ghost use Rattle.cp_program.specs.Fetched.{FitsUnder};
+ghost use Rattle.cp_program.specs.Job.{setting};
+ghost use Rattle.cp_program.specs.Databases.{Stands, IsSession, Turned, Loads, why_not_loaded};
+ghost use Rattle.cp_program.specs.Turns.{BlamesFiles, IsOwn};
+
+use crate::database::Database;
+use crate::database::refusal::refused_load;
+use crate::fetch::fetch;
+use crate::stop::Stop;
+use cp_lang::{Load, Stmt};
+use cp_outside::Files;
+use cp_path::Name;
+use cp_reply::{Reply, Why};
+use cp_tree::TreeRep;
+use std::alloc::{AllocError, Global};
+
+/// The most sources that are loaded.
+const SOURCES_MAX: usize = 32;
+
+impl<R: TreeRep> Database<R> {
+    /// Keeps a tree as a source under a new name.
+    fn keep_source(&mut self, name: Name, tree: R) -> Result<Reply, AllocError>
+        requires stands { IsSession R.contents self.old }
+        requires other { label_eq name target ≡ false }
+        requires fits { FitsUnder name (R.contents tree) }
+        requires new { is_some (source (sources_in R.contents self.old.sources) name) ≡ false }
+        requires few { length (sources_in R.contents self.old.sources) < 32 }
+        requires closed { self.old.transaction ≡ None }
+        ensures loads { IfOk result (λ r. (s : Session) → Stands R.contents self.old s → Loads R.contents s name (R.contents tree) self.new r) }
+        ensures runs { self.new.runs ≡ self.old.runs }
+    {
+        // Its text says that the name is one.
+        let _text = name.as_str();
+        let nodes = tree.count();
+        let loaded = name.clone()?;
+        self.sources.add(name, tree)?;
+        Ok(Reply::Loaded {
+            name: loaded,
+            nodes,
+        })
+    }
+
+    /// Why nothing is loaded under the name, whatever its file gives.
+    fn why_not_loaded(&self, name: &Name) -> Result<Option<Why>, AllocError>
+        requires stands { IsSession R.contents self.now }
+        ensures why { IfOk result (λ w. (s : Session) → (z : Stands R.contents self.now s) → w ≡ why_not_loaded z.state s.opened name.now) }
+        ensures open { IfOk result (λ w. w ≡ None → (self.now.transaction ≡ None) × (is_some (source (sources_in R.contents self.now.sources) name.now) ≡ false) × (length (sources_in R.contents self.now.sources) < 32)) }
+    {
+        if self.transaction.is_some() {
+            return Ok(Some(Why::TransactionOpen));
+        }
+        if self.sources.get(name).is_some() {
+            return Ok(Some(Why::SourceThere(name.clone()?)));
+        }
+        if self.sources.len() == SOURCES_MAX {
+            return Ok(Some(Why::TooManySources));
+        }
+        Ok(None)
+    }
+
+    /// Loads the tree of a file as a source. A load that is refused changes nothing. Costs the file, and what it gives.
+    pub(super) fn load<F: Files>(
+        &mut self,
+        alloc: Global,
+        load: Load,
+        files: &mut F,
+    ) -> Result<Reply, Stop>
+        requires stands { IsSession R.contents self.old }
+        requires other { label_eq load.name target ≡ false }
+        ensures turned { IfOk result (λ r. (t : FileTable) → F.found files.old ≡ Some t → (s : Session) → Stands R.contents self.old s
+            → Turned R.contents (turn_of (setting t) s (says (Stmt.Load load))) self.new (Some r)) }
+        ensures stands { OnOk result (IsSession R.contents self.new) }
+        ensures runs { self.new.runs ≡ self.old.runs }
+        ensures same { F.found files.new ≡ F.found files.old }
+        ensures blamed { BlamesFiles (F.faults files.old) (F.faults files.new) result }
+        ensures own { IsOwn result }
+    {
+        if let Some(why) = self.why_not_loaded(&load.name)? {
+            return Ok(refused_load(why));
+        }
+        match fetch::<R, F>(
+            alloc,
+            files,
+            &load.name,
+            &load.form,
+            load.file.items.as_str(),
+        )? {
+            Ok(tree) => Ok(self.keep_source(load.name, tree)?),
+            Err(why) => Ok(refused_load(why)),
+        }
+    }
+}
