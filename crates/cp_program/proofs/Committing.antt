@@ -4,7 +4,6 @@ use Rattle.std.proofs.Common.{sym, ap, subst, ◌∙◌, arith}
 use Rattle.std.proofs.lemmas.List.{length-map}
 use Rattle.std.specs.declared.option.Option.TheVariants.{None, Some}
 use Rattle.cp_model.specs.Tree.{Tree, Source}
-use Rattle.cp_model.specs.Step.{step, is_done}
 use Rattle.cp_model.specs.Past.{tree_of}
 use Rattle.cp_model.specs.History.{commit, State, CanCommit, CanFollow, then_entry, most_sources, each_alone, steps_of, after_step, after_commit, one_commit_more}
 use Rattle.cp_model.specs.Histories.{replay-snoc, legal-snoc}

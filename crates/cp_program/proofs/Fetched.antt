@@ -14,7 +14,7 @@ use Rattle.cp_csv.specs.declared.fault.CsvFault.{CsvFault}
 use Rattle.cp_csv.specs.declared.fault.CsvFault.TheVariants as csv
 use Rattle.cp_reply.specs.declared.reply.Why.{Why}
 use Rattle.cp_reply.specs.declared.reply.Why.TheVariants as why
-use Rattle.cp_session.specs.Session.{Fetched, gives, withholds}
+use Rattle.cp_session.specs.Session.{withholds}
 use Rattle.cp_program.specs.Fetching.{most_file, json_why, csv_why, json_given, csv_given, given, file_gives}
 use Rattle.cp_program.specs.Fetched.{Gives}
 

@@ -1,5 +1,5 @@
 -- Sources: what is loaded, and what isn't.
-use Rattle.std.specs.Prelude.{ℕ, ◌≡◌, ◌==◌, ◌+◌, ◌≤◌, ◌<◌, Bool, true, false, not, List, [], ◌∷◌, ◌++◌, length, is_some, refl, Result, Ok, Err, if◌then◌else◌}
+use Rattle.std.specs.Prelude.{ℕ, ◌≡◌, ◌==◌, ◌+◌, ◌≤◌, ◌<◌, true, false, not, List, [], ◌∷◌, ◌++◌, length, is_some, refl, if◌then◌else◌}
 use Rattle.std.proofs.Common.{sym, ap, subst, ◌∙◌, arith, length-append}
 use Rattle.std.specs.declared.option.Option.{Option}
 use Rattle.std.specs.declared.option.Option.TheVariants.{None, Some}
@@ -8,7 +8,7 @@ use Rattle.cp_path.specs.Text.{is_name}
 use Rattle.cp_model.specs.Place.{label_eq, target}
 use Rattle.cp_model.specs.Tree.{Tree, IsTree, Source, source}
 use Rattle.cp_model.specs.Past.{tree_of}
-use Rattle.cp_model.specs.History.{State, load, loaded, then_entry, most_sources, IsSource, CanLoad, CanFollow}
+use Rattle.cp_model.specs.History.{State, load, loaded, then_entry, most_sources, CanLoad, CanFollow}
 use Rattle.cp_model.specs.Histories.{replay-snoc, legal-snoc}
 use Rattle.cp_lang.specs.declared.stmt.Load.{Load}
 use Rattle.cp_lang.specs.declared.stmt.Stmt.TheVariants as stmt
@@ -17,7 +17,7 @@ use Rattle.cp_reply.specs.declared.reply.Why.{Why}
 use Rattle.cp_reply.specs.declared.reply.Why.TheVariants as why
 use Rattle.cp_reply.specs.declared.reply.Reply.{Reply}
 use Rattle.cp_reply.specs.declared.reply.Reply.TheVariants as reply
-use Rattle.cp_session.specs.Session.{Session, Opened, closed, going, failed, with_entry, says, turn_of, Setting, Turn, loading, fetched, refused_load, is_closed, Fetched, gives, withholds}
+use Rattle.cp_session.specs.Session.{Session, Opened, closed, going, failed, with_entry, says, turn_of, Setting, Turn, loading, fetched, refused_load, is_closed, gives, withholds}
 use Rattle.cp_engine.specs.Loaded.{sources_in}
 use Rattle.cp_engine.specs.declared.txn.Txn.{Txn}
 use Rattle.cp_program.specs.Fetching.{fetch}

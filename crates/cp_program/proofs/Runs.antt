@@ -1,5 +1,5 @@
 -- A run is its first turns, and then the rest.
-use Rattle.std.proofs.Common.{◌≡◌, ℕ, ◌+◌, ◌≤◌, ◌<◌, List, [], ◌++◌, take, length, Bool, false, Option, Err, inl, inr, refl, sym, ap, ◌∙◌, subst, append_assoc, append-nil, arith}
+use Rattle.std.proofs.Common.{◌≡◌, ℕ, ◌+◌, ◌≤◌, ◌<◌, List, [], ◌++◌, take, length, Bool, Option, Err, inl, inr, refl, sym, ap, ◌∙◌, subst, append_assoc, append-nil, arith}
 use Rattle.std.specs.Prelude.{◌||◌}
 use Rattle.std.proofs.Math.Seq.{take-append-add}
 use Rattle.std.proofs.lemmas.List.{length-append}
@@ -11,8 +11,8 @@ use Rattle.cp_outside.specs.Sinks.{TakesPart}
 use Rattle.cp_outside.specs.KnownBytes.{Appends-then, Consumes-then, Consumes-none, Consumes-kept}
 use Rattle.cp_program.specs.Words.{most_input, most_piece, input_line, file_line, memory_line, too_long_line}
 use Rattle.cp_program.specs.Job.{Ended}
-use Rattle.cp_program.specs.Play.{Seen, start, plays, after_play, closes, plays_all}
-use Rattle.cp_program.specs.Story.{WritesLast, WroteRefusal, Took, Wrote, IsCalm}
+use Rattle.cp_program.specs.Play.{Seen, plays, after_play, closes, plays_all}
+use Rattle.cp_program.specs.Story.{WritesLast, WroteRefusal, Took, IsCalm}
 use Rattle.cp_model.specs.Tree.{Tree}
 use Rattle.cp_program.specs.declared.session.Session.{Session as Kept}
 use Rattle.cp_program.specs.Turns.{Follows, Written, Fed, Closed, marked, WroteOn, RanFrom, Turned, WroteLast, Closes, IsClosing, status_of}

@@ -1,20 +1,19 @@
 -- A run of the program is the session's job, and where the input is told it is that of all the input.
-use Rattle.std.proofs.Common.{◌≡◌, ℕ, ◌+◌, ◌≤◌, List, [], ◌++◌, length, Bool, false, refl, inl, inr, sym, ap, subst, ◌∙◌, append-nil, arith}
+use Rattle.std.proofs.Common.{◌≡◌, ℕ, ◌+◌, ◌≤◌, List, [], ◌++◌, length, false, refl, inr, sym, ap, subst, ◌∙◌, append-nil, arith}
 use Rattle.std.proofs.lemmas.List.{length-append}
-use Rattle.std.specs.Io.KnownBytes.{Consumes, Appends}
+use Rattle.std.specs.Io.KnownBytes.{Consumes}
 use Rattle.std.specs.declared.option.Option.{Option}
 use Rattle.std.specs.declared.option.Option.TheVariants.{None, Some}
-use Rattle.cp_outside.specs.Causes.{Rose}
 use Rattle.cp_outside.specs.FileReads.{FileTable}
 use Rattle.cp_outside.specs.KnownBytes.{Consumes-none}
 use Rattle.cp_model.specs.Tree.{Tree}
 use Rattle.cp_session.specs.Session.{Fetched, gives, withholds}
 use Rattle.cp_reply.specs.declared.reply.Why.{Why}
-use Rattle.std.specs.Prelude.{Result, Ok, Err, ⊤}
+use Rattle.std.specs.Prelude.{Ok, Err, ⊤}
 use Rattle.cp_program.specs.Words.{Start, usage_text, memory_line, file_line}
 use Rattle.cp_program.specs.Job.{played, job, start_given, refused_start}
 use Rattle.cp_program.specs.Fetched.{Gives}
-use Rattle.cp_program.specs.Play.{Seen, start, plays, plays_all}
+use Rattle.cp_program.specs.Play.{start, plays, plays_all}
 use Rattle.cp_program.specs.Story.{WritesLast, Took, WroteRefusal, WroteFrom, RanAs, Whole, IsShort, IsAnswer, IsFaultless, Counts, counts, HasCauses, Called}
 use Rattle.cp_program.specs.Turns.{Follows, WroteOn, RanFrom, WroteLast, IsOwn, IsClosing, status_of}
 use Rattle.cp_program.specs.Ends.{code_of}
@@ -23,7 +22,7 @@ use Rattle.cp_program.specs.declared.end.End.{End}
 use Rattle.cp_program.specs.declared.end.End.TheVariants as how
 use Rattle.cp_program.specs.declared.stop.Stop.{Stop}
 use Rattle.cp_program.specs.declared.stop.Stop.TheVariants.{Output, Full, File, Memory}
-use Rattle.cp_program.proofs.Runs.{took-closed, last-first}
+use Rattle.cp_program.proofs.Runs.{took-closed}
 use Rattle.cp_program.proofs.Plays.{plays-none}
 
 -- what a session writes from its start is what the whole session does

@@ -1,9 +1,7 @@
-use Rattle.std.proofs.Common.{◌≡◌, ◌∙◌, sym, ap, subst, refl}
+use Rattle.std.proofs.Common.{◌∙◌, sym, ap}
 use Rattle.std.specs.Option.{option_map}
-use Rattle.std.specs.declared.option.Option.{Option}
-use Rattle.std.specs.declared.option.Option.TheVariants.{None, Some}
 use Rattle.cp_program.specs.Starts.{asked}
-use Rattle.cp_program.proofs.Whole.{called, called-usage, usage_number}
+use Rattle.cp_program.proofs.Whole.{called, called-usage}
 use Rattle.cp_program.proofs.run.run_cpdb.Goals as goal
 
 pub returns-clause-call : goal.returns-clause-call

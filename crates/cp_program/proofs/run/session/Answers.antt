@@ -1,12 +1,9 @@
-use Rattle.std.proofs.Common.{◌≡◌, subst, sym, Ok, Err}
-use Rattle.std.specs.declared.option.Option.TheVariants.{Some}
-use Rattle.cp_outside.specs.FileReads.{FileTable}
-use Rattle.cp_session.specs.Session.{gives, withholds}
+use Rattle.std.proofs.Common.{subst}
+use Rattle.cp_session.specs.Session.{gives}
 use Rattle.cp_program.specs.Fetched.{Gives}
 use Rattle.cp_program.specs.Job.{start_given}
 use Rattle.cp_program.specs.Starts.{asked}
 use Rattle.cp_program.specs.Story.{RanAs}
-use Rattle.cp_program.specs.declared.end.End.{End}
 use Rattle.cp_program.proofs.Whole.{ran-early, ran-refused, ran-given, given-tree, given-why}
 use Rattle.cp_program.proofs.run.session.Goals as goal
 
