@@ -1,5 +1,5 @@
 -- A row put into a tree: its places are new, and what they add is counted.
-use Rattle.std.proofs.Common.{◌≡◌, ℕ, ◌+◌, ◌<◌, ◌≤◌, Bool, true, false, cond, ◌&&◌, ◌||◌, List, [], ◌∷◌, ◌++◌, length, Option, Some, None, if◌then◌else◌, is_some, refl, sym, ap, subst, ◌∙◌, arith, nat_lt, length-append, ◌==◌, not, Result, Err, ◌⊎◌, inl, inr}
+use Rattle.std.proofs.Common.{◌≡◌, ℕ, ◌+◌, ◌<◌, ◌≤◌, Bool, true, false, cond, ◌&&◌, ◌||◌, List, [], ◌∷◌, length, Option, Some, None, if◌then◌else◌, is_some, refl, sym, ap, subst, ◌∙◌, arith, nat_lt, length-append, ◌==◌, not, Result, Err, ◌⊎◌, inl, inr}
 use Rattle.std.proofs.lemmas.Bool.Decides.{nat_tests}
 use Rattle.std.proofs.lemmas.List.Sums.{sum_by-append}
 use Rattle.std.specs.List.{list_any}
@@ -7,18 +7,15 @@ use Rattle.cp_path.specs.Text.{text_eq}
 use Rattle.cp_path.specs.declared.value.Value.TheVariants.{Text}
 use Rattle.cp_model.specs.declared.row.Content.{Content}
 use Rattle.cp_model.specs.declared.row.Content.TheVariants.{Node, Leaf}
-use Rattle.cp_model.specs.Place.{Label, Path, label_eq, path_eq, path_eq_equiv, path_eq-same, child, strip, over_limit, at_target}
+use Rattle.cp_model.specs.Place.{Label, Path, label_eq, path_eq, path_eq_equiv, path_eq-same, child, over_limit}
 use Rattle.cp_model.specs.Keyed as keyed
 use Rattle.cp_model.specs.Keyed.{look}
-use Rattle.cp_model.specs.Closed.{Closed}
 use Rattle.cp_model.specs.Subtrees.{is_there, replaced}
 use Rattle.cp_model.specs.Tree.{Tree, IsTree, IsRooted, weight, text_bytes, most_nodes, most_weight, most_text}
-use Rattle.cp_model.specs.Strips.{strip_is, append-nil}
-use Rattle.cp_model.specs.Lookups.{find-below, get-replaced, placed, rest_is, path_eq-append, path_eq-sym}
-use Rattle.cp_model.specs.Sums.{below-none, len_insert_new, weight_insert_new, last_bytes_child}
-use Rattle.cp_model.specs.Rooted.{AreRows, under-child}
+use Rattle.cp_model.specs.Sums.{len_insert_new, weight_insert_new}
 use Rattle.cp_tree.specs.Rows.{alone, path_size}
-use Rattle.cp_tree.specs.Fits.{tree-fits, within-limit}
+use Rattle.cp_tree.specs.Fits.{within-limit}
+use Rattle.cp_tree.specs.Leaves.{nothing-below, leaf-insert, leaf-fits}
 use Rattle.std.specs.List.{list_all}
 use Rattle.std.specs.Str.{is_utf8}
 use Rattle.csv.specs.Reading.{records, default_config, strip_bom}
@@ -37,47 +34,11 @@ pub none_is : {X : Type 0} (o : Option X) → is_some o ≡ false → o ≡ None
 none_is None h = refl
 none_is (Some x) h = absurd (cc)
 
-closed : (t : Tree) → IsRooted t → Closed (keyed.get t)
-closed t h = record { root = h.root; parents = λ r a i. ap is_some (h.parents r a i) }
-
--- below a place that isn't there is nothing
-pub nothing_below : (t : Tree) (p z : Path) → IsRooted t → keyed.get t p ≡ None → keyed.get t (p ++ z) ≡ None
-nothing_below t p z h n = sym (find-below p z t) ∙ ap (look z) (below-none t p (closed t h) n)
-
--- a leaf at a new place is one more entry
-pub leaf_is : (t : Tree) (p : Path) (c : Content) → IsRooted t → keyed.get t p ≡ None → replaced p (alone c) t ≡ keyed.insert t p c
-leaf_is t p c h n = keyed.same_map (replaced p (alone c) t) (keyed.insert t p c) (λ r.
-    get-replaced p (alone c) t r ∙ cases r (strip p r) refl ∙ ap (λ b. cond b (Some c) (keyed.get t r)) (sym (same_as r)) ∙ sym (keyed.get-insert t p c r))
-  where
-    same_as : (r : Path) → path_eq r p ≡ rest_is (strip p r) []
-    same_as r = path_eq-sym r p ∙ ap (λ q. path_eq q r) (sym (append-nil p)) ∙ path_eq-append p [] r
-
-    cases : (r : Path) (o : Option Path) → strip p r ≡ o → placed o (λ s. look s (alone c)) (keyed.get t r) ≡ cond (rest_is o []) (Some c) (keyed.get t r)
-    cases r None e = refl
-    cases r (Some z) e =
-        ap (λ o. cond (path_eq z []) (Some c) o) (sym (ap (keyed.get t) (strip_is p r z e) ∙ nothing_below t p z h n))
-        ∙ ap (λ b. cond b (Some c) (keyed.get t r)) (path_eq-sym z [])
-
-rows_alone : (c : Content) → text_bytes c ≤ most_text → AreRows (alone c)
-rows_alone c x = record { root = refl; parents = parents; texts = texts }
-  where
-    parents : (r : Path) (a : Label) → is_some (look (r ++ a ∷ []) (alone c)) ≡ true → look r (alone c) ≡ Some Node
-    parents [] a i = absurd (cc)
-    parents (b ∷ r) a i = absurd (cc)
-
-    texts : (r : Path) (d : Content) → look r (alone c) ≡ Some d → text_bytes d ≤ most_text
-    texts [] d e = (let same : c ≡ d = cc in subst (λ z. text_bytes z ≤ most_text) same x)
-    texts (b ∷ r) d e = absurd (cc)
-
 -- a leaf below the root, or below a child of it, leaves a tree where there is room
 pub leaf_fits : (t : Tree) (p : Path) (a : Label) (c : Content) → IsTree t → keyed.get t p ≡ Some Node → length p ≤ 1 → path_size p ≤ 256 → length a ≤ 255 → text_bytes c ≤ most_text →
     keyed.len t + 1 ≤ most_nodes → weight t + 16 + length a + text_bytes c ≤ most_weight → IsTree (replaced (child p a) (alone c) t)
 leaf_fits t p a c h n deep large s x l w =
-    tree-fits t (child p a) (alone c) h (rows_alone c x) tt (under-child t p a n) (omega (arith, l)) (omega (arith, w, last_bytes_child p a)) near
-  where
-    near : (r : Path) → is_some (look r (alone c)) ≡ true → over_limit (at_target (child p a ++ r)) ≡ false
-    near [] i = ap (λ q. over_limit (at_target q)) (append-nil (child p a)) ∙ within-limit (child p a) (omega (arith, deep, length-append p (a ∷ []))) (omega (arith, large, s, sum_by-append (λ (a : Label). length a + 1) p (a ∷ [])))
-    near (b ∷ r) i = absurd (cc)
+    leaf-fits t p a c h n (within-limit (child p a) (omega (arith, deep, length-append p (a ∷ []))) (omega (arith, large, s, sum_by-append (λ (a : Label). length a + 1) p (a ∷ [])))) x l w
 
 -- ---- the fields
 
@@ -138,7 +99,7 @@ pub next_put : (t1 t : Tree) (row h : Label) (f : List ℕ) (hs : List Label) �
 next_put t1 t row h f hs tree bare e =
     let c : Content = Leaf (Text f) in
     let none = next_free t row h hs bare c in
-    let same : t1 ≡ keyed.insert t (row ∷ h ∷ []) c = e ∙ leaf_is t (row ∷ h ∷ []) c tree.rooted none in
+    let same : t1 ≡ keyed.insert t (row ∷ h ∷ []) c = e ∙ leaf-insert t (row ∷ h ∷ []) c tree.rooted none in
     record {
       same = same;
       bare = subst (λ z. IsBare z row hs) (sym same) (next_bare t row h hs bare c);
@@ -153,7 +114,7 @@ new_bare t row hs h n apart = record {
   column = 1;
   apart = apart;
   free = λ g _.
-      ap is_some (keyed.get-insert t (row ∷ []) Node (row ∷ g ∷ []) ∙ ap (λ b. cond b (Some Node) (keyed.get t (row ∷ g ∷ []))) (and_no (text_eq row row) false refl) ∙ nothing_below t (row ∷ []) (g ∷ []) h n);
+      ap is_some (keyed.get-insert t (row ∷ []) Node (row ∷ g ∷ []) ∙ ap (λ b. cond b (Some Node) (keyed.get t (row ∷ g ∷ []))) (and_no (text_eq row row) false refl) ∙ nothing-below t (row ∷ []) (g ∷ []) h n);
   node = keyed.get-insert t (row ∷ []) Node (row ∷ []) ∙ ap (λ b. cond b (Some Node) (keyed.get t (row ∷ []))) (path_eq_equiv.refl (row ∷ []));
 }
 

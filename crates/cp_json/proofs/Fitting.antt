@@ -1,5 +1,5 @@
 -- A value that nothing refuses can be made into a tree, which is the map of its places.
-use Rattle.std.proofs.Common.{◌≡◌, ◌≤◌, ◌+◌, ℕ, Bool, true, false, cond, ◌||◌, List, [], ◌∷◌, length, sum_by, nat_lt, is_some, Result, Ok, Err, refl, sym, ap, ◌∙◌, arith, subst}
+use Rattle.std.proofs.Common.{◌≡◌, ◌≤◌, ℕ, Bool, true, false, cond, ◌||◌, List, [], ◌∷◌, length, sum_by, nat_lt, is_some, Result, Ok, Err, refl, sym, ap, ◌∙◌, arith, subst}
 use Rattle.std.proofs.lemmas.List.Sums.{sum_by-cons}
 use Rattle.std.specs.List.{list_all, filter_map}
 use Rattle.std.specs.Option.{option_map}
@@ -7,14 +7,14 @@ use Rattle.std.specs.declared.option.Option.{Option}
 use Rattle.std.specs.declared.option.Option.TheVariants.{None, Some}
 use Rattle.serde_json.specs.Data.{Data}
 use Rattle.cp_model.specs.declared.row.Content.{Content}
-use Rattle.cp_model.specs.Place.{Label, Path, child, path_eq, path_eq-same, or_else, at_target, over_limit, size}
+use Rattle.cp_model.specs.Place.{Path, path_eq, path_eq-same, or_else, over_limit, size}
 use Rattle.cp_model.specs.Keyed as keyed
 use Rattle.cp_model.specs.Keyed.{look, Keyed}
 use Rattle.cp_model.specs.Subtrees.{is_there}
 use Rattle.cp_model.specs.Lookups.{find-from_entries}
-use Rattle.cp_model.specs.Tree.{Tree, IsTree, weight, weight_of, text_bytes, most_text, most_nodes, most_weight}
-use Rattle.cp_tree.specs.Rows.{alone, single}
-use Rattle.cp_tree.specs.Built.{entries-single}
+use Rattle.cp_model.specs.Tree.{Tree, IsTree, most_text, most_nodes, most_weight}
+use Rattle.cp_tree.specs.Rows.{single}
+use Rattle.cp_tree.specs.Leaves.{single-get, single-len, single-weight, single-tree}
 use Rattle.cp_tree.specs.Fits.{within-limit}
 use Rattle.cp_json.specs.declared.fault.JsonFault.{JsonFault}
 use Rattle.cp_json.specs.declared.fault.JsonFault.TheVariants.{NotJson, LabelTooLong, TooDeep, PathTooLong, TextTooLong, TooMany, TooBig, NotWhole, Memory}
@@ -27,49 +27,6 @@ use Rattle.cp_json.specs.Surveys.{survey_of, passed}
 use Rattle.cp_json.proofs.Surveying.{passed_is, survey_whole}
 use Rattle.cp_json.proofs.Looking.{or_parts, at_most, and_parts, AreLow, near_all, all_held}
 use Rattle.cp_json.proofs.Growing.{Entry, IsListing, inserted, listing_below, AllSmall, AllPut, leaves, all_put, grown_below, can_below, get_inserted}
-
--- ---- a root alone
-
-len_entries : (t : Tree) → keyed.len t ≡ length (keyed.entries t)
-unfolding keyed.len keyed.entries
-len_entries t = refl
-
-weight_entries : (t : Tree) → weight t ≡ sum_by weight_of (keyed.entries t)
-unfolding weight
-weight_entries t = refl
-
-module _ (v : Content) where
-  root_at : (r : Path) → keyed.get (single v) r ≡ look r (alone v)
-  root_at r = find-from_entries (alone v) r
-
-  no_child : (p : Path) (a : Label) → is_some (look (child p a) (alone v)) ≡ false
-  no_child [] a = refl
-  no_child (b ∷ p) a = refl
-
-  root_len : keyed.len (single v) ≡ 1
-  root_len = len_entries (single v) ∙ ap length (entries-single v)
-
-  root_weight : weight (single v) ≡ 16 + text_bytes v
-  root_weight = weight_entries (single v) ∙ ap (sum_by weight_of) (entries-single v) ∙ omega (arith, sum_by-cons weight_of ([], v) [])
-
-  root_tree : text_bytes v ≤ most_text → IsTree (single v)
-  root_tree h = record {
-    rooted = record {
-      root = ap is_some (root_at []);
-      parents = λ p a i. absurd (let no : is_there (single v) (child p a) ≡ false = ap is_some (root_at (child p a)) ∙ no_child p a in cc);
-    };
-    within = record { nodes = omega (arith, root_len); weighs = omega (arith, root_weight, h) };
-    places = λ p i. near_root p (sym (ap is_some (root_at p)) ∙ i);
-    texts = λ p c e. short p c (sym (root_at p) ∙ e);
-  }
-    where
-      near_root : (p : Path) → is_some (look p (alone v)) ≡ true → over_limit (at_target p) ≡ false
-      near_root [] i = refl
-      near_root (b ∷ p) i = absurd (cc)
-
-      short : (p : Path) (c : Content) → look p (alone v) ≡ Some c → text_bytes c ≤ most_text
-      short [] c e = let same : v ≡ c = cc in subst (λ x. text_bytes x ≤ most_text) same h
-      short (b ∷ p) c e = absurd (cc)
 
 -- ---- where nothing is refused
 
@@ -152,16 +109,16 @@ module _ (name : List ℕ) (d : Data) (n : 1 ≤ length name) (o : IsOrdered d) 
   all = small name (places d) n x.low.few x.near x.texts (all_held (places d) w)
 
   start : IsTree (single v)
-  start = root_tree v all.0.text
+  start = single-tree v all.0.text
 
   listed : IsListing (single v) (places_below [] d)
-  listed = listing_below (single v) [] d o (omega (arith, x.nodes)) (root_at v []) (λ a s. root_at v (a ∷ s))
+  listed = listing_below (single v) [] d o (omega (arith, x.nodes)) (single-get v []) (λ a s. single-get v (a ∷ s))
 
   put : AllPut (single v) (places_below [] d) × (leaves (single v) (places_below [] d) ≡ inserted (single v) (places_below [] d))
   put =
       all_put (single v) (places_below [] d) start listed all.1
-      (omega (arith, x.nodes, root_len v))
-      (omega (arith, x.weight, root_weight v, sum_by-cons weighs ([], content_of d) (places_below [] d), ap bytes_of all.0.holds))
+      (omega (arith, x.nodes, single-len v))
+      (omega (arith, x.weight, single-weight v, sum_by-cons weighs ([], content_of d) (places_below [] d), ap bytes_of all.0.holds))
 
   -- the tree can be grown
   pub fit : IsFit d
@@ -177,7 +134,7 @@ module _ (name : List ℕ) (d : Data) (n : 1 ≤ length name) (o : IsOrdered d) 
   grown_is =
       grown_below (single v) [] d ∙ put.1 ∙ keyed.same_map (inserted (single v) (places_below [] d)) (keyed.from_entries (filter_map held (places d))) (λ r.
       get_inserted (single v) (places_below [] d) listed (and_parts _ _ (all_held (places d) w)).1 r
-      ∙ ap (λ z. or_else z (look r (filter_map held (places_below [] d)))) (root_at v r)
+      ∙ ap (λ z. or_else z (look r (filter_map held (places_below [] d)))) (single-get v r)
       ∙ first (path_eq r []) r
       ∙ ap (λ c. look r (filter_map held (([], c) ∷ places_below [] d))) (sym all.0.holds)
       ∙ sym (find-from_entries (filter_map held (places d)) r))

@@ -17,13 +17,10 @@ use Rattle.cp_model.specs.Place.{Label, Path, child, label_eq, path_eq, path_eq-
 use Rattle.cp_model.specs.Keyed as keyed
 use Rattle.cp_model.specs.Keyed.{look, Keyed}
 use Rattle.cp_model.specs.Strips.{strip_is, strip-append, strip-itself, append-nil, snoc-same}
-use Rattle.cp_model.specs.Lookups.{path_eq-append, path_eq-sym, rest_is, or_none, find-below, get-replaced, placed}
-use Rattle.cp_model.specs.Tree.{Tree, IsTree, IsRooted, weight, weight_of, text_bytes, last_bytes, most_text, most_nodes, most_weight}
-use Rattle.cp_model.specs.Sums.{below-none, len_insert_new, weight_insert_new}
-use Rattle.cp_model.specs.Rooted.{AreRows, IsUnderNode, under-child}
-use Rattle.cp_model.specs.Kept.{closed-tree}
-use Rattle.cp_tree.specs.Rows.{alone}
-use Rattle.cp_tree.specs.Fits.{tree-fits}
+use Rattle.cp_model.specs.Lookups.{path_eq-append, path_eq-sym, rest_is, or_none}
+use Rattle.cp_model.specs.Tree.{Tree, IsTree, weight, weight_of, text_bytes, last_bytes, most_text, most_nodes, most_weight}
+use Rattle.cp_model.specs.Sums.{last_bytes_child, len_insert_new, weight_insert_new}
+use Rattle.cp_tree.specs.Leaves.{leaf-insert, leaf-fits}
 use Rattle.cp_json.specs.Places.{content_of, places_below, item_places, member_places, bytes_of, weighs}
 use Rattle.cp_json.specs.JsonTrees.{held}
 use Rattle.cp_json.specs.Walks.{or_node, with_leaf, grown, items_grown, members_grown, CanPut, CanGrow, ItemsGrow, MembersGrow, AllAbove, IsOrdered, ItemsOrdered, MembersOrdered}
@@ -216,46 +213,10 @@ abbrev pub leaves : Tree → List Entry → Tree
 leaves t [] = t
 leaves t (e ∷ es) = leaves (with_leaf t e.0 e.1) es
 
-leaf_is_insert : (t : Tree) (p : Path) (c : Option Content) → IsRooted t → keyed.get t p ≡ None → with_leaf t p c ≡ keyed.insert t p (or_node c)
-leaf_is_insert t p c h new =
-    keyed.same_map (with_leaf t p c) (keyed.insert t p v) (λ r. get-replaced p (alone v) t r ∙ by r (strip p r) refl ∙ sym (keyed.get-insert t p v r))
-  where
-    v : Content
-    v = or_node c
-
-    none : (s : Path) → keyed.get t (p ++ s) ≡ None
-    none s = sym (find-below p s t) ∙ ap (look s) (below-none t p (closed-tree t h) new)
-
-    at : (r z : Path) → r ≡ p ++ z → look z (alone v) ≡ cond (path_eq r p) (Some v) (keyed.get t r)
-    at r [] e = sym (ap (λ b. cond b (Some v) (keyed.get t r)) (ap (λ q. path_eq q p) (e ∙ append-nil p) ∙ path_eq_equiv.refl p))
-    at r (b ∷ z) e = sym (ap (λ b. cond b (Some v) (keyed.get t r)) (ap (λ q. path_eq q p) e ∙ longer p b z) ∙ ap (keyed.get t) e ∙ none (b ∷ z))
-
-    by : (r : Path) (o : Option Path) → strip p r ≡ o → placed o (λ s. look s (alone v)) (keyed.get t r) ≡ cond (path_eq r p) (Some v) (keyed.get t r)
-    by r None e = sym (ap (λ b. cond b (Some v) (keyed.get t r)) (path_no p r e))
-    by r (Some z) e = at r z (strip_is p r z e)
-
-leaf_rows : (v : Content) → text_bytes v ≤ most_text → AreRows (alone v)
-leaf_rows v h = record { root = refl; parents = parents; texts = texts }
-  where
-    parents : (r : Path) (a : Label) → is_some (look (r ++ a ∷ []) (alone v)) ≡ true → look r (alone v) ≡ Some Node
-    parents [] a e = absurd (cc)
-    parents (b ∷ r) a e = absurd (cc)
-
-    texts : (r : Path) (c : Content) → look r (alone v) ≡ Some c → text_bytes c ≤ most_text
-    texts [] c e = let same : v ≡ c = cc in subst (λ x. text_bytes x ≤ most_text) same h
-    texts (b ∷ r) c e = absurd (cc)
-
 leaf_tree : (t : Tree) (e : Entry) → IsTree t → IsNew t e → IsSmall e → keyed.len t + 1 ≤ most_nodes → weight t + weighs e ≤ most_weight → IsTree (with_leaf t e.0 e.1)
 leaf_tree t e h x s n w =
-    tree-fits t e.0 (alone v) h (leaf_rows v s.text) tt (subst (IsUnderNode t) (sym x.is) (under-child t x.above x.label x.node)) n
-    (omega (arith, w, sum_by-cons weight_of ([], v) [], ap bytes_of s.holds)) places
-  where
-    v : Content
-    v = or_node e.1
-
-    places : (r : Path) → is_some (look r (alone v)) ≡ true → over_limit (at_target (e.0 ++ r)) ≡ false
-    places [] i = ap (λ q. over_limit (at_target q)) (append-nil e.0) ∙ s.place
-    places (b ∷ r) i = absurd (cc)
+    let near : over_limit (at_target (child x.above x.label)) ≡ false = ap (λ q. over_limit (at_target q)) (sym x.is) ∙ s.place in
+    subst (λ q. IsTree (with_leaf t q e.1)) (sym x.is) (leaf-fits t x.above x.label (or_node e.1) h x.node near s.text n (omega (arith, w, ap last_bytes x.is, last_bytes_child x.above x.label, ap bytes_of s.holds)))
 
 -- each can be added as a leaf, and adding them is putting them in
 pub all_put : (t : Tree) (es : List Entry) → IsTree t → IsListing t es → AllSmall es → keyed.len t + length es ≤ most_nodes → weight t + sum_by weighs es ≤ most_weight → AllPut t es × (leaves t es ≡ inserted t es)
@@ -263,7 +224,7 @@ all_put t [] h x s n w = (tt, refl)
 all_put t (e ∷ es) h x s n w =
     let u = with_leaf t e.0 e.1 in
     let m = keyed.insert t e.0 (or_node e.1) in
-    let is : u ≡ m = leaf_is_insert t e.0 e.1 h.rooted x.0.new in
+    let is : u ≡ m = leaf-insert t e.0 (or_node e.1) h.rooted x.0.new in
     let cons = sum_by-cons weighs e es in
     let tree : IsTree u = leaf_tree t e h x.0 s.0 (omega (arith, n)) (omega (arith, w, cons)) in
     let weigh : weight_of (e.0, or_node e.1) ≡ weighs e = ap (λ b. 16 + last_bytes e.0 + b) (sym (ap bytes_of s.0.holds)) in

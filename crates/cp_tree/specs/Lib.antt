@@ -10,3 +10,4 @@ pub mod Listing
 pub mod Counted
 pub mod Tallies
 pub mod Fits
+pub mod Leaves

@@ -16,13 +16,12 @@ use Rattle.cp_model.specs.Tree.{Tree, IsTree, is_node, weight, text_bytes, last_
 use Rattle.cp_model.specs.History.{IsLiteral}
 use Rattle.cp_model.specs.Lookups.{find-from_entries}
 use Rattle.cp_model.specs.Sorted.{path_cmp-append, sorted-below}
-use Rattle.cp_model.specs.Rooted.{AreRows, rows-below, rows-literal, under-child, under-there}
-use Rattle.cp_tree.specs.Rows.{alone, single, path_size, reach_of, reach_at}
+use Rattle.cp_model.specs.Rooted.{rows-below, rows-literal, under-child, under-there}
+use Rattle.cp_tree.specs.Rows.{alone, path_size, reach_of, reach_at}
 use Rattle.cp_tree.specs.declared.reach.Reach.{Reach}
-use Rattle.cp_tree.specs.Built.{entries-single}
 use Rattle.cp_tree.specs.Branch.{entries-sub, sub-root}
-use Rattle.cp_tree.specs.Fits.{tree-fits, reach-fits, within-limit}
-use Rattle.cp_tree_box.proofs.Wrapping.{tree-single}
+use Rattle.cp_tree.specs.Fits.{reach-fits, within-limit}
+use Rattle.cp_tree.specs.Leaves.{leaf-fits}
 
 node_is : (o : Option Content) → is_node o ≡ true → o ≡ Some Node
 node_is (Some Node) e = refl
@@ -36,14 +35,9 @@ below-root t = sym (entries-sub t []) ∙ ap keyed.entries (sub-root t)
 -- it stays a tree
 pub leaf_fits : (t : Tree) (p : Path) (a : Label) (c : Content) → IsTree t → p ≡ [] → is_node (keyed.get t p) ≡ true → length a ≤ 255 → text_bytes c ≡ 0 → keyed.len t < 1000000 → weight t < 33000000 → IsTree (replaced (child p a) (alone c) t)
 leaf_fits t p a c h e n s x l w =
-    let single_is : IsTree (single c) = tree-single c (omega (arith, x)) in
-    let rows : AreRows (alone c) = subst AreRows (below-root (single c) ∙ entries-single c) (rows-below (single c) [] single_is single_is.rooted.root) in
-    let node : keyed.get t [] ≡ Some Node = node_is (keyed.get t []) (sym (ap (λ z. is_node (keyed.get t z)) e) ∙ n) in
-    subst (λ z. IsTree (replaced (child z a) (alone c) t)) (sym e) (tree-fits t (a ∷ []) (alone c) h rows tt (under-child t [] a node) (omega (arith, l)) (omega (arith, w, s, x)) near)
-  where
-    near : (r : Path) → is_some (look r (alone c)) ≡ true → over_limit (at_target (a ∷ r)) ≡ false
-    near [] i = within-limit (a ∷ []) (omega arith) (omega (arith, s))
-    near (b ∷ r) i = absurd (cc)
+    let node : keyed.get t p ≡ Some Node = node_is (keyed.get t p) n in
+    let near : over_limit (at_target (child p a)) ≡ false = ap (λ z. over_limit (at_target (child z a))) e ∙ within-limit (a ∷ []) (omega arith) (omega (arith, s)) in
+    leaf-fits t p a c h node near (omega (arith, x)) (omega (arith, l)) (omega (arith, w, s, x))
 
 -- so it does with a subtree at a label below the root
 pub subtree_fits : (t : Tree) (p : Path) (u : Tree) (q : Path) (z : Reach) → z ≡ reach_at u q → IsTree t → IsTree u → is_there u q ≡ true → is_there t p ≡ true → keyed.len t + z.nodes ≤ 1000000 → weight t + z.inner ≤ 33000000 →

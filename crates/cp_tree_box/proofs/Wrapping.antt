@@ -8,17 +8,17 @@ use Rattle.std.specs.declared.option.Option.TheVariants.{None, Some}
 use denote.Ref.{Bor}
 use Rattle.cp_model.specs.declared.row.Content.{Content}
 use Rattle.cp_model.specs.declared.row.Row.{Row}
-use Rattle.cp_model.specs.Place.{Label, Path, child, over_limit, at_target}
+use Rattle.cp_model.specs.Place.{Label, Path, child}
 use Rattle.cp_model.specs.Keyed as keyed
 use Rattle.cp_model.specs.Keyed.{look}
 use Rattle.cp_model.specs.Subtrees.{is_there, below, moved, without, replaced}
-use Rattle.cp_model.specs.Tree.{Tree, IsRooted, IsTree, weight, weight_of, most_text, text_bytes}
+use Rattle.cp_model.specs.Tree.{Tree, IsRooted, IsTree, weight, most_text, text_bytes}
 use Rattle.cp_model.specs.Strips.{append-nil, strip-append}
-use Rattle.cp_model.specs.Lookups.{find-from_entries, get-replaced, placed}
+use Rattle.cp_model.specs.Lookups.{get-replaced, placed}
 use Rattle.cp_model.specs.Sums.{below-none, sum_by-one}
 use Rattle.cp_model.specs.Kept.{closed-tree}
-use Rattle.cp_tree.specs.Branch.{branch, sub, get-sub, sub-root, entries-sub}
-use Rattle.cp_tree.specs.Good.{good_single, rooted-branch}
+use Rattle.cp_tree.specs.Branch.{sub, get-sub, sub-root, entries-sub}
+use Rattle.cp_tree.specs.Leaves.{single-tree}
 use Rattle.cp_tree.specs.Built.{made, made-entries, entries-single}
 use Rattle.cp_model.specs.History.{IsLiteral}
 use Rattle.cp_tree.specs.Counted.{is_one, counted, greatest_is}
@@ -192,43 +192,13 @@ near_sub m n p t e q i =
 
 -- ---- a root alone
 
-module _ (c : Content) where
-  only_root : (q : Path) → is_there (single c) q ≡ true → q ≡ []
-  only_root [] i = refl
-  only_root (a ∷ q) i = (let no = ap is_some (find-from_entries (alone c) (a ∷ q)) in absurd (cc))
-
-  rooted_single : IsRooted (single c)
-  unfolding branch
-  rooted_single = rooted-branch c [] (good_single c)
-
-  few_single : keyed.len (single c) ≡ 1
-  unfolding keyed.len keyed.entries
-  few_single = ap length (entries-single c)
-
-  light_single : weight (single c) ≡ 16 + text_bytes c
-  unfolding weight
-  light_single = ap (sum_by weight_of) (entries-single c) ∙ omega arith
-
-  text_single : text_bytes c ≤ most_text → (q : Path) (d : Content) → look q (alone c) ≡ Some d → text_bytes d ≤ most_text
-  text_single h [] d e = (let is : c ≡ d = cc in subst (λ z. text_bytes z ≤ most_text) is h)
-  text_single h (a ∷ q) d e = absurd (cc)
-
-  -- a root alone is a tree
-  pub tree-single : text_bytes c ≤ most_text → IsTree (single c)
-  tree-single h = record {
-    rooted = rooted_single;
-    within = record { nodes = omega (arith, few_single); weighs = omega (arith, h, light_single) };
-    places = λ q i. ap (λ z. over_limit (at_target z)) (only_root q i);
-    texts = λ q d e. text_single h q d (sym (find-from_entries (alone c) q) ∙ e);
-  }
-
 -- the tree of a root alone, with what is kept of it
 module _ (c d : Content) (h : text_bytes c ≤ most_text) (same_content : d ≡ c) (m : Tree) (e : m ≡ single d) where
   pub single_is : m ≡ single c
   single_is = e ∙ ap single same_content
 
   pub single_tree : IsTree m
-  single_tree = subst IsTree (sym single_is) (tree-single c h)
+  single_tree = subst IsTree (sym single_is) (single-tree c h)
 
   pub single_near : (s : Spot) → s ≡ root_spot → AreNear s m
   single_near s k = subst (λ z. AreNear z m) (sym k) (near_tree m single_tree)

@@ -9,7 +9,8 @@ use Rattle.cp_model.specs.Tree.{weight}
 use Rattle.cp_tree.specs.Rows.{alone}
 use Rattle.cp_csv.specs.CsvTrees.{with_fields}
 use Rattle.cp_csv.specs.Steps.{IsBare}
-use Rattle.cp_csv.proofs.Placing.{none_is, leaf_is, leaf_fits, new_bare, is_many, is_big, is_fit}
+use Rattle.cp_tree.specs.Leaves.{leaf-insert}
+use Rattle.cp_csv.proofs.Placing.{none_is, leaf_fits, new_bare, is_many, is_big, is_fit}
 use Rattle.cp_csv.proofs.place.put_row.Goals as goal
 
 pub returns-then-len-from-clause-told : goal.returns-then-len-from-clause-told
@@ -53,7 +54,7 @@ put_fields-requires-clause-bare g c =
     let tree = g.met.R.TreeRep.is_tree c.args.tree.now in
     let free : is_there t (row ∷ []) ≡ false = search rules in
     let none = none_is (keyed.get t (row ∷ [])) free in
-    let same : t1 ≡ keyed.insert t (row ∷ []) Node = c.in_ok-insert_leaf.ensures.ok ∙ ap (λ p. replaced (child p row) (alone Node) t) c.root-root.ensures ∙ leaf_is t (row ∷ []) Node tree.rooted none in
+    let same : t1 ≡ keyed.insert t (row ∷ []) Node = c.in_ok-insert_leaf.ensures.ok ∙ ap (λ p. replaced (child p row) (alone Node) t) c.root-root.ensures ∙ leaf-insert t (row ∷ []) Node tree.rooted none in
     subst (λ z. IsBare z row hs) (sym same) (new_bare t row hs tree.rooted none c.requires.columns.apart)
 
 pub put_fields-requires-clause-few : goal.put_fields-requires-clause-few
@@ -64,7 +65,7 @@ put_fields-requires-clause-few g c =
     let tree = g.met.R.TreeRep.is_tree c.args.tree.now in
     let free : is_there t (row ∷ []) ≡ false = search rules in
     let none = none_is (keyed.get t (row ∷ [])) free in
-    let same : t1 ≡ keyed.insert t (row ∷ []) Node = c.in_ok-insert_leaf.ensures.ok ∙ ap (λ p. replaced (child p row) (alone Node) t) c.root-root.ensures ∙ leaf_is t (row ∷ []) Node tree.rooted none in
+    let same : t1 ≡ keyed.insert t (row ∷ []) Node = c.in_ok-insert_leaf.ensures.ok ∙ ap (λ p. replaced (child p row) (alone Node) t) c.root-root.ensures ∙ leaf-insert t (row ∷ []) Node tree.rooted none in
     omega (arith, ap keyed.len same, len_insert_new t (row ∷ []) Node none, c.if-len-from.false, c.len.ensures, c.count.ensures, c.from.ensures, tree.within.nodes)
 
 pub put_fields-requires-clause-light : goal.put_fields-requires-clause-light
@@ -75,7 +76,7 @@ put_fields-requires-clause-light g c =
     let tree = g.met.R.TreeRep.is_tree c.args.tree.now in
     let free : is_there t (row ∷ []) ≡ false = search rules in
     let none = none_is (keyed.get t (row ∷ [])) free in
-    let same : t1 ≡ keyed.insert t (row ∷ []) Node = c.in_ok-insert_leaf.ensures.ok ∙ ap (λ p. replaced (child p row) (alone Node) t) c.root-root.ensures ∙ leaf_is t (row ∷ []) Node tree.rooted none in
+    let same : t1 ≡ keyed.insert t (row ∷ []) Node = c.in_ok-insert_leaf.ensures.ok ∙ ap (λ p. replaced (child p row) (alone Node) t) c.root-root.ensures ∙ leaf-insert t (row ∷ []) Node tree.rooted none in
     omega (arith, ap weight same, weight_insert_new t (row ∷ []) Node none, c.if-weight.false, c.weight.ensures, ap length c.as_str.ensures.text, c.fields_weight.ensures.weight, tree.within.weighs)
 
 pub returns-clause-put : goal.returns-clause-put
@@ -88,7 +89,7 @@ returns-clause-put g c =
     let tree = g.met.R.TreeRep.is_tree c.args.tree.now in
     let free : is_there t (row ∷ []) ≡ false = search rules in
     let none = none_is (keyed.get t (row ∷ [])) free in
-    let same : t1 ≡ keyed.insert t (row ∷ []) Node = c.in_ok-insert_leaf.ensures.ok ∙ ap (λ p. replaced (child p row) (alone Node) t) c.root-root.ensures ∙ leaf_is t (row ∷ []) Node tree.rooted none in
+    let same : t1 ≡ keyed.insert t (row ∷ []) Node = c.in_ok-insert_leaf.ensures.ok ∙ ap (λ p. replaced (child p row) (alone Node) t) c.root-root.ensures ∙ leaf-insert t (row ∷ []) Node tree.rooted none in
     c.in_ok-put_fields.ensures.put ∙ ap (with_fields row hs fs) same
 
 pub returns-clause-told : goal.returns-clause-told
