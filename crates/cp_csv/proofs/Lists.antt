@@ -1,5 +1,6 @@
 -- Fields one by one, and what is left of them.
 use Rattle.std.proofs.Common.{◌≡◌, ℕ, zero, suc, ◌+◌, ◌<◌, ◌==◌, Bool, true, false, cond, ◌||◌, ◌&&◌, List, [], ◌∷◌, length, drop, Option, Some, None, if◌then◌else◌, refl, sym, ap, ◌∙◌, arith, add-one, is_some}
+use Rattle.std.proofs.lemmas.Bool.{and_parts, or_parts}
 use Rattle.std.proofs.lemmas.Bool.Decides.{nat_tests}
 use Rattle.std.specs.List.{list_all, list_any}
 use Rattle.std.specs.Str.{is_utf8}
@@ -36,13 +37,9 @@ field_in [] i e l = absurd (omega (arith, l))
 field_in (x ∷ fs) zero e l = absurd (cc)
 field_in (x ∷ fs) (suc i) e l = field_in fs i e (omega (arith, l))
 
-or_false : (a b : Bool) → (a || b) ≡ false → (a ≡ false) × (b ≡ false)
-or_false true b e = absurd (cc)
-or_false false b e = (refl, e)
-
 -- what no element passes, neither the first nor the others pass
 pub none_pass : {X : Type 0} (f : X → Bool) (x : X) (xs : List X) → list_any f (x ∷ xs) ≡ false → (f x ≡ false) × (list_any f xs ≡ false)
-none_pass f x xs e = or_false (f x) (list_any f xs) e
+none_pass f x xs e = or_parts (f x) (list_any f xs) e
 
 and_true : (a b : Bool) → a ≡ true → b ≡ true → (a && b) ≡ true
 and_true true b e f = f
@@ -53,10 +50,6 @@ pub all_text : (fs : Fields) → AllText fs → list_all is_utf8 fs ≡ true
 unfolding AllText
 all_text [] h = refl
 all_text (f ∷ fs) h = and_true (is_utf8 f) (list_all is_utf8 fs) (is_utf8-from_IsUtf8 f h.0) (all_text fs h.1)
-
-and_parts : (a b : Bool) → (a && b) ≡ true → (a ≡ true) × (b ≡ true)
-and_parts true b e = (refl, e)
-and_parts false b e = absurd (cc)
 
 pub text_all : (fs : Fields) → list_all is_utf8 fs ≡ true → AllText fs
 unfolding AllText

@@ -1,5 +1,6 @@
 -- A row put into a tree: its places are new, and what they add is counted.
 use Rattle.std.proofs.Common.{◌≡◌, ℕ, ◌+◌, ◌<◌, ◌≤◌, Bool, true, false, cond, ◌&&◌, ◌||◌, List, [], ◌∷◌, length, Option, Some, None, if◌then◌else◌, is_some, refl, sym, ap, subst, ◌∙◌, arith, nat_lt, length-append, ◌==◌, not, Result, Err, ◌⊎◌, inl, inr}
+use Rattle.cp_model.specs.Accepted.{none_is}
 use Rattle.std.proofs.lemmas.Bool.Decides.{nat_tests}
 use Rattle.std.proofs.lemmas.List.Sums.{sum_by-append}
 use Rattle.std.specs.List.{list_any}
@@ -29,10 +30,6 @@ use Rattle.cp_csv.specs.declared.fault.CsvFault.TheVariants.{NoHeader, NotUtf8, 
 use Rattle.cp_csv.proofs.Lists.{none_pass}
 
 -- ---- a leaf
-
-pub none_is : {X : Type 0} (o : Option X) → is_some o ≡ false → o ≡ None
-none_is None h = refl
-none_is (Some x) h = absurd (cc)
 
 -- a leaf below the root, or below a child of it, leaves a tree where there is room
 pub leaf_fits : (t : Tree) (p : Path) (a : Label) (c : Content) → IsTree t → keyed.get t p ≡ Some Node → length p ≤ 1 → path_size p ≤ 256 → length a ≤ 255 → text_bytes c ≤ most_text →

@@ -1,26 +1,24 @@
 -- How deep places of a tree and of a literal lie.
 use Rattle.std.specs.Prelude.{ℕ, zero, suc, ◌+◌, ◌≤◌, ◌≡◌, Bool, true, false, cond, ◌||◌, List, [], ◌∷◌, ◌++◌, length, map, max, is_some, refl}
 use Rattle.std.proofs.Common.{sym, ap, ◌∙◌, arith, ◌<◌, get_or, drop, length-append}
-use Rattle.std.proofs.lemmas.List.{length-map}
 use Rattle.std.specs.List.{list_any}
 use Rattle.std.specs.declared.option.Option.TheVariants.{Some}
 use Rattle.cp_path.specs.declared.loc.Loc.{Loc}
 use Rattle.cp_model.specs.declared.row.Content.{Content}
-use Rattle.cp_model.specs.declared.row.Content.TheVariants.{Node, Leaf}
 use Rattle.cp_model.specs.declared.row.Row.{Row}
-use Rattle.cp_model.specs.declared.literal.Literal.{Literal}
-use Rattle.cp_model.specs.declared.literal.Literal.TheVariants as literal
 use Rattle.cp_model.specs.declared.literal.LitEdge.{LitEdge}
-use Rattle.cp_model.specs.Place.{Label, Path, at_target, child, below_place, over_limit, path_eq, path_eq_equiv}
+use Rattle.cp_model.specs.Place.{Path, at_target, child, below_place, over_limit, path_eq, path_eq_equiv}
 use Rattle.cp_model.specs.Keyed.{look}
 use Rattle.cp_model.specs.Lookups.{find-below}
 use Rattle.cp_model.specs.Subtrees.{below, is_there}
 use Rattle.cp_model.specs.Literals.{literal_rows, rows_under, edge_rows}
 use Rattle.cp_model.specs.Tree.{Tree, IsTree, reaches_over}
 use Rattle.cp_model.specs.Accepted.{at_most}
+use Rattle.cp_tree.specs.Edges.{deepest-literal}
 use Rattle.cp_tree.specs.Rows.{greatest, deepest, row_of}
 use Rattle.cp_tree.specs.Counted.{greatest-append}
-use Rattle.cp_engine.proofs.Limits.{over-reached, root-below}
+use Rattle.cp_engine.specs.RowsAlone.{root-below}
+use Rattle.cp_engine.proofs.Limits.{over-reached}
 
 no_left : (a b : Bool) → (a || b) ≡ false → a ≡ false
 no_left true b e = absurd (cc)
@@ -63,33 +61,13 @@ at-most-greatest f (y ∷ ys) (suc i) x h e = omega (arith, at-most-greatest f y
 
 -- ---- literals
 
-under-one : (a : Label) (r : Path × Content) (es : List (Path × Content)) → deepest (rows_under a (r ∷ es)) ≡ 1 + deepest (r ∷ es)
-under-one a r [] = omega arith
-under-one a r (e ∷ es) = ap (max (length (a ∷ r.0))) (under-one a e es) ∙ omega arith
-
-under-literal : (a : Label) (t : Literal) → deepest (rows_under a (literal_rows t)) ≡ 1 + deepest (literal_rows t)
-under-literal a (literal.Leaf v) = under-one a ([], Leaf v) []
-under-literal a (literal.Node below) = under-one a ([], Node) below
-
 -- an edge's tree lies deeper than its root by one label less than all its siblings' rows
 pub edge-deepest : (e : LitEdge) (rest : List LitEdge) (i : ℕ) (es : List LitEdge) → drop i es ≡ e ∷ rest → 1 + deepest (literal_rows e.tree) ≤ deepest (edge_rows es)
 edge-deepest e rest zero es t = (
     let all : deepest (edge_rows es) ≡ deepest (edge_rows (e ∷ rest)) = ap (λ ds. deepest (edge_rows ds)) t in
-    omega (arith, all, greatest-append (λ r. length r.0) (rows_under e.label (literal_rows e.tree)) (edge_rows rest), under-literal e.label e.tree))
+    omega (arith, all, greatest-append (λ r. length r.0) (rows_under e.label (literal_rows e.tree)) (edge_rows rest), deepest-literal e.label e.tree))
 edge-deepest e rest (suc i) [] t = absurd (cc)
 edge-deepest e rest (suc i) (d ∷ ds) t = omega (arith, greatest-append (λ r. length r.0) (rows_under d.label (literal_rows d.tree)) (edge_rows ds), edge-deepest e rest i ds t)
-
--- an edge's tree has no more rows than all its siblings
-pub edge-fewer : (e : LitEdge) (rest : List LitEdge) (i : ℕ) (es : List LitEdge) → drop i es ≡ e ∷ rest → length (literal_rows e.tree) ≤ length (edge_rows es)
-edge-fewer e rest i es t = fewer i es t
-  where
-    more : (d : LitEdge) (ds : List LitEdge) → length (edge_rows (d ∷ ds)) ≡ length (literal_rows d.tree) + length (edge_rows ds)
-    more d ds = length-append (rows_under d.label (literal_rows d.tree)) (edge_rows ds) ∙ ap (λ n. n + length (edge_rows ds)) (length-map (literal_rows d.tree) (λ r. (d.label ∷ r.0, r.1)))
-
-    fewer : (i : ℕ) (es : List LitEdge) → drop i es ≡ e ∷ rest → length (literal_rows e.tree) ≤ length (edge_rows es)
-    fewer zero es t = (let all : length (edge_rows es) ≡ length (edge_rows (e ∷ rest)) = ap (λ ds. length (edge_rows ds)) t in omega (arith, all, more e rest))
-    fewer (suc i) [] t = absurd (cc)
-    fewer (suc i) (d ∷ ds) t = omega (arith, more d ds, fewer i ds t)
 
 -- the path of an edge is within the limit with what is below it
 pub edge-within : (k : ℕ) (at path : Path) (e : LitEdge) (rest : List LitEdge) (i : ℕ) (es : List LitEdge) (below : List (Path × Content)) → drop i es ≡ e ∷ rest → edge_rows es ≡ below →

@@ -19,8 +19,6 @@ use Rattle.cp_model.specs.Keyed.{look}
 use Rattle.cp_model.specs.Subtrees.{below, moved, replaced, is_there}
 use Rattle.cp_model.specs.Literals.{literal_rows, rows_under}
 use Rattle.cp_model.specs.History.{IsLiteral}
-use Rattle.cp_model.specs.Strips.{append-nil}
-use Rattle.cp_model.specs.Lookups.{find-below}
 use Rattle.cp_model.specs.Sorted.{sorted-below}
 use Rattle.cp_model.specs.Sums.{len-replaced, len-replaced_new, len-without, weight-without, sum_by-moved, last_bytes_child}
 use Rattle.cp_model.specs.Weights.{weight-moved, weight-put, weight-swapped}
@@ -30,6 +28,7 @@ use Rattle.cp_model.specs.Rooted.{rows-literal}
 use Rattle.cp_model.specs.Tree.{Tree, IsTree, first_case, limits_of, reaches_over, weight, weight_of, most_nodes, most_weight}
 use Rattle.cp_tree.specs.Rows.{path_size, greatest, reach_of, reach_at}
 use Rattle.cp_tree.specs.declared.reach.Reach.{Reach}
+use Rattle.cp_engine.specs.RowsAlone.{root-below}
 use Rattle.cp_engine.specs.Reaching.{over_by, limit_passed, literal_reach}
 
 -- a sum with the greater of two is over where it is with one of them
@@ -133,10 +132,6 @@ ins-limits t p a l h w n =
     ap (λ k. limit_passed k (weight (replaced (child p a) (literal_rows l) t))) both.0
     ∙ ap (limit_passed (keyed.len t + length (rows_under a (literal_rows l)))) both.1
     ∙ sym (limit-capped (keyed.len t) (length (rows_under a (literal_rows l))) (weight t) (sum_by weight_of (rows_under a (literal_rows l))))
-
--- the subtree at a place that is there has a root
-pub root-below : (t : Tree) (q : Path) → is_there t q ≡ true → is_some (look [] (below q t)) ≡ true
-root-below t q h = ap is_some (find-below q [] t) ∙ ap (is_there t) (append-nil q) ∙ h
 
 -- a copy is over a limit of places where what is copied reaches over it
 pub copy-over : (t : Tree) (q : Path) (p : Loc) → is_there t q ≡ true → reaches_over p (below q t) ≡ over_by p (reach_at t q).depth (reach_at t q).size

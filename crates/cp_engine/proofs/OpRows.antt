@@ -25,7 +25,7 @@ use Rattle.cp_engine.specs.Held.{Appended}
 use Rattle.cp_engine.specs.RowsAlone.{behind, op_rows}
 use Rattle.cp_tree.specs.Rows.{deepest}
 use Rattle.cp_engine.proofs.Depths.{deepest-within, deepest-rows, below-within}
-use Rattle.cp_engine.proofs.Limits.{root-below}
+use Rattle.cp_engine.specs.RowsAlone.{root-below}
 use Rattle.cp_engine.proofs.Recorded.{appended-none}
 
 made_rows : (tid : ℕ) (base : Path) (es : List (Path × Content)) → map (λ (e : Path × Content). record_below tid letter.I base e.0 None) (moved [] es) ≡ with_tid tid (behind base (λ _. mark.Made) es)

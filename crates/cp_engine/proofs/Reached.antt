@@ -1,7 +1,6 @@
 -- What the walk over a literal adds up.
 use Rattle.std.specs.Prelude.{ℕ, ◌+◌, ◌≤◌, ◌≡◌, List, [], ◌∷◌, ◌++◌, length, max, min, sum_by, refl}
-use Rattle.std.proofs.Common.{◌<◌, suc, drop, get_or, sym, ap, ◌∙◌, add-one, arith, length-append}
-use Rattle.std.proofs.Math.Seq.{drop-cons}
+use Rattle.std.proofs.Common.{drop, sym, ap, ◌∙◌, arith, length-append}
 use Rattle.std.proofs.Math.ListN.{drop_of_length-le}
 use Rattle.std.proofs.lemmas.List.Sums.{sum_by-cons, sum_by-append}
 use Rattle.std.proofs.lemmas.List.{length-map}
@@ -101,10 +100,6 @@ joined-edge k r s all e es fs split is h =
     ∙ sym (joined-append k r (rows_under e.label (literal_rows e.tree)) (edge_rows es))
     ∙ sym (ap (λ x. joined k r (reach_of (edge_rows x))) split)
     ∙ h
-
--- what is left of a list from one of its elements on
-pub drop-one : {X : Type 0} (xs : List X) (i : ℕ) (x : X) → i < length xs → x ≡ get_or xs i x → drop i xs ≡ x ∷ drop (i + 1) xs
-drop-one xs i x h e = drop-cons xs i x h ∙ ap (λ y. y ∷ drop (suc i) xs) (sym e) ∙ ap (λ k. x ∷ drop k xs) (sym (add-one i))
 
 -- after the last edge
 pub joined-edges : (k : ℕ) (r all : Reach) (i : ℕ) (es : List LitEdge) → length es ≤ i → IsReach k r → joined k r (reach_of (edge_rows (drop i es))) ≡ all → r ≡ all

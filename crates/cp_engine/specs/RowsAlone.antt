@@ -28,10 +28,9 @@ use Rattle.cp_model.specs.History.{IsWritten}
 use Rattle.cp_model.specs.Strips.{strip_is, strip-append, append-nil, nearest-below}
 use Rattle.cp_model.specs.Lookups.{placed, find-moved, find-below, find-with_values, get-without, get-replaced, get-mapped}
 use Rattle.cp_model.specs.Sorted.{path_cmp-append, parts_of, all_of, sorted-entries, sorted-below}
-use Rattle.cp_model.specs.Sums.{below-none}
 use Rattle.cp_model.specs.Accepted.{InsAccepted, ins_accepted, DelAccepted, del_accepted, copy_accepted}
-use Rattle.cp_model.specs.Kept.{closed-tree}
 use Rattle.cp_model.specs.Marks.{find-full_rows}
+use Rattle.cp_tree.specs.Leaves.{nothing-below}
 
 -- a row behind p for each entry, of what follows p
 abbrev pub behind : {X : Type 0} → Path → (Path → Mark) → List (Path × X) → List (Path × Mark)
@@ -129,10 +128,6 @@ untouched t w r e =
       | None ↦ λ n. ap (λ o. if is_some o && is_same (above w r) then Some D else None) n
     ] refl
 
--- nothing is below what isn't there
-none_below : (t : Tree) (p s : Path) → IsRooted t → keyed.get t p ≡ None → keyed.get t (p ++ s) ≡ None
-none_below t p s h n = sym (find-below p s t) ∙ ap (look s) (below-none t p (closed-tree t h) n)
-
 -- a place that isn't there before and after a step has no row
 absent : (t : Tree) (w : Working) (r : Path) → keyed.get w r ≡ None → keyed.get t r ≡ None → full_here t w r ≡ None
 absent t w r e n = here_by t w r None e ∙ ap (λ o. if is_some o && is_same (above w r) then Some D else None) n
@@ -196,7 +191,7 @@ module _ (t : Tree) (p : Loc) (a : Label) (l : Literal) (h : IsRooted t) (x : In
   inserted r s k None e =
       absent t after_ins r
       (put_at (child p.path a) r (as_new (literal_rows l)) (opened t) (Some s) k ∙ find-with_values (λ _ c. record { content = c; origin = new }) s (literal_rows l) ∙ ap (option_map (λ c. record { content = c; origin = new })) e)
-      (ap (keyed.get t) (strip_is (child p.path a) r s k) ∙ none_below t (child p.path a) s h x.free)
+      (ap (keyed.get t) (strip_is (child p.path a) r s k) ∙ nothing-below t (child p.path a) s h x.free)
 
   here_ins : (r : Path) → full_here t after_ins r ≡ placed (strip (child p.path a) r) (λ s. option_map (λ _. I) (look s (literal_rows l))) None
   here_ins r =
@@ -313,8 +308,8 @@ module _ (t : Tree) (q p : Loc) (es : List (Path × Content)) (ws : List (Path �
       ] refl
 
 -- the subtree at a place that is there has a root
-rooted_below : (t : Tree) (q : Path) → is_there t q ≡ true → is_some (look [] (below q t)) ≡ true
-rooted_below t q h = ap is_some (find-below q [] t) ∙ ap (is_there t) (append-nil q) ∙ h
+pub root-below : (t : Tree) (q : Path) → is_there t q ≡ true → is_some (look [] (below q t)) ≡ true
+root-below t q h = ap is_some (find-below q [] t) ∙ ap (is_there t) (append-nil q) ∙ h
 
 -- a copy inside the tree
 module _ (t : Tree) (q p : Loc) (i : in_target q ≡ true) (j : in_target p ≡ true) (origin : is_there t q.path ≡ true) where
@@ -343,7 +338,7 @@ module _ (t : Tree) (q p : Loc) (i : in_target q ≡ true) (j : in_target p ≡ 
   stays_inside b s = ap (λ (r : Loc). keyed.get t (r.path ++ s)) (sym (place_eq-same q p b)) ∙ sym (find-below q.path s t)
 
   here_inside : (r : Path) → full_here t (replaced p.path (below q.path (opened t)) (opened t)) r ≡ placed (strip p.path r) (λ s. mark_copy q p s (look s (below q.path t))) None
-  here_inside = here_copy t q p (below q.path t) (below q.path (opened t)) carries_inside (rooted_below t q.path origin) moves_inside stays_inside
+  here_inside = here_copy t q p (below q.path t) (below q.path (opened t)) carries_inside (root-below t q.path origin) moves_inside stays_inside
 
 -- a copy from a source with the tree u
 module _ (t u : Tree) (q p : Loc) (i : in_target q ≡ false) (j : in_target p ≡ true) (origin : is_there u q.path ≡ true) where
@@ -360,7 +355,7 @@ module _ (t u : Tree) (q p : Loc) (i : in_target q ≡ false) (j : in_target p �
 
   here_loaded : (r : Path) → full_here t (replaced p.path (from_source q (below q.path u)) (opened t)) r ≡ placed (strip p.path r) (λ s. mark_copy q p s (look s (below q.path u))) None
   here_loaded =
-      here_copy t q p (below q.path u) (from_source q (below q.path u)) carries_loaded (rooted_below u q.path origin) moves_loaded
+      here_copy t q p (below q.path u) (from_source q (below q.path u)) carries_loaded (root-below u q.path origin) moves_loaded
       (λ b. let n = other_place in absurd (cc))
 
 -- what an operation that isn't refused copies onto a place, its rows say

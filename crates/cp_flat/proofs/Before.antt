@@ -1,5 +1,6 @@
 -- The order of rows by Tid and place.
 use Rattle.std.proofs.Common.{ℕ, suc, zero, ◌+◌, ◌<◌, ◌≤◌, ◌≡◌, Bool, true, false, cond, refl, ap, ◌∙◌, arith, take, get_or}
+use Rattle.std.proofs.lemmas.Bool.{and_parts}
 use Rattle.std.specs.Prelude.{List, [], ◌∷◌, ◌++◌, length, nat_lt, ◌==◌, ◌&&◌, ◌||◌, if◌then◌else◌}
 use Rattle.std.specs.List.{list_all, cons_option}
 use Rattle.std.proofs.lemmas.Bool.Decides.{nat_tests}
@@ -14,11 +15,6 @@ use Rattle.cp_model.specs.Records.{rows_at}
 use Rattle.cp_model.specs.declared.record.Record.{Record}
 use Rattle.cp_store.specs.Changes.{goes_before, rises, is_between, AreNext}
 use Rattle.cp_flat.specs.Index.{mark_of}
-
--- both parts of a conjunction hold
-pub both : (a b : Bool) → (a && b) ≡ true → (a ≡ true) × (b ≡ true)
-both true b h = (refl, h)
-both false b h = absurd (cc)
 
 -- each holds, so both do
 pub and_of : (a b : Bool) → a ≡ true → b ≡ true → (a && b) ≡ true
@@ -56,25 +52,25 @@ before-lt r s h = ap (λ b. b || (r.tid == s.tid && is_lt (path_cmp r.loc.path s
 -- each element passes another test that follows
 pub list_all-weaker : {X : Type 0} (p q : X → Bool) (xs : List X) → ((x : X) → p x ≡ true → q x ≡ true) → list_all p xs ≡ true → list_all q xs ≡ true
 list_all-weaker p q [] i h = refl
-list_all-weaker p q (x ∷ xs) i h = let b = both (p x) (list_all p xs) h in and_of (q x) (list_all q xs) (i x b.0) (list_all-weaker p q xs i b.1)
+list_all-weaker p q (x ∷ xs) i h = let b = and_parts (p x) (list_all p xs) h in and_of (q x) (list_all q xs) (i x b.0) (list_all-weaker p q xs i b.1)
 
 -- each element passes
 pub list_all-get_or : {X : Type 0} (p : X → Bool) (xs : List X) (i : ℕ) (d : X) → i < length xs → list_all p xs ≡ true → p (get_or xs i d) ≡ true
 list_all-get_or p [] i d le h = absurd (omega (arith, le))
-list_all-get_or p (x ∷ xs) zero d le h = (both (p x) (list_all p xs) h).0
-list_all-get_or p (x ∷ xs) (suc i) d le h = list_all-get_or p xs i d (omega (arith, le)) (both (p x) (list_all p xs) h).1
+list_all-get_or p (x ∷ xs) zero d le h = (and_parts (p x) (list_all p xs) h).0
+list_all-get_or p (x ∷ xs) (suc i) d le h = list_all-get_or p xs i d (omega (arith, le)) (and_parts (p x) (list_all p xs) h).1
 
 -- the first goes before each other
 first-before : (r : Record) (rs : List Record) (k : ℕ) (d : Record) → rises (r ∷ rs) ≡ true → k < length rs → goes_before r (get_or rs k d) ≡ true
 first-before r [] k d h le = absurd (omega (arith, le))
-first-before r (s ∷ rs) zero d h le = (both (goes_before r s) (rises (s ∷ rs)) h).0
+first-before r (s ∷ rs) zero d h le = (and_parts (goes_before r s) (rises (s ∷ rs)) h).0
 first-before r (s ∷ rs) (suc k) d h le =
-    let b = both (goes_before r s) (rises (s ∷ rs)) h in
+    let b = and_parts (goes_before r s) (rises (s ∷ rs)) h in
     before-trans r s (get_or rs k d) b.0 (first-before s rs k d b.1 (omega (arith, le)))
 
 rises-rest : (r : Record) (rs : List Record) → rises (r ∷ rs) ≡ true → rises rs ≡ true
 rises-rest r [] h = refl
-rises-rest r (s ∷ rs) h = (both (goes_before r s) (rises (s ∷ rs)) h).1
+rises-rest r (s ∷ rs) h = (and_parts (goes_before r s) (rises (s ∷ rs)) h).1
 
 -- the rows in front of one go before it
 front-before : (rs : List Record) (k : ℕ) (d : Record) → rises rs ≡ true → k < length rs → list_all (λ r. goes_before r (get_or rs k d)) (take k rs) ≡ true
@@ -95,7 +91,7 @@ all-before low high rs old k d h o le =
     (front-before rs k d h.rise le)
   where
     later : (x y z : Bool) → (x && y && z) ≡ true → y ≡ true
-    later x y z e = (both x y (both (x && y) z e).0).1
+    later x y z e = (and_parts x y (and_parts (x && y) z e).0).1
 
     earlier : (t : ℕ) (s : Record) → nat_lt t (low + 1) ≡ true → is_between low high s ≡ true → t < s.tid
     earlier t s e b = let l = later (in_target s.loc) (nat_lt low s.tid) (nat_lt s.tid (high + 1)) b in grind (arith, nat_tests)
@@ -105,7 +101,7 @@ pub next-le : (low high : ℕ) (rs : List Record) (k : ℕ) (d : Record) → Are
 next-le low high rs k d h le = bounded (get_or rs k d) (list_all-get_or (is_between low high) rs k d le h.between)
   where
     upper : (x y z : Bool) → (x && y && z) ≡ true → z ≡ true
-    upper x y z e = (both (x && y) z e).1
+    upper x y z e = (and_parts (x && y) z e).1
 
     bounded : (s : Record) → is_between low high s ≡ true → s.tid ≤ high
     bounded s b = let l = upper (in_target s.loc) (nat_lt low s.tid) (nat_lt s.tid (high + 1)) b in grind (arith, nat_tests)
@@ -129,7 +125,7 @@ pub fresh : (rs : List Record) (r : Record) → list_all (λ s. goes_before s r)
 unfolding rows_at
 fresh [] r h = refl
 fresh (s ∷ rs) r h =
-    let b = both (goes_before s r) (list_all (λ s. goes_before s r) rs) h in
+    let b = and_parts (goes_before s r) (list_all (λ s. goes_before s r) rs) h in
     elim (s.tid == r.tid) as (λ c. (s.tid == r.tid) ≡ c → look r.loc.path (cons_option (if c then Some (s.loc.path, mark_of s) else None) (rows_at rs r.tid)) ≡ look r.loc.path (rows_at rs r.tid)) [
       | true ↦ λ e. ap (λ d. cond d (Some (mark_of s)) (look r.loc.path (rows_at rs r.tid))) (other_place s r e b.0)
       | false ↦ λ _. refl

@@ -1,5 +1,6 @@
 -- A row more is kept.
 use Rattle.std.proofs.Common.{ℕ, suc, zero, ◌+◌, ◌-◌, ◌<◌, ◌≤◌, ◌≡◌, Bool, true, false, cond, refl, sym, ap, subst, ◌∙◌, arith, get_or}
+use Rattle.std.proofs.lemmas.Bool.{and_parts}
 use Rattle.std.specs.Prelude.{List, [], ◌∷◌, ◌++◌, length, nat_lt, ◌==◌, ◌&&◌, if◌then◌else◌}
 use Rattle.std.specs.List.{list_all, cons_option, slice_get}
 use Rattle.std.proofs.lemmas.Bool.Decides.{nat_tests}
@@ -18,7 +19,7 @@ use Rattle.cp_model.specs.declared.record.Record.{Record}
 use Rattle.cp_model.specs.declared.record.RowMark.{RowMark as Mark}
 use Rattle.cp_store.specs.Changes.{goes_before}
 use Rattle.cp_flat.specs.Index.{Index, among, position, noted, mark_of, mark_at, IsKept}
-use Rattle.cp_flat.proofs.Before.{and_of, both, before-le, list_all-get_or, list_all-weaker, fresh}
+use Rattle.cp_flat.proofs.Before.{and_of, before-le, list_all-get_or, list_all-weaker, fresh}
 
 look-append : {X : Type 0} (p : Path) (xs ys : List (Path × X)) → look p (xs ++ ys) ≡ or_else (look p xs) (look p ys)
 look-append p [] ys = refl
@@ -86,7 +87,7 @@ equal_numbers a b h = grind (arith, nat_tests)
 -- the row of a place and step is not there yet
 fresh_at : (rs : List Record) (r : Record) (p : Path) (u : ℕ) → list_all (λ s. goes_before s r) rs ≡ true → (path_eq p r.loc.path && u == r.tid) ≡ true → look p (rows_at rs u) ≡ None
 fresh_at rs r p u h e =
-    let b = both (path_eq p r.loc.path) (u == r.tid) e in
+    let b = and_parts (path_eq p r.loc.path) (u == r.tid) e in
     ap (λ q. look q (rows_at rs u)) (path_eq-same p r.loc.path b.0) ∙ ap (λ t. look r.loc.path (rows_at rs t)) (equal_numbers u r.tid b.1) ∙ fresh rs r h
 
 -- a row that all others go before is kept where its position is noted

@@ -1,5 +1,7 @@
 -- A value that nothing refuses can be made into a tree, which is the map of its places.
 use Rattle.std.proofs.Common.{◌≡◌, ◌≤◌, ℕ, Bool, true, false, cond, ◌||◌, List, [], ◌∷◌, length, sum_by, nat_lt, is_some, Result, Ok, Err, refl, sym, ap, ◌∙◌, arith, subst}
+use Rattle.std.proofs.lemmas.Bool.{and_parts, or_parts}
+use Rattle.cp_model.specs.Accepted.{at_most}
 use Rattle.std.proofs.lemmas.List.Sums.{sum_by-cons}
 use Rattle.std.specs.List.{list_all, filter_map}
 use Rattle.std.specs.Option.{option_map}
@@ -25,7 +27,7 @@ use Rattle.cp_path.specs.Text.{is_name}
 use Rattle.cp_json.specs.declared.survey.Survey.{Survey}
 use Rattle.cp_json.specs.Surveys.{survey_of, passed}
 use Rattle.cp_json.proofs.Surveying.{passed_is, survey_whole}
-use Rattle.cp_json.proofs.Looking.{or_parts, at_most, and_parts, AreLow, near_all, all_held}
+use Rattle.cp_json.proofs.Looking.{AreLow, near_all, all_held}
 use Rattle.cp_json.proofs.Growing.{Entry, IsListing, inserted, listing_below, AllSmall, AllPut, leaves, all_put, grown_below, can_below, get_inserted}
 
 -- ---- where nothing is refused

@@ -1,7 +1,8 @@
 -- The walk that looks for the earliest place without a value.
-use Rattle.std.proofs.Common.{◌≡◌, ◌≤◌, ◌+◌, ℕ, Bool, true, false, ◌||◌, ◌&&◌, List, [], ◌∷◌, ◌++◌, length, nat_lt, is_some, decimal, refl, sym, ap, ◌∙◌, arith, length-append, subst}
+use Rattle.std.proofs.Common.{◌≡◌, ◌+◌, ℕ, true, false, List, [], ◌∷◌, ◌++◌, length, nat_lt, is_some, decimal, refl, sym, ap, ◌∙◌, arith, length-append, subst}
+use Rattle.std.proofs.lemmas.Bool.{and_parts, or_parts}
+use Rattle.cp_model.specs.Accepted.{at_most}
 use Rattle.std.proofs.lemmas.List.Folds.{list_any-append}
-use Rattle.std.proofs.lemmas.Bool.Decides.{nat_tests}
 use Rattle.std.specs.List.{list_all}
 use Rattle.std.specs.declared.option.Option.{Option}
 use Rattle.std.specs.declared.option.Option.TheVariants.{None, Some}
@@ -54,10 +55,6 @@ first_is d = below_is (with_place None [] (content_of d)) [] d
 
 -- ---- where each place holds a value
 
-pub and_parts : (a b : Bool) → (a && b) ≡ true → (a ≡ true) × (b ≡ true)
-and_parts true b h = (refl, h)
-and_parts false b h = absurd (cc)
-
 stays : (o : Option Path) (p : Path) (c : Option Content) → is_some c ≡ true → with_place o p c ≡ o
 stays o p None h = absurd (cc)
 stays o p (Some c) h = refl
@@ -85,10 +82,6 @@ all_held ((q, None) ∷ es) h = absurd (let s = found_stays es q in let n = ap i
 
 -- ---- limits
 
-pub or_parts : (a b : Bool) → (a || b) ≡ false → (a ≡ false) × (b ≡ false)
-or_parts true b h = absurd (cc)
-or_parts false b h = (refl, h)
-
 -- no label is too long and no place too deep
 pub record AreLow (es : List Entry) : Type 0 where
   pub short : any_above 255 (λ e. last_bytes e.0) es ≡ false
@@ -101,9 +94,6 @@ low_parts e es fs h =
     let c = or_parts _ _ (sym (list_any-append (λ (e : Entry). nat_lt 255 (last_bytes e.0)) es fs) ∙ a.1) in
     let d = or_parts _ _ (sym (list_any-append (λ (e : Entry). nat_lt 64 (length e.0)) es fs) ∙ b.1) in
     (a.0, b.0, record { short = c.0; few = d.0 }, record { short = c.1; few = d.1 })
-
-pub at_most : (k n : ℕ) → nat_lt k n ≡ false → n ≤ k
-at_most k n h = grind (arith, nat_tests)
 
 near : (p : Path) (a : Label) → nat_lt 255 (last_bytes (child p a)) ≡ false → nat_lt 64 (length (child p a)) ≡ false → IsNear p a
 near p a s f =

@@ -1,5 +1,6 @@
 -- What the survey counts is what is said of the listing of the places.
 use Rattle.std.proofs.Common.{◌≡◌, ◌≤◌, ◌<◌, ◌+◌, ◌-◌, ◌^◌, ℕ, Bool, true, false, ◌||◌, ◌&&◌, List, [], ◌∷◌, ◌++◌, length, min, max, sum_by, nat_lt, is_some, decimal, refl, sym, ap, ◌∙◌, arith, length-append}
+use Rattle.std.proofs.Math.Bool.{or_assoc}
 use Rattle.std.proofs.lemmas.List.Sums.{sum_by-cons, sum_by-append}
 use Rattle.std.proofs.lemmas.Bool.Decides.{nat_tests}
 use Rattle.std.specs.List.{list_all}
@@ -92,10 +93,6 @@ survey_is n d h = ap (λ r. below_noted r d (noted r (content_of d) none_seen)) 
 or_nil : (b : Bool) → b ≡ (b || false)
 or_nil true = refl
 or_nil false = refl
-
-or_assoc : (a b c : Bool) → ((a || b) || c) ≡ (a || (b || c))
-or_assoc true b c = refl
-or_assoc false b c = refl
 
 and_nil : (b : Bool) → b ≡ (b && true)
 and_nil true = refl

@@ -1,5 +1,6 @@
 -- Sources: what is loaded, and what isn't.
 use Rattle.std.specs.Prelude.{ℕ, ◌≡◌, ◌==◌, ◌+◌, ◌≤◌, ◌<◌, true, false, not, List, [], ◌∷◌, ◌++◌, length, is_some, refl, if◌then◌else◌}
+use Rattle.cp_model.specs.Accepted.{none_is}
 use Rattle.std.proofs.Common.{sym, ap, subst, ◌∙◌, arith, length-append}
 use Rattle.std.specs.declared.option.Option.{Option}
 use Rattle.std.specs.declared.option.Option.TheVariants.{None, Some}
@@ -44,10 +45,6 @@ none_is_closed view ss t n (failed k c) h = absurd h
 some_is : {X : Type 0} (o : Option X) → is_some o ≡ true → (x : X) × (o ≡ Some x)
 some_is None h = absurd (cc)
 some_is (Some x) h = (x, refl)
-
-none_is : {X : Type 0} (o : Option X) → is_some o ≡ false → o ≡ None
-none_is None h = refl
-none_is (Some x) h = absurd (cc)
 
 module _ {R : Type 0} (view : R → Tree) (d : Database R) (s : Session) (z : Stands view d s) (name : List ℕ) where
   abbrev t : State

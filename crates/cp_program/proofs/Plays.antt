@@ -1,5 +1,6 @@
 -- Bytes played one after another, and what was written for them.
 use Rattle.std.proofs.Common.{◌≡◌, ℕ, ◌+◌, ◌<◌, get_or, List, [], ◌∷◌, ◌++◌, take, drop, length, Bool, true, false, Option, Result, Ok, Err, OnOk, refl, sym, ap, ◌∙◌, subst, append_assoc, append-nil, arith}
+use Rattle.std.proofs.Math.Bool.{or_assoc}
 use Rattle.std.specs.Prelude.{◌||◌, ⊤}
 use Rattle.std.specs.List.{flat_map, list_any}
 use Rattle.std.specs.declared.option.Option.TheVariants.{None, Some}
@@ -31,10 +32,6 @@ use Rattle.cp_program.specs.declared.stop.Stop.{Stop}
 use Rattle.cp_program.specs.declared.stop.Stop.TheVariants.{Output, Full, File, Memory}
 
 -- which of three is true
-pub or-assoc : (a b c : Bool) → ((a || b) || c) ≡ (a || (b || c))
-or-assoc true b c = refl
-or-assoc false b c = refl
-
 -- false adds nothing
 pub or-false : (b : Bool) → b ≡ (b || false)
 or-false true = refl
@@ -132,7 +129,7 @@ module _ (files : FileTable) where
 
   joined-assoc : (d e f : Ended) → joined (joined d e) f ≡ joined d (joined e f)
   unfolding ended
-  joined-assoc d e f = ap (λ o. ended o ((d.refused || e.refused) || f.refused)) (append_assoc d.out e.out f.out) ∙ ap (ended (d.out ++ (e.out ++ f.out))) (or-assoc d.refused e.refused f.refused)
+  joined-assoc d e f = ap (λ o. ended o ((d.refused || e.refused) || f.refused)) (append_assoc d.out e.out f.out) ∙ ap (ended (d.out ++ (e.out ++ f.out))) (or_assoc d.refused e.refused f.refused)
 
   -- the rest may begin with bytes that are played
   pub all-append : (s : Seen) (xs ys : List ℕ) → plays_all files s (xs ++ ys) ≡ joined (plays files s xs) (plays_all files (after_play files s xs) ys)
@@ -228,7 +225,7 @@ module _ (files : FileTable) where
   goes-then view s xs ys old mid new b m a g h =
       rw (plays-append s xs ys, after-append s xs ys) (
         h.0,
-        h.1 ∙ ap (λ z. z || (plays files (after_play files s xs) ys).refused) g.1 ∙ or-assoc old.refused (plays files s xs).refused (plays files (after_play files s xs) ys).refused,
+        h.1 ∙ ap (λ z. z || (plays files (after_play files s xs) ys).refused) g.1 ∙ or_assoc old.refused (plays files s xs).refused (plays files (after_play files s xs) ys).refused,
         Appends-then b m a (plays files s xs).out (plays files (after_play files s xs) ys).out g.2 h.2,
       )
 

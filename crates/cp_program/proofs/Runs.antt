@@ -1,5 +1,6 @@
 -- A run is its first turns, and then the rest.
 use Rattle.std.proofs.Common.{◌≡◌, ℕ, ◌+◌, ◌≤◌, ◌<◌, List, [], ◌++◌, take, length, Bool, Option, Err, inl, inr, refl, sym, ap, ◌∙◌, subst, append_assoc, append-nil, arith}
+use Rattle.std.proofs.Math.Bool.{or_assoc}
 use Rattle.std.specs.Prelude.{◌||◌}
 use Rattle.std.proofs.Math.Seq.{take-append-add}
 use Rattle.std.proofs.lemmas.List.{length-append}
@@ -20,7 +21,7 @@ use Rattle.cp_program.specs.declared.end.End.{End}
 use Rattle.cp_program.specs.declared.end.End.TheVariants as how
 use Rattle.cp_program.specs.declared.stop.Stop.{Stop}
 use Rattle.cp_program.specs.declared.stop.Stop.TheVariants.{Output, Full, File, Memory}
-use Rattle.cp_program.proofs.Plays.{or-assoc, plays-append, all-append, all-closes, all-none, plays-none, goes-none, goes-then, part-then, part-more}
+use Rattle.cp_program.proofs.Plays.{plays-append, all-append, all-closes, all-none, plays-none, goes-none, goes-then, part-then, part-more}
 
 -- ---- counts of refusals
 
@@ -50,7 +51,7 @@ module _ (files : FileTable) where
 
   -- whether a refusal was written, behind the bytes and then the rest
   pub refused-then : (s : Seen) (f : Bool) (xs ys : List ℕ) → (marked f (plays_all files s (xs ++ ys))).refused ≡ (marked (f || (plays files s xs).refused) (plays_all files (after_play files s xs) ys)).refused
-  refused-then s f xs ys = ap (λ (e : Ended). f || e.refused) (all-append files s xs ys) ∙ sym (or-assoc f (plays files s xs).refused (plays_all files (after_play files s xs) ys).refused)
+  refused-then s f xs ys = ap (λ (e : Ended). f || e.refused) (all-append files s xs ys) ∙ sym (or_assoc f (plays files s xs).refused (plays_all files (after_play files s xs) ys).refused)
 
   -- all that was written, behind the bytes and then the rest
   pub out-then : (s : Seen) (xs ys : List ℕ) → (plays_all files s (xs ++ ys)).out ≡ (plays files s xs).out ++ (plays_all files (after_play files s xs) ys).out

@@ -1,20 +1,18 @@
 -- The rows of literal trees, and how deep they lie.
-use Rattle.std.specs.Prelude.{◌≡◌, ℕ, zero, suc, ◌+◌, ◌≤◌, List, [], ◌∷◌, ◌++◌, length, map, max}
-use Rattle.std.proofs.Common.{append-nil, sym, ap, ◌∙◌, arith, append_assoc, length-append, get_or, drop, ◌<◌, Result, Ok, Err, OnOk, add-one}
-use Rattle.std.proofs.lemmas.List.{map-append, length-map}
-use Rattle.std.proofs.Math.Seq.{drop-cons}
+use Rattle.std.specs.Prelude.{◌≡◌, ℕ, ◌+◌, ◌≤◌, List, [], ◌∷◌, ◌++◌, length, map, max}
+use Rattle.std.proofs.Common.{append-nil, sym, ap, ◌∙◌, arith, append_assoc, length-append, drop, Result, Ok, Err, OnOk}
+use Rattle.std.proofs.lemmas.List.{map-append}
 use Rattle.std.proofs.Math.ListN.{drop_of_length-le}
 use Rattle.cp_model.specs.declared.row.Content.{Content}
-use Rattle.cp_model.specs.declared.row.Content.TheVariants.{Node, Leaf}
+use Rattle.cp_model.specs.declared.row.Content.TheVariants.{Node}
 use Rattle.cp_model.specs.declared.row.Row.{Row}
-use Rattle.cp_model.specs.declared.literal.Literal.{Literal}
-use Rattle.cp_model.specs.declared.literal.Literal.TheVariants as literal
 use Rattle.cp_model.specs.declared.literal.LitEdge.{LitEdge}
 use Rattle.cp_model.specs.Literals.{literal_rows, rows_under, edge_rows}
-use Rattle.cp_model.specs.Place.{Label, Path, child}
+use Rattle.cp_model.specs.Place.{Path, child}
 use Rattle.cp_model.specs.Subtrees.{moved}
 use Rattle.cp_tree.specs.Listing.{entries_in-rows, moved-append, moved-under, moved-first, moved-root}
 use Rattle.cp_tree.specs.Counted.{greatest-append}
+use Rattle.cp_tree.specs.Edges.{deepest-literal, edge-fewer}
 use Rattle.cp_tree.specs.Rows.{row_of, entries_in, deepest}
 
 -- rows that are those of entries have these entries
@@ -31,20 +29,12 @@ entries-root at rs first all es r p f h = ap entries_in r ∙ h ∙ ap (λ xs. e
 
 -- ---- depths
 
-deepest_under : (a : Label) (r : Path × Content) (es : List (Path × Content)) → deepest (rows_under a (r ∷ es)) ≡ 1 + deepest (r ∷ es)
-deepest_under a r [] = omega arith
-deepest_under a r (e ∷ es) = ap (max (length (a ∷ r.0))) (deepest_under a e es) ∙ omega arith
-
-deepest_literal : (a : Label) (t : Literal) → deepest (rows_under a (literal_rows t)) ≡ 1 + deepest (literal_rows t)
-deepest_literal a (literal.Leaf v) = deepest_under a ([], Leaf v) []
-deepest_literal a (literal.Node below) = deepest_under a ([], Node) below
-
 -- the most labels of an edge's rows, and of those of the others
 pub deepest-edge : (e : LitEdge) (rest tail : List LitEdge) → tail ≡ e ∷ rest → deepest (edge_rows tail) ≡ max (1 + deepest (literal_rows e.tree)) (deepest (edge_rows rest))
 deepest-edge e rest tail t =
     ap (λ es. deepest (edge_rows es)) t
     ∙ greatest-append (λ r. length r.0) (rows_under e.label (literal_rows e.tree)) (edge_rows rest)
-    ∙ ap (λ n. max n (deepest (edge_rows rest))) (deepest_literal e.label e.tree)
+    ∙ ap (λ n. max n (deepest (edge_rows rest))) (deepest-literal e.label e.tree)
 
 -- ---- rows
 
@@ -92,22 +82,10 @@ rows-node (Err e) at rs new all below r n p c h = tt
 pub rows-fewer : (e : LitEdge) (rest edges : List LitEdge) (i : ℕ) (below : List (Path × Content)) → drop i edges ≡ e ∷ rest → edge_rows edges ≡ below → length (literal_rows e.tree) ≤ length below
 rows-fewer e rest edges i below t b =
     let all : length (edge_rows edges) ≡ length below = ap length b in
-    omega (arith, all, fewer i edges t)
-  where
-    more : (d : LitEdge) (ds : List LitEdge) → length (edge_rows (d ∷ ds)) ≡ length (literal_rows d.tree) + length (edge_rows ds)
-    more d ds = length-append (rows_under d.label (literal_rows d.tree)) (edge_rows ds) ∙ ap (λ n. n + length (edge_rows ds)) (length-map (literal_rows d.tree) (λ r. (d.label ∷ r.0, r.1)))
-
-    fewer : (i : ℕ) (es : List LitEdge) → drop i es ≡ e ∷ rest → length (literal_rows e.tree) ≤ length (edge_rows es)
-    fewer zero es t = (let all : length (edge_rows es) ≡ length (edge_rows (e ∷ rest)) = ap (λ ds. length (edge_rows ds)) t in omega (arith, all, more e rest))
-    fewer (suc i) [] t = absurd (cc)
-    fewer (suc i) (d ∷ ds) t = omega (arith, more d ds, fewer i ds t)
+    omega (arith, all, edge-fewer e rest i edges t)
 
 -- an edge's tree lies no deeper than the rows of its siblings
 pub path-within : (at path : Path) (e : LitEdge) (rest tail : List LitEdge) → tail ≡ e ∷ rest → path ≡ child at e.label → length at + deepest (edge_rows tail) ≤ 64 → length path + deepest (literal_rows e.tree) ≤ 64
 path-within at path e rest tail t p h =
     let long : length path ≡ length at + 1 = ap length p ∙ length-append at (e.label ∷ []) in
     omega (arith, long, deepest-edge e rest tail t)
-
--- where one entry is left of a list, and the others
-pub drop-one : {X : Type 0} (xs : List X) (i : ℕ) (x : X) → i < length xs → x ≡ get_or xs i x → drop i xs ≡ x ∷ drop (i + 1) xs
-drop-one xs i x h e = drop-cons xs i x h ∙ ap (λ y. y ∷ drop (suc i) xs) (sym e) ∙ ap (λ k. x ∷ drop k xs) (sym (add-one i))

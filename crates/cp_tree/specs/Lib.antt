@@ -11,3 +11,4 @@ pub mod Counted
 pub mod Tallies
 pub mod Fits
 pub mod Leaves
+pub mod Edges

@@ -1,6 +1,6 @@
 -- Steps of walks over the edges below a root.
 use Rattle.std.specs.Prelude.{◌≡◌, is_some, ℕ, ◌+◌, ◌≤◌, ◌-◌, List, [], ◌∷◌, ◌++◌, map, length, IfSome, IfNone}
-use Rattle.std.proofs.Common.{sym, ap, subst, ◌∙◌, T, arith, append_assoc, take, length-append, refl}
+use Rattle.std.proofs.Common.{sym, ap, subst, ◌∙◌, T, arith, append_assoc, append-nil, take, length-append, refl}
 use Rattle.std.proofs.Math.Seq.{take-append_seam}
 use Rattle.std.proofs.lemmas.List.{map-append}
 use Rattle.std.specs.declared.option.Option.{Option}
@@ -26,10 +26,6 @@ use Rattle.cp_tree.specs.Totals.{kids_len, len-branch}
 use Rattle.cp_tree_box.proofs.Maps.{looked, insert-put}
 
 -- nothing behind a list
-pub append_end : {X : Type 0} (xs : List X) → xs ++ [] ≡ xs
-append_end [] = refl
-append_end (x ∷ xs) = ap (λ z. x ∷ z) (append_end xs)
-
 -- a subtree of a subtree
 pub sub-child : (m n : Tree) (p : Path) (a : Label) → n ≡ sub m p → sub n (a ∷ []) ≡ sub m (child p a)
 sub-child m n p a e = keyed.same_map (sub n (a ∷ [])) (sub m (child p a)) (λ q.
@@ -90,7 +86,7 @@ pub rows_all : (m : Tree) (x : Content) (es it all : List (Label × Tree)) (befo
     first ≡ before ++ row ∷ [] → row.path ≡ p → row.content ≡ x →
     out ++ map row_of (moved p (kid_rows it)) ≡ first ++ map row_of (moved p (kid_rows all)) → out ≡ before ++ map row_of (moved p (keyed.entries m))
 rows_all m x es it all before first out p row view g a i f rp rx h =
-    let ends : out ≡ first ++ map row_of (moved p (kid_rows all)) = sym (append_end out) ∙ ap (λ z. out ++ map row_of z) (sym (moved-none p)) ∙ ap (λ z. out ++ map row_of (moved p (kid_rows z))) (sym i) ∙ h in
+    let ends : out ≡ first ++ map row_of (moved p (kid_rows all)) = sym (append-nil out) ∙ ap (λ z. out ++ map row_of z) (sym (moved-none p)) ∙ ap (λ z. out ++ map row_of (moved p (kid_rows z))) (sym i) ∙ h in
     let is_row : row ≡ row_of (p, x) = λ j. record { path = rp j; content = rx j } in
     let rows : map row_of (moved p (keyed.entries m)) ≡ row_of (p, x) ∷ map row_of (moved p (kid_rows all)) =
     ap (λ z. map row_of (moved p (keyed.entries z))) (sym view) ∙ ap (map row_of) (moved-branch p x es g.sorted) ∙ ap (λ z. row_of (p, x) ∷ map row_of (moved p (kid_rows z))) (sym a) in
@@ -104,7 +100,7 @@ sorted_as e s = subst (λ z. T (is_sorted text_cmp z)) (sym e) s
 -- a root with all its edges is copied
 module _ (x y : Content) (es done it all : List (Label × Tree)) (c : y ≡ x) (a : all ≡ es) (i : it ≡ []) (h : done ++ it ≡ all) where
   edges_copied : done ≡ es
-  edges_copied = sym (append_end done) ∙ ap (λ z. done ++ z) (sym i) ∙ h ∙ a
+  edges_copied = sym (append-nil done) ∙ ap (λ z. done ++ z) (sym i) ∙ h ∙ a
 
   pub good_copy : IsGood x es → IsGood y done
   good_copy g = subst (λ z. IsGood z done) (sym c) (subst (IsGood x) (sym edges_copied) g)

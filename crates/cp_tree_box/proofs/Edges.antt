@@ -93,7 +93,3 @@ module _ (m : Tree) (x : Content) (es : List (Label × Tree)) (view : branch x e
   -- with the same edges it is rooted still
   pub whole_as : (fs : List (Label × Tree)) → fs ≡ es → IsRooted (branch x fs)
   whole_as fs e = subst (λ zs. IsRooted (branch x zs)) (sym e) (rooted-branch x es g)
-
--- a root with good edges is rooted
-pub whole : (x : Content) (fs : List (Label × Tree)) → IsGood x fs → IsRooted (branch x fs)
-whole = rooted-branch

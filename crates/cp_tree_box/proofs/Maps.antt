@@ -9,6 +9,7 @@ use Rattle.std.specs.Ordering.{eq_by_cmp, is_eq, is_lt, match_ordering}
 use Rattle.std.specs.FinMap.Entries.{find, put, by_order, where_key, is_sorted, below_all}
 use Rattle.std.specs.Map.{lookup, set_value, remove_entry}
 use Rattle.std.specs.BTreeMap.{is_at, insert_entry}
+use Rattle.cp_tree.specs.Rising.{less_is}
 use Rattle.cp_path.specs.Text.{text_cmp}
 use Rattle.cp_model.specs.Place.{Label}
 use Rattle.cp_model.specs.Sorted.{parts_of}
@@ -38,13 +39,8 @@ module _ {X : Type 0} where
   found_above a b y [] l s f = absurd (cc)
   found_above a b y (e ∷ es) l s f =
       let p = parts_of (is_lt (text_cmp b e.0)) (below_all text_cmp b es) s in
-      let less : text_cmp a e.0 ≡ Less = label_total.trans a b e.0 l (is_less (text_cmp b e.0) p.0) in
+      let less : text_cmp a e.0 ≡ Less = label_total.trans a b e.0 l (less_is (text_cmp b e.0) p.0) in
       found_above a b y es l p.1 (sym (ap (λ o. cond (is_eq o) (Some e.1) (find text_cmp a es)) less) ∙ f)
-    where
-      is_less : (o : Ordering) → T (is_lt o) → o ≡ Less
-      is_less Less h = refl
-      is_less Equal h = absurd h
-      is_less Greater h = absurd h
 
   -- a value written over an edge that is there puts it
   pub set-put : (a : Label) (x y : X) (es : List (Label × X)) → T (is_sorted text_cmp es) → find text_cmp a es ≡ Some y → set_value (is_at (text_cmp a)) es x ≡ put text_cmp a x es

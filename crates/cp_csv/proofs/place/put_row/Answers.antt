@@ -9,8 +9,9 @@ use Rattle.cp_model.specs.Tree.{weight}
 use Rattle.cp_tree.specs.Rows.{alone}
 use Rattle.cp_csv.specs.CsvTrees.{with_fields}
 use Rattle.cp_csv.specs.Steps.{IsBare}
+use Rattle.cp_model.specs.Accepted.{none_is}
 use Rattle.cp_tree.specs.Leaves.{leaf-insert}
-use Rattle.cp_csv.proofs.Placing.{none_is, leaf_fits, new_bare, is_many, is_big, is_fit}
+use Rattle.cp_csv.proofs.Placing.{leaf_fits, new_bare, is_many, is_big, is_fit}
 use Rattle.cp_csv.proofs.place.put_row.Goals as goal
 
 pub returns-then-len-from-clause-told : goal.returns-then-len-from-clause-told
