@@ -1,6 +1,6 @@
 //! The session of the folder `examples`: each text is exactly as the file there, and `examples/compare` compares them.
 
-use crate::sources::{SCRATCH, Table, replies_with};
+use crate::calls::{SCRATCH, Table, replies_with};
 use std::test::*;
 
 const GENES: &str = r#"gene,symbol,chromosome,name

@@ -1,7 +1,7 @@
 //! A few hundred scripts, run by the program and by a plain slow one, whose places carry their whole past.
 ghost use Rattle.std.specs.Prelude.{◌<◌};
 
-use crate::sources::{SCRATCH, replies_with};
+use crate::calls::{SCRATCH, replies_with};
 use std::alloc::{AllocError, Global};
 use std::test::*;
 

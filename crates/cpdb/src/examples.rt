@@ -1,6 +1,6 @@
 //! The sessions that `docs/STATEMENTS.md` and `README.md` show.
 
-use crate::tests::replies;
+use crate::calls::replies;
 use std::test::*;
 
 #[test]

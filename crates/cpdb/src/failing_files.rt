@@ -1,6 +1,6 @@
 //! Files, inputs and outputs that fail in sessions with files.
 
-use crate::sources::{Fails, SCRATCH, Table, ends};
+use crate::calls::{Fails, SCRATCH, Table, ends};
 use crate::starts::{FROM_T0, T0};
 use std::test::*;
 
@@ -52,7 +52,7 @@ fn a_file_that_fails_ends_the_call(rt: HostRuntime) -> Result<(), Fail> {
             reads: &[],
             writes,
         };
-        ends(&rt, files, words, text, fails, code, written)?;
+        ends(&rt, files, words, text.as_bytes(), fails, code, written)?;
     }
     Ok(())
 }
@@ -78,7 +78,7 @@ fn a_start_tree_that_fails_leaves_the_input(rt: HostRuntime) -> Result<(), Fail>
             writes,
         };
         assert_eq!(rt;
-            ends(&rt, files, words, "abort;", fails, code, written)?,
+            ends(&rt, files, words, b"abort;", fails, code, written)?,
             8,
             "{written}"
         );
@@ -124,7 +124,7 @@ fn a_failed_read_or_write_ends_a_session_with_loads(rt: HostRuntime) -> Result<(
             reads,
             writes,
         };
-        ends(&rt, files, SCRATCH, text, fails, code, written)?;
+        ends(&rt, files, SCRATCH, text.as_bytes(), fails, code, written)?;
     }
     Ok(())
 }

@@ -1,6 +1,6 @@
 //! Deletions, copies inside T, and what is shown and asked of them.
 
-use crate::tests::replies;
+use crate::calls::replies;
 use std::test::*;
 
 #[test]

@@ -1,6 +1,6 @@
 //! Inputs that meet the limits exactly, and inputs that pass them by one.
 
-use crate::tests::replies;
+use crate::calls::replies;
 use std::alloc::Global;
 use std::test::*;
 

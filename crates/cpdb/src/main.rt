@@ -7,6 +7,8 @@ use std::io::ErrorKind;
 use std::process::ExitCode;
 
 #[cfg(test)]
+mod calls;
+#[cfg(test)]
 mod curation;
 #[cfg(test)]
 mod differential;

@@ -1,7 +1,7 @@
 //! Copies from sources: what they bring, where it came from, and what refuses them.
 
+use crate::calls::{SCRATCH, Table, replies_with};
 use crate::source_limits::{long_place, nested};
-use crate::sources::{SCRATCH, Table, replies_with};
 use crate::starts::S1;
 use std::process::Abort;
 use std::test::*;

@@ -1,6 +1,7 @@
 //! The limits of what is loaded: labels, texts, places, nodes, weight and the bytes of a file.
 
-use crate::sources::{CSV, CSV_BY_A, JSON, SCRATCH, counts, refuses, replies_with};
+use crate::calls::{SCRATCH, replies_with};
+use crate::sources::{CSV, CSV_BY_A, JSON, counts, refuses};
 use std::alloc::{AllocError, Global};
 use std::test::*;
 

@@ -1,7 +1,7 @@
 //! Trees that sessions start from.
 
+use crate::calls::{NONE, Table, ends, replies_with};
 use crate::source_limits::{long_place, nested};
-use crate::sources::{NONE, Table, ends, replies_with};
 use std::process::Abort;
 use std::test::*;
 
@@ -79,7 +79,7 @@ fn starts_not(
     bytes: &[u8],
     written: &str,
 ) -> Result<(), Fail> {
-    let left = ends(rt, &[("f", bytes)], words, "commit;", NONE, 1, written)?;
+    let left = ends(rt, &[("f", bytes)], words, b"commit;", NONE, 1, written)?;
     assert_eq!(rt; left, 7, "{written}");
     Ok(())
 }

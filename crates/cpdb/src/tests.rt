@@ -1,13 +1,11 @@
+use crate::calls::{Fails, SCRATCH, ends, owned};
 use cp_host::{StdinSource, StdoutSink};
-use cp_outside::{MemFiles, MemSink, MemSource, Source};
+use cp_outside::MemFiles;
 use cp_program::{Status, run_cpdb};
-use std::alloc::Global;
 use std::io;
 use std::io::{Read, Write};
 use std::process::Abort;
 use std::test::*;
-
-const SCRATCH: &[&str] = &["cpdb", "scratch", "n"];
 
 const USAGE: &str = "\
 usage: cpdb scratch KIND [JSON]
@@ -23,17 +21,8 @@ usage: cpdb gen SEED COUNT KIND
 usage: cpdb log STORE
 ";
 
-// These words, as the program gets them.
-pub(crate) fn owned(alloc: Global, words: &[&str]) -> Result<Vec<String>, Fail> {
-    let mut list = Vec::new(alloc);
-    for word in words {
-        list.push(String::from_str(alloc, word)?)?;
-    }
-    Ok(list)
-}
-
-// One call: its words, its input, the input's and the output's calls that fail, its status and
-// whole output. Says how much of the input one more read finds.
+// One call without files: its words, its input, the input's and the output's calls that fail, its
+// status and whole output. Says how much of the input one more read finds.
 fn runs(
     rt: &(impl Abort + AllocGlobal),
     words: &[&str],
@@ -42,34 +31,12 @@ fn runs(
     code: u8,
     written: &str,
 ) -> Result<usize, Fail> {
-    let alloc = rt.alloc();
-    let words = owned(alloc, words)?;
-    let mut files = MemFiles::new(alloc, &[])?;
-    let mut input = MemSource::with_faults(alloc, text.as_bytes(), fails.0)?;
-    let mut output = MemSink::with_faults(alloc, fails.1)?;
-    let status = run_cpdb(alloc, words.as_slice(), &mut files, &mut input, &mut output);
-    assert_eq!(rt; output.bytes(), written.as_bytes(), "{text}");
-    assert_eq!(rt; status, Status { code }, "{text}");
-    let mut room = [0; 8];
-    Ok(input.read(&mut room).unwrap_or(8))
-}
-
-// A session over the input: its status and whole output.
-pub(crate) fn replies(
-    rt: &(impl Abort + AllocGlobal),
-    text: &[u8],
-    code: u8,
-    written: &str,
-) -> Result<(), Fail> {
-    let alloc = rt.alloc();
-    let words = owned(alloc, SCRATCH)?;
-    let mut files = MemFiles::new(alloc, &[])?;
-    let mut input = MemSource::new(alloc, text)?;
-    let mut output = MemSink::new(alloc)?;
-    let status = run_cpdb(alloc, words.as_slice(), &mut files, &mut input, &mut output);
-    assert_eq!(rt; output.bytes(), written.as_bytes());
-    assert_eq!(rt; status, Status { code });
-    Ok(())
+    let fails = Fails {
+        files: &[],
+        reads: fails.0,
+        writes: fails.1,
+    };
+    ends(rt, &[], words, text.as_bytes(), fails, code, written)
 }
 
 #[test]
