@@ -1,28 +1,28 @@
 -- A row put into a tree: its places are new, and what they add is counted.
 use Rattle.std.proofs.Common.{◌≡◌, ℕ, ◌+◌, ◌<◌, ◌≤◌, Bool, true, false, cond, ◌&&◌, ◌||◌, List, [], ◌∷◌, length, Option, Some, None, if◌then◌else◌, is_some, refl, sym, ap, subst, ◌∙◌, arith, nat_lt, length-append, ◌==◌, not, Result, Err, ◌⊎◌, inl, inr}
-use Rattle.cp_model.specs.Accepted.{none_is}
+use Rattle.cp_model.proofs.Accepted.{none_is}
 use Rattle.std.proofs.lemmas.Bool.Decides.{nat_tests}
 use Rattle.std.proofs.lemmas.List.Sums.{sum_by-append}
-use Rattle.std.specs.List.{list_any}
+use Rattle.std.specs.List.{list_any, list_all}
 use Rattle.cp_path.specs.Text.{text_eq}
 use Rattle.cp_path.specs.declared.value.Value.TheVariants.{Text}
 use Rattle.cp_model.specs.declared.row.Content.{Content}
 use Rattle.cp_model.specs.declared.row.Content.TheVariants.{Node, Leaf}
-use Rattle.cp_model.specs.Place.{Label, Path, label_eq, path_eq, path_eq_equiv, path_eq-same, child, over_limit}
+use Rattle.cp_model.specs.Place.{Label, Path, label_eq, path_eq, child, over_limit, size}
+use Rattle.cp_path.proofs.Same.{path_eq-same}
+use Rattle.cp_path.specs.PathOrder.{path_eq_equiv}
+use Rattle.cp_model.proofs.KeyedLemmas.{get-insert}
 use Rattle.cp_model.specs.Keyed as keyed
 use Rattle.cp_model.specs.Keyed.{look}
 use Rattle.cp_model.specs.Subtrees.{is_there, replaced}
 use Rattle.cp_model.specs.Tree.{Tree, IsTree, IsRooted, weight, text_bytes, most_nodes, most_weight, most_text}
-use Rattle.cp_model.specs.Sums.{len_insert_new, weight_insert_new}
-use Rattle.cp_tree.specs.Rows.{alone, path_size}
-use Rattle.cp_tree.specs.Fits.{within-limit}
-use Rattle.cp_tree.specs.Leaves.{nothing-below, leaf-insert, leaf-fits}
-use Rattle.std.specs.List.{list_all}
+use Rattle.cp_model.proofs.SumsLemmas.{len_insert_new, weight_insert_new}
+use Rattle.cp_tree.specs.Rows.{alone, path_size, single}
+use Rattle.cp_tree.proofs.Fits.{within-limit}
+use Rattle.cp_tree.proofs.Leaves.{nothing-below, leaf-insert, leaf-fits}
 use Rattle.std.specs.Str.{is_utf8}
 use Rattle.csv.specs.Reading.{records, default_config, strip_bom}
-use Rattle.cp_model.specs.Lookups.{find-from_entries}
-use Rattle.cp_model.specs.Place.{size}
-use Rattle.cp_tree.specs.Rows.{single}
+use Rattle.cp_model.proofs.Lookups.{find-from_entries}
 use Rattle.cp_csv.specs.CsvTrees.{Fields, Reads, is_long_label, is_long_text, repeated, with_fields, with_row, tree_fault, field_fault, row_label, header_fault, rows_tree, records_tree, unless, csv_tree}
 use Rattle.cp_csv.specs.Steps.{IsBare, IsShallow, fields_weight}
 use Rattle.cp_csv.specs.declared.fault.CsvFault.{CsvFault}
@@ -63,10 +63,10 @@ module _ (t : Tree) (row : Label) (h : Label) (hs : List Label) (bare : IsBare t
     apart = parts.1;
     free = λ g n.
         let both = none_pass (label_eq g) h bare.before n in
-        ap is_some (keyed.get-insert t (row ∷ h ∷ []) c (row ∷ g ∷ [])
+        ap is_some (get-insert t (row ∷ h ∷ []) c (row ∷ g ∷ [])
         ∙ ap (λ b. cond b (Some c) (keyed.get t (row ∷ g ∷ []))) (and_no (text_eq row row) (text_eq g h && true) (ap (λ b. b && true) both.0)))
         ∙ bare.free g both.1;
-    node = keyed.get-insert t (row ∷ h ∷ []) c (row ∷ []) ∙ ap (λ b. cond b (Some c) (keyed.get t (row ∷ []))) (and_no (text_eq row row) false refl) ∙ bare.node;
+    node = get-insert t (row ∷ h ∷ []) c (row ∷ []) ∙ ap (λ b. cond b (Some c) (keyed.get t (row ∷ []))) (and_no (text_eq row row) false refl) ∙ bare.node;
   }
 
 -- each field is one more place
@@ -111,8 +111,8 @@ new_bare t row hs h n apart = record {
   column = 1;
   apart = apart;
   free = λ g _.
-      ap is_some (keyed.get-insert t (row ∷ []) Node (row ∷ g ∷ []) ∙ ap (λ b. cond b (Some Node) (keyed.get t (row ∷ g ∷ []))) (and_no (text_eq row row) false refl) ∙ nothing-below t (row ∷ []) (g ∷ []) h n);
-  node = keyed.get-insert t (row ∷ []) Node (row ∷ []) ∙ ap (λ b. cond b (Some Node) (keyed.get t (row ∷ []))) (path_eq_equiv.refl (row ∷ []));
+      ap is_some (get-insert t (row ∷ []) Node (row ∷ g ∷ []) ∙ ap (λ b. cond b (Some Node) (keyed.get t (row ∷ g ∷ []))) (and_no (text_eq row row) false refl) ∙ nothing-below t (row ∷ []) (g ∷ []) h n);
+  node = get-insert t (row ∷ []) Node (row ∷ []) ∙ ap (λ b. cond b (Some Node) (keyed.get t (row ∷ []))) (path_eq_equiv.refl (row ∷ []));
 }
 
 -- ---- the row
@@ -148,10 +148,10 @@ module _ (t : Tree) (row : Label) (hs : List Label) (fs : Fields) (h : IsRooted 
 root_kept : (row : Label) (hs : List Label) (fs : Fields) (t : Tree) → keyed.get t [] ≡ Some Node → keyed.get (with_fields row hs fs t) [] ≡ Some Node
 root_kept row [] fs t r = r
 root_kept row (h ∷ hs) [] t r = r
-root_kept row (h ∷ hs) (f ∷ fs) t r = root_kept row hs fs (keyed.insert t (row ∷ h ∷ []) (Leaf (Text f))) (keyed.get-insert t (row ∷ h ∷ []) (Leaf (Text f)) [] ∙ r)
+root_kept row (h ∷ hs) (f ∷ fs) t r = root_kept row hs fs (keyed.insert t (row ∷ h ∷ []) (Leaf (Text f))) (get-insert t (row ∷ h ∷ []) (Leaf (Text f)) [] ∙ r)
 
 pub root_stays : (row : Label) (hs : List Label) (fs : Fields) (t : Tree) → keyed.get t [] ≡ Some Node → keyed.get (with_row row hs fs t) [] ≡ Some Node
-root_stays row hs fs t r = root_kept row hs fs (keyed.insert t (row ∷ []) Node) (keyed.get-insert t (row ∷ []) Node [] ∙ r)
+root_stays row hs fs t r = root_kept row hs fs (keyed.insert t (row ∷ []) Node) (get-insert t (row ∷ []) Node [] ∙ r)
 
 -- one more place with few short labels
 shallow_insert : (t : Tree) (k : Path) (c : Content) → IsShallow t → length k ≤ 2 → path_size k ≤ 512 → IsShallow (keyed.insert t k c)
@@ -159,7 +159,7 @@ shallow_insert t k c s deep large p i =
     elim (path_eq p k) as (λ b. path_eq p k ≡ b → is_some (cond b (Some c) (keyed.get t p)) ≡ true → (length p ≤ 2) × (path_size p ≤ 512)) [
       | true ↦ λ e _. (let same : p ≡ k = path_eq-same p k e in subst (λ q. (length q ≤ 2) × (path_size q ≤ 512)) (sym same) (deep, large))
       | false ↦ λ _ j. s p j
-    ] refl (sym (ap is_some (keyed.get-insert t k c p)) ∙ i)
+    ] refl (sym (ap is_some (get-insert t k c p)) ∙ i)
 
 pub text_so : (f : List ℕ) → is_long_text f ≡ false → length f ≤ 1048576
 text_so f e = grind (arith, nat_tests)

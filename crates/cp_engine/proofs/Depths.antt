@@ -7,17 +7,18 @@ use Rattle.cp_path.specs.declared.loc.Loc.{Loc}
 use Rattle.cp_model.specs.declared.row.Content.{Content}
 use Rattle.cp_model.specs.declared.row.Row.{Row}
 use Rattle.cp_model.specs.declared.literal.LitEdge.{LitEdge}
-use Rattle.cp_model.specs.Place.{Path, at_target, child, below_place, over_limit, path_eq, path_eq_equiv}
+use Rattle.cp_model.specs.Place.{Path, at_target, child, below_place, over_limit, path_eq}
+use Rattle.cp_path.specs.PathOrder.{path_eq_equiv}
 use Rattle.cp_model.specs.Keyed.{look}
-use Rattle.cp_model.specs.Lookups.{find-below}
+use Rattle.cp_model.proofs.Lookups.{find-below}
 use Rattle.cp_model.specs.Subtrees.{below, is_there}
 use Rattle.cp_model.specs.Literals.{literal_rows, rows_under, edge_rows}
 use Rattle.cp_model.specs.Tree.{Tree, IsTree, reaches_over}
-use Rattle.cp_model.specs.Accepted.{at_most}
-use Rattle.cp_tree.specs.Edges.{deepest-literal}
+use Rattle.cp_model.proofs.Accepted.{at_most}
+use Rattle.cp_tree.proofs.Edges.{deepest-literal}
 use Rattle.cp_tree.specs.Rows.{greatest, deepest, row_of}
-use Rattle.cp_tree.specs.Counted.{greatest-append}
-use Rattle.cp_engine.specs.RowsAlone.{root-below}
+use Rattle.cp_tree.proofs.Counted.{greatest-append}
+use Rattle.cp_engine.proofs.RowsAloneLemmas.{root-below}
 use Rattle.cp_engine.proofs.Limits.{over-reached}
 
 no_left : (a b : Bool) → (a || b) ≡ false → a ≡ false

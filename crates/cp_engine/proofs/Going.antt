@@ -3,14 +3,15 @@ use Rattle.std.specs.Prelude.{ℕ, ◌+◌, ◌≤◌, ◌<◌, ◌≡◌, ◌^�
 use Rattle.std.proofs.Common.{sym, ap, subst, ◌∙◌, arith, length-append}
 use Rattle.std.specs.declared.option.Option.TheVariants.{None}
 use Rattle.cp_model.specs.Tree.{Tree, Source, IsTree, refusal, changed}
-use Rattle.cp_model.specs.Kept.{AreTrees}
+use Rattle.cp_model.specs.Laws.{AreTrees}
 use Rattle.cp_model.specs.History.{IsWritten, with_tid}
 use Rattle.cp_model.specs.declared.op.Op.{Op}
 use Rattle.cp_record.specs.Packed.{Holds}
 use Rattle.cp_engine.specs.Passed.{Passed, passed, pass}
 use Rattle.cp_engine.specs.Held.{Appended}
-use Rattle.cp_engine.specs.RowsAlone.{op_rows, rows-alone}
-use Rattle.cp_engine.specs.Linked.{passed-snoc, pass-tree, accepted-snoc, written-snoc, passed-next, tree-passed}
+use Rattle.cp_engine.specs.RowsAlone.{op_rows}
+use Rattle.cp_engine.proofs.RowsAloneLemmas.{rows-alone}
+use Rattle.cp_engine.proofs.Linked.{passed-snoc, pass-tree, accepted-snoc, written-snoc, passed-next, tree-passed}
 use Rattle.cp_engine.specs.Transactions.{IsGoing}
 use Rattle.cp_engine.specs.declared.txn.Txn.{Txn}
 

@@ -19,16 +19,16 @@ use Rattle.cp_model.specs.Keyed.{look}
 use Rattle.cp_model.specs.Subtrees.{below, moved, replaced, is_there}
 use Rattle.cp_model.specs.Literals.{literal_rows, rows_under}
 use Rattle.cp_model.specs.History.{IsLiteral}
-use Rattle.cp_model.specs.Sorted.{sorted-below}
-use Rattle.cp_model.specs.Sums.{len-replaced, len-replaced_new, len-without, weight-without, sum_by-moved, last_bytes_child}
-use Rattle.cp_model.specs.Weights.{weight-moved, weight-put, weight-swapped}
-use Rattle.cp_model.specs.Accepted.{none_is}
-use Rattle.cp_model.specs.Kept.{closed-tree}
-use Rattle.cp_model.specs.Rooted.{rows-literal}
+use Rattle.cp_model.proofs.Sorted.{sorted-below}
+use Rattle.cp_model.proofs.SumsLemmas.{len-replaced, len-replaced_new, len-without, weight-without, sum_by-moved, last_bytes_child}
+use Rattle.cp_model.proofs.Weights.{weight-moved, weight-put, weight-swapped}
+use Rattle.cp_model.proofs.Accepted.{none_is}
+use Rattle.cp_model.proofs.Kept.{closed-tree}
+use Rattle.cp_model.proofs.Rooted.{rows-literal}
 use Rattle.cp_model.specs.Tree.{Tree, IsTree, first_case, limits_of, reaches_over, weight, weight_of, most_nodes, most_weight}
 use Rattle.cp_tree.specs.Rows.{path_size, greatest, reach_of, reach_at}
 use Rattle.cp_tree.specs.declared.reach.Reach.{Reach}
-use Rattle.cp_engine.specs.RowsAlone.{root-below}
+use Rattle.cp_engine.proofs.RowsAloneLemmas.{root-below}
 use Rattle.cp_engine.specs.Reaching.{over_by, limit_passed, literal_reach}
 
 -- a sum with the greater of two is over where it is with one of them

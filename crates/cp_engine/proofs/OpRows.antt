@@ -3,13 +3,14 @@ use Rattle.std.specs.Prelude.{ℕ, ◌+◌, ◌≤◌, ◌<◌, ◌≡◌, Bool,
 use Rattle.std.proofs.Common.{sym, ap, subst, ◌∙◌, arith, length-append, Result, OnOk}
 use Rattle.std.specs.declared.option.Option.TheVariants.{None, Some}
 use Rattle.cp_path.specs.declared.loc.Loc.{Loc}
-use Rattle.cp_model.specs.Place.{Label, Path, child, below_place, place_eq, place_eq-same, place_eq-refl}
+use Rattle.cp_model.specs.Place.{Label, Path, child, below_place, place_eq}
+use Rattle.cp_path.proofs.Same.{place_eq-same, place_eq-refl}
 use Rattle.cp_model.specs.Keyed.{look}
 use Rattle.cp_model.specs.Subtrees.{below, is_there, moved}
 use Rattle.cp_model.specs.Literals.{literal_rows}
 use Rattle.cp_model.specs.History.{with_tid}
 use Rattle.cp_model.specs.Tree.{Tree, Source, database, taken, IsTree, refusal, reaches_over}
-use Rattle.cp_model.specs.Accepted.{ins_accepted}
+use Rattle.cp_model.proofs.Accepted.{ins_accepted}
 use Rattle.cp_model.specs.declared.row.Content.{Content}
 use Rattle.cp_model.specs.declared.row.Row.{Row}
 use Rattle.cp_model.specs.declared.literal.Literal.{Literal}
@@ -20,12 +21,11 @@ use Rattle.cp_model.specs.declared.record.RowMark.TheVariants as mark
 use Rattle.cp_model.specs.declared.record.RecOp.TheVariants as letter
 use Rattle.cp_record.specs.Bytes.{record_below}
 use Rattle.cp_record.specs.declared.packed.PackedRecords.{PackedRecords}
-use Rattle.cp_tree.specs.Rows.{row_of, greatest}
+use Rattle.cp_tree.specs.Rows.{row_of, greatest, deepest}
 use Rattle.cp_engine.specs.Held.{Appended}
 use Rattle.cp_engine.specs.RowsAlone.{behind, op_rows}
-use Rattle.cp_tree.specs.Rows.{deepest}
 use Rattle.cp_engine.proofs.Depths.{deepest-within, deepest-rows, below-within}
-use Rattle.cp_engine.specs.RowsAlone.{root-below}
+use Rattle.cp_engine.proofs.RowsAloneLemmas.{root-below}
 use Rattle.cp_engine.proofs.Recorded.{appended-none}
 
 made_rows : (tid : ℕ) (base : Path) (es : List (Path × Content)) → map (λ (e : Path × Content). record_below tid letter.I base e.0 None) (moved [] es) ≡ with_tid tid (behind base (λ _. mark.Made) es)

@@ -13,7 +13,7 @@ use Rattle.cp_model.specs.Place.{Label, Path}
 use Rattle.cp_model.specs.Literals.{literal_rows, rows_under, edge_rows}
 use Rattle.cp_model.specs.Tree.{weight_of, text_bytes}
 use Rattle.cp_tree.specs.Rows.{path_size, greatest, reach_of}
-use Rattle.cp_tree.specs.Counted.{greatest-append}
+use Rattle.cp_tree.proofs.Counted.{greatest-append}
 use Rattle.cp_tree.specs.declared.reach.Reach.{Reach}
 use Rattle.cp_engine.specs.Reaching.{capped, joined, alone_at, literal_reach}
 

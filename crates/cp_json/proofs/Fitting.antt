@@ -1,7 +1,7 @@
 -- A value that nothing refuses can be made into a tree, which is the map of its places.
 use Rattle.std.proofs.Common.{◌≡◌, ◌≤◌, ℕ, Bool, true, false, cond, ◌||◌, List, [], ◌∷◌, length, sum_by, nat_lt, is_some, Result, Ok, Err, refl, sym, ap, ◌∙◌, arith, subst}
 use Rattle.std.proofs.lemmas.Bool.{and_parts, or_parts}
-use Rattle.cp_model.specs.Accepted.{at_most}
+use Rattle.cp_model.proofs.Accepted.{at_most}
 use Rattle.std.proofs.lemmas.List.Sums.{sum_by-cons}
 use Rattle.std.specs.List.{list_all, filter_map}
 use Rattle.std.specs.Option.{option_map}
@@ -9,15 +9,17 @@ use Rattle.std.specs.declared.option.Option.{Option}
 use Rattle.std.specs.declared.option.Option.TheVariants.{None, Some}
 use Rattle.serde_json.specs.Data.{Data}
 use Rattle.cp_model.specs.declared.row.Content.{Content}
-use Rattle.cp_model.specs.Place.{Path, path_eq, path_eq-same, or_else, over_limit, size}
+use Rattle.cp_model.specs.Place.{Path, path_eq, or_else, over_limit, size}
+use Rattle.cp_path.proofs.Same.{path_eq-same}
+use Rattle.cp_model.proofs.KeyedLemmas.{same_map}
 use Rattle.cp_model.specs.Keyed as keyed
-use Rattle.cp_model.specs.Keyed.{look, Keyed}
+use Rattle.cp_model.specs.Keyed.{look}
 use Rattle.cp_model.specs.Subtrees.{is_there}
-use Rattle.cp_model.specs.Lookups.{find-from_entries}
+use Rattle.cp_model.proofs.Lookups.{find-from_entries}
 use Rattle.cp_model.specs.Tree.{Tree, IsTree, most_text, most_nodes, most_weight}
 use Rattle.cp_tree.specs.Rows.{single}
-use Rattle.cp_tree.specs.Leaves.{single-get, single-len, single-weight, single-tree}
-use Rattle.cp_tree.specs.Fits.{within-limit}
+use Rattle.cp_tree.proofs.Leaves.{single-get, single-len, single-weight, single-tree}
+use Rattle.cp_tree.proofs.Fits.{within-limit}
 use Rattle.cp_json.specs.declared.fault.JsonFault.{JsonFault}
 use Rattle.cp_json.specs.declared.fault.JsonFault.TheVariants.{NotJson, LabelTooLong, TooDeep, PathTooLong, TextTooLong, TooMany, TooBig, NotWhole, Memory}
 use Rattle.cp_json.specs.Places.{content_of, places_below, places, bytes_of, weighs}
@@ -134,7 +136,7 @@ module _ (name : List ℕ) (d : Data) (n : 1 ≤ length name) (o : IsOrdered d) 
   -- and it is the map of the places
   pub grown_is : grown_whole d ≡ keyed.from_entries (filter_map held (places d))
   grown_is =
-      grown_below (single v) [] d ∙ put.1 ∙ keyed.same_map (inserted (single v) (places_below [] d)) (keyed.from_entries (filter_map held (places d))) (λ r.
+      grown_below (single v) [] d ∙ put.1 ∙ same_map (inserted (single v) (places_below [] d)) (keyed.from_entries (filter_map held (places d))) (λ r.
       get_inserted (single v) (places_below [] d) listed (and_parts _ _ (all_held (places d) w)).1 r
       ∙ ap (λ z. or_else z (look r (filter_map held (places_below [] d)))) (single-get v r)
       ∙ first (path_eq r []) r

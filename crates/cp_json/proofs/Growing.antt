@@ -13,14 +13,17 @@ use Rattle.serde_json.specs.Data.{Data, null, boolean, number, string, array, ob
 use Rattle.cp_path.specs.Text.{text_cmp}
 use Rattle.cp_model.specs.declared.row.Content.{Content}
 use Rattle.cp_model.specs.declared.row.Content.TheVariants.{Node}
-use Rattle.cp_model.specs.Place.{Label, Path, child, label_eq, path_eq, path_eq-same, path_eq_equiv, text_eq-same, strip, or_else, at_target, over_limit}
+use Rattle.cp_model.specs.Place.{Label, Path, child, label_eq, path_eq, strip, or_else, at_target, over_limit}
+use Rattle.cp_path.proofs.Same.{path_eq-same, text_eq-same}
+use Rattle.cp_path.specs.PathOrder.{path_eq_equiv}
+use Rattle.cp_model.proofs.KeyedLemmas.{get-insert}
 use Rattle.cp_model.specs.Keyed as keyed
-use Rattle.cp_model.specs.Keyed.{look, Keyed}
-use Rattle.cp_model.specs.Strips.{strip_is, strip-append, strip-itself, append-nil, snoc-same}
-use Rattle.cp_model.specs.Lookups.{path_eq-append, path_eq-sym, rest_is, or_none}
+use Rattle.cp_model.specs.Keyed.{look}
+use Rattle.cp_model.proofs.Strips.{strip_is, strip-append, strip-itself, append-nil, snoc-same}
+use Rattle.cp_model.proofs.Lookups.{path_eq-append, path_eq-sym, rest_is, or_none}
 use Rattle.cp_model.specs.Tree.{Tree, IsTree, weight, weight_of, text_bytes, last_bytes, most_text, most_nodes, most_weight}
-use Rattle.cp_model.specs.Sums.{last_bytes_child, len_insert_new, weight_insert_new}
-use Rattle.cp_tree.specs.Leaves.{leaf-insert, leaf-fits}
+use Rattle.cp_model.proofs.SumsLemmas.{last_bytes_child, len_insert_new, weight_insert_new}
+use Rattle.cp_tree.proofs.Leaves.{leaf-insert, leaf-fits}
 use Rattle.cp_json.specs.Places.{content_of, places_below, item_places, member_places, bytes_of, weighs}
 use Rattle.cp_json.specs.JsonTrees.{held}
 use Rattle.cp_json.specs.Walks.{or_node, with_leaf, grown, items_grown, members_grown, CanPut, CanGrow, ItemsGrow, MembersGrow, AllAbove, IsOrdered, ItemsOrdered, MembersOrdered}
@@ -75,10 +78,10 @@ inserted_append t [] fs = refl
 inserted_append t (e ∷ es) fs = inserted_append (keyed.insert t e.0 (or_node e.1)) es fs
 
 inserted_here : (t : Tree) (q : Path) (v : Content) → keyed.get (keyed.insert t q v) q ≡ Some v
-inserted_here t q v = keyed.get-insert t q v q ∙ ap (λ x. cond x (Some v) (keyed.get t q)) (path_eq_equiv.refl q)
+inserted_here t q v = get-insert t q v q ∙ ap (λ x. cond x (Some v) (keyed.get t q)) (path_eq_equiv.refl q)
 
 inserted_else : (t : Tree) (q : Path) (v : Content) (r : Path) → path_eq r q ≡ false → keyed.get (keyed.insert t q v) r ≡ keyed.get t r
-inserted_else t q v r h = keyed.get-insert t q v r ∙ ap (λ x. cond x (Some v) (keyed.get t r)) h
+inserted_else t q v r h = get-insert t q v r ∙ ap (λ x. cond x (Some v) (keyed.get t r)) h
 
 under_fresh : (t : Tree) (q : Path) (v : Content) (b : Label) (s : Path) → ((z : Path) → keyed.get t (q ++ z) ≡ None) → keyed.get (keyed.insert t q v) (child q b ++ s) ≡ None
 under_fresh t q v b s f = ap (keyed.get (keyed.insert t q v)) (append_assoc q (b ∷ []) s) ∙ inserted_else t q v (q ++ b ∷ s) (longer q b s) ∙ f (b ∷ s)
@@ -309,7 +312,7 @@ get_inserted t [] x s r = sym (or_none (keyed.get t r))
 get_inserted t ((q, None) ∷ es) x s r = absurd (cc)
 get_inserted t ((q, Some c) ∷ es) x s r =
     get_inserted (keyed.insert t q c) es x.1 s r
-    ∙ ap (λ o. or_else o rest) (keyed.get-insert t q c r)
+    ∙ ap (λ o. or_else o rest) (get-insert t q c r)
     ∙ step (path_eq r q) refl
   where
     rest : Option Content

@@ -1,7 +1,7 @@
 -- The walk that looks for the earliest place without a value.
 use Rattle.std.proofs.Common.{◌≡◌, ◌+◌, ℕ, true, false, List, [], ◌∷◌, ◌++◌, length, nat_lt, is_some, decimal, refl, sym, ap, ◌∙◌, arith, length-append, subst}
 use Rattle.std.proofs.lemmas.Bool.{and_parts, or_parts}
-use Rattle.cp_model.specs.Accepted.{at_most}
+use Rattle.cp_model.proofs.Accepted.{at_most}
 use Rattle.std.proofs.lemmas.List.Folds.{list_any-append}
 use Rattle.std.specs.List.{list_all}
 use Rattle.std.specs.declared.option.Option.{Option}
@@ -10,7 +10,7 @@ use Rattle.serde_json.specs.Data.{Data, null, boolean, number, string, array, ob
 use Rattle.cp_model.specs.declared.row.Content.{Content}
 use Rattle.cp_model.specs.Place.{Label, Path, child}
 use Rattle.cp_model.specs.Tree.{last_bytes}
-use Rattle.cp_model.specs.Sums.{last_bytes_child}
+use Rattle.cp_model.proofs.SumsLemmas.{last_bytes_child}
 use Rattle.cp_json.specs.Places.{content_of, places_below, item_places, member_places, places}
 use Rattle.cp_json.specs.JsonTrees.{any_above, first_from, with_place}
 use Rattle.cp_json.specs.Walks.{IsNear, AreNear, ItemsNear, MembersNear, below_first, items_first, members_first}

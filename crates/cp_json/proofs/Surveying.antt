@@ -9,7 +9,7 @@ use Rattle.serde_json.specs.Data.{Data, null, boolean, number, string, array, ob
 use Rattle.cp_model.specs.declared.row.Content.{Content}
 use Rattle.cp_model.specs.Place.{Label, Path, child}
 use Rattle.cp_model.specs.Tree.{last_bytes, most_text, most_nodes, most_weight}
-use Rattle.cp_model.specs.Sums.{last_bytes_child, sum_by-one}
+use Rattle.cp_model.proofs.SumsLemmas.{last_bytes_child, sum_by-one}
 use Rattle.cp_tree.specs.Rows.{path_size}
 use Rattle.cp_json.specs.Places.{content_of, places_below, item_places, member_places, places, bytes_of, weighs}
 use Rattle.cp_json.specs.JsonTrees.{any_above, refusals}

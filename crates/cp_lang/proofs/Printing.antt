@@ -9,9 +9,9 @@ use Rattle.cp_model.specs.declared.row.Content.TheVariants.{Node}
 use Rattle.cp_model.specs.declared.literal.LitEdge.{LitEdge}
 use Rattle.cp_model.specs.declared.literal.Literal.{Literal}
 use Rattle.cp_model.specs.declared.literal.Literal.TheVariants as literal
-use Rattle.cp_lang.specs.Layers.{Rows}
+use Rattle.cp_lang.specs.Printed.{Rows, AreWithin, IsOrdered, edge_text, edges_text, node_edges_text}
 use Rattle.cp_lang.specs.Printer.{AreShort, IsShortTree}
-use Rattle.cp_lang.specs.Printed.{AreWithin, IsOrdered, AreOrdered, edge_text, edges_text, node_edges_text, node_edges, node_text, leaf_text}
+use Rattle.cp_lang.proofs.PrintedLemmas.{AreOrdered, node_edges, node_text, leaf_text}
 
 -- the first edges, so many, are written; what follows is still to come, with this text before it
 abbrev pub IsWritten : List LitEdge → ℕ → List ℕ → List ℕ → List ℕ → Type 0

@@ -21,7 +21,6 @@ use Rattle.cp_model.specs.declared.op.Op.TheVariants.{Ins, Del, Copy}
 use Rattle.cp_model.specs.declared.stamp.Stamp.{Stamp}
 use Rattle.cp_model.specs.declared.record.Record.{Record}
 use Rattle.cp_model.specs.declared.record.RecOp.TheVariants as op
-use Rattle.cp_model.specs.declared.answer.LogLine.{LogLine}
 
 -- a history begins with its start tree; sources are loaded, and transactions committed
 pub data Entry : Type 0 where
@@ -123,24 +122,6 @@ then_entry (Some s) (commit stamp ops) = Some (after_commit s ops)
 -- the state that a history leads to; none where it is empty
 unfoldable pub replay : List Entry → Option State
 replay h = fold then_entry None h
-
--- ---- log
-
--- a commit of these operations, the last Tid before it being now
-abbrev pub log_line : Kind → ℕ → Stamp → List Op → LogLine
-log_line k now stamp ops =
-    record { low = now + 1; high = now + length (steps_of k ops); curator = stamp.curator; moment = stamp.moment; operations = length ops }
-
--- the commits of entries, from this kind and last Tid on
-abbrev pub log_from : Kind → ℕ → List Entry → List LogLine
-log_from k now [] = []
-log_from k now (start j t ∷ es) = log_from j 0 es
-log_from k now (load n t ∷ es) = log_from k now es
-log_from k now (commit stamp ops ∷ es) = log_line k now stamp ops ∷ log_from k (now + length (steps_of k ops)) es
-
--- each commit's first and last Tid, curator, moment and number of operations
-abbrev pub log : List Entry → List LogLine
-log h = log_from kind.N 0 h
 
 -- ---- legal histories
 

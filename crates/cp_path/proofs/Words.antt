@@ -1,7 +1,7 @@
 -- What the reading of words rests on, at the calls' results.
 use Rattle.std.proofs.Common.{◌≡◌, ℕ, List, ◌∷◌, true, false, ap, sym, ◌∙◌, subst, Option, Some, None, Result, Ok, Err, MatchResult, MatchOption, IfOk, IfErr, ◌≤◌, length}
 use Rattle.cp_path.specs.Scan.{Accepts, StopsAt, place_from}
-use Rattle.cp_path.specs.Reading.{LabelSpelled, PlaceSpelled, SpellsPlace, IsBadAt, IsOver, PlaceFault}
+use Rattle.cp_path.specs.Reading.{LabelSpelled, PlaceSpelled, SpellsPlace, IsBadAt, IsOver, PlaceFault, any_long}
 use Rattle.cp_path.specs.declared.loc.Loc.{Loc}
 use Rattle.cp_path.specs.declared.fault.PathFault.{PathFault}
 use Rattle.cp_path.specs.declared.fault.PathFault.TheVariants as fault
@@ -9,10 +9,9 @@ use Rattle.cp_path.specs.declared.scan.Part.TheVariants as part
 use Rattle.cp_path.specs.declared.scan.Spot.TheVariants as spot
 use Rattle.cp_path.specs.Place.{Label, size}
 use Rattle.cp_path.specs.Spelling.{label_text}
-use Rattle.cp_path.specs.Reading.{any_long}
 use Rattle.cp_path.specs.Words.{place_reading, place_within, label_reading}
-use Rattle.cp_path.specs.WordLaws.{place_reading_spelled, place_within_limits, label_reads_back}
-use Rattle.cp_path.specs.Accepted.{label_accepted, label_stopped, place_accepted, place_stopped}
+use Rattle.cp_path.proofs.WordLaws.{place_reading_spelled, place_within_limits, label_reads_back}
+use Rattle.cp_path.proofs.Accepted.{label_accepted, label_stopped, place_accepted, place_stopped}
 
 pub label_checked : (v w : List ℕ) (r : Result (Unit {0}) ℕ) → v ≡ w
     → MatchResult r (λ _. Accepts false (spot.Start part.Empty) v) (λ at. StopsAt false (spot.Start part.Empty) v at)

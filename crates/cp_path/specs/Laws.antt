@@ -3,15 +3,43 @@ use Rattle.std.specs.Prelude.{ℕ, ◌≡◌, ◌≤◌, true, false, List, leng
 use Rattle.json.specs.Print.{quoted}
 use Rattle.cp_path.specs.Text.{is_name}
 use Rattle.cp_path.specs.Place.{Label, size}
-use Rattle.cp_path.specs.Spelling.{place_text, label_text, value_text}
+use Rattle.cp_path.specs.Spelling.{place_text, label_text, value_text, has_trigger}
 use Rattle.cp_path.specs.Reading.{any_long, SpellsPlace, SpellsValue, PlaceFault, LabelFault}
 use Rattle.cp_path.specs.Words.{string_reading, place_reading, label_reading, value_reading}
-use Rattle.cp_path.specs.WordLaws.{IsSpelling, Shape}
-use Rattle.cp_path.specs.ValueLaws.{IsWithin, IsNoValue}
 use Rattle.cp_path.specs.declared.loc.Loc.{Loc}
 use Rattle.cp_path.specs.declared.fault.PathFault.{PathFault}
 use Rattle.cp_path.specs.declared.fault.PathFault.TheVariants as fault
 use Rattle.cp_path.specs.declared.value.Value.{Value}
+use Rattle.std.proofs.Common.{◌<◌, ◌⊎◌}
+use Rattle.serde_json.specs.Read.{read}
+use Rattle.cp_path.specs.Whole.{IsWhole}
+use Rattle.cp_path.specs.declared.value.Value.TheVariants.{Null, False, True, Whole, Text}
+
+-- ---- places
+
+-- the word is the spelling of the place, which is within every limit
+abbrev pub IsSpelling : List ℕ → Loc → Type 0
+IsSpelling w q = (place_text q ≡ w) × (size q ≤ 1024) × (length q.path ≤ 64) × (is_name q.db ≡ true) × (any_long q.path ≡ false)
+
+-- ---- what a spelling looks like
+
+-- the word is not empty, and stands in quotation marks or has no byte that asks for them
+abbrev pub Shape : List ℕ → Type 0
+Shape w = (0 < length w) × ((has_trigger w ≡ false) ⊎ ((t : List ℕ) × (w ≡ quoted t)))
+
+-- ---- values
+
+-- no value is spelled
+abbrev pub IsNoValue : List ℕ → Type 0
+IsNoValue w = (v : Value) → ¬ SpellsValue w v
+
+-- the value has a place in a tree: a number in the range, a text of at most 1,048,576 bytes
+abbrev pub IsWithin : Value → Type 0
+IsWithin Null = Unit {0}
+IsWithin False = Unit {0}
+IsWithin True = Unit {0}
+IsWithin (Whole n) = IsWhole n
+IsWithin (Text t) = length t ≤ 1048576
 
 -- a place within every limit is read back from its spelling; a word spells one place; and what a reading says of its word
 pub record PlaceLaws : Type 0 where

@@ -1,7 +1,6 @@
 -- The scan of a word, byte by byte.
-use Rattle.std.specs.Prelude.{ℕ, ◌+◌, ◌≡◌, ◌⊎◌, Bool, true, false, not, ◌&&◌, ◌||◌, ◌==◌, nat_le, nat_lt, List, [], ◌∷◌, ◌++◌, take, length, slice_get, if◌then◌else◌, Option, Some, None, option_map, option_and_then}
+use Rattle.std.specs.Prelude.{ℕ, ◌+◌, ◌≡◌, ◌⊎◌, Bool, true, false, not, ◌&&◌, ◌||◌, ◌==◌, nat_le, nat_lt, List, [], ◌∷◌, ◌++◌, take, length, slice_get, if◌then◌else◌, Option, Some, None, option_map, option_and_then, slice_index_or, drop}
 use Rattle.cp_path.specs.Text.{is_letter, is_name_byte}
-use Rattle.std.specs.Prelude.{slice_index_or, drop}
 use Rattle.cp_path.specs.Spelling.{is_trigger}
 use Rattle.cp_path.specs.declared.loc.Loc.{Loc}
 use Rattle.cp_path.specs.declared.scan.Part.{Part}
@@ -105,10 +104,6 @@ accepts spot.Ended = true
 abbrev pub run : Bool → Spot → List ℕ → Option Spot
 run deep s [] = Some s
 run deep s (x ∷ w) = option_and_then (λ t. run deep t w) (step deep s x)
-
-abbrev pub part_run : Bool → Part → List ℕ → Option Part
-part_run deep p [] = Some p
-part_run deep p (x ∷ w) = option_and_then (λ q. part_run deep q w) (part_step deep p x)
 
 abbrev pub Accepts : Bool → Spot → List ℕ → Type 0
 Accepts deep s w = (t : Spot) × (run deep s w ≡ Some t) × (accepts t ≡ true)

@@ -117,7 +117,8 @@ impl Clone for Path {
 }
 
 impl PartialEq for Path {
-    ghost use Rattle.cp_path.specs.Place.{path_eq, path_eq_equiv};
+    ghost use Rattle.cp_path.specs.Place.{path_eq};
+    ghost use Rattle.cp_path.specs.PathOrder.{path_eq_equiv};
     ghost use Rattle.std.specs.Cmp.{partial_equiv_from_equiv};
 
     ghost eq = { path_eq };
@@ -130,13 +131,14 @@ impl PartialEq for Path {
 }
 
 impl Eq for Path {
-    ghost use Rattle.cp_path.specs.Place.{path_eq_equiv};
+    ghost use Rattle.cp_path.specs.PathOrder.{path_eq_equiv};
 
     ghost laws = { path_eq_equiv };
 }
 
 impl PartialOrd for Path {
-    ghost use Rattle.cp_path.specs.Place.{path_cmp, path_po};
+    ghost use Rattle.cp_path.specs.Place.{path_cmp};
+    ghost use Rattle.cp_path.specs.PathOrder.{path_po};
     ghost use Rattle.std.specs.declared.option.Option.TheVariants.{Some};
 
     ghost partial_cmp = { λ x y. Some (path_cmp x y) };
@@ -149,7 +151,8 @@ impl PartialOrd for Path {
 }
 
 impl Ord for Path {
-    ghost use Rattle.cp_path.specs.Place.{path_cmp, path_total, path_ties};
+    ghost use Rattle.cp_path.specs.Place.{path_cmp};
+    ghost use Rattle.cp_path.specs.PathOrder.{path_total, path_ties};
     ghost use Rattle.std.proofs.Common.{refl};
 
     ghost cmp = { path_cmp };

@@ -19,7 +19,7 @@ use crate::text::Text;
 use std::alloc::{AllocError, Global};
 
 /// The text that a word spells: what its quotation marks hold, or the word itself.
-#[tactic(auto, using(crate::specs::Accepted::quoted_word, crate::specs::Accepted::bare_text))]
+#[tactic(auto, using(crate::proofs::Accepted::quoted_word, crate::proofs::Accepted::bare_text))]
 fn text_of(alloc: Global, word: &str) -> Result<String, AllocError>
     ensures { IfOk result (λ s. (r : List ℕ) → word.now ≡ label_word r → string_bytes s ≡ r) }
 {
@@ -66,7 +66,7 @@ fn spelled_label(alloc: Global, word: &str) -> Result<Label, PathFault>
 }
 
 impl Label {
-    #[tactic(auto, using(crate::specs::WordLaws::label_fault_reading))]
+    #[tactic(auto, using(crate::proofs::WordLaws::label_fault_reading))]
     /// The label that a word spells where it stands alone. `BadEscape` has the length of the word's longest
     /// beginning that some label's spelling begins with. Costs the word's bytes.
     pub fn read(alloc: Global, word: &str) -> Result<Label, PathFault>
@@ -126,7 +126,7 @@ fn spelled_place(alloc: Global, word: &str) -> Result<Loc, PathFault>
 }
 
 impl Loc {
-    #[tactic(auto, using(crate::specs::WordLaws::place_fault_reading))]
+    #[tactic(auto, using(crate::proofs::WordLaws::place_fault_reading))]
     /// The place that a word spells. `BadEscape` has the length of the word's longest beginning that some
     /// place's spelling begins with. Costs the word's bytes.
     pub fn read(alloc: Global, word: &str) -> Result<Loc, PathFault>

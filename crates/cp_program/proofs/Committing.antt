@@ -6,7 +6,7 @@ use Rattle.std.specs.declared.option.Option.TheVariants.{None, Some}
 use Rattle.cp_model.specs.Tree.{Tree, Source}
 use Rattle.cp_model.specs.Past.{tree_of}
 use Rattle.cp_model.specs.History.{commit, State, CanCommit, CanFollow, then_entry, most_sources, each_alone, steps_of, after_step, after_commit, one_commit_more}
-use Rattle.cp_model.specs.Histories.{replay-snoc, legal-snoc}
+use Rattle.cp_model.proofs.Histories.{replay-snoc, legal-snoc}
 use Rattle.cp_model.specs.declared.refusal.Cause.{Cause}
 use Rattle.cp_lang.specs.declared.stmt.Stmt.TheVariants as stmt
 use Rattle.cp_reply.specs.declared.reply.Of.TheVariants as of
@@ -15,8 +15,8 @@ use Rattle.cp_reply.specs.declared.reply.Reply.TheVariants as reply
 use Rattle.cp_store.specs.Changes.{AreNext}
 use Rattle.cp_session.specs.Session.{Session, Opened, closed, going, failed, with_opened, says, turn_of, committing, given_up, stamp_of, after_moment, with_entry}
 use Rattle.cp_engine.specs.Passed.{passed}
-use Rattle.cp_engine.specs.Linked.{accepted-done, IsAt, passed-after, now-after}
-use Rattle.cp_engine.specs.Rising.{rising-passed}
+use Rattle.cp_engine.proofs.Linked.{accepted-done, IsAt, passed-after, now-after}
+use Rattle.cp_engine.proofs.Rising.{rising-passed}
 use Rattle.cp_engine.specs.Transactions as txn
 use Rattle.cp_engine.specs.declared.txn.Txn.{Txn}
 use Rattle.cp_engine.specs.declared.txn.Step.{Step}

@@ -8,3 +8,4 @@ pub mod Readings
 pub mod Plays
 pub mod Runs
 pub mod Whole
+pub mod DatabasesLemmas

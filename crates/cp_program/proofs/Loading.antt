@@ -1,6 +1,6 @@
 -- Sources: what is loaded, and what isn't.
 use Rattle.std.specs.Prelude.{ℕ, ◌≡◌, ◌==◌, ◌+◌, ◌≤◌, ◌<◌, true, false, not, List, [], ◌∷◌, ◌++◌, length, is_some, refl, if◌then◌else◌}
-use Rattle.cp_model.specs.Accepted.{none_is}
+use Rattle.cp_model.proofs.Accepted.{none_is}
 use Rattle.std.proofs.Common.{sym, ap, subst, ◌∙◌, arith, length-append}
 use Rattle.std.specs.declared.option.Option.{Option}
 use Rattle.std.specs.declared.option.Option.TheVariants.{None, Some}
@@ -10,7 +10,7 @@ use Rattle.cp_model.specs.Place.{label_eq, target}
 use Rattle.cp_model.specs.Tree.{Tree, IsTree, Source, source}
 use Rattle.cp_model.specs.Past.{tree_of}
 use Rattle.cp_model.specs.History.{State, load, loaded, then_entry, most_sources, CanLoad, CanFollow}
-use Rattle.cp_model.specs.Histories.{replay-snoc, legal-snoc}
+use Rattle.cp_model.proofs.Histories.{replay-snoc, legal-snoc}
 use Rattle.cp_lang.specs.declared.stmt.Load.{Load}
 use Rattle.cp_lang.specs.declared.stmt.Stmt.TheVariants as stmt
 use Rattle.cp_reply.specs.declared.reply.Of.TheVariants as of
@@ -24,7 +24,8 @@ use Rattle.cp_engine.specs.declared.txn.Txn.{Txn}
 use Rattle.cp_program.specs.Fetching.{fetch}
 use Rattle.cp_program.specs.Fetched.{FitsUnder}
 use Rattle.cp_program.specs.Job.{setting}
-use Rattle.cp_program.specs.Databases.{Stands, Opens, Turned, Loads, held_in, why_not_loaded}
+use Rattle.cp_program.specs.Databases.{Stands, Opens, Turned, held_in}
+use Rattle.cp_program.proofs.DatabasesLemmas.{Loads, why_not_loaded}
 use Rattle.cp_program.specs.declared.database.Database.{Database}
 use Rattle.cp_program.proofs.Standing.{turned-on}
 

@@ -17,14 +17,15 @@ use Rattle.cp_reply.specs.declared.reply.Why.TheVariants as why
 use Rattle.cp_reply.specs.declared.reply.Reply.TheVariants as reply
 use Rattle.cp_session.specs.Session.{Session, Opened, closed, going, failed, with_opened, says, turn_of, refusal_on, refusal_after, decided, operated, why_refused, not_read, spoiled}
 use Rattle.cp_engine.specs.Passed.{passed, refusal_behind, AllAccepted}
-use Rattle.cp_engine.specs.Linked.{accepted-step}
+use Rattle.cp_engine.proofs.Linked.{accepted-step}
 use Rattle.cp_engine.specs.Transactions as txn
 use Rattle.cp_engine.specs.declared.txn.Txn.{Txn}
 use Rattle.cp_engine.specs.declared.fault.ApplyFault.{ApplyFault}
 use Rattle.cp_engine.specs.declared.fault.ApplyFault.TheVariants as denied
 use Rattle.cp_outside.specs.FileReads.{FileTable}
 use Rattle.cp_program.specs.Job.{setting}
-use Rattle.cp_program.specs.Databases.{Stands, Opens, Turned, held_in, progress_of}
+use Rattle.cp_program.specs.Databases.{Stands, Opens, Turned, held_in}
+use Rattle.cp_program.proofs.DatabasesLemmas.{progress_of}
 use Rattle.cp_program.specs.declared.database.Database.{Database}
 use Rattle.cp_program.proofs.Standing.{stands-with, turned-on}
 

@@ -9,7 +9,7 @@ use Rattle.cp_outside.specs.Causes.{Rose}
 use Rattle.std.specs.declared.option.Option.TheVariants.{Some}
 use Rattle.cp_outside.specs.FileReads.{FileTable}
 use Rattle.cp_outside.specs.Sinks.{TakesPart}
-use Rattle.cp_outside.specs.KnownBytes.{Appends-then, Consumes-then, Consumes-none, Consumes-kept}
+use Rattle.cp_outside.proofs.KnownBytes.{Appends-then, Consumes-then, Consumes-none, Consumes-kept}
 use Rattle.cp_program.specs.Words.{most_input, most_piece, input_line, file_line, memory_line, too_long_line}
 use Rattle.cp_program.specs.Job.{Ended}
 use Rattle.cp_program.specs.Play.{Seen, plays, after_play, closes, plays_all}

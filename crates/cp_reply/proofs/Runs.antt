@@ -10,12 +10,12 @@ use Rattle.std.specs.Result.{OnOk, is_ok}
 use Rattle.std.specs.Cmp.Lexicographic.{nat_list_eq_equiv}
 use Rattle.cp_path.specs.Place.{Label, Path, label_eq}
 use Rattle.cp_path.specs.Spelling.{label_text, value_text}
-use Rattle.cp_path.specs.Same.{text_eq-same}
+use Rattle.cp_path.proofs.Same.{text_eq-same}
 use Rattle.cp_path.specs.declared.value.Value.{Value}
 use Rattle.cp_model.specs.declared.row.Row.{Row}
 use Rattle.cp_model.specs.declared.row.Content.{Content}
 use Rattle.cp_model.specs.declared.row.Content.TheVariants.{Node, Leaf}
-use Rattle.cp_model.specs.Grouping.{joins}
+use Rattle.cp_model.proofs.Grouping.{joins}
 use Rattle.cp_model.specs.Trees.{Group, between, into_groups, groups, tree_at}
 use Rattle.cp_reply.specs.Runs.{seen, all_seen, leaves, run_length, edge, edges, IsNextRun}
 

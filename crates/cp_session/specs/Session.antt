@@ -100,12 +100,6 @@ with_entry s e = record { history = s.history ++ e ∷ []; opened = s.opened; mo
 
 -- ---- operations
 
--- the operations that are held
-abbrev pub held : Opened → List Op
-held closed = []
-held (going ops) = ops
-held (failed n c) = []
-
 -- the place and the label that a refusal names
 abbrev pub why_refused : Op → Refusal → Why
 why_refused (Ins p a l) refusal.NoPlace = why.NoPlace p

@@ -10,9 +10,9 @@ use Rattle.cp_model.specs.declared.literal.LitEdge.{LitEdge}
 use Rattle.cp_model.specs.Literals.{literal_rows, rows_under, edge_rows}
 use Rattle.cp_model.specs.Place.{Path, child}
 use Rattle.cp_model.specs.Subtrees.{moved}
-use Rattle.cp_tree.specs.Listing.{entries_in-rows, moved-append, moved-under, moved-first, moved-root}
-use Rattle.cp_tree.specs.Counted.{greatest-append}
-use Rattle.cp_tree.specs.Edges.{deepest-literal, edge-fewer}
+use Rattle.cp_tree.proofs.ListingLemmas.{entries_in-rows, moved-append, moved-under, moved-first, moved-root}
+use Rattle.cp_tree.proofs.Counted.{greatest-append}
+use Rattle.cp_tree.proofs.Edges.{deepest-literal, edge-fewer}
 use Rattle.cp_tree.specs.Rows.{row_of, entries_in, deepest}
 
 -- rows that are those of entries have these entries

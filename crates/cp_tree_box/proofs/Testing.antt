@@ -14,14 +14,14 @@ use Rattle.cp_model.specs.Keyed.{look}
 use Rattle.cp_model.specs.Subtrees.{below, is_there, replaced}
 use Rattle.cp_model.specs.Tree.{Tree, IsTree, is_node, weight, text_bytes, last_bytes}
 use Rattle.cp_model.specs.History.{IsLiteral}
-use Rattle.cp_model.specs.Lookups.{find-from_entries}
-use Rattle.cp_model.specs.Sorted.{path_cmp-append, sorted-below}
-use Rattle.cp_model.specs.Rooted.{rows-below, rows-literal, under-child, under-there}
+use Rattle.cp_model.proofs.Lookups.{find-from_entries}
+use Rattle.cp_model.proofs.Sorted.{path_cmp-append, sorted-below}
+use Rattle.cp_model.proofs.Rooted.{rows-below, rows-literal, under-child, under-there}
 use Rattle.cp_tree.specs.Rows.{alone, path_size, reach_of, reach_at}
 use Rattle.cp_tree.specs.declared.reach.Reach.{Reach}
-use Rattle.cp_tree.specs.Branch.{entries-sub, sub-root}
-use Rattle.cp_tree.specs.Fits.{reach-fits, within-limit}
-use Rattle.cp_tree.specs.Leaves.{leaf-fits}
+use Rattle.cp_tree.proofs.BranchLemmas.{entries-sub, sub-root}
+use Rattle.cp_tree.proofs.Fits.{reach-fits, within-limit}
+use Rattle.cp_tree.proofs.Leaves.{leaf-fits}
 
 node_is : (o : Option Content) → is_node o ≡ true → o ≡ Some Node
 node_is (Some Node) e = refl

@@ -9,21 +9,24 @@ use denote.Ref.{Bor}
 use Rattle.cp_model.specs.declared.row.Content.{Content}
 use Rattle.cp_model.specs.declared.row.Row.{Row}
 use Rattle.cp_model.specs.Place.{Label, Path, child}
+use Rattle.cp_model.proofs.KeyedLemmas.{get-entries, same_map}
 use Rattle.cp_model.specs.Keyed as keyed
 use Rattle.cp_model.specs.Keyed.{look}
 use Rattle.cp_model.specs.Subtrees.{is_there, below, moved, without, replaced}
 use Rattle.cp_model.specs.Tree.{Tree, IsRooted, IsTree, weight, most_text, text_bytes}
-use Rattle.cp_model.specs.Strips.{append-nil, strip-append}
-use Rattle.cp_model.specs.Lookups.{get-replaced, placed}
-use Rattle.cp_model.specs.Sums.{below-none, sum_by-one}
-use Rattle.cp_model.specs.Kept.{closed-tree}
-use Rattle.cp_tree.specs.Branch.{sub, get-sub, sub-root, entries-sub}
-use Rattle.cp_tree.specs.Leaves.{single-tree}
-use Rattle.cp_tree.specs.Built.{made, made-entries, entries-single}
+use Rattle.cp_model.proofs.Strips.{append-nil, strip-append}
+use Rattle.cp_model.specs.Laws.{placed}
+use Rattle.cp_model.proofs.Lookups.{get-replaced}
+use Rattle.cp_model.proofs.SumsLemmas.{below-none, sum_by-one}
+use Rattle.cp_model.proofs.Kept.{closed-tree}
+use Rattle.cp_tree.specs.Branch.{sub}
+use Rattle.cp_tree.proofs.BranchLemmas.{get-sub, sub-root, entries-sub}
+use Rattle.cp_tree.proofs.Leaves.{single-tree}
+use Rattle.cp_tree.specs.Rows.{made, row_of, entries_in, alone, single, one_label, labels_at, path_size, greatest, reach_of}
+use Rattle.cp_tree.proofs.Built.{made-entries, entries-single}
 use Rattle.cp_model.specs.History.{IsLiteral}
-use Rattle.cp_tree.specs.Counted.{is_one, counted, greatest_is}
-use Rattle.cp_tree.specs.Listing.{moved-root}
-use Rattle.cp_tree.specs.Rows.{row_of, entries_in, alone, single, one_label, labels_at, path_size, greatest, reach_of}
+use Rattle.cp_tree.proofs.Counted.{is_one, counted, greatest_is}
+use Rattle.cp_tree.proofs.ListingLemmas.{moved-root}
 use Rattle.cp_tree.specs.declared.reach.Reach.{Reach}
 use Rattle.cp_tree_box.specs.declared.spot.Spot.{Spot}
 use Rattle.cp_tree_box.specs.declared.tally.Tally.{Tally}
@@ -138,8 +141,8 @@ small_counts m t (large k) = omega (arith, no_more (row_counts (large k) root_sp
 
 -- a subtree that was put is there
 pub sub-replaced : (m n : Tree) (p : Path) → sub (replaced p (keyed.entries n) m) p ≡ n
-sub-replaced m n p = keyed.same_map (sub (replaced p (keyed.entries n) m) p) n (λ q.
-    get-sub (replaced p (keyed.entries n) m) p q ∙ get-replaced p (keyed.entries n) m (p ++ q) ∙ ap (λ o. placed o (λ s. look s (keyed.entries n)) (keyed.get m (p ++ q))) (strip-append p q) ∙ sym (keyed.get-entries n q))
+sub-replaced m n p = same_map (sub (replaced p (keyed.entries n) m) p) n (λ q.
+    get-sub (replaced p (keyed.entries n) m) p q ∙ get-replaced p (keyed.entries n) m (p ++ q) ∙ ap (λ o. placed o (λ s. look s (keyed.entries n)) (keyed.get m (p ++ q))) (strip-append p q) ∙ sym (get-entries n q))
 
 -- what is put is there
 pub put_there : (m n : Tree) (p : Path) → IsRooted n → is_there (replaced p (keyed.entries n) m) p ≡ true
