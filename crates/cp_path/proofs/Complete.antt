@@ -1,4 +1,5 @@
 -- Each spelling runs through, and each place where the scan stands goes on to a spelling.
+use Rattle.cp_path.specs.declared.limits.TheConstants.{NAME_MAX}
 use Rattle.std.proofs.Common.{◌≡◌, ℕ, zero, suc, ◌<◌, ◌⊎◌, List, [], ◌∷◌, ◌++◌, Bool, true, false, ◌&&◌, ◌||◌, ◌==◌, nat_lt, not, length, take, refl, ap, sym, ◌∙◌, arith, cond, Option, Some, None, subst, append-nil, append_assoc, inl, inr}
 use Rattle.std.proofs.lemmas.Bool.{and_parts}
 use Rattle.std.proofs.Math.Seq.{take-length}
@@ -62,7 +63,7 @@ and_false false = refl
 -- only a label takes it, and goes on
 special_step : (d : Bool) (p q : Part) (x : ℕ) → Odd x → part_step d p x ≡ Some q → (is_label p ≡ true) × (q ≡ part.Label)
 special_step d part.Begin q x o e = let n : None ≡ Some q = rw o.0 at e in absurd (cc)
-special_step d (part.Name n) q x o e = let n : None ≡ Some q = rw (o.2, o.1, and_false (nat_lt n 32)) at e in absurd (cc)
+special_step d (part.Name n) q x o e = let n : None ≡ Some q = rw (o.2, o.1, and_false (nat_lt n NAME_MAX)) at e in absurd (cc)
 special_step d part.Empty q x o e = let n : Some part.Label ≡ Some q = rw (o.3, o.2) at e in (refl, cc)
 special_step d part.Label q x o e = let n : Some part.Label ≡ Some q = rw (o.3, o.2) at e in (refl, cc)
 special_step d part.Tilde q x o e = let n : None ≡ Some q = rw o.4 at e in absurd (cc)

@@ -1,4 +1,5 @@
 -- The pieces of a spelled label and of a spelled place.
+use Rattle.cp_path.specs.declared.limits.TheConstants.{NAME_MAX}
 use Rattle.std.proofs.Common.{◌≡◌, ℕ, List, [], ◌∷◌, ◌++◌, Bool, true, false, ◌&&◌, ◌==◌, nat_le, length, refl, ap, sym, ◌∙◌, append-nil, append_assoc, flat_map}
 use Rattle.std.proofs.lemmas.Bool.{and_parts, eqb-true, ne_eqb}
 use Rattle.std.specs.List.{list_all, slice_index}
@@ -46,7 +47,7 @@ name_back a (x ∷ db) w h =
 
 pub pieces_of_place : (q : Loc) → is_name q.db ≡ true → pieces false [] (raw_place q) ≡ q.db ∷ q.path
 pieces_of_place q n =
-    let a = and_parts (nat_le 1 (length q.db)) (nat_le (length q.db) 32 && (is_letter (slice_index q.db 0) && list_all is_name_byte q.db)) n in
-    let b = and_parts (nat_le (length q.db) 32) (is_letter (slice_index q.db 0) && list_all is_name_byte q.db) a.1 in
+    let a = and_parts (nat_le 1 (length q.db)) (nat_le (length q.db) NAME_MAX && (is_letter (slice_index q.db 0) && list_all is_name_byte q.db)) n in
+    let b = and_parts (nat_le (length q.db) NAME_MAX) (is_letter (slice_index q.db 0) && list_all is_name_byte q.db) a.1 in
     let c = and_parts (is_letter (slice_index q.db 0)) (list_all is_name_byte q.db) b.1 in
     name_back [] q.db (flat_map (λ b. 47 ∷ escaped b) q.path) c.1 ∙ path_back q.db q.path

@@ -1,4 +1,5 @@
 -- The texts that the parts take from the beginning of a name are those of places.
+use Rattle.cp_path.specs.declared.limits.TheConstants.{NAME_MAX}
 use Rattle.std.proofs.Common.{◌≡◌, ℕ, ◌+◌, ◌<◌, ◌≤◌, List, [], ◌∷◌, ◌++◌, Bool, true, false, ◌&&◌, ◌||◌, ◌==◌, nat_lt, nat_le, length, refl, ap, sym, ◌∙◌, arith, cond, Option, Some, None, subst, append-nil, append_assoc, flat_map, length-append}
 use Rattle.std.proofs.lemmas.Bool.{and_parts, ltb-true, lt-ltb, leb-true, le-leb, eqb-true}
 use Rattle.std.proofs.lemmas.Bool.Decides.{nat_tests}
@@ -46,21 +47,21 @@ all_more : (w : List ℕ) (x : ℕ) → list_all is_name_byte w ≡ true → is_
 all_more [] x a b = rw b refl
 all_more (y ∷ w) x a b = let p = and_parts (is_name_byte y) (list_all is_name_byte w) a in rw p.0 (all_more w x p.1 b)
 
-name_of : (x : ℕ) (w : List ℕ) → length (x ∷ w) ≤ 32 → is_letter x ≡ true → list_all is_name_byte w ≡ true → is_name (x ∷ w) ≡ true
-name_of x w l a b = rw (le-leb 1 (length (x ∷ w)) (omega arith), le-leb (length (x ∷ w)) 32 l, a, b) refl
+name_of : (x : ℕ) (w : List ℕ) → length (x ∷ w) ≤ NAME_MAX → is_letter x ≡ true → list_all is_name_byte w ≡ true → is_name (x ∷ w) ≡ true
+name_of x w l a b = rw (le-leb 1 (length (x ∷ w)) (omega arith), le-leb (length (x ∷ w)) NAME_MAX l, a, b) refl
 
 abbrev NameParts : ℕ → List ℕ → Type 0
-NameParts x w = (length (x ∷ w) ≤ 32) × (is_letter x ≡ true) × (list_all is_name_byte w ≡ true)
+NameParts x w = (length (x ∷ w) ≤ NAME_MAX) × (is_letter x ≡ true) × (list_all is_name_byte w ≡ true)
 
 parts_of : (x : ℕ) (w : List ℕ) → is_name (x ∷ w) ≡ true → NameParts x w
 parts_of x w h =
     let a = and_parts (nat_le 1 (length (x ∷ w))) _ h in
-    let b = and_parts (nat_le (length (x ∷ w)) 32) _ a.1 in
+    let b = and_parts (nat_le (length (x ∷ w)) NAME_MAX) _ a.1 in
     let c = and_parts (is_letter x) _ b.1 in
     let d = and_parts (is_name_byte x) _ c.1 in
-    (leb-true (length (x ∷ w)) 32 b.0, c.0, d.1)
+    (leb-true (length (x ∷ w)) NAME_MAX b.0, c.0, d.1)
 
-name_more : (r : List ℕ) (x : ℕ) → is_name r ≡ true → length r < 32 → is_name_byte x ≡ true → is_name (r ++ x ∷ []) ≡ true
+name_more : (r : List ℕ) (x : ℕ) → is_name r ≡ true → length r < NAME_MAX → is_name_byte x ≡ true → is_name (r ++ x ∷ []) ≡ true
 name_more [] x n l b = cc
 name_more (y ∷ r) x n l b =
     let p = parts_of y r n in
@@ -85,12 +86,12 @@ place_more part.Begin u x r h e = part_split (is_letter x) (Some (part.Name 1)) 
     (subst (λ v. (is_name (v ++ x ∷ []) ≡ true) × (length (v ++ x ∷ []) ≡ 1)) (sym h) (name_of x [] (omega arith) f refl, refl)))
     (λ f n. no_part u n)
 place_more (part.Name m) u x r h e =
-    let rest : Option Part = cond (nat_lt m 32 && is_name_byte x) (Some (part.Name (m + 1))) None in
+    let rest : Option Part = cond (nat_lt m NAME_MAX && is_name_byte x) (Some (part.Name (m + 1))) None in
     part_split (x == 47) (Some part.Label) rest u e
     (λ f n. subst (λ v. AtPlace v (r ++ x ∷ [])) (same_part part.Label u n) (slash (root_place r) r x h.0 (sym (append-nil r)) f))
-    (λ f n. part_split (nat_lt m 32 && is_name_byte x) (Some (part.Name (m + 1))) None u n
-    (λ g k. let both = and_parts (nat_lt m 32) (is_name_byte x) g in
-    let short = ltb-true m 32 both.0 in
+    (λ f n. part_split (nat_lt m NAME_MAX && is_name_byte x) (Some (part.Name (m + 1))) None u n
+    (λ g k. let both = and_parts (nat_lt m NAME_MAX) (is_name_byte x) g in
+    let short = ltb-true m NAME_MAX both.0 in
     subst (λ v. AtPlace v (r ++ x ∷ [])) (same_part (part.Name (m + 1)) u k) (name_more r x h.0 (omega arith) both.1, omega (arith, length-append r (x ∷ []))))
     (λ g k. no_part u k))
 place_more part.Empty u x r h e = absurd h
@@ -133,12 +134,12 @@ place_spelled w h =
 no_slash : (x : ℕ) → is_name_byte x ≡ true → (x == 47) ≡ false
 no_slash x h = grind (arith, nat_tests)
 
-name_run : (n : ℕ) (w : List ℕ) → n + length w ≤ 32 → list_all is_name_byte w ≡ true → part_run true (part.Name n) w ≡ Some (part.Name (n + length w))
+name_run : (n : ℕ) (w : List ℕ) → n + length w ≤ NAME_MAX → list_all is_name_byte w ≡ true → part_run true (part.Name n) w ≡ Some (part.Name (n + length w))
 name_run n [] l h = let e : n ≡ n + 0 = omega arith in ap (λ m. Some (part.Name m)) e
 name_run n (x ∷ w) l h =
     let p = and_parts (is_name_byte x) (list_all is_name_byte w) h in
     let e : (n + 1) + length w ≡ n + length (x ∷ w) = omega arith in
-    rw (no_slash x p.0, lt-ltb n 32 (omega arith), p.0) (name_run (n + 1) w (omega arith) p.1 ∙ ap (λ m. Some (part.Name m)) e)
+    rw (no_slash x p.0, lt-ltb n NAME_MAX (omega arith), p.0) (name_run (n + 1) w (omega arith) p.1 ∙ ap (λ m. Some (part.Name m)) e)
 
 begin_run : (db : List ℕ) → is_name db ≡ true → part_run true part.Begin db ≡ Some (part.Name (length db))
 begin_run [] n = cc

@@ -1,4 +1,5 @@
 -- Where the scan stands: what the word was so far, and the text that it spells.
+use Rattle.cp_path.specs.declared.limits.TheConstants.{NAME_MAX}
 use Rattle.std.proofs.Common.{◌≡◌, ℕ, ◌+◌, ◌<◌, ◌≤◌, List, [], ◌∷◌, ◌++◌, Bool, true, false, ◌&&◌, ◌||◌, ◌==◌, nat_lt, not, length, refl, ap, sym, ◌∙◌, arith, cond, Option, Some, None, subst, append-nil, append_assoc, length-append}
 use Rattle.std.proofs.lemmas.Bool.{and_parts, ltb-false, eqb-true, ne_eqb}
 use Rattle.std.proofs.lemmas.Bool.Decides.{nat_tests}
@@ -247,8 +248,8 @@ never_label d x e =
 never_empty : (d : Bool) (p : Part) (x : ℕ) → part_step d p x ≡ Some part.Empty → ⊥
 never_empty d part.Begin x e = never (is_letter x) (Some (part.Name 1)) None (λ h. cc) (λ h. cc) e
 never_empty d (part.Name n) x e =
-    never (x == 47) (Some part.Label) (cond (nat_lt n 32 && is_name_byte x) (Some (part.Name (n + 1))) None) (λ h. cc)
-    (λ h. never (nat_lt n 32 && is_name_byte x) (Some (part.Name (n + 1))) None (λ k. cc) (λ k. cc) h) e
+    never (x == 47) (Some part.Label) (cond (nat_lt n NAME_MAX && is_name_byte x) (Some (part.Name (n + 1))) None) (λ h. cc)
+    (λ h. never (nat_lt n NAME_MAX && is_name_byte x) (Some (part.Name (n + 1))) None (λ k. cc) (λ k. cc) h) e
 never_empty d part.Empty x e = never_label d x e
 never_empty d part.Label x e = never_label d x e
 never_empty d part.Tilde x e = never ((x == 48) || (x == 49)) (Some part.Label) None (λ h. cc) (λ h. cc) e

@@ -1,4 +1,5 @@
 -- The laws of the readings of values and of JSON strings.
+use Rattle.cp_path.specs.declared.limits.TheConstants.{TEXT_MAX}
 use Rattle.std.proofs.Common.{◌≡◌, ℕ, zero, suc, ◌+◌, ◌/◌, ◌%◌, not, ◌<◌, ◌≤◌, inl, ℤ, pos, negsuc, neg_ℤ, List, [], ◌∷◌, Bool, true, false, ◌&&◌, ◌||◌, ◌==◌, nat_le, length, refl, ap, sym, ◌∙◌, arith, cond, subst, codes, decimal, add-one, Option, Some, None, Result, Ok, Err, slice_index}
 use Rattle.std.proofs.lemmas.Bool.{ltb-true, lt-ltb, leb-true, le-leb, ne_eqb}
 use Rattle.std.proofs.lemmas.Fmt.{decimal_is_IsNumeral_wide}
@@ -163,21 +164,21 @@ string_reading_none w h = by (string_reading w) refl
     by (Some t) e = absurd (h t (string_read w t e))
 
 abbrev bounded : List ℕ → Option (List ℕ)
-bounded t = cond (nat_le (length t) 1048576) (Some t) None
+bounded t = cond (nat_le (length t) TEXT_MAX) (Some t) None
 
 pub text_reading_spelled : (w t : List ℕ) → SpellsText w t → text_reading w ≡ Some t
-text_reading_spelled w t h = ap (option_and_then bounded) (string_reading_read w t h.0) ∙ rw (le-leb (length t) 1048576 h.1) refl
+text_reading_spelled w t h = ap (option_and_then bounded) (string_reading_read w t h.0) ∙ rw (le-leb (length t) TEXT_MAX h.1) refl
 
 text_spells : (w t : List ℕ) → text_reading w ≡ Some t → SpellsText w t
 text_spells w t h = by (string_reading w) refl h
   where
-    at : (s : List ℕ) → string_reading w ≡ Some s → (b : Bool) → nat_le (length s) 1048576 ≡ b → cond b (Some s) None ≡ Some t → SpellsText w t
-    at s e true f k = subst (SpellsText w) (some_value s t (Some s) refl k) (string_read w s e, leb-true (length s) 1048576 f)
+    at : (s : List ℕ) → string_reading w ≡ Some s → (b : Bool) → nat_le (length s) TEXT_MAX ≡ b → cond b (Some s) None ≡ Some t → SpellsText w t
+    at s e true f k = subst (SpellsText w) (some_value s t (Some s) refl k) (string_read w s e, leb-true (length s) TEXT_MAX f)
     at s e false f k = absurd (cc)
 
     by : (o : Option (List ℕ)) → string_reading w ≡ o → option_and_then bounded o ≡ Some t → SpellsText w t
     by None e k = absurd (cc)
-    by (Some s) e k = at s e (nat_le (length s) 1048576) refl k
+    by (Some s) e k = at s e (nat_le (length s) TEXT_MAX) refl k
 
 pub text_reading_none : (w : List ℕ) → IsNoText w → text_reading w ≡ None
 text_reading_none w h = by (text_reading w) refl

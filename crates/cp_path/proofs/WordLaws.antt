@@ -1,4 +1,5 @@
 -- The laws of the readings of places and labels: what was written is read back, a word spells one thing, and what a fault says of its word.
+use Rattle.cp_path.specs.declared.limits.TheConstants.{LABELS_MAX, LABEL_MAX, LOC_MAX}
 use Rattle.std.proofs.Common.{◌≡◌, ℕ, suc, ◌≤◌, ◌⊎◌, inl, inr, List, [], ◌∷◌, Bool, true, false, ◌==◌, nat_lt, length, take, slice_get, refl, ap, sym, ◌∙◌, arith, cond, subst, Option, Some, None, Result, Ok, Err, slice_index, slice_index_or}
 use Rattle.std.proofs.lemmas.Bool.{ltb-true, ltb-false, lt-ltb, eqb-true}
 use Rattle.std.proofs.lemmas.Bool.Decides.{nat_tests}
@@ -104,15 +105,15 @@ place_reading-bad w e = ap (λ b. cond b (place_within (place_from (pieces false
 not_over : (m n : ℕ) → n ≤ m → nat_lt m n ≡ false
 not_over m n h = grind (arith, nat_tests)
 
-pub place_within_limits : (q : Loc) → any_long q.path ≡ false → length q.path ≤ 64 → size q ≤ 1024 → place_within q ≡ Ok q
-place_within_limits q short few small = rw (short, not_over 64 (length q.path) few, not_over 1024 (size q) small) refl
+pub place_within_limits : (q : Loc) → any_long q.path ≡ false → length q.path ≤ LABELS_MAX → size q ≤ LOC_MAX → place_within q ≡ Ok q
+place_within_limits q short few small = rw (short, not_over LABELS_MAX (length q.path) few, not_over LOC_MAX (size q) small) refl
 
-pub place_reads_back : (q : Loc) → is_name q.db ≡ true → any_long q.path ≡ false → length q.path ≤ 64 → size q ≤ 1024 → place_reading (place_text q) ≡ Ok q
+pub place_reads_back : (q : Loc) → is_name q.db ≡ true → any_long q.path ≡ false → length q.path ≤ LABELS_MAX → size q ≤ LOC_MAX → place_reading (place_text q) ≡ Ok q
 place_reads_back q name short few small = place_reading_spelled (place_text q) q (name, refl) ∙ place_within_limits q short few small
 
 -- within every limit of a place
 abbrev IsWithinLimits : Loc → Type 0
-IsWithinLimits q = (size q ≤ 1024) × (length q.path ≤ 64) × (any_long q.path ≡ false)
+IsWithinLimits q = (size q ≤ LOC_MAX) × (length q.path ≤ LABELS_MAX) × (any_long q.path ≡ false)
 
 abbrev Read : Type 0 → Type 0
 Read A = Result A PathFault
@@ -127,28 +128,28 @@ abbrev by_limits : Bool → Bool → Bool → Loc → Result Loc PathFault
 by_limits a b c q = cond a (Err fault.LabelTooLong) (cond b (Err fault.TooDeep) (cond c (Err fault.PathTooLong) (Ok q)))
 
 within_is : (p q : Loc) → place_within p ≡ Ok q → (p ≡ q) × IsWithinLimits p
-within_is p q h = by (any_long p.path) (nat_lt 64 (length p.path)) (nat_lt 1024 (size p)) refl refl refl h
+within_is p q h = by (any_long p.path) (nat_lt LABELS_MAX (length p.path)) (nat_lt LOC_MAX (size p)) refl refl refl h
   where
-    by : (a b c : Bool) → any_long p.path ≡ a → nat_lt 64 (length p.path) ≡ b → nat_lt 1024 (size p) ≡ c → by_limits a b c p ≡ Ok q → (p ≡ q) × IsWithinLimits p
+    by : (a b c : Bool) → any_long p.path ≡ a → nat_lt LABELS_MAX (length p.path) ≡ b → nat_lt LOC_MAX (size p) ≡ c → by_limits a b c p ≡ Ok q → (p ≡ q) × IsWithinLimits p
     by true b c e f g k = absurd (cc)
     by false true c e f g k = absurd (cc)
     by false false true e f g k = absurd (cc)
-    by false false false e f g k = (same_value p q (Ok p) refl k, (ltb-false 1024 (size p) g, ltb-false 64 (length p.path) f, e))
+    by false false false e f g k = (same_value p q (Ok p) refl k, (ltb-false LOC_MAX (size p) g, ltb-false LABELS_MAX (length p.path) f, e))
 
 within_not : (q : Loc) (e : PathFault) → place_within q ≡ Err e → IsOver e q
-within_not q e h = by (any_long q.path) (nat_lt 64 (length q.path)) (nat_lt 1024 (size q)) refl refl refl h
+within_not q e h = by (any_long q.path) (nat_lt LABELS_MAX (length q.path)) (nat_lt LOC_MAX (size q)) refl refl refl h
   where
-    by : (a b c : Bool) → any_long q.path ≡ a → nat_lt 64 (length q.path) ≡ b → nat_lt 1024 (size q) ≡ c → by_limits a b c q ≡ Err e → IsOver e q
+    by : (a b c : Bool) → any_long q.path ≡ a → nat_lt LABELS_MAX (length q.path) ≡ b → nat_lt LOC_MAX (size q) ≡ c → by_limits a b c q ≡ Err e → IsOver e q
     by true b c f g k m = subst (λ v. IsOver v q) (same_fault {A = Loc} fault.LabelTooLong e (Err fault.LabelTooLong) refl m) f
-    by false true c f g k m = subst (λ v. IsOver v q) (same_fault {A = Loc} fault.TooDeep e (Err fault.TooDeep) refl m) (f, ltb-true 64 (length q.path) g)
-    by false false true f g k m = subst (λ v. IsOver v q) (same_fault {A = Loc} fault.PathTooLong e (Err fault.PathTooLong) refl m) (f, ltb-false 64 (length q.path) g, ltb-true 1024 (size q) k)
+    by false true c f g k m = subst (λ v. IsOver v q) (same_fault {A = Loc} fault.TooDeep e (Err fault.TooDeep) refl m) (f, ltb-true LABELS_MAX (length q.path) g)
+    by false false true f g k m = subst (λ v. IsOver v q) (same_fault {A = Loc} fault.PathTooLong e (Err fault.PathTooLong) refl m) (f, ltb-false LABELS_MAX (length q.path) g, ltb-true LOC_MAX (size q) k)
     by false false false f g k m = absurd (cc)
 
 over_within : (e : PathFault) (q : Loc) → IsOver e q → (e ≡ fault.Memory) ⊎ (place_within q ≡ Err e)
 over_within (fault.BadEscape at) q h = absurd h
 over_within fault.LabelTooLong q h = inr (rw h refl)
-over_within fault.TooDeep q h = inr (rw (h.0, lt-ltb 64 (length q.path) h.1) refl)
-over_within fault.PathTooLong q h = inr (rw (h.0, not_over 64 (length q.path) h.1, lt-ltb 1024 (size q) h.2) refl)
+over_within fault.TooDeep q h = inr (rw (h.0, lt-ltb LABELS_MAX (length q.path) h.1) refl)
+over_within fault.PathTooLong q h = inr (rw (h.0, not_over LABELS_MAX (length q.path) h.1, lt-ltb LOC_MAX (size q) h.2) refl)
 over_within fault.BadValue q h = absurd h
 over_within fault.BadName q h = absurd h
 over_within fault.Memory q h = inl refl
@@ -233,37 +234,37 @@ label_reading_spelled w a h =
     label_reading-with w true (label_goes w (a, h))
     ∙ ap (λ ps. label_within (slice_index_or ps 0 [])) (ap (λ v. pieces false [] v) text ∙ pieces_of_label a)
 
-pub label_reads_back : (a : Label) → length a ≤ 255 → label_reading (label_text a) ≡ Ok a
-label_reads_back a short = label_reading_spelled (label_text a) a refl ∙ rw (not_over 255 (length a) short) refl
+pub label_reads_back : (a : Label) → length a ≤ LABEL_MAX → label_reading (label_text a) ≡ Ok a
+label_reads_back a short = label_reading_spelled (label_text a) a refl ∙ rw (not_over LABEL_MAX (length a) short) refl
 
 -- a word that is read as a label is its spelling
-pub label_read : (w : List ℕ) (a : Label) → label_reading w ≡ Ok a → (w ≡ label_text a) × (length a ≤ 255)
+pub label_read : (w : List ℕ) (a : Label) → label_reading w ≡ Ok a → (w ≡ label_text a) × (length a ≤ LABEL_MAX)
 label_read w a h = by (accepted false (spot.Start part.Empty) w) refl
   where
-    at : (b : Label) → w ≡ label_text b → (c : Bool) → nat_lt 255 (length b) ≡ c → cond c (Err fault.LabelTooLong) (Ok b) ≡ Ok a → (w ≡ label_text a) × (length a ≤ 255)
+    at : (b : Label) → w ≡ label_text b → (c : Bool) → nat_lt LABEL_MAX (length b) ≡ c → cond c (Err fault.LabelTooLong) (Ok b) ≡ Ok a → (w ≡ label_text a) × (length a ≤ LABEL_MAX)
     at b s true e k = absurd (cc)
     at b s false e k =
         let same = same_value b a (Ok b) refl k in
-        (s ∙ ap label_text same, subst (λ v. length v ≤ 255) same (ltb-false 255 (length b) e))
+        (s ∙ ap label_text same, subst (λ v. length v ≤ LABEL_MAX) same (ltb-false LABEL_MAX (length b) e))
 
-    by : (b : Bool) → accepted false (spot.Start part.Empty) w ≡ b → (w ≡ label_text a) × (length a ≤ 255)
+    by : (b : Bool) → accepted false (spot.Start part.Empty) w ≡ b → (w ≡ label_text a) × (length a ≤ LABEL_MAX)
     by true e =
         let p = label_accepted w (accepted_accepts false (spot.Start part.Empty) w e) in
-        at p.0 p.1 (nat_lt 255 (length p.0)) refl (sym (label_reading_spelled w p.0 p.1) ∙ h)
+        at p.0 p.1 (nat_lt LABEL_MAX (length p.0)) refl (sym (label_reading_spelled w p.0 p.1) ∙ h)
     by false e = let bad : Err (fault.BadEscape (reach false (spot.Start part.Empty) w)) ≡ Ok a = sym (label_reading-with w false e) ∙ h in absurd (cc)
 
 -- why a word is read as no label
 pub label_refused : (w : List ℕ) (e : PathFault) → label_reading w ≡ Err e → LabelFault e w
 label_refused w f h = by (accepted false (spot.Start part.Empty) w) refl
   where
-    at : (b : Label) → w ≡ label_text b → (c : Bool) → nat_lt 255 (length b) ≡ c → cond c (Err fault.LabelTooLong) (Ok b) ≡ Err f → LabelFault f w
-    at b s true e k = subst (λ v. LabelFault v w) (same_fault {A = Label} fault.LabelTooLong f (Err fault.LabelTooLong) refl k) (b, s, ltb-true 255 (length b) e)
+    at : (b : Label) → w ≡ label_text b → (c : Bool) → nat_lt LABEL_MAX (length b) ≡ c → cond c (Err fault.LabelTooLong) (Ok b) ≡ Err f → LabelFault f w
+    at b s true e k = subst (λ v. LabelFault v w) (same_fault {A = Label} fault.LabelTooLong f (Err fault.LabelTooLong) refl k) (b, s, ltb-true LABEL_MAX (length b) e)
     at b s false e k = absurd (cc)
 
     by : (b : Bool) → accepted false (spot.Start part.Empty) w ≡ b → LabelFault f w
     by true e =
         let p = label_accepted w (accepted_accepts false (spot.Start part.Empty) w e) in
-        at p.0 p.1 (nat_lt 255 (length p.0)) refl (sym (label_reading_spelled w p.0 p.1) ∙ h)
+        at p.0 p.1 (nat_lt LABEL_MAX (length p.0)) refl (sym (label_reading_spelled w p.0 p.1) ∙ h)
     by false e = subst (λ v. LabelFault v w) (same_fault (fault.BadEscape (reach false (spot.Start part.Empty) w)) f (label_reading w) (label_reading-with w false e) h) (label_bad w e)
 
 pub label_bad_at : (w : List ℕ) (at : ℕ) → IsBadAt LabelSpelled w at → label_reading w ≡ Err (fault.BadEscape at)
@@ -277,7 +278,7 @@ label_bad_at w at h = by (accepted false (spot.Start part.Empty) w) refl
 -- a fault of a word is what its reading says
 pub label_fault_reading : (e : PathFault) (w : List ℕ) → LabelFault e w → (e ≡ fault.Memory) ⊎ (label_reading w ≡ Err e)
 label_fault_reading (fault.BadEscape at) w h = inr (label_bad_at w at h)
-label_fault_reading fault.LabelTooLong w h = inr (label_reading_spelled w h.0 h.1 ∙ rw (lt-ltb 255 (length h.0) h.2) refl)
+label_fault_reading fault.LabelTooLong w h = inr (label_reading_spelled w h.0 h.1 ∙ rw (lt-ltb LABEL_MAX (length h.0) h.2) refl)
 label_fault_reading fault.TooDeep w h = absurd h
 label_fault_reading fault.PathTooLong w h = absurd h
 label_fault_reading fault.BadValue w h = absurd h

@@ -1,4 +1,5 @@
 -- What the reading of words rests on, at the calls' results.
+use Rattle.cp_path.specs.declared.limits.TheConstants.{LABELS_MAX, LABEL_MAX, LOC_MAX}
 use Rattle.std.proofs.Common.{◌≡◌, ℕ, List, ◌∷◌, true, false, ap, sym, ◌∙◌, subst, Option, Some, None, Result, Ok, Err, MatchResult, MatchOption, IfOk, IfErr, ◌≤◌, length}
 use Rattle.cp_path.specs.Scan.{Accepts, StopsAt, place_from}
 use Rattle.cp_path.specs.Reading.{LabelSpelled, PlaceSpelled, SpellsPlace, IsBadAt, IsOver, PlaceFault, any_long}
@@ -44,12 +45,12 @@ place_fault (Ok x) ps v w e h k = k
 place_fault (Err f) ps v w e h k = over_fault f h.0 w h.1 (subst (IsOver f) (ap place_from (e ∙ h.2)) k)
 
 pub place_made : (w : List ℕ) (ps v : List (List ℕ)) (r : Result Loc PathFault) → ps ≡ v → (q : Loc) × SpellsPlace w q × (v ≡ q.db ∷ q.path)
-    → IfOk r (λ q. (q ≡ place_from ps) × (size q ≤ 1024)) → IfOk r (λ q. (any_long q.path ≡ false) × (length q.path ≤ 64)) → IfOk r (λ q. place_reading w ≡ Ok q)
+    → IfOk r (λ q. (q ≡ place_from ps) × (size q ≤ LOC_MAX)) → IfOk r (λ q. (any_long q.path ≡ false) × (length q.path ≤ LABELS_MAX)) → IfOk r (λ q. place_reading w ≡ Ok q)
 place_made w ps v (Err f) e h k m = tt
 place_made w ps v (Ok p) e h k m =
     let same : p ≡ h.0 = k.0 ∙ ap place_from (e ∙ h.2) in
     place_reading_spelled w h.0 h.1 ∙ ap place_within (sym same) ∙ place_within_limits p m.0 m.1 k.1
 
-pub label_made : (w : List ℕ) (r : Result Label PathFault) → IfOk r (λ a. label_text a ≡ w) → IfOk r (λ a. length a ≤ 255) → IfOk r (λ a. label_reading w ≡ Ok a)
+pub label_made : (w : List ℕ) (r : Result Label PathFault) → IfOk r (λ a. label_text a ≡ w) → IfOk r (λ a. length a ≤ LABEL_MAX) → IfOk r (λ a. label_reading w ≡ Ok a)
 label_made w (Err f) h k = tt
 label_made w (Ok a) h k = subst (λ v. label_reading v ≡ Ok a) h (label_reads_back a k)

@@ -1,4 +1,5 @@
 -- Labels, paths and places: equality, order, prefixes, and how large a place is.
+use Rattle.cp_path.specs.declared.limits.TheConstants.{LABELS_MAX, LOC_MAX}
 use Rattle.std.specs.Prelude.{ℕ, ◌+◌, Bool, true, false, cond, ◌&&◌, ◌||◌, List, [], ◌∷◌, ◌++◌, length, sum_by, nat_lt}
 use Rattle.std.specs.declared.option.Option.{Option}
 use Rattle.std.specs.declared.option.Option.TheVariants.{None, Some}
@@ -78,7 +79,7 @@ size q = length q.db + sum_by (λ a. length a + 1) q.path
 
 -- more than 64 labels, or a size above 1,024
 abbrev pub over_limit : Loc → Bool
-over_limit q = nat_lt 64 (length q.path) || nat_lt 1024 (size q)
+over_limit q = nat_lt LABELS_MAX (length q.path) || nat_lt LOC_MAX (size q)
 
 -- the path without its last label
 abbrev pub parent : Path → Option Path

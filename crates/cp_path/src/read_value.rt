@@ -7,8 +7,9 @@ ghost use Rattle.cp_path.specs.Reading.{SpellsValue, IsNoWord, IsNoWhole, IsNoSt
 ghost use Rattle.cp_path.specs.Words.{string_reading, word_reading, whole_reading, text_reading, value_reading};
 ghost use Rattle.cp_path.specs.declared.value.Value.{Value};
 
+use crate::limits::TEXT_MAX;
 use crate::fault::PathFault;
-use crate::text::{TEXT_MAX, Text};
+use crate::text::Text;
 use crate::value::Value;
 use crate::whole::Whole;
 use serde_json::error::Category;
