@@ -1,4 +1,5 @@
 -- Names and numbers are words: they have no trigger. A number's digits are read as the number.
+use Rattle.cp_path.specs.declared.limits.TheConstants.{NAME_MAX}
 use Rattle.std.specs.Prelude.{ℕ, zero, suc, ◌<◌, ◌≤◌, ◌^◌, ◌≡◌, ◌==◌, List, [], ◌∷◌, Bool, true, false, ◌&&◌, ◌||◌, not, nat_le, nat_lt, length, decimal, slice_index, refl, Some, None, cond}
 use Rattle.std.proofs.Common.{ap, ◌∙◌, arith}
 use Rattle.std.proofs.lemmas.Bool.{and_parts, leb-true, le-leb, lt-ltb, ne_eqb}
@@ -22,13 +23,13 @@ name_bytes_bare (x ∷ w) h =
 
 -- a name is not empty
 pub name_some : (w : List ℕ) → is_name w ≡ true → 0 < length w
-name_some w h = let l = leb-true 1 (length w) (and_parts (nat_le 1 (length w)) (nat_le (length w) 32 && (is_letter (slice_index w 0) && list_all is_name_byte w)) h).0 in omega arith
+name_some w h = let l = leb-true 1 (length w) (and_parts (nat_le 1 (length w)) (nat_le (length w) NAME_MAX && (is_letter (slice_index w 0) && list_all is_name_byte w)) h).0 in omega arith
 
 -- a name has no trigger
 pub name_bare : (w : List ℕ) → is_name w ≡ true → has_trigger w ≡ false
 name_bare w h =
-    let a = and_parts (nat_le 1 (length w)) (nat_le (length w) 32 && (is_letter (slice_index w 0) && list_all is_name_byte w)) h in
-    let b = and_parts (nat_le (length w) 32) (is_letter (slice_index w 0) && list_all is_name_byte w) a.1 in
+    let a = and_parts (nat_le 1 (length w)) (nat_le (length w) NAME_MAX && (is_letter (slice_index w 0) && list_all is_name_byte w)) h in
+    let b = and_parts (nat_le (length w) NAME_MAX) (is_letter (slice_index w 0) && list_all is_name_byte w) a.1 in
     let c = and_parts (is_letter (slice_index w 0)) (list_all is_name_byte w) b.1 in
     name_bytes_bare w c.1
 

@@ -1,11 +1,12 @@
 -- What a cutter keeps, and what it cuts, byte by byte is what the scan brings.
+use Rattle.cp_lang.specs.declared.limits.TheConstants.{STATEMENT_MAX}
 use Rattle.std.proofs.Common.{◌≡◌, ℕ, List, [], ◌∷◌, ◌++◌, Bool, true, false, ◌&&◌, length, nat_lt, if◌then◌else◌, refl, ap, sym, ◌∙◌, arith}
 use Rattle.std.proofs.lemmas.Bool.{ltb-true, ltb-false, lt-ltb, le-ltb}
 use Rattle.std.proofs.lemmas.List.{length_push}
 use Rattle.std.proofs.lemmas.List.Folds.{list_all-append}
 use Rattle.cp_lang.specs.declared.cut.Mode.{Mode}
 use Rattle.cp_lang.specs.Spaces.{is_space, is_blank}
-use Rattle.cp_lang.specs.Cuts.{ends, after, Scan, scan_byte, most_statement}
+use Rattle.cp_lang.specs.Cuts.{ends, after, Scan, scan_byte}
 use Rattle.cp_lang.specs.Held.{Held, held_of, grown, byte_cuts, byte_held}
 
 -- the text under a limit, else nothing
@@ -43,9 +44,9 @@ same_held mode t u p q k l e f g = rw (e, f, g) refl
 grown_is : (s : Scan) (b : ℕ) → grown (held_of s) b ≡ held_of (record { text = s.text ++ b ∷ []; mode = after s.mode b })
 grown_is s b =
     same_held (after s.mode b) _ _ _ _ _ _
-    (kept_more most_statement s.text b _ _ refl refl)
+    (kept_more STATEMENT_MAX s.text b _ _ refl refl)
     (sym (list_all-append is_space s.text (b ∷ []) ∙ ap (λ (x : Bool). is_blank s.text && x) (and_end (is_space b))))
-    (long_more most_statement s.text b _ _ refl refl)
+    (long_more STATEMENT_MAX s.text b _ _ refl refl)
   where
     and_end : (x : Bool) → (x && true) ≡ x
     and_end true = refl
@@ -61,9 +62,9 @@ byte_held-is s b = cases (ends s.mode b) refl
 
 -- the cuts that end with a byte
 pub byte_cuts-is : (s : Scan) (b : ℕ) → byte_cuts (held_of s) b ≡ (scan_byte s b).cuts
-byte_cuts-is s b = cases (ends s.mode b) (nat_lt most_statement (length s.text)) refl refl
+byte_cuts-is s b = cases (ends s.mode b) (nat_lt STATEMENT_MAX (length s.text)) refl refl
   where
-    cases : (p q : Bool) → ends s.mode b ≡ p → nat_lt most_statement (length s.text) ≡ q → byte_cuts (held_of s) b ≡ (scan_byte s b).cuts
+    cases : (p q : Bool) → ends s.mode b ≡ p → nat_lt STATEMENT_MAX (length s.text) ≡ q → byte_cuts (held_of s) b ≡ (scan_byte s b).cuts
     cases true true e f = rw (e, f) refl
     cases true false e f = rw (e, f) refl
     cases false q e f = rw e refl

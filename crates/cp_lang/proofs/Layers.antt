@@ -1,4 +1,5 @@
 -- The rows of a literal, level by level: a value, or a node with the rows below each of its labels.
+use Rattle.cp_path.specs.declared.limits.TheConstants.{LABEL_MAX, TEXT_MAX}
 use Rattle.std.specs.Prelude.{ℕ, suc, zero, ◌≤◌, ◌≡◌, Bool, true, false, cond, ◌&&◌, List, [], ◌∷◌, ◌++◌, length, nat_lt, ⊤, is_some, refl, if◌then◌else◌}
 use Rattle.std.proofs.Common.{T, ap, sym, subst, ◌∙◌, arith, ◌⊎◌, inl, inr, ⊎_elim}
 use Rattle.std.proofs.lemmas.Bool.{or_parts, ltb-false}
@@ -19,7 +20,7 @@ use Rattle.cp_path.specs.declared.value.Value.TheVariants as value
 use Rattle.cp_model.specs.Place.{or_else}
 use Rattle.cp_path.proofs.Same.{text_eq-same}
 use Rattle.cp_model.specs.Keyed.{look}
-use Rattle.cp_model.specs.Tree.{text_bytes, most_text}
+use Rattle.cp_model.specs.Tree.{text_bytes}
 use Rattle.cp_model.specs.History.{IsLiteral}
 use Rattle.cp_model.proofs.Rooted.{AreRows, rows-literal}
 use Rattle.cp_model.proofs.Sorted.{path_cmp-append, parts_of, all_of, root-first}
@@ -55,7 +56,7 @@ Layered zero rows = ⊥
 Layered (suc d) [] = ⊥
 Layered (suc d) ((p, Leaf v) ∷ rows) = (p ≡ []) × (rows ≡ []) × IsWithin v
 Layered (suc d) ((p, Node) ∷ rows) =
-    (p ≡ []) × (rows_of (groups rows) ≡ rows) × Rising (groups rows) × Each (λ g. (length g.label ≤ 255) × Layered d g.rows) (groups rows)
+    (p ≡ []) × (rows_of (groups rows) ≡ rows) × Rising (groups rows) × Each (λ g. (length g.label ≤ LABEL_MAX) × Layered d g.rows) (groups rows)
 
 -- ---- groups of rows
 
@@ -199,7 +200,7 @@ look-none a q (g ∷ gs) h = look-other g.label a q g.rows (rows_of gs) (less-ap
 -- rows below a root: what is above a row is a node, and texts are within their limit
 record IsForest (rows : Rows) : Type 0 where
   parents : (a : Label) (r : Path) (b : Label) → is_some (look (a ∷ r ++ b ∷ []) rows) ≡ true → look (a ∷ r) rows ≡ Some Node
-  texts : (a : Label) (r : Path) (c : Content) → look (a ∷ r) rows ≡ Some c → text_bytes c ≤ most_text
+  texts : (a : Label) (r : Path) (c : Content) → look (a ∷ r) rows ≡ Some c → text_bytes c ≤ TEXT_MAX
 
 -- no row stands at or below the label
 abbrev Lacks : Label → Rows → Type 0
@@ -243,12 +244,12 @@ short-after n (x ∷ xs) ys h = short-after n xs ys h.3
 
 short-under : (n : ℕ) (a : Label) (rs : Rows) → AreShort (suc n) (rows_under a rs) → AreShort n rs
 short-under n a [] h = tt
-short-under n a (r ∷ rs) h = (omega (arith, h.0), (or_parts (nat_lt 255 (length a)) (any_long r.0) h.1).1, h.2, short-under n a rs h.3)
+short-under n a (r ∷ rs) h = (omega (arith, h.0), (or_parts (nat_lt LABEL_MAX (length a)) (any_long r.0) h.1).1, h.2, short-under n a rs h.3)
 
-short-label : (n : ℕ) (a : Label) (rs : Rows) → IsFilled rs → AreShort n (rows_under a rs) → length a ≤ 255
+short-label : (n : ℕ) (a : Label) (rs : Rows) → IsFilled rs → AreShort n (rows_under a rs) → length a ≤ LABEL_MAX
 short-label n a rs f h =
     let s : AreShort n (rows_under a (f.0 ∷ f.1)) = subst (λ es. AreShort n (rows_under a es)) f.2 h in
-    ltb-false 255 (length a) (or_parts (nat_lt 255 (length a)) (any_long f.0.0) s.1).0
+    ltb-false LABEL_MAX (length a) (or_parts (nat_lt LABEL_MAX (length a)) (any_long f.0.0) s.1).0
 
 -- ---- a literal's rows
 
@@ -260,7 +261,7 @@ record IsShortTree (n : ℕ) (rows : Rows) : Type 0 where
 
 -- a group of such rows below a label within its limit
 abbrev IsShortGroup : ℕ → Group → Type 0
-IsShortGroup n g = (length g.label ≤ 255) × IsShortTree n g.rows
+IsShortGroup n g = (length g.label ≤ LABEL_MAX) × IsShortTree n g.rows
 
 parted : (n : ℕ) (gs : List Group) → Each (λ g. IsFilled g.rows) gs → Rising gs → T (is_sorted path_cmp (rows_of gs)) → IsForest (rows_of gs) → AreShort (suc n) (rows_of gs) → Each (IsShortGroup n) gs
 parted n [] f r s t h = tt
@@ -299,7 +300,7 @@ no_row v ((a ∷ p, c) ∷ rows) t n =
     let bad : Some (Leaf v) ≡ Some Node = above-node (([], Leaf v) ∷ (a ∷ p, c) ∷ rows) a t p there in absurd (cc)
 
 -- a value is within its limits
-fit : (v : Value) → text_bytes (Leaf v) ≤ most_text → IsNumber (Leaf v) → IsWithin v
+fit : (v : Value) → text_bytes (Leaf v) ≤ TEXT_MAX → IsNumber (Leaf v) → IsWithin v
 fit value.Null h n = tt
 fit value.False h n = tt
 fit value.True h n = tt
@@ -331,7 +332,7 @@ layers zero ((p, Node) ∷ rows) h =
       e,
       rows_of-groups rows n,
       rising-groups rows n (parts_of (below_all path_cmp [] rows) (is_sorted path_cmp rows) s).1,
-      subst (λ rs. Each (λ g. (length g.label ≤ 255) × Layered zero g.rows) (groups rs)) (sym k) tt,
+      subst (λ rs. Each (λ g. (length g.label ≤ LABEL_MAX) × Layered zero g.rows) (groups rs)) (sym k) tt,
     )
 layers (suc n) ((p, Node) ∷ rows) h =
     let e = root_row p Node rows h.sorted h.tree in
@@ -342,7 +343,7 @@ layers (suc n) ((p, Node) ∷ rows) h =
     let rising = rising-groups rows parts.0 parts.1 in
     let each = parted n (groups rows) (filled-groups rows) rising
     (subst (λ rs. T (is_sorted path_cmp rs)) (sym same) parts.1) (subst IsForest (sym same) (forest rows t)) (subst (AreShort (suc n)) (sym same) h.short.3) in
-    (e, same, rising, each-map (IsShortGroup n) (λ g. (length g.label ≤ 255) × Layered (suc n) g.rows) (λ g k. (k.0, layers n g.rows k.1)) (groups rows) each)
+    (e, same, rising, each-map (IsShortGroup n) (λ g. (length g.label ≤ LABEL_MAX) × Layered (suc n) g.rows) (λ g k. (k.0, layers n g.rows k.1)) (groups rows) each)
 
 -- a literal's rows have one level more than labels on a way
 pub literal-layers : (n : ℕ) (rows : Rows) → IsLiteral rows → AreShort n rows → Layered (suc n) rows

@@ -1,4 +1,5 @@
 -- A node whose edges rise, and lead to literals within their limits, is a literal within its limits.
+use Rattle.cp_path.specs.declared.limits.TheConstants.{LABEL_MAX, TEXT_MAX}
 use Rattle.std.specs.Prelude.{ℕ, suc, ◌≤◌, ◌+◌, ◌≡◌, Bool, true, false, ◌||◌, [], ◌∷◌, ◌++◌, length, ⊤, is_some, refl}
 use Rattle.std.proofs.Common.{T, ap, sym, subst, ◌∙◌, arith}
 use Rattle.std.proofs.lemmas.Bool.{le-ltb, or_parts}
@@ -18,7 +19,7 @@ use Rattle.cp_path.specs.declared.value.Value.TheVariants as value
 use Rattle.cp_model.specs.Place.{or_else}
 use Rattle.cp_path.proofs.Same.{text_eq-same}
 use Rattle.cp_model.specs.Keyed.{look}
-use Rattle.cp_model.specs.Tree.{text_bytes, most_text}
+use Rattle.cp_model.specs.Tree.{text_bytes}
 use Rattle.cp_model.specs.History.{IsLiteral}
 use Rattle.cp_model.proofs.Rooted.{AreRows, rows-literal}
 use Rattle.cp_model.proofs.Sorted.{path_cmp-append, parts_of, all_of}
@@ -53,7 +54,7 @@ Precedes a (e ∷ es) = (text_cmp a e.0 ≡ Less) × Precedes a es
 -- edges that rise, to literals below one label more than this
 abbrev pub AreEdges : ℕ → Edges → Type 0
 AreEdges k [] = ⊤
-AreEdges k (e ∷ es) = (length e.0 ≤ 255) × IsBelow (suc k) e.1 × Precedes e.0 es × AreEdges k es
+AreEdges k (e ∷ es) = (length e.0 ≤ LABEL_MAX) × IsBelow (suc k) e.1 × Precedes e.0 es × AreEdges k es
 
 -- ---- their order
 
@@ -118,11 +119,11 @@ parents-edges k (e ∷ es) h b r c i = by (parents-edges k es h.3 b r c) (text_e
         look-other e.0 b r (literal_rows e.1) (rows_of_edges es) n
         ∙ later (ap is_some (sym (look-other e.0 b (r ++ c ∷ []) (literal_rows e.1) (rows_of_edges es) n)) ∙ i)
 
-texts-edges : (k : ℕ) (es : Edges) → AreEdges k es → (b : Label) (r : Path) (c : Content) → look (b ∷ r) (rows_of_edges es) ≡ Some c → text_bytes c ≤ most_text
+texts-edges : (k : ℕ) (es : Edges) → AreEdges k es → (b : Label) (r : Path) (c : Content) → look (b ∷ r) (rows_of_edges es) ≡ Some c → text_bytes c ≤ TEXT_MAX
 texts-edges k [] h b r c i = absurd (cc)
 texts-edges k (e ∷ es) h b r c i = by (texts-edges k es h.3 b r c) (text_eq b e.0) refl
   where
-    by : (look (b ∷ r) (rows_of_edges es) ≡ Some c → text_bytes c ≤ most_text) → (t : Bool) → text_eq b e.0 ≡ t → text_bytes c ≤ most_text
+    by : (look (b ∷ r) (rows_of_edges es) ≡ Some c → text_bytes c ≤ TEXT_MAX) → (t : Bool) → text_eq b e.0 ≡ t → text_bytes c ≤ TEXT_MAX
     by later true s = h.1.written.texts r c (sym (look-first e r es h.2) ∙ ap (λ l. look (l ∷ r) (rows_of_edges (e ∷ es))) (sym (text_eq-same b e.0 s)) ∙ i)
     by later false n = later (sym (look-other e.0 b r (literal_rows e.1) (rows_of_edges es) n) ∙ i)
 
@@ -149,8 +150,8 @@ node-written k es h = literal-rows (([], Node) ∷ rows_of_edges es)
     parents [] a i = refl
     parents (b ∷ r) a i = parents-edges k es h b r a i
 
-    texts : (r : Path) (c : Content) → look r (([], Node) ∷ rows_of_edges es) ≡ Some c → text_bytes c ≤ most_text
-    texts [] c e = subst (λ d. text_bytes d ≤ most_text) (same_content Node c e) (omega arith)
+    texts : (r : Path) (c : Content) → look r (([], Node) ∷ rows_of_edges es) ≡ Some c → text_bytes c ≤ TEXT_MAX
+    texts [] c e = subst (λ d. text_bytes d ≤ TEXT_MAX) (same_content Node c e) (omega arith)
     texts (b ∷ r) c e = texts-edges k es h b r c e
 
 -- ---- limits
@@ -159,10 +160,10 @@ deep-append : (k : ℕ) (xs ys : Rows) → AreDeep k xs → AreDeep k ys → Are
 deep-append k [] ys h m = m
 deep-append k (x ∷ xs) ys h m = (h.0, h.1, h.2, deep-append k xs ys h.3 m)
 
-deep-under : (k : ℕ) (a : Label) (rs : Rows) → length a ≤ 255 → AreDeep (suc k) rs → AreDeep k (rows_under a rs)
+deep-under : (k : ℕ) (a : Label) (rs : Rows) → length a ≤ LABEL_MAX → AreDeep (suc k) rs → AreDeep k (rows_under a rs)
 deep-under k a [] l h = tt
 deep-under k a (r ∷ rs) l h =
-    (omega (arith, h.0), ap (λ b. b || any_long r.0) (le-ltb 255 (length a) l) ∙ h.1, h.2, deep-under k a rs l h.3)
+    (omega (arith, h.0), ap (λ b. b || any_long r.0) (le-ltb LABEL_MAX (length a) l) ∙ h.1, h.2, deep-under k a rs l h.3)
 
 deep-edges : (k : ℕ) (es : Edges) → AreEdges k es → AreDeep k (rows_of_edges es)
 deep-edges k [] h = tt
@@ -183,15 +184,15 @@ leaf-below k v l h = record {
     parents [] a i = absurd (cc)
     parents (b ∷ r) a i = absurd (cc)
 
-    bytes : (v : Value) → IsWithin v → text_bytes (Leaf v) ≤ most_text
+    bytes : (v : Value) → IsWithin v → text_bytes (Leaf v) ≤ TEXT_MAX
     bytes value.Null h = omega arith
     bytes value.False h = omega arith
     bytes value.True h = omega arith
     bytes (value.Whole n) h = omega arith
     bytes (value.Text t) h = h
 
-    texts : (r : Path) (c : Content) → look r (([], Leaf v) ∷ []) ≡ Some c → text_bytes c ≤ most_text
-    texts [] c e = subst (λ d. text_bytes d ≤ most_text) (same_content (Leaf v) c e) (bytes v h)
+    texts : (r : Path) (c : Content) → look r (([], Leaf v) ∷ []) ≡ Some c → text_bytes c ≤ TEXT_MAX
+    texts [] c e = subst (λ d. text_bytes d ≤ TEXT_MAX) (same_content (Leaf v) c e) (bytes v h)
     texts (b ∷ r) c e = absurd (cc)
 
     number : (v : Value) → IsWithin v → IsNumber (Leaf v)
@@ -225,7 +226,7 @@ precedes-insert b a t (e ∷ es) h l =
     ]
 
 -- an edge of another label in its place
-pub edges-insert : (k : ℕ) (a : Label) (t : Literal) (es : Edges) → length a ≤ 255 → IsBelow (suc k) t → has_edge a es ≡ false → AreEdges k es → AreEdges k (insert_entry text_cmp es a t)
+pub edges-insert : (k : ℕ) (a : Label) (t : Literal) (es : Edges) → length a ≤ LABEL_MAX → IsBelow (suc k) t → has_edge a es ≡ false → AreEdges k es → AreEdges k (insert_entry text_cmp es a t)
 edges-insert k a t [] l b n h = (l, b, tt, tt)
 edges-insert k a t (e ∷ es) l b n h = by (edges-insert k a t es l b (or_parts (text_eq a e.0) (has_edge a es) n).1 h.3) (text_cmp a e.0) refl
   where

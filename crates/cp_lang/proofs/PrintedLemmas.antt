@@ -18,7 +18,7 @@ use Rattle.cp_model.specs.declared.row.Content.TheVariants.{Node, Leaf}
 use Rattle.cp_model.specs.declared.literal.Literal.{Literal}
 use Rattle.cp_model.specs.declared.literal.Literal.TheVariants as literal
 use Rattle.cp_model.specs.declared.literal.LitEdge.{LitEdge}
-use Rattle.cp_lang.specs.Printed.{Rows, group_text, AreWithin, IsOrdered, sorted, within, edge_text, edges_text, node_edges_text}
+use Rattle.cp_lang.specs.Printed.{Rows, group_text, AreWithin, IsOrdered, edge_text, edges_text, node_edges_text}
 use Rattle.cp_lang.proofs.Layers.{sorted-under, sorted-after, less-apart}
 
 -- the rows of each edge's tree are

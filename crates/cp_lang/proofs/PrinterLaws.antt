@@ -1,4 +1,5 @@
 -- A printed statement is read as the statement.
+use Rattle.cp_path.specs.declared.limits.TheConstants.{LABELS_MAX, LABEL_MAX}
 use Rattle.std.specs.Prelude.{ℕ, ◌≤◌, ◌<◌, ◌≡◌, List, [], ◌∷◌, ◌++◌, true, false, codes, decimal, length, refl, Ok, if◌then◌else◌}
 use Rattle.std.proofs.Common.{ap, sym, ◌∙◌, arith, append-nil}
 use Rattle.std.specs.declared.option.Option.TheVariants.{None, Some}
@@ -53,10 +54,10 @@ record WantsLabel (s : Spot) (next : Label → Taken) : Type 0 where
   bare : (u : List ℕ) → takes s (word u) ≡ by_reading (label_reading u) next
   inside : (u : List ℕ) → takes s (quotes u) ≡ by_reading (label_reading u) next
 
-label_on : (a : Label) (next : Label → Taken) (s t : Spot) (rest : List ℕ) → length a ≤ 255 → WantsLabel s next → stops_word rest ≡ true → next a ≡ goes t → Reaches s (label_text a ++ rest) t rest
+label_on : (a : Label) (next : Label → Taken) (s t : Spot) (rest : List ℕ) → length a ≤ LABEL_MAX → WantsLabel s next → stops_word rest ≡ true → next a ≡ goes t → Reaches s (label_text a ++ rest) t rest
 label_on a next s t rest h w e g = read_on label_reading next (label_text a) a s t rest (label_shape a) e w.bare w.inside (label_reads_back a h) g
 
-last_label : (a : Label) (next : Label → Taken) (s t : Spot) → length a ≤ 255 → WantsLabel s next → next a ≡ goes t → Reaches s (label_text a) t []
+last_label : (a : Label) (next : Label → Taken) (s t : Spot) → length a ≤ LABEL_MAX → WantsLabel s next → next a ≡ goes t → Reaches s (label_text a) t []
 last_label a next s t h w g = from_same (sym (append-nil (label_text a))) (label_on a next s t [] h w refl g)
 
 literal_of-rows : (t : Literal) → literal_of (literal_rows t) ≡ t
@@ -77,7 +78,7 @@ ins_read p a t h =
     (on (space_on (tree_colon a []) (codes ": " ++ behind))
     (on (mark_on 58 (tree_colon a []) (tree a []) (32 ∷ behind) refl refl refl refl)
     (on (space_on (tree a []) behind)
-    (on (to_same (tree_on 64 65 (omega arith) (literal_rows t) a [] last (literal-layers 63 (literal_rows t) h.2.0 h.2.1) (omega arith) refl) (ap (ins_close a) (literal_of-rows t)))
+    (on (to_same (tree_on LABELS_MAX 65 (omega arith) (literal_rows t) a [] last (literal-layers 63 (literal_rows t) h.2.0 h.2.1) (omega arith) refl) (ap (ins_close a) (literal_of-rows t)))
     (on (mark_on 125 (ins_close a t) (ins_into a t) (codes " into " ++ place_text p) refl refl refl refl)
     (on (space_on (ins_into a t) (codes "into " ++ place_text p))
     (on (word_on (codes "into") (ins_into a t) (ins_place a t) (32 ∷ place_text p) (omega arith) refl refl refl)

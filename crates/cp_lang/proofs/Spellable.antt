@@ -1,4 +1,5 @@
 -- A statement that is read is within every limit, so it can be printed, and written in a history.
+use Rattle.cp_path.specs.declared.limits.TheConstants.{LABELS_MAX}
 use Rattle.std.specs.Prelude.{ℕ, suc, ◌≤◌, ◌<◌, ◌^◌, ◌≡◌, List, [], ◌∷◌, Bool, true, false, ◌&&◌, ◌||◌, nat_le, nat_lt, length, ⊤, codes, refl, Result, Ok, Err, if◌then◌else◌}
 use Rattle.std.proofs.Common.{subst, arith}
 use Rattle.std.proofs.lemmas.Bool.{leb-false, ltb-true}
@@ -212,12 +213,12 @@ close-leads (l ∷ ls) h = placed-good l.label (node l.edges) ls h.0 h.2 (node-b
 -- a label comes
 new-leads : (ls : List Level) (a : Label) → IsLabel a → AreLevels ls → Leads (new_edge ls a)
 new-leads [] a l h = tt
-new-leads (k ∷ ls) a l h = by (nat_le 64 (suc (length ls))) (has_edge a k.edges) refl refl
+new-leads (k ∷ ls) a l h = by (nat_le LABELS_MAX (suc (length ls))) (has_edge a k.edges) refl refl
   where
-    by : (b c : Bool) → nat_le 64 (suc (length ls)) ≡ b → has_edge a k.edges ≡ c → Leads (if b || c then cant else goes (tree_colon a (k ∷ ls)))
+    by : (b c : Bool) → nat_le LABELS_MAX (suc (length ls)) ≡ b → has_edge a k.edges ≡ c → Leads (if b || c then cant else goes (tree_colon a (k ∷ ls)))
     by true c e f = tt
     by false true e f = tt
-    by false false e f = let few = leb-false 64 (suc (length ls)) e in ((l, omega (arith, few), f), h)
+    by false false e f = let few = leb-false LABELS_MAX (suc (length ls)) e in ((l, omega (arith, few), f), h)
 
 spelled-within : (w : List ℕ) (v : Value) → SpellsValue w v → IsWithin v
 spelled-within w value.Null h = tt

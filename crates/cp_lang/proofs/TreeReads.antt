@@ -1,4 +1,5 @@
 -- A literal's text is read as the literal.
+use Rattle.cp_path.specs.declared.limits.TheConstants.{LABELS_MAX, LABEL_MAX}
 use Rattle.std.specs.Prelude.{ℕ, suc, zero, ◌≤◌, ◌+◌, ◌≡◌, List, [], ◌∷◌, ◌++◌, true, false, ◌||◌, nat_le, map, length, codes, ⊤, refl, if◌then◌else◌}
 use Rattle.std.proofs.Common.{ap, sym, ◌∙◌, arith, append_assoc}
 use Rattle.std.proofs.lemmas.Bool.{lt-leb}
@@ -43,7 +44,7 @@ rows-literal_of (suc d) ((p, Node) ∷ rows) h = ap (λ q. (q, Node) ∷ rows) (
 
 -- a group within its limits
 abbrev IsGroup : ℕ → Group → Type 0
-IsGroup d g = (length g.label ≤ 255) × Layered d g.rows
+IsGroup d g = (length g.label ≤ LABEL_MAX) × Layered d g.rows
 
 rows-edges_of : (d : ℕ) (gs : List Group) → Each (IsGroup d) gs → rows_of_edges (edges_of gs) ≡ rows_of gs
 rows-edges_of d [] h = refl
@@ -82,7 +83,7 @@ level a es = record { label = a; edges = es }
 
 -- the tree of a group is read within any nodes that aren't too deep
 abbrev TreesRead : ℕ → ℕ → Type 0
-TreesRead d m = (rows : Rows) (a : Label) (ls : List Level) (rest : List ℕ) → Layered d rows → length ls + d ≤ 64 → stops_word rest ≡ true →
+TreesRead d m = (rows : Rows) (a : Label) (ls : List Level) (rest : List ℕ) → Layered d rows → length ls + d ≤ LABELS_MAX → stops_word rest ≡ true →
     Reaches (tree a ls) (tree_at m rows ++ rest) (placed a (literal_of rows) ls) rest
 
 -- a label is wanted
@@ -98,14 +99,14 @@ next_wants : (ls : List Level) → WantsLabel (next_edge ls) ls
 unfolding takes
 next_wants ls = record { bare = λ u. refl; inside = λ u. refl }
 
-new_goes : (a b : Label) (es : Edges) (ls : List Level) → length ls + 2 ≤ 64 → has_edge a es ≡ false → new_edge (level b es ∷ ls) a ≡ goes (tree_colon a (level b es ∷ ls))
+new_goes : (a b : Label) (es : Edges) (ls : List Level) → length ls + 2 ≤ LABELS_MAX → has_edge a es ≡ false → new_edge (level b es ∷ ls) a ≡ goes (tree_colon a (level b es ∷ ls))
 new_goes a b es ls h n =
-    let few : nat_le 64 (suc (length ls)) ≡ false = lt-leb 64 (suc (length ls)) (omega (arith, h)) in
+    let few : nat_le LABELS_MAX (suc (length ls)) ≡ false = lt-leb LABELS_MAX (suc (length ls)) (omega (arith, h)) in
     ap (λ c. if c || has_edge a es then cant else goes (tree_colon a (level b es ∷ ls))) few ∙ ap (λ c. if c then cant else goes (tree_colon a (level b es ∷ ls))) n
 
 -- an edge is read
 edge_on : (d m : ℕ) (g : Group) (b : Label) (es : Edges) (ls : List Level) (s : Spot) (rest : List ℕ) →
-    TreesRead d m → IsGroup d g → Before es g.label → length ls + suc d ≤ 64 → WantsLabel s (level b es ∷ ls) → stops_word rest ≡ true →
+    TreesRead d m → IsGroup d g → Before es g.label → length ls + suc d ≤ LABELS_MAX → WantsLabel s (level b es ∷ ls) → stops_word rest ≡ true →
     Reaches s (group_text m g ++ rest) (edge_end (level b (es ++ (g.label, literal_of g.rows) ∷ []) ∷ ls)) rest
 unfolding takes
 edge_on d m g b es ls s rest read h n l w e =
@@ -120,13 +121,13 @@ edge_on d m g b es ls s rest read h n l w e =
     (on (space_on (tree g.label below) after)
     (to_same (read g.rows g.label below rest h.1 (omega (arith, l)) e) (ap (λ fs. edge_end (level b fs ∷ ls)) (entry_last g.label (literal_of g.rows) es n)))))))
   where
-    deep : (d : ℕ) → Layered d g.rows → length ls + suc d ≤ 64 → length ls + 2 ≤ 64
+    deep : (d : ℕ) → Layered d g.rows → length ls + suc d ≤ LABELS_MAX → length ls + 2 ≤ LABELS_MAX
     deep zero k l = absurd k
     deep (suc d) k l = omega (arith, l)
 
 -- edges and the closing brace are read
 edges_on : (d m : ℕ) (g : Group) (gs : List Group) (b : Label) (es : Edges) (ls : List Level) (s : Spot) (rest : List ℕ) →
-    TreesRead d m → Each (IsGroup d) (g ∷ gs) → Rising (g ∷ gs) → Each (λ h. Before es h.label) (g ∷ gs) → length ls + suc d ≤ 64 → WantsLabel s (level b es ∷ ls) → stops_word rest ≡ true →
+    TreesRead d m → Each (IsGroup d) (g ∷ gs) → Rising (g ∷ gs) → Each (λ h. Before es h.label) (g ∷ gs) → length ls + suc d ≤ LABELS_MAX → WantsLabel s (level b es ∷ ls) → stops_word rest ≡ true →
     Reaches s (between (codes ", ") (map (group_text m) (g ∷ gs)) ++ 125 ∷ rest) (placed b (node (es ++ edges_of (g ∷ gs))) ls) rest
 unfolding takes
 edges_on d m g [] b es ls s rest read h r n l w e =
@@ -150,7 +151,7 @@ all_before (g ∷ gs) = (tt, all_before gs)
 
 -- a node is read
 node_on : (d m : ℕ) (gs : List Group) (rows : Rows) (a : Label) (ls : List Level) (rest : List ℕ) →
-    TreesRead d m → Each (IsGroup d) gs → Rising gs → rows_of gs ≡ rows → length ls + suc d ≤ 64 → stops_word rest ≡ true →
+    TreesRead d m → Each (IsGroup d) gs → Rising gs → rows_of gs ≡ rows → length ls + suc d ≤ LABELS_MAX → stops_word rest ≡ true →
     Reaches (tree a ls) (123 ∷ between (codes ", ") (map (group_text m) gs) ++ 125 ∷ rest) (placed a (literal.Node rows) ls) rest
 unfolding takes
 node_on d m [] rows a ls rest read h r s l e =

@@ -1,4 +1,5 @@
 -- What holds of every state of a legal history.
+use Rattle.cp_model.specs.declared.limits.TheConstants.{SOURCES_MAX}
 use Rattle.std.specs.Prelude.{ℕ, ◌+◌, ◌≤◌, ◌≡◌, Bool, true, false, ◌||◌, List, [], ◌∷◌, ◌++◌, map, length, fold, is_some, refl, ⊤, if◌then◌else◌}
 use Rattle.std.proofs.Common.{sym, ap, subst, ◌∙◌, arith, length-append}
 use Rattle.std.specs.List.{list_any, IsDistinct}
@@ -15,10 +16,10 @@ use Rattle.cp_path.proofs.Same.{text_eq-same}
 use Rattle.cp_model.specs.Tree.{Tree, Source, source, IsTree}
 use Rattle.cp_model.specs.Step.{Working, contents, done, step}
 use Rattle.cp_model.specs.Past.{tree_of}
-use Rattle.cp_model.specs.History.{Entry, start, load, commit, State, steps_of, after_commit, begun, then_entry, replay, most_sources, IsSource, CanCommit, CanFollow, IsLegal, IsLegalFrom}
+use Rattle.cp_model.specs.History.{Entry, start, load, commit, State, steps_of, after_commit, begun, then_entry, replay, IsSource, CanCommit, CanFollow, IsLegal, IsLegalFrom}
 use Rattle.cp_model.proofs.Contents.{tree_of-aged}
 use Rattle.cp_model.proofs.Folds.{done_is}
-use Rattle.cp_model.specs.Laws.{AreTrees, AreSources, each, few, apart, IsSound, tree, sources}
+use Rattle.cp_model.specs.Laws.{AreTrees, AreSources, IsSound}
 use Rattle.cp_model.proofs.Kept.{tree-step}
 use Rattle.cp_model.proofs.Alone.{after-steps_of}
 
@@ -46,7 +47,7 @@ named-source (s ∷ ss) n =
     ]
 
 -- a source that can be loaded leaves the sources sources
-pub sources-loaded : (ss : List Source) (n : List ℕ) (t : Tree) → AreSources ss → IsSource n t → is_some (source ss n) ≡ false → length ss + 1 ≤ most_sources → AreSources (ss ++ record { name = n; tree = t } ∷ [])
+pub sources-loaded : (ss : List Source) (n : List ℕ) (t : Tree) → AreSources ss → IsSource n t → is_some (source ss n) ≡ false → length ss + 1 ≤ SOURCES_MAX → AreSources (ss ++ record { name = n; tree = t } ∷ [])
 sources-loaded ss n t h l f few = record {
   each = λ m u e. among m u (source ss m) refl (sym (source-snoc ss (record { name = n; tree = t }) m) ∙ e);
   few = omega (arith, few, length-append ss (record { name = n; tree = t } ∷ []));

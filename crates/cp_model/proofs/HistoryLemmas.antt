@@ -5,7 +5,7 @@ use Rattle.cp_model.specs.declared.kind.Kind.TheVariants as kind
 use Rattle.cp_model.specs.declared.op.Op.{Op}
 use Rattle.cp_model.specs.declared.stamp.Stamp.{Stamp}
 use Rattle.cp_model.specs.declared.answer.LogLine.{LogLine}
-use Rattle.cp_model.specs.History.{Entry, start, load, commit, steps_of, kind, now}
+use Rattle.cp_model.specs.History.{Entry, start, load, commit, steps_of}
 
 -- ---- log
 

@@ -1,4 +1,5 @@
 -- What isn't refused keeps a tree a tree.
+use Rattle.cp_path.specs.declared.limits.TheConstants.{TEXT_MAX}
 use Rattle.std.specs.Prelude.{ℕ, ◌≤◌, ◌≡◌, Bool, true, false, cond, ◌||◌, List, [], ◌∷◌, ◌++◌, is_some, refl}
 use Rattle.std.proofs.Common.{sym, ap, subst, ◌∙◌, arith}
 use Rattle.std.specs.List.{list_any}
@@ -15,11 +16,11 @@ use Rattle.cp_model.specs.Keyed.{look}
 use Rattle.cp_model.specs.Closed.{Closed}
 use Rattle.cp_model.specs.Subtrees.{is_there, below, without, replaced}
 use Rattle.cp_model.specs.Literals.{literal_rows}
-use Rattle.cp_model.specs.Tree.{Tree, Source, source, database, taken, refusal, changed, reaches_over, text_bytes, most_text, IsWithin, IsRooted, IsTree}
+use Rattle.cp_model.specs.Tree.{Tree, Source, source, database, taken, refusal, changed, reaches_over, text_bytes, IsWithin, IsRooted, IsTree}
 use Rattle.cp_model.specs.Step.{Working, contents, done, step}
 use Rattle.cp_model.specs.History.{IsWritten, AreWritten}
 use Rattle.cp_model.proofs.Strips.{strip_is}
-use Rattle.cp_model.specs.Laws.{placed, AreTrees, trees}
+use Rattle.cp_model.specs.Laws.{placed, AreTrees}
 use Rattle.cp_model.proofs.Lookups.{get-without, get-replaced}
 use Rattle.cp_model.proofs.SumsLemmas.{len-without, weight-without}
 use Rattle.cp_model.proofs.Accepted.{ins_accepted, copy_accepted}
@@ -60,10 +61,10 @@ places-replaced t p es h i n r j =
         ∙ none_passes (λ e. over_limit (below_place p e.0)) es n s c e
 
 -- texts within their limit put into a tree leave its texts within theirs
-pub texts-replaced : (t : Tree) (p : Path) (es : List (Path × Content)) → ((r : Path) (c : Content) → keyed.get t r ≡ Some c → text_bytes c ≤ most_text) →
-    AreRows es → (r : Path) (c : Content) → keyed.get (replaced p es t) r ≡ Some c → text_bytes c ≤ most_text
+pub texts-replaced : (t : Tree) (p : Path) (es : List (Path × Content)) → ((r : Path) (c : Content) → keyed.get t r ≡ Some c → text_bytes c ≤ TEXT_MAX) →
+    AreRows es → (r : Path) (c : Content) → keyed.get (replaced p es t) r ≡ Some c → text_bytes c ≤ TEXT_MAX
 texts-replaced t p es h d r c e =
-    elim (strip p r) as (λ o. placed o (λ s. look s es) (keyed.get t r) ≡ Some c → text_bytes c ≤ most_text) [
+    elim (strip p r) as (λ o. placed o (λ s. look s es) (keyed.get t r) ≡ Some c → text_bytes c ≤ TEXT_MAX) [
       | None ↦ λ e. h r c e
       | Some s ↦ λ e. d.texts s c e
     ] (sym (get-replaced p es t r) ∙ e)

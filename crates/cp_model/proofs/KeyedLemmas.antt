@@ -9,7 +9,7 @@ use Rattle.std.specs.FinMap.Entries.{find, put, where_key, find-put, find-where_
 use Rattle.cp_model.specs.Place.{Path, path_cmp, path_eq, or_else}
 use Rattle.cp_path.proofs.Same.{path_same}
 use Rattle.cp_path.specs.PathOrder.{path_total, path_ties}
-use Rattle.cp_model.specs.Keyed.{look, Keyed, list, sorted, entries, empty, get, insert, retain_keys, put_all, same_entries_map}
+use Rattle.cp_model.specs.Keyed.{look, Keyed, entries, empty, get, insert, retain_keys, put_all, same_entries_map}
 
 -- as the standard library's look-up
 pub look-find : {X : Type 0} (q : Path) (es : List (Path × X)) → look q es ≡ find path_cmp q es
@@ -25,7 +25,7 @@ chosen true v o p = refl
 chosen false v o p = refl
 
 module _ {X : Type 0} where
-  pub get-empty : (q : Path) → get empty q ≡ None
+  pub get-empty : (q : Path) → get {X = X} empty q ≡ None
   unfolding get empty
   get-empty q = refl
 

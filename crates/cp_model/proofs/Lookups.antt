@@ -71,7 +71,7 @@ module _ {X : Type 0} where
   moved_case None k x f = refl
   moved_case (Some s) k x f = ap (λ b. cond b (Some x) (f s)) (path_eq-sym k s)
 
-  placed_none : (o : Option Path) → placed o (λ _. None) None ≡ None
+  placed_none : (o : Option Path) → placed {X = X} o (λ _. None) None ≡ None
   placed_none None = refl
   placed_none (Some s) = refl
 

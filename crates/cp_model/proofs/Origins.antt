@@ -14,7 +14,7 @@ use Rattle.cp_model.specs.Subtrees.{is_there, below, without, replaced}
 use Rattle.cp_model.specs.Literals.{literal_rows}
 use Rattle.cp_model.specs.Tree.{Tree, Source, source, taken, IsTree}
 use Rattle.cp_model.specs.Step.{Origin, new, was, Worked, Working, opened, as_new, from_source, carried, applied, done, then_op, step}
-use Rattle.cp_model.specs.Laws.{placed, AreSources, Every, fits, in_tree, in_source, Sound}
+use Rattle.cp_model.specs.Laws.{placed, AreSources, Every, Sound}
 use Rattle.cp_model.proofs.Lookups.{find-below, find-with_values, get-replaced, get-without, get-mapped}
 use Rattle.cp_model.proofs.Folds.{first-accepted}
 

@@ -1,4 +1,5 @@
 -- Reading the rows of a step gives its effects.
+use Rattle.cp_path.specs.declared.limits.TheConstants.{LABELS_MAX, LOC_MAX}
 use Rattle.std.specs.Prelude.{ℕ, ◌+◌, ◌≡◌, ◌≤◌, true, false, ◌&&◌, ◌||◌, [], ◌∷◌, ◌++◌, length, refl, is_some, if◌then◌else◌, nat_lt}
 use Rattle.std.proofs.Common.{sym, ap, ◌∙◌, append_assoc, arith}
 use Rattle.std.proofs.lemmas.Grind.{common_steps}
@@ -81,7 +82,7 @@ length-more p a = grind (arith, common_steps)
 pub size-more : (q : Loc) (a : Label) → size q ≤ size (below_place q (a ∷ []))
 size-more q a = rw (sum_by-append (λ a. length a + 1) q.path (a ∷ [])) (omega arith)
 
-or_mono : (a b c d : ℕ) → a ≤ b → c ≤ d → (nat_lt 64 a || nat_lt 1024 c) ≡ true → (nat_lt 64 b || nat_lt 1024 d) ≡ true
+or_mono : (a b c d : ℕ) → a ≤ b → c ≤ d → (nat_lt LABELS_MAX a || nat_lt LOC_MAX c) ≡ true → (nat_lt LABELS_MAX b || nat_lt LOC_MAX d) ≡ true
 or_mono a b c d p q h = grind (arith, nat_tests)
 
 -- below a place over a limit every place is over a limit

@@ -1,4 +1,5 @@
 -- Trees stay rooted: where a subtree is replaced or dropped.
+use Rattle.cp_path.specs.declared.limits.TheConstants.{TEXT_MAX}
 use Rattle.std.specs.Prelude.{◌≤◌, ◌≡◌, true, false, List, [], ◌∷◌, ◌++◌, is_some, refl}
 use Rattle.std.proofs.Common.{sym, ap, ◌∙◌, append_assoc}
 use Rattle.std.specs.declared.option.Option.TheVariants.{None, Some}
@@ -8,7 +9,7 @@ use Rattle.cp_model.specs.Place.{Label, Path, child, strip}
 use Rattle.cp_model.specs.Keyed as keyed
 use Rattle.cp_model.specs.Keyed.{look}
 use Rattle.cp_model.specs.Subtrees.{is_there, below, without, replaced}
-use Rattle.cp_model.specs.Tree.{Tree, text_bytes, most_text, IsRooted, IsTree}
+use Rattle.cp_model.specs.Tree.{Tree, text_bytes, IsRooted, IsTree}
 use Rattle.cp_model.specs.History.{IsLiteral}
 use Rattle.cp_model.proofs.Strips.{strip_is, strip-append, strip-snoc, append-nil, snoc-same, path_ind}
 use Rattle.cp_model.specs.Laws.{placed}
@@ -22,7 +23,7 @@ IsUnderNode t p = (r : Path) (a : Label) → r ++ a ∷ [] ≡ p → keyed.get t
 pub record AreRows (es : List (Path × Content)) : Type 0 where
   pub root : is_some (look [] es) ≡ true
   pub parents : (r : Path) (a : Label) → is_some (look (r ++ a ∷ []) es) ≡ true → look r es ≡ Some Node
-  pub texts : (r : Path) (c : Content) → look r es ≡ Some c → text_bytes c ≤ most_text
+  pub texts : (r : Path) (c : Content) → look r es ≡ Some c → text_bytes c ≤ TEXT_MAX
 
 -- a place that is there stands under a node
 pub under-there : (t : Tree) (p : Path) → IsRooted t → is_there t p ≡ true → IsUnderNode t p

@@ -1,4 +1,5 @@
 -- The laws of trees, steps and histories that the crates above rest on, as statements.
+use Rattle.cp_model.specs.declared.limits.TheConstants.{SOURCES_MAX}
 use Rattle.std.specs.Prelude.{ℕ, suc, ◌+◌, ◌≡◌, ◌&&◌, true, List, ◌++◌, length, sum_by, ◌≤◌, false, map, ⊤}
 use Rattle.std.specs.List.{list_any, IsDistinct}
 use Rattle.std.specs.declared.option.Option.TheVariants.{None, Some}
@@ -13,7 +14,7 @@ use Rattle.cp_model.specs.Tree.{Tree, IsTree, Source, weight, weight_of, changed
 use Rattle.cp_model.specs.Step.{Working, contents, applied, step, done, Origin, new, was, Worked}
 use Rattle.cp_model.specs.Past.{AgedTree, tree_of, past_at, loses_child, is_child}
 use Rattle.cp_model.specs.Rows.{Effect, same, effect_at}
-use Rattle.cp_model.specs.History.{Entry, State, replay, IsLegal, IsWritten, AreWritten, read, rows_of, most_sources, IsSource}
+use Rattle.cp_model.specs.History.{Entry, State, replay, IsLegal, IsWritten, AreWritten, read, rows_of, IsSource}
 use Rattle.cp_model.specs.Records.{is_D, reads, loses}
 use Rattle.cp_model.specs.Leaps.{leaped}
 use Rattle.cp_model.specs.declared.kind.Kind.{Kind}
@@ -29,7 +30,7 @@ pub record AreTrees (ss : List Source) : Type 0 where
 -- the sources of a state: each may be loaded under its name, they are not too many, and their names differ
 pub record AreSources (ss : List Source) : Type 0 where
   pub each : (n : List ℕ) (t : Tree) → source ss n ≡ Some t → IsSource n t
-  pub few : length ss ≤ most_sources
+  pub few : length ss ≤ SOURCES_MAX
   pub apart : IsDistinct label_eq (map (λ s. s.name) ss)
 
 -- a state whose tree is within every limit, and so are its sources

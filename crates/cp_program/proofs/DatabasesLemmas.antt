@@ -1,4 +1,5 @@
 -- What the program keeps of a session: the committed tree with its rows, and the open transaction.
+use Rattle.cp_model.specs.declared.limits.TheConstants.{SOURCES_MAX}
 use Rattle.std.specs.Prelude.{ℕ, ◌≡◌, ◌+◌, ◌==◌, List, [], length, is_some, not, if◌then◌else◌}
 use Rattle.std.specs.declared.option.Option.{Option}
 use Rattle.std.specs.declared.option.Option.TheVariants.{None, Some}
@@ -7,7 +8,7 @@ use Rattle.cp_model.specs.Place.{in_target}
 use Rattle.cp_model.specs.Tree.{Tree, source}
 use Rattle.cp_model.specs.Past.{tree_of}
 use Rattle.cp_model.specs.Keyed.{len}
-use Rattle.cp_model.specs.History.{State, load, most_sources}
+use Rattle.cp_model.specs.History.{State, load}
 use Rattle.cp_reply.specs.declared.reply.Why.{Why}
 use Rattle.cp_reply.specs.declared.reply.Why.TheVariants as why
 use Rattle.cp_reply.specs.declared.reply.Reply.{Reply}
@@ -17,7 +18,7 @@ use Rattle.cp_engine.specs.Transactions as txn
 use Rattle.cp_engine.specs.declared.txn.Txn.{Txn}
 use Rattle.cp_program.specs.declared.database.Database.{Database}
 pub use Rattle.cp_lang.specs.Written.{IsWrittenStmt}
-use Rattle.cp_program.specs.Databases.{Stands, state, sources, tree, opened, ops}
+use Rattle.cp_program.specs.Databases.{Stands}
 
 -- the tree that is shown of the place's database, if there is such a database
 abbrev pub shown_tree : State → Opened → Loc → Option Tree
@@ -38,7 +39,7 @@ abbrev pub why_not_loaded : State → Opened → List ℕ → Option Why
 why_not_loaded t o n =
     if not (is_closed o) then Some why.TransactionOpen
     else if is_some (source t.sources n) then Some (why.SourceThere n)
-    else if length t.sources == most_sources then Some why.TooManySources
+    else if length t.sources == SOURCES_MAX then Some why.TooManySources
     else None
 
 -- the tree is kept as a source under the name, and the reply says so

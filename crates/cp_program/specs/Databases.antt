@@ -1,10 +1,11 @@
 -- What the program keeps of a session: the committed tree with its rows, and the open transaction.
+use Rattle.cp_model.specs.declared.limits.TheConstants.{SOURCES_MAX}
 use Rattle.std.specs.Prelude.{ℕ, ◌≡◌, ◌+◌, ◌-◌, ◌≤◌, ◌^◌, List, length, ⊤}
 use Rattle.std.specs.declared.option.Option.{Option}
 use Rattle.std.specs.declared.option.Option.TheVariants.{None, Some}
 use Rattle.cp_model.specs.Tree.{Tree, Source}
 use Rattle.cp_model.specs.Past.{tree_of}
-use Rattle.cp_model.specs.History.{State, IsLegal, replay, most_sources}
+use Rattle.cp_model.specs.History.{State, IsLegal, replay}
 use Rattle.cp_model.specs.declared.kind.Kind.TheVariants as kind
 use Rattle.cp_model.specs.declared.op.Op.{Op}
 use Rattle.cp_reply.specs.declared.reply.Reply.{Reply}
@@ -39,7 +40,7 @@ pub record Stands {R : Type 0} (view : R → Tree) (d : Database R) (s : Session
   pub legal : IsLegal s.history
   pub kind : state.kind ≡ kind.N
   pub sources : sources_in view d.sources ≡ state.sources
-  pub bounded : length state.sources ≤ most_sources
+  pub bounded : length state.sources ≤ SOURCES_MAX
   pub tree : view d.tree ≡ tree_of state.tree
   pub rows : d.store.list ≡ state.rows
   pub upto : d.store.upto ≡ state.now

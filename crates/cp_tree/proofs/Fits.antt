@@ -1,4 +1,6 @@
 -- When a tree into which a subtree is put stays within the limits.
+use Rattle.cp_model.specs.declared.limits.TheConstants.{NODES_MAX, WEIGHT_MAX}
+use Rattle.cp_path.specs.declared.limits.TheConstants.{LABELS_MAX, LOC_MAX}
 use Rattle.std.specs.Prelude.{◌≡◌, ℕ, ◌+◌, ◌≤◌, true, false, cond, ◌||◌, nat_lt, List, [], ◌∷◌, ◌++◌, length, max, sum_by, is_some, refl}
 use Rattle.std.proofs.Common.{sym, ap, ◌∙◌, T, arith, length-append}
 use Rattle.std.proofs.lemmas.List.Sums.{sum_by-append}
@@ -11,7 +13,7 @@ use Rattle.cp_path.proofs.Same.{path_eq-same}
 use Rattle.cp_model.specs.Keyed as keyed
 use Rattle.cp_model.specs.Keyed.{look}
 use Rattle.cp_model.specs.Subtrees.{replaced}
-use Rattle.cp_model.specs.Tree.{Tree, IsTree, most_nodes, most_weight, weight, weight_of, last_bytes}
+use Rattle.cp_model.specs.Tree.{Tree, IsTree, weight, weight_of, last_bytes}
 use Rattle.cp_model.proofs.Strips.{strip_is}
 use Rattle.cp_model.specs.Laws.{placed}
 use Rattle.cp_model.proofs.Lookups.{get-replaced}
@@ -23,8 +25,8 @@ use Rattle.cp_tree.specs.Rows.{greatest, path_size, reach_of}
 use Rattle.cp_tree.specs.declared.reach.Reach.{Reach}
 
 -- a whole tree put under a node leaves a tree, where what it adds is few and light enough, and its places are within their limits
-pub tree-fits : (t : Tree) (p : Path) (es : List (Path × Content)) → IsTree t → AreRows es → T (is_sorted path_cmp es) → IsUnderNode t p → keyed.len t + length es ≤ most_nodes →
-    weight t + last_bytes p + sum_by weight_of es ≤ most_weight → ((r : Path) → is_some (look r es) ≡ true → over_limit (at_target (p ++ r)) ≡ false) → IsTree (replaced p es t)
+pub tree-fits : (t : Tree) (p : Path) (es : List (Path × Content)) → IsTree t → AreRows es → T (is_sorted path_cmp es) → IsUnderNode t p → keyed.len t + length es ≤ NODES_MAX →
+    weight t + last_bytes p + sum_by weight_of es ≤ WEIGHT_MAX → ((r : Path) → is_some (look r es) ≡ true → over_limit (at_target (p ++ r)) ≡ false) → IsTree (replaced p es t)
 tree-fits t p es h d s u n w f = record {
   rooted = rooted-replaced t p es h.rooted d u;
   within = record {
@@ -40,12 +42,12 @@ tree-fits t p es h d s u n w f = record {
 }
 
 -- few labels and short ones are within the limits
-pub within-limit : (q : Path) → length q ≤ 64 → path_size q ≤ 1023 → over_limit (at_target q) ≡ false
+pub within-limit : (q : Path) → length q ≤ LABELS_MAX → path_size q ≤ 1023 → over_limit (at_target q) ≡ false
 within-limit q few short =
-    let a : nat_lt 64 (length q) ≡ false = grind (arith, nat_tests) in
-    let small : size (at_target q) ≤ 1024 = omega (arith, short) in
-    let b : nat_lt 1024 (size (at_target q)) ≡ false = grind (arith, nat_tests) in
-    ap (λ z. z || nat_lt 1024 (size (at_target q))) a ∙ b
+    let a : nat_lt LABELS_MAX (length q) ≡ false = grind (arith, nat_tests) in
+    let small : size (at_target q) ≤ LOC_MAX = omega (arith, short) in
+    let b : nat_lt LOC_MAX (size (at_target q)) ≡ false = grind (arith, nat_tests) in
+    ap (λ z. z || nat_lt LOC_MAX (size (at_target q))) a ∙ b
 
 -- a row that is there has no more than the greatest number
 pub at_most_greatest : (f : Path → ℕ) (es : List (Path × Content)) (r : Path) → is_some (look r es) ≡ true → f r ≤ greatest (λ e. f e.0) es
@@ -57,8 +59,8 @@ at_most_greatest f (e ∷ es) r i =
     ] refl i
 
 -- a whole tree put under a node leaves a tree, where its reach and that of the place are within the limits together
-pub reach-fits : (t : Tree) (p : Path) (es : List (Path × Content)) (z : Reach) → z ≡ reach_of es → IsTree t → AreRows es → T (is_sorted path_cmp es) → IsUnderNode t p → keyed.len t + z.nodes ≤ most_nodes →
-    weight t + last_bytes p + z.inner ≤ most_weight → length p + z.depth ≤ 64 → path_size p + z.size ≤ 1023 → IsTree (replaced p es t)
+pub reach-fits : (t : Tree) (p : Path) (es : List (Path × Content)) (z : Reach) → z ≡ reach_of es → IsTree t → AreRows es → T (is_sorted path_cmp es) → IsUnderNode t p → keyed.len t + z.nodes ≤ NODES_MAX →
+    weight t + last_bytes p + z.inner ≤ WEIGHT_MAX → length p + z.depth ≤ LABELS_MAX → path_size p + z.size ≤ 1023 → IsTree (replaced p es t)
 unfolding reach_of
 reach-fits t p es z e h d s u n w deep large =
     tree-fits t p es h d s u (omega (arith, n, ap (λ r. r.nodes) e)) (omega (arith, w, ap (λ r. r.inner) e)) (λ r i.

@@ -15,7 +15,7 @@ use Rattle.cp_model.specs.Subtrees.{without, replaced, is_there}
 use Rattle.cp_model.specs.Tree.{Tree, IsRooted}
 use Rattle.cp_tree.specs.Branch.{branch, sub, without_kid}
 use Rattle.cp_tree.proofs.BranchLemmas.{label_total, get_in, get-branch_root, get-branch_kid, sub-branch, replaced_here, replaced_below, without_here, without_below}
-use Rattle.cp_tree.specs.Good.{AllRooted, IsBare, IsGood, sorted, bare, trees, good_without}
+use Rattle.cp_tree.specs.Good.{AllRooted, IsBare, IsGood, bare, good_without}
 
 -- an edge that is found leads to a rooted tree
 pub rooted_found : (a : Label) (es : List (Label × Tree)) (n : Tree) → AllRooted es → find text_cmp a es ≡ Some n → IsRooted n

@@ -1,4 +1,6 @@
 -- A root alone, and a leaf added below a node: when these are trees, and what a leaf adds.
+use Rattle.cp_model.specs.declared.limits.TheConstants.{NODES_MAX, WEIGHT_MAX}
+use Rattle.cp_path.specs.declared.limits.TheConstants.{TEXT_MAX}
 use Rattle.std.specs.Prelude.{◌≡◌, ◌+◌, ◌≤◌, true, false, cond, [], ◌∷◌, ◌++◌, length, sum_by, is_some, refl}
 use Rattle.std.proofs.Common.{sym, ap, subst, ◌∙◌, arith}
 use Rattle.std.proofs.lemmas.List.Sums.{sum_by-cons}
@@ -11,7 +13,7 @@ use Rattle.cp_model.proofs.KeyedLemmas.{same_map, get-insert}
 use Rattle.cp_model.specs.Keyed as keyed
 use Rattle.cp_model.specs.Keyed.{look}
 use Rattle.cp_model.specs.Subtrees.{replaced, is_there}
-use Rattle.cp_model.specs.Tree.{Tree, IsTree, IsRooted, most_nodes, most_weight, most_text, weight, weight_of, text_bytes}
+use Rattle.cp_model.specs.Tree.{Tree, IsTree, IsRooted, weight, weight_of, text_bytes}
 use Rattle.cp_model.proofs.Strips.{strip_is, append-nil}
 use Rattle.cp_model.specs.Laws.{placed}
 use Rattle.cp_model.proofs.Lookups.{find-below, find-from_entries, get-replaced, path_eq-append, path_eq-sym, rest_is}
@@ -30,8 +32,8 @@ module _ (c : Content) where
   alone-root [] i = refl
   alone-root (a ∷ p) i = absurd (cc)
 
-  alone-texts : text_bytes c ≤ most_text → (p : Path) (d : Content) → look p (alone c) ≡ Some d → text_bytes d ≤ most_text
-  alone-texts h [] d e = (let same : c ≡ d = cc in subst (λ x. text_bytes x ≤ most_text) same h)
+  alone-texts : text_bytes c ≤ TEXT_MAX → (p : Path) (d : Content) → look p (alone c) ≡ Some d → text_bytes d ≤ TEXT_MAX
+  alone-texts h [] d e = (let same : c ≡ d = cc in subst (λ x. text_bytes x ≤ TEXT_MAX) same h)
   alone-texts h (a ∷ p) d e = absurd (cc)
 
   no_child : (p : Path) (a : Label) → is_some (look (child p a) (alone c)) ≡ false
@@ -39,7 +41,7 @@ module _ (c : Content) where
   no_child (b ∷ p) a = refl
 
   -- what is asked of the rows of a tree holds of it
-  pub alone-rows : text_bytes c ≤ most_text → AreRows (alone c)
+  pub alone-rows : text_bytes c ≤ TEXT_MAX → AreRows (alone c)
   alone-rows h = record {
     root = refl;
     parents = λ p a i. absurd (let no : is_some (look (child p a) (alone c)) ≡ false = no_child p a in cc);
@@ -58,7 +60,7 @@ module _ (c : Content) where
   single-weight = ap (sum_by weight_of) (entries-single c) ∙ omega (arith, sum_by-cons weight_of ([], c) [])
 
   -- it is a tree within every limit
-  pub single-tree : text_bytes c ≤ most_text → IsTree (single c)
+  pub single-tree : text_bytes c ≤ TEXT_MAX → IsTree (single c)
   single-tree h = record {
     rooted = record {
       root = ap is_some (single-get []);
@@ -90,8 +92,8 @@ leaf-insert t p c h n = same_map (replaced p (alone c) t) (keyed.insert t p c) (
         ∙ ap (λ b. cond b (Some c) (keyed.get t r)) (path_eq-sym z [])
 
 -- a leaf leaves a tree, where there is room and its place is within the limits
-pub leaf-fits : (t : Tree) (p : Path) (a : Label) (c : Content) → IsTree t → keyed.get t p ≡ Some Node → over_limit (at_target (child p a)) ≡ false → text_bytes c ≤ most_text →
-    keyed.len t + 1 ≤ most_nodes → weight t + 16 + length a + text_bytes c ≤ most_weight → IsTree (replaced (child p a) (alone c) t)
+pub leaf-fits : (t : Tree) (p : Path) (a : Label) (c : Content) → IsTree t → keyed.get t p ≡ Some Node → over_limit (at_target (child p a)) ≡ false → text_bytes c ≤ TEXT_MAX →
+    keyed.len t + 1 ≤ NODES_MAX → weight t + 16 + length a + text_bytes c ≤ WEIGHT_MAX → IsTree (replaced (child p a) (alone c) t)
 leaf-fits t p a c h n near s l w =
     tree-fits t (child p a) (alone c) h (alone-rows c s) tt (under-child t p a n) (omega (arith, l)) (omega (arith, w, last_bytes_child p a, sum_by-cons weight_of ([], c) [])) within
   where

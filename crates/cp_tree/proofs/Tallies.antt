@@ -1,4 +1,5 @@
 -- Bounds of what is counted of the places of a tree.
+use Rattle.cp_path.specs.declared.limits.TheConstants.{LABELS_MAX, LOC_MAX}
 use Rattle.std.specs.Prelude.{◌≡◌, ℕ, ◌+◌, ◌-◌, ◌≤◌, ◌<◌, Bool, true, false, cond, ◌||◌, ◌==◌, nat_lt, List, [], ◌∷◌, ◌++◌, length, is_some, refl}
 use Rattle.std.proofs.Common.{ap, ◌∙◌, arith, length-append}
 use Rattle.std.proofs.lemmas.List.Sums.{sum_by-cons}
@@ -39,10 +40,10 @@ module _ {X : Type 0} (f : X → ℕ) where
       apart false e = refl
 
 -- a place within the limits has few labels
-pub few_labels : (q : Path) → over_limit (at_target q) ≡ false → length q ≤ 64
-few_labels q h = by (nat_lt 64 (length q)) (nat_lt 1024 (size (at_target q))) refl h
+pub few_labels : (q : Path) → over_limit (at_target q) ≡ false → length q ≤ LABELS_MAX
+few_labels q h = by (nat_lt LABELS_MAX (length q)) (nat_lt LOC_MAX (size (at_target q))) refl h
   where
-    by : (b d : Bool) → nat_lt 64 (length q) ≡ b → (b || d) ≡ false → length q ≤ 64
+    by : (b d : Bool) → nat_lt LABELS_MAX (length q) ≡ b → (b || d) ≡ false → length q ≤ LABELS_MAX
     by true d e h = absurd (cc)
     by false d e h = grind (arith, nat_tests)
 
@@ -62,8 +63,8 @@ there_replaced : (t : Tree) (p r : Path) (es : List (Path × Content)) → is_so
 there_replaced t p r es i = ap is_some (get-replaced p es t (p ++ r) ∙ ap (λ o. placed o (λ s. look s es) (keyed.get t (p ++ r))) (strip-append p r)) ∙ i
 
 -- rows that are put at p into a tree within its limits lie no deeper than those
-pub deepest-fits : (t : Tree) (p : Path) (es : List (Path × Content)) → IsLiteral es → IsTree (replaced p es t) → length p + deepest es ≤ 64
+pub deepest-fits : (t : Tree) (p : Path) (es : List (Path × Content)) → IsLiteral es → IsTree (replaced p es t) → length p + deepest es ≤ LABELS_MAX
 deepest-fits t p es l h =
-    let at : (r : Path) → is_some (look r es) ≡ true → length p + length r ≤ 64 = λ r i. (let few = few_labels (p ++ r) (h.places (p ++ r) (there_replaced t p r es i)) in omega (arith, few, length-append p r)) in
-    let all = greatest_within (64 - length p) (λ r. length r) es (λ r i. omega (arith, at r i)) in
+    let at : (r : Path) → is_some (look r es) ≡ true → length p + length r ≤ LABELS_MAX = λ r i. (let few = few_labels (p ++ r) (h.places (p ++ r) (there_replaced t p r es i)) in omega (arith, few, length-append p r)) in
+    let all = greatest_within (LABELS_MAX - length p) (λ r. length r) es (λ r i. omega (arith, at r i)) in
     omega (arith, at [] (rows-literal es l).root, all)

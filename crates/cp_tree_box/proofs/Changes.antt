@@ -1,4 +1,5 @@
 -- What a change of a tree does to what is counted of it.
+use Rattle.cp_path.specs.declared.limits.TheConstants.{LABELS_MAX, LOC_MAX}
 use Rattle.std.specs.Prelude.{◌≡◌, ℕ, ◌+◌, ◌≤◌, Bool, true, false, ◌||◌, List, [], ◌∷◌, ◌++◌, length, max, sum_by, is_some, nat_lt, replicate, slice_index, zero, suc}
 use Rattle.std.proofs.Common.{sym, ap, subst, ◌∙◌, arith, refl}
 use Rattle.std.proofs.lemmas.List.Sums.{sum_by-cons}
@@ -47,14 +48,14 @@ spot_last s a (b ∷ p) = spot_last (child_spot s a) b p
 
 -- a place that isn't over a limit is within them
 pub near_place : (p : Path) → over_limit (at_target p) ≡ false → IsNear (spot_at root_spot p)
-near_place p h = by (nat_lt 64 (length p)) (nat_lt 1024 (size (at_target p))) refl refl h
+near_place p h = by (nat_lt LABELS_MAX (length p)) (nat_lt LOC_MAX (size (at_target p))) refl refl h
   where
-    by : (b d : Bool) → nat_lt 64 (length p) ≡ b → nat_lt 1024 (size (at_target p)) ≡ d → (b || d) ≡ false → IsNear (spot_at root_spot p)
+    by : (b d : Bool) → nat_lt LABELS_MAX (length p) ≡ b → nat_lt LOC_MAX (size (at_target p)) ≡ d → (b || d) ≡ false → IsNear (spot_at root_spot p)
     by true d e f h = absurd (cc)
     by false true e f h = absurd (cc)
     by false false e f h =
-        let few : length p ≤ 64 = grind (arith, nat_tests) in
-        let small : size (at_target p) ≤ 1024 = grind (arith, nat_tests) in
+        let few : length p ≤ LABELS_MAX = grind (arith, nat_tests) in
+        let small : size (at_target p) ≤ LOC_MAX = grind (arith, nat_tests) in
         (omega (arith, few, spot_depth root_spot p), omega (arith, small, spot_size root_spot p))
 
 -- what is above a place within the limits is within them

@@ -1,4 +1,6 @@
 -- What a tree kept whole, with the numbers kept of it, answers and becomes.
+use Rattle.cp_model.specs.declared.limits.TheConstants.{NODES_MAX, WEIGHT_MAX}
+use Rattle.cp_path.specs.declared.limits.TheConstants.{TEXT_MAX}
 use Rattle.std.specs.Prelude.{◌≡◌, ℕ, ◌+◌, ◌≤◌, ◌<◌, ◌⊎◌, true, false, cond, ◌==◌, List, [], ◌∷◌, ◌++◌, map, length, sum_by, is_some, slice_index, IfSome, IfNone, Result, Ok, Err, OnOk}
 use Rattle.std.proofs.Common.{sym, ap, subst, ◌∙◌, arith, refl}
 use Rattle.std.proofs.lemmas.List.Sums.{sum_by-cons}
@@ -13,7 +15,7 @@ use Rattle.cp_model.proofs.KeyedLemmas.{get-entries, same_map}
 use Rattle.cp_model.specs.Keyed as keyed
 use Rattle.cp_model.specs.Keyed.{look}
 use Rattle.cp_model.specs.Subtrees.{is_there, below, moved, without, replaced}
-use Rattle.cp_model.specs.Tree.{Tree, IsRooted, IsTree, weight, most_text, text_bytes}
+use Rattle.cp_model.specs.Tree.{Tree, IsRooted, IsTree, weight, text_bytes}
 use Rattle.cp_model.proofs.Strips.{append-nil, strip-append}
 use Rattle.cp_model.specs.Laws.{placed}
 use Rattle.cp_model.proofs.Lookups.{get-replaced}
@@ -101,10 +103,10 @@ weighs_less s (e ∷ es) = omega (arith, sum_by-cons (row_counts weighs root_spo
 
 module _ (m : Tree) (t : IsTree m) where
   -- the numbers of a tree are small
-  pub few_places : tree_counts places root_spot m ≤ 1048576
+  pub few_places : tree_counts places root_spot m ≤ NODES_MAX
   few_places = omega (arith, counts_places m, t.within.nodes)
 
-  pub few_weight : tree_counts weighs root_spot m ≤ 33554432
+  pub few_weight : tree_counts weighs root_spot m ≤ WEIGHT_MAX
   few_weight = omega (arith, counts_weight m, t.within.weighs)
 
   -- and so are those of its subtrees
@@ -133,7 +135,7 @@ no_more f [] h = omega arith
 no_more f (e ∷ es) h = omega (arith, sum_by-cons f e es, h e, no_more f es h)
 
 -- every number of a tree is small
-pub small_counts : (m : Tree) → IsTree m → (j : Gauge) → tree_counts j root_spot m ≤ 33554432
+pub small_counts : (m : Tree) → IsTree m → (j : Gauge) → tree_counts j root_spot m ≤ WEIGHT_MAX
 small_counts m t places = omega (arith, few_places m t)
 small_counts m t weighs = few_weight m t
 small_counts m t (deep k) = omega (arith, no_more (row_counts (deep k) root_spot) (keyed.entries m) (λ e. at_most_one (spot_at root_spot e.0).depth k), sum_by-one (keyed.entries m), few_places m t)
@@ -196,7 +198,7 @@ near_sub m n p t e q i =
 -- ---- a root alone
 
 -- the tree of a root alone, with what is kept of it
-module _ (c d : Content) (h : text_bytes c ≤ most_text) (same_content : d ≡ c) (m : Tree) (e : m ≡ single d) where
+module _ (c d : Content) (h : text_bytes c ≤ TEXT_MAX) (same_content : d ≡ c) (m : Tree) (e : m ≡ single d) where
   pub single_is : m ≡ single c
   single_is = e ∙ ap single same_content
 
