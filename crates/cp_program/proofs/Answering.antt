@@ -36,7 +36,7 @@ use Rattle.cp_query.specs.Asked.{IsCommitted, is_in}
 use Rattle.cp_outside.specs.FileReads.{FileTable}
 use Rattle.cp_program.specs.Job.{setting}
 use Rattle.cp_program.specs.Databases.{Stands, Opens, Turned}
-use Rattle.cp_program.proofs.DatabasesLemmas.{shown_tree}
+use Rattle.cp_program.specs.Databases.{shown_tree}
 use Rattle.cp_program.specs.declared.database.Database.{Database}
 use Rattle.cp_program.proofs.Standing.{turned-on}
 

@@ -8,4 +8,3 @@ pub mod Readings
 pub mod Plays
 pub mod Runs
 pub mod Whole
-pub mod DatabasesLemmas

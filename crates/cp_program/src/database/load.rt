@@ -8,7 +8,7 @@ ghost use Rattle.cp_session.specs.Session.{Session, says, turn_of};
 ghost use Rattle.cp_program.specs.Fetched.{FitsUnder};
 ghost use Rattle.cp_program.specs.Job.{setting};
 ghost use Rattle.cp_program.specs.Databases.{Stands, IsSession, Turned};
-ghost use Rattle.cp_program.proofs.DatabasesLemmas.{Loads, why_not_loaded};
+ghost use Rattle.cp_program.specs.Databases.{Loads, why_not_loaded};
 ghost use Rattle.cp_program.specs.Turns.{BlamesFiles, IsOwn};
 
 use cp_model::SOURCES_MAX;

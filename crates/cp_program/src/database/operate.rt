@@ -6,7 +6,7 @@ ghost use Rattle.cp_outside.specs.FileReads.{FileTable};
 ghost use Rattle.cp_session.specs.Session.{Session, says, turn_of, not_read};
 ghost use Rattle.cp_program.specs.Job.{setting};
 ghost use Rattle.cp_program.specs.Databases.{Stands, IsSession, Turned};
-ghost use Rattle.cp_program.proofs.DatabasesLemmas.{IsOpened};
+ghost use Rattle.cp_program.specs.Databases.{IsOpened};
 
 use crate::database::Database;
 use crate::database::refusal::{refused, why_of};

@@ -5,7 +5,7 @@ ghost use Rattle.cp_outside.specs.FileReads.{FileTable};
 ghost use Rattle.cp_session.specs.Session.{Session, says, turn_of, current_tree};
 ghost use Rattle.cp_program.specs.Job.{setting};
 ghost use Rattle.cp_program.specs.Databases.{Stands, Turned};
-ghost use Rattle.cp_program.proofs.DatabasesLemmas.{shown_tree};
+ghost use Rattle.cp_program.specs.Databases.{shown_tree};
 
 use crate::database::Database;
 use crate::database::refusal::refused;

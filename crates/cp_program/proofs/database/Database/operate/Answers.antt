@@ -2,7 +2,7 @@ use Rattle.std.proofs.Common.{ap, subst, ◌+◌, ◌∙◌, refl, Ok, Err}
 use Rattle.cp_model.specs.Past.{tree_of}
 use Rattle.cp_engine.specs.Loaded.{sources_in}
 use Rattle.cp_engine.specs.Transactions.{Applies}
-use Rattle.cp_program.proofs.DatabasesLemmas.{progress_of}
+use Rattle.cp_program.specs.Databases.{progress_of}
 use Rattle.cp_program.proofs.Operating.{with_sources, turned-accepted, turned-refused, turned-failed}
 use Rattle.cp_program.proofs.database.Database.operate.Goals as goal
 
