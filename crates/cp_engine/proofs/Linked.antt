@@ -42,19 +42,6 @@ accepted-step ss t n ops a =
     let x = accepted_from ss (record { tree = t; next = n; records = [] }) 0 (opened t) ops (sym (contents-opened t)) a in
     (x.0, x.1 ∙ ap (λ n. done n (x.0)) (omega arith), x.2)
 
-done_from : (ss : List Source) (t : Tree) (ops : List Op) (j : ℕ) (w : Working) (k : ℕ) (v : Working) → t ≡ contents w → fold (then_op ss) (done j w) ops ≡ done k v → AllAccepted ss t ops
-done_from ss t [] j w k v e d = tt
-done_from ss t (op ∷ ops) j w k v e d =
-    let x = first-accepted ss op ops j w k v d in
-    (ap (λ u. refusal ss u op) e ∙ x.0, done_from ss (changed ss t op) ops (j + 1) (applied ss w op) k v (ap (λ u. changed ss u op) e ∙ sym (contents-applied ss w op)) x.1)
-
--- operations that are done as one step are accepted one by one
-pub done-accepted : (ss : List Source) (t : Tree) (ops : List Op) → is_done (step t ss ops) ≡ true → AllAccepted ss t ops
-unfolding step
-done-accepted ss t ops h =
-    let x = done_is (step t ss ops) h in
-    done_from ss t ops 0 (opened t) x.0 x.1 (sym (contents-opened t)) x.2
-
 -- operations that are accepted one by one are done as one step
 pub accepted-done : (ss : List Source) (t : Tree) (ops : List Op) → AllAccepted ss t ops → is_done (step t ss ops) ≡ true
 accepted-done ss t ops a = ap is_done (accepted-step ss t 0 ops a).1

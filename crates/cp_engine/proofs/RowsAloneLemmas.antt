@@ -26,7 +26,9 @@ use Rattle.cp_model.specs.declared.origin.Origin.TheVariants.{New as new, Was as
 use Rattle.cp_model.specs.declared.record.RowMark.{RowMark as Mark}
 use Rattle.cp_model.specs.declared.record.RowMark.TheVariants.{Made as I, Copied as C, Gone as D}
 use Rattle.cp_model.specs.Step.{Worked, Working, opened, as_new, from_source, carried, applied}
-use Rattle.cp_model.specs.Rows.{Effect, same, from, effect, effect_at, full_mark, is_same, above, nearest_effect, full_here, marked, all_paths, full_rows}
+use Rattle.cp_model.specs.declared.effect.Effect.{Effect}
+use Rattle.cp_model.specs.declared.effect.Effect.TheVariants.{Same as same, From as from}
+use Rattle.cp_model.specs.Rows.{effect, effect_at, full_mark, is_same, nearest_is_same, same_above, lost_below_same, full_here, marked, all_paths, full_rows}
 use Rattle.cp_model.specs.History.{IsWritten}
 use Rattle.cp_model.proofs.Strips.{strip_is, strip-append, append-nil, nearest-below}
 use Rattle.cp_model.specs.Laws.{placed}
@@ -101,7 +103,7 @@ same_rows es fs g h is = same_entries path_cmp path_total path_same es fs g h (�
 
 -- the mark of a place with this effect
 abbrev mark_at : Tree → Working → Path → Option Effect → Option Mark
-mark_at t w r o = elim o [ Some e ↦ full_mark e | None ↦ if is_there t r && is_same (above w r) then Some D else None ]
+mark_at t w r o = elim o [ Some e ↦ full_mark e | None ↦ if lost_below_same t w r then Some D else None ]
 
 -- a place that carries itself
 abbrev itself : Path → Content → Worked
@@ -120,12 +122,12 @@ untouched t w r e =
     here_by t w r (option_map (itself r) (keyed.get t r)) (e ∙ get-mapped itself t r)
     ∙ elim (keyed.get t r) as (λ o. keyed.get t r ≡ o → mark_at t w r (option_map (λ x. effect r x.origin) (option_map (itself r) o)) ≡ None) [
       | Some c ↦ λ _. ap full_mark (effect_itself r)
-      | None ↦ λ n. ap (λ o. if is_some o && is_same (above w r) then Some D else None) n
+      | None ↦ λ n. ap (λ o. if is_some o && same_above w r then Some D else None) n
     ] refl
 
 -- a place that isn't there before and after a step has no row
 absent : (t : Tree) (w : Working) (r : Path) → keyed.get w r ≡ None → keyed.get t r ≡ None → full_here t w r ≡ None
-absent t w r e n = here_by t w r None e ∙ ap (λ o. if is_some o && is_same (above w r) then Some D else None) n
+absent t w r e n = here_by t w r None e ∙ ap (λ o. if is_some o && same_above w r then Some D else None) n
 
 -- a path doesn't go on to what is below it
 strip-child : (p : Path) (a : Label) → strip (child p a) p ≡ None
@@ -143,15 +145,15 @@ is_kept None = false
 is_kept (Some e) = is_same e
 
 -- where nothing is the same, what is nearest isn't
-nearest-changed : (f : Path → Option Effect) (s : Path) → ((r : Path) → is_kept (f r) ≡ false) → is_same (nearest_effect (nearest f s)) ≡ false
+nearest-changed : (f : Path → Option Effect) (s : Path) → ((r : Path) → is_kept (f r) ≡ false) → nearest_is_same (nearest f s) ≡ false
 nearest-changed f [] n = ends (f []) [] (n [])
   where
-    ends : (o : Option Effect) (s : Path) → is_kept o ≡ false → is_same (nearest_effect (with_rest o s)) ≡ false
+    ends : (o : Option Effect) (s : Path) → is_kept o ≡ false → nearest_is_same (with_rest o s) ≡ false
     ends None s h = refl
     ends (Some e) s h = h
 nearest-changed f (a ∷ s) n = more (nearest (λ r. f (a ∷ r)) s) (f []) (nearest-changed (λ r. f (a ∷ r)) s (λ r. n (a ∷ r))) (n [])
   where
-    more : (o : Option (Effect × Path)) (e : Option Effect) → is_same (nearest_effect o) ≡ false → is_kept e ≡ false → is_same (nearest_effect (or_else o (with_rest e (a ∷ s)))) ≡ false
+    more : (o : Option (Effect × Path)) (e : Option Effect) → nearest_is_same o ≡ false → is_kept e ≡ false → nearest_is_same (or_else o (with_rest e (a ∷ s))) ≡ false
     more (Some y) e h k = h
     more None None h k = refl
     more None (Some e) h k = k
@@ -213,9 +215,9 @@ module _ (t : Tree) (p : Loc) (a : Label) (x : DelAccepted t p a) where
       ∙ ap (option_map (λ (x : Worked). effect (child p.path a ++ s) x.origin)) (dropped (child p.path a ++ s) (Some s) (strip-append (child p.path a) s))
 
   -- what is left above a deleted place is the same
-  above_del : (s : Path) → is_same (above after_del (child p.path a ++ s)) ≡ true
+  above_del : (s : Path) → same_above after_del (child p.path a ++ s) ≡ true
   above_del s =
-      ap (λ o. is_same (nearest_effect o)) (
+      ap nearest_is_same (
       ap (nearest (effect_at after_del)) (append_assoc p.path (a ∷ []) s)
       ∙ nearest-below (effect_at after_del) p.path (a ∷ s) same left
       ∙ ap (λ o. or_else o (with_rest (effect_at after_del (p.path ++ [])) (a ∷ s))) (nearest-none (λ r. effect_at after_del (p.path ++ a ∷ r)) s nothing)
@@ -270,9 +272,9 @@ module _ (t : Tree) (q p : Loc) (es : List (Path × Content)) (ws : List (Path �
       ] root
 
   -- what is left above a place that a copy replaces isn't the same
-  above_copy : (s : Path) → place_eq q p ≡ false → is_same (above after_copy (p.path ++ s)) ≡ false
+  above_copy : (s : Path) → place_eq q p ≡ false → same_above after_copy (p.path ++ s) ≡ false
   above_copy s n =
-      ap (λ o. is_same (nearest_effect o)) (nearest-below (effect_at after_copy) p.path s (from (below_place q [])) (root_copy n))
+      ap nearest_is_same (nearest-below (effect_at after_copy) p.path s (from (below_place q [])) (root_copy n))
       ∙ nearest-changed (λ r. effect_at after_copy (p.path ++ r)) s (λ r. ap is_kept (effect_copy r ∙ ap (λ b. option_map (λ _. if b then same else from (below_place q r)) (look r es)) n) ∙ changed_at r (look r es))
     where
       changed_at : (r : Path) (o : Option Content) → is_kept (option_map (λ _. from (below_place q r)) o) ≡ false
@@ -287,7 +289,7 @@ module _ (t : Tree) (q p : Loc) (es : List (Path × Content)) (ws : List (Path �
   copied s None e =
       here_by t after_copy (p.path ++ s) None (at_copy (p.path ++ s) s (strip-append p.path s) ∙ ap (option_map (copied_from q s)) e)
       ∙ elim (place_eq q p) as (λ b. place_eq q p ≡ b → mark_at t after_copy (p.path ++ s) None ≡ (if b then None else None)) [
-        | true ↦ λ b. ap (λ o. if is_some o && is_same (above after_copy (p.path ++ s)) then Some D else None) (stays b s ∙ e)
+        | true ↦ λ b. ap (λ o. if is_some o && same_above after_copy (p.path ++ s) then Some D else None) (stays b s ∙ e)
         | false ↦ λ b. ap (λ c. if is_there t (p.path ++ s) && c then Some D else None) (above_copy s b) ∙ never (is_there t (p.path ++ s))
       ] refl
     where

@@ -9,50 +9,51 @@ use Rattle.std.specs.BTreeMap.{get}
 use Rattle.std.specs.declared.option.Option.{Option}
 use Rattle.std.specs.declared.option.Option.TheVariants.{None, Some}
 use Rattle.cp_model.specs.Place.{Path, option_map}
-use Rattle.cp_model.specs.Rows.{Effect, same, is_same, read_mark}
-use Rattle.cp_model.specs.Leaps.{Effects, last}
+use Rattle.cp_model.specs.declared.effect.Effect.TheVariants.{Same as same}
+use Rattle.cp_model.specs.Rows.{Reading, left, read_mark}
+use Rattle.cp_model.specs.Leaps.{Readings, tells_same, last}
 use Rattle.cp_model.specs.declared.record.Record.{Record}
-use Rattle.cp_store.specs.Changes.{effect_of}
+use Rattle.cp_store.specs.Changes.{reading_of}
 use Rattle.cp_store.specs.declared.change.What.{What}
 use Rattle.cp_store.specs.declared.change.What.TheVariants.{New, From, Gone}
-use Rattle.cp_flat.specs.Index.{Steps, mark_of, mark_at, own, said, effect_if, IsNewest}
+use Rattle.cp_flat.specs.Index.{Steps, mark_of, mark_at, own, said, reading_if, IsNewest}
 
 -- no step has Tid 0
-pub last-zero : (E : Effects) (p : Path) → last E 0 p ≡ None
+pub last-zero : (E : Readings) (p : Path) → last E 0 p ≡ None
 unfolding last
 last-zero E p = refl
 
 -- effects that agree at p have the same newest change
-pub last-agree : (E F : Effects) (t : ℕ) (p : Path) → ((u : ℕ) → E u p ≡ F u p) → last E t p ≡ last F t p
+pub last-agree : (E F : Readings) (t : ℕ) (p : Path) → ((u : ℕ) → E u p ≡ F u p) → last E t p ≡ last F t p
 unfolding last
 last-agree E F zero p h = refl
 last-agree E F (suc t) p h =
-    ap (λ e. if is_same e then last E t p else Some (suc t, e)) (h (suc t))
-    ∙ ap (λ o. if is_same (F (suc t) p) then o else Some (suc t, F (suc t) p)) (last-agree E F t p h)
+    ap (λ e. if tells_same e then last E t p else Some (suc t, e)) (h (suc t))
+    ∙ ap (λ o. if tells_same (F (suc t) p) then o else Some (suc t, F (suc t) p)) (last-agree E F t p h)
 
 -- unchanged steps are passed over
-pub last-over : (E : Effects) (v t : ℕ) (p : Path) → v ≤ t → ((u : ℕ) → v < u → u ≤ t → E u p ≡ same) → last E t p ≡ last E v p
+pub last-over : (E : Readings) (v t : ℕ) (p : Path) → v ≤ t → ((u : ℕ) → v < u → u ≤ t → E u p ≡ left same) → last E t p ≡ last E v p
 unfolding last
 last-over E v zero p le h = let z : zero ≡ v = omega (arith, le) in ap (λ u. last E u p) z
 last-over E v (suc t) p le h =
     elim (nat_lt v (suc t)) as (λ b. nat_lt v (suc t) ≡ b → last E (suc t) p ≡ last E v p) [
       | true ↦ λ n.
           let k : v < suc t = grind (arith, nat_tests) in
-          ap (λ e. if is_same e then last E t p else Some (suc t, e)) (h (suc t) k (omega arith)) ∙ last-over E v t p (omega (arith, k)) (λ u a b. h u a (omega (arith, b)))
+          ap (λ e. if tells_same e then last E t p else Some (suc t, e)) (h (suc t) k (omega arith)) ∙ last-over E v t p (omega (arith, k)) (λ u a b. h u a (omega (arith, b)))
       | false ↦ λ n. let k : suc t ≤ v = grind (arith, nat_tests) in let e : suc t ≡ v = omega (arith, k, le) in ap (λ u. last E u p) e
     ] refl
 
 -- a step with another effect is the newest change
-pub last-change : (E : Effects) (u : ℕ) (p : Path) (e : Effect) → 0 < u → E u p ≡ e → is_same e ≡ false → last E u p ≡ Some (u, e)
+pub last-change : (E : Readings) (u : ℕ) (p : Path) (e : Reading) → 0 < u → E u p ≡ e → tells_same e ≡ false → last E u p ≡ Some (u, e)
 unfolding last
 last-change E zero p e z h n = absurd (omega (arith, z))
-last-change E (suc u) p e z h n = ap (λ d. if is_same d then last E u p else Some (suc u, d)) h ∙ ap (λ b. if b then last E u p else Some (suc u, e)) n
+last-change E (suc u) p e z h n = ap (λ d. if tells_same d then last E u p else Some (suc u, d)) h ∙ ap (λ b. if b then last E u p else Some (suc u, e)) n
 
 -- below an unchanged step
-pub last-same : (E : Effects) (u : ℕ) (p : Path) → 0 < u → E u p ≡ same → last E u p ≡ last E (u - 1) p
+pub last-same : (E : Readings) (u : ℕ) (p : Path) → 0 < u → E u p ≡ left same → last E u p ≡ last E (u - 1) p
 unfolding last
 last-same E zero p z h = absurd (omega (arith, z))
-last-same E (suc u) p z h = ap (λ d. if is_same d then last E u p else Some (suc u, d)) h ∙ ap (λ v. last E v p) (let g : u ≡ suc u - 1 = omega arith in g)
+last-same E (suc u) p z h = ap (λ d. if tells_same d then last E u p else Some (suc u, d)) h ∙ ap (λ v. last E v p) (let g : u ≡ suc u - 1 = omega arith in g)
 
 -- the element at an index is there
 pub got : {X : Type 0} (xs : List X) (i : ℕ) (x : X) → i < length xs → x ≡ slice_index_or xs i x → slice_get xs i ≡ Some x
@@ -78,19 +79,19 @@ module _ (rs : List Record) (m : Steps) (t : ℕ) (p : Path) where
     pub said_zero : u ≡ 0 → last (said rs m) t p ≡ None
     said_zero z = over ∙ ap (λ v. last (said rs m) v p) z ∙ last-zero (said rs m) p
 
-    module _ (r : Record) (at : slice_get rs i ≡ Some r) (w : Option What) (is : effect_if w ≡ read_mark (mark_of r) []) (pos : 0 < u) where
-      says : said rs m u p ≡ effect_if w
+    module _ (r : Record) (at : slice_get rs i ≡ Some r) (w : Option What) (is : reading_if w ≡ read_mark (mark_of r) []) (pos : 0 < u) where
+      says : said rs m u p ≡ reading_if w
       says = ap (λ o. own (mark_at rs o)) said_at.1 ∙ ap (λ o. own (option_map mark_of o)) at ∙ sym is
 
-      differs : (v : What) → is_same (effect_of v) ≡ false
+      differs : (v : What) → tells_same (reading_of v) ≡ false
       differs New = refl
       differs (From q) = refl
       differs Gone = refl
 
       -- what the newest row has done is the newest change
-      pub said_change : (v : What) → w ≡ Some v → last (said rs m) t p ≡ Some (u, effect_of v)
-      said_change v e = over ∙ last-change (said rs m) u p (effect_of v) pos (says ∙ ap effect_if e) (differs v)
+      pub said_change : (v : What) → w ≡ Some v → last (said rs m) t p ≡ Some (u, reading_of v)
+      said_change v e = over ∙ last-change (said rs m) u p (reading_of v) pos (says ∙ ap reading_if e) (differs v)
 
       -- where it has done nothing, the search goes on below
       pub said_same : w ≡ None → last (said rs m) (u - 1) p ≡ last (said rs m) t p
-      said_same e = sym (over ∙ last-same (said rs m) u p pos (says ∙ ap effect_if e))
+      said_same e = sym (over ∙ last-same (said rs m) u p pos (says ∙ ap reading_if e))

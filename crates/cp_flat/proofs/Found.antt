@@ -7,7 +7,7 @@ use Rattle.std.specs.declared.option.Option.{Option}
 use Rattle.std.specs.declared.option.Option.TheVariants.{None, Some}
 use Rattle.cp_path.specs.declared.loc.Loc.{Loc}
 use Rattle.cp_model.specs.Place.{path_cmp, in_target}
-use Rattle.cp_model.specs.Rows.{Effect}
+use Rattle.cp_model.specs.Rows.{Reading}
 use Rattle.cp_model.specs.Leaps.{last}
 use Rattle.cp_model.specs.Records.{reads}
 use Rattle.cp_model.specs.declared.kind.Kind.{Kind}
@@ -36,7 +36,7 @@ module _ (rs : List Record) (upto : ℕ) (m : Index) (kept : IsKept rs upto m) (
 
   module _ (s : Steps) (e : Some s ≡ get path_cmp m q.path) where
     -- a place with steps has changed as their rows say
-    pub change-some : (o : Option (ℕ × Effect)) → o ≡ last (said rs s) t q.path → o ≡ change_at N rs t q
+    pub change-some : (o : Option (ℕ × Reading)) → o ≡ last (said rs s) t q.path → o ≡ change_at N rs t q
     change-some o h =
         h ∙ last-agree (said rs s) (reads N rs) t q.path (λ u. ap own (ap (mark_at rs) (position-some m q.path s e u) ∙ kept.tied q.path u)) ∙ change-inside N rs t q inside
 

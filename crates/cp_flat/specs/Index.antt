@@ -8,11 +8,12 @@ use Rattle.std.specs.declared.option.Option.{Option}
 use Rattle.std.specs.declared.option.Option.TheVariants.{None, Some}
 use Rattle.cp_model.specs.Place.{Path, path_cmp, path_eq, option_map}
 use Rattle.cp_model.specs.Keyed.{look}
-use Rattle.cp_model.specs.Rows.{Effect, same, read_nearest}
+use Rattle.cp_model.specs.declared.effect.Effect.TheVariants.{Same as same}
+use Rattle.cp_model.specs.Rows.{Reading, left, read_nearest}
 use Rattle.cp_model.specs.declared.record.RowMark.{RowMark as Mark}
 use Rattle.cp_model.specs.Records.{mark_by, rows_at}
 use Rattle.cp_model.specs.declared.record.Record.{Record}
-use Rattle.cp_store.specs.Changes.{effect_of}
+use Rattle.cp_store.specs.Changes.{reading_of}
 use Rattle.cp_store.specs.declared.change.What.{What}
 
 -- positions among the rows, by Tid
@@ -45,18 +46,18 @@ abbrev pub mark_at : List Record → Option ℕ → Option Mark
 mark_at rs None = None
 mark_at rs (Some i) = option_map mark_of (slice_get rs i)
 
--- a row at the place itself, as an effect
-abbrev pub own : Option Mark → Effect
+-- what a row at the place itself tells of it
+abbrev pub own : Option Mark → Reading
 own o = read_nearest (option_map (λ m. (m, [])) o)
 
 -- what the rows say of a place that has these steps
-abbrev pub said : List Record → Steps → ℕ → Path → Effect
+abbrev pub said : List Record → Steps → ℕ → Path → Reading
 said rs m u p = own (mark_at rs (get nat_cmp m u))
 
--- nothing is the effect Same
-abbrev pub effect_if : Option What → Effect
-effect_if None = same
-effect_if (Some w) = effect_of w
+-- nothing done tells that the place is the same
+abbrev pub reading_if : Option What → Reading
+reading_if None = left same
+reading_if (Some w) = reading_of w
 
 -- the greatest Tid up to t that has a position, with it
 unfoldable pub IsNewest : (ℕ → Option ℕ) → ℕ → Option (ℕ × ℕ) → Type 0

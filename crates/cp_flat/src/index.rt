@@ -9,7 +9,7 @@ ghost use Rattle.cp_model.specs.Leaps.{last};
 ghost use Rattle.cp_store.specs.Changes.{seen, records_at};
 ghost use Rattle.std.specs.List.{slice_range};
 ghost use Rattle.std.specs.List.Sorted.{IsNonDecreasingBy};
-ghost use Rattle.cp_flat.specs.Index.{position, noted, mark_of, said, effect_if, IsNewest};
+ghost use Rattle.cp_flat.specs.Index.{position, noted, mark_of, said, reading_if, IsNewest};
 
 use cp_model::{RecOp, Record};
 use cp_path::{LABELS_MAX, LOC_MAX, Loc, Path};
@@ -63,7 +63,7 @@ fn is_over_limit(q: &Loc) -> bool
 
 /// What the row has done to its place. Costs the source's size.
 fn done_by(row: &Record) -> Result<Option<What>, AllocError>
-    ensures { IfOk result (λ w. effect_if w ≡ read_mark (mark_of row.now) []) }
+    ensures { IfOk result (λ w. reading_if w ≡ read_mark (mark_of row.now) []) }
 {
     match row.op {
         RecOp::I => Ok(Some(What::New)),

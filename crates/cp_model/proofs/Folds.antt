@@ -36,11 +36,6 @@ module _ (ss : List Source) where
   unfolding then_op
   then-accepted op j w n = ap (judged ss j w op) n
 
-  -- one operation more is one operation after the others
-  pub step-snoc : (t : Tree) (ops : List Op) (op : Op) → step t ss (ops ++ op ∷ []) ≡ then_op ss (step t ss ops) op
-  unfolding step
-  step-snoc t ops op = fold-append (then_op ss) (done 0 (opened t)) ops (op ∷ [])
-
   module _ (P : Working → Type 0) where
     -- what each accepted operation keeps, all of them keep
     pub fold-keeps : ((w : Working) (op : Op) → IsWritten op → refusal ss (contents w) op ≡ None → P w → P (applied ss w op)) →

@@ -10,7 +10,7 @@ use Rattle.cp_model.specs.Subtrees.{is_there}
 use Rattle.cp_model.specs.Tree.{Tree}
 use Rattle.cp_model.specs.Step.{Working, Origin, new, was}
 use Rattle.cp_model.specs.Past.{AgedTree, tree_of, loses_child, is_child, one_label}
-use Rattle.cp_model.specs.Rows.{same, from, Mark, D, effect, effect_at, effect_eq, full_mark, reduced_mark, given, above, nearest_effect, is_same, full_here, reduced_here, parent_there, marked, all_paths, full_rows, reduced_rows}
+use Rattle.cp_model.specs.Rows.{same, from, Mark, D, effect, effect_at, effect_eq, full_mark, reduced_mark, given, nearest_is_same, same_above, lost_below_same, full_here, reduced_here, parent_there, marked, all_paths, full_rows, reduced_rows}
 use Rattle.cp_model.proofs.Strips.{strip_is, nearest-snoc, nearest-here, further, parent-snoc}
 use Rattle.cp_model.proofs.Lookups.{there-mapped}
 use Rattle.cp_model.proofs.Reading.{there_effect}
@@ -49,9 +49,9 @@ no_full_D p new = refl
 no_full_D p (was q) = elim (place_eq q (at_target p)) as (λ b. holds_of is_D (full_mark (if b then same else from q)) ≡ false) [ true ↦ refl | false ↦ refl ]
 
 -- what is above a lost child of a place that is the same is the same
-pub above_child : (w : Working) (p : Path) (a : Label) → effect_at w p ≡ Some same → keyed.get w (p ++ a ∷ []) ≡ None → above w (p ++ a ∷ []) ≡ same
+pub above_child : (w : Working) (p : Path) (a : Label) → effect_at w p ≡ Some same → keyed.get w (p ++ a ∷ []) ≡ None → same_above w (p ++ a ∷ []) ≡ true
 above_child w p a e n =
-    ap nearest_effect (nearest-snoc (effect_at w) p a ∙ ap (λ o. or_else (with_rest (option_map (λ x. effect (p ++ a ∷ []) x.origin) o) []) (further (a ∷ []) (nearest (effect_at w) p))) n
+    ap nearest_is_same (nearest-snoc (effect_at w) p a ∙ ap (λ o. or_else (with_rest (option_map (λ x. effect (p ++ a ∷ []) x.origin) o) []) (further (a ∷ []) (nearest (effect_at w) p))) n
     ∙ ap (λ o. further (a ∷ []) o) (nearest-here (effect_at w) p same e))
 
 holds_never : (o : Option Mark) → holds_of (λ m. false) o ≡ false
@@ -64,12 +64,12 @@ unfolding full_here
 lost_here a w p q e =
     elim (is_child p q) as (λ b. is_child p q ≡ b → holds_of (λ m. b && is_D m) (full_here a w q) ≡ (b && (is_there a q && not (is_there w q)))) [
       | false ↦ λ _. holds_never (full_here a w q)
-      | true ↦ λ h. elim (keyed.get w q) as (λ o. keyed.get w q ≡ o → holds_of is_D (elim (option_map (λ x. effect q x.origin) o) [ Some e ↦ full_mark e | None ↦ if is_there a q && is_same (above w q) then Some D else None ]) ≡ (is_there a q && not (is_some o))) [
+      | true ↦ λ h. elim (keyed.get w q) as (λ o. keyed.get w q ≡ o → holds_of is_D (elim (option_map (λ x. effect q x.origin) o) [ Some e ↦ full_mark e | None ↦ if lost_below_same a w q then Some D else None ]) ≡ (is_there a q && not (is_some o))) [
         | Some x ↦ λ _. no_full_D q x.origin ∙ elim (is_there a q) as (λ b. false ≡ (b && false)) [ true ↦ refl | false ↦ refl ]
         | None ↦ λ n.
             let l = child_is p q h in
-            let same_above : above w q ≡ same = ap (above w) l.1 ∙ above_child w p l.0 e (ap (keyed.get w) (sym l.1) ∙ n) in
-            ap (λ d. holds_of is_D (if is_there a q && is_same d then Some D else None)) same_above
+            let above : same_above w q ≡ true = ap (same_above w) l.1 ∙ above_child w p l.0 e (ap (keyed.get w) (sym l.1) ∙ n) in
+            ap (λ d. holds_of is_D (if is_there a q && d then Some D else None)) above
             ∙ elim (is_there a q) as (λ b. holds_of is_D (if b && true then Some D else None) ≡ (b && true)) [ true ↦ refl | false ↦ refl ]
       ] refl
     ] refl
@@ -105,15 +105,15 @@ unfolding reduced_here
 lost_here_reduced a w p q e =
     elim (is_child p q) as (λ b. is_child p q ≡ b → holds_of (λ m. b && is_D m) (reduced_here a w q) ≡ (b && (is_there a q && not (is_there w q)))) [
       | false ↦ λ _. holds_never (reduced_here a w q)
-      | true ↦ λ h. elim (keyed.get w q) as (λ o. keyed.get w q ≡ o → holds_of is_D (elim (option_map (λ x. effect q x.origin) o) [ Some e ↦ if effect_eq e (given w q) then None else Some (reduced_mark e) | None ↦ if is_there a q && is_same (above w q) && parent_there w (parent q) then Some D else None ]) ≡ (is_there a q && not (is_some o))) [
+      | true ↦ λ h. elim (keyed.get w q) as (λ o. keyed.get w q ≡ o → holds_of is_D (elim (option_map (λ x. effect q x.origin) o) [ Some e ↦ if effect_eq e (given w q) then None else Some (reduced_mark e) | None ↦ if lost_below_same a w q && parent_there w (parent q) then Some D else None ]) ≡ (is_there a q && not (is_some o))) [
         | Some x ↦ λ _. kept_or_not (effect_eq (effect q x.origin) (given w q)) _ (no_reduced_D q x.origin) ∙ elim (is_there a q) as (λ b. false ≡ (b && false)) [ true ↦ refl | false ↦ refl ]
         | None ↦ λ n.
             let l = child_is p q h in
-            let same_above : above w q ≡ same = ap (above w) l.1 ∙ above_child w p l.0 e (ap (keyed.get w) (sym l.1) ∙ n) in
+            let above : same_above w q ≡ true = ap (same_above w) l.1 ∙ above_child w p l.0 e (ap (keyed.get w) (sym l.1) ∙ n) in
             let up : parent_there w (parent q) ≡ true = ap (λ r. parent_there w (parent r)) l.1 ∙ ap (parent_there w) (parent-snoc p l.0) ∙ there_effect w p same e in
-            ap (λ d. holds_of is_D (if is_there a q && is_same d && parent_there w (parent q) then Some D else None)) same_above
-            ∙ ap (λ c. holds_of is_D (if is_there a q && true && c then Some D else None)) up
-            ∙ elim (is_there a q) as (λ b. holds_of is_D (if b && true && true then Some D else None) ≡ (b && true)) [ true ↦ refl | false ↦ refl ]
+            ap (λ d. holds_of is_D (if (is_there a q && d) && parent_there w (parent q) then Some D else None)) above
+            ∙ ap (λ c. holds_of is_D (if (is_there a q && true) && c then Some D else None)) up
+            ∙ elim (is_there a q) as (λ b. holds_of is_D (if (b && true) && true then Some D else None) ≡ (b && true)) [ true ↦ refl | false ↦ refl ]
       ] refl
     ] refl
 

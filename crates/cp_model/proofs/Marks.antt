@@ -12,7 +12,7 @@ use Rattle.cp_model.specs.Keyed.{look, Keyed}
 use Rattle.cp_model.specs.Subtrees.{is_there, mapped, with_values}
 use Rattle.cp_model.specs.Tree.{Tree}
 use Rattle.cp_model.specs.Step.{Worked, Working}
-use Rattle.cp_model.specs.Rows.{Mark, D, effect, full_mark, reduced_mark, effect_eq, given, above, is_same, full_here, reduced_here, parent_there, marked, all_paths, full_rows, reduced_rows}
+use Rattle.cp_model.specs.Rows.{Mark, D, effect, full_mark, reduced_mark, effect_eq, given, same_above, lost_below_same, full_here, reduced_here, parent_there, marked, all_paths, full_rows, reduced_rows}
 use Rattle.cp_model.proofs.Lookups.{find-with_values, get-mapped}
 
 -- the row at p, if p is among the paths
@@ -70,9 +70,9 @@ pub find-full_rows : (a : Tree) (w : Working) (p : Path) → look p (full_rows a
 unfolding full_here
 find-full_rows a w p =
     find-marked (full_here a w) p (all_paths a w) ∙ ap (λ b. cond b (full_here a w p) None) (among-all_paths a w p)
-    ∙ elim (keyed.get w p) as (λ o. cond (is_some o || is_there a p) (elim (option_map (λ x. effect p x.origin) o) [ Some e ↦ full_mark e | None ↦ if is_there a p && is_same (above w p) then Some D else None ]) None ≡ elim (option_map (λ x. effect p x.origin) o) [ Some e ↦ full_mark e | None ↦ if is_there a p && is_same (above w p) then Some D else None ]) [
+    ∙ elim (keyed.get w p) as (λ o. cond (is_some o || is_there a p) (elim (option_map (λ x. effect p x.origin) o) [ Some e ↦ full_mark e | None ↦ if lost_below_same a w p then Some D else None ]) None ≡ elim (option_map (λ x. effect p x.origin) o) [ Some e ↦ full_mark e | None ↦ if lost_below_same a w p then Some D else None ]) [
       | Some x ↦ refl
-      | None ↦ elim (is_there a p) as (λ b. cond b (if b && is_same (above w p) then Some D else None) None ≡ (if b && is_same (above w p) then Some D else None)) [ true ↦ refl | false ↦ refl ]
+      | None ↦ elim (is_there a p) as (λ b. cond b (if b && same_above w p then Some D else None) None ≡ (if b && same_above w p then Some D else None)) [ true ↦ refl | false ↦ refl ]
     ]
 
 -- the reduced rows have at each place the mark that is wanted there
@@ -82,12 +82,12 @@ find-reduced_rows a w p =
     find-marked (reduced_here a w) p (all_paths a w) ∙ ap (λ b. cond b (reduced_here a w p) None) (among-all_paths a w p)
     ∙ elim (keyed.get w p) as (λ o. cond (is_some o || is_there a p) (wanted o) None ≡ wanted o) [
       | Some x ↦ refl
-      | None ↦ elim (is_there a p) as (λ b. cond b (if b && is_same (above w p) && parent_there w (parent p) then Some D else None) None ≡ (if b && is_same (above w p) && parent_there w (parent p) then Some D else None)) [ true ↦ refl | false ↦ refl ]
+      | None ↦ elim (is_there a p) as (λ b. cond b (if b && same_above w p && parent_there w (parent p) then Some D else None) None ≡ (if b && same_above w p && parent_there w (parent p) then Some D else None)) [ true ↦ refl | false ↦ refl ]
     ]
   where
     wanted : Option Worked → Option Mark
     wanted o =
         elim (option_map (λ x. effect p x.origin) o) [
           | Some e ↦ if effect_eq e (given w p) then None else Some (reduced_mark e)
-          | None ↦ if is_there a p && is_same (above w p) && parent_there w (parent p) then Some D else None
+          | None ↦ if lost_below_same a w p && parent_there w (parent p) then Some D else None
         ]

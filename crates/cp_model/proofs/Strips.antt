@@ -90,13 +90,6 @@ pub nearest-here : {X : Type 0} (f : Path → Option X) (p : Path) (x : X) → f
 nearest-here f [] x e = ap (λ o. with_rest o []) e
 nearest-here f (a ∷ p) x e = ap (λ o. or_else o (with_rest (f []) (a ∷ p))) (nearest-here (λ r. f (a ∷ r)) p x e)
 
--- what answers alike at every prefix answers alike at the longest
-pub nearest-ext : {X : Type 0} (f g : Path → Option X) (r : Path) → ((s t : Path) → r ≡ s ++ t → f s ≡ g s) → nearest f r ≡ nearest g r
-nearest-ext f g [] h = ap (λ o. with_rest o []) (h [] [] refl)
-nearest-ext f g (a ∷ r) h =
-    ap (λ o. or_else o (with_rest (f []) (a ∷ r))) (nearest-ext (λ s. f (a ∷ s)) (λ s. g (a ∷ s)) r (λ s t e. h (a ∷ s) t (ap (λ q. a ∷ q) e)))
-    ∙ ap (λ o. or_else (nearest (λ s. g (a ∷ s)) r) (with_rest o (a ∷ r))) (h [] (a ∷ r) refl)
-
 some_nearest : {X : Type 0} (f : Path → Option X) (s : Path) (x : X) → f [] ≡ Some x → (y : X × Path) × (nearest f s ≡ Some y)
 some_nearest f [] x e = ((x, []), ap (λ o. with_rest o []) e)
 some_nearest {X = X} f (a ∷ s) x e =

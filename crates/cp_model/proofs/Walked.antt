@@ -16,7 +16,7 @@ use Rattle.cp_model.specs.Subtrees.{is_there}
 use Rattle.cp_model.specs.Tree.{Tree, IsTree}
 use Rattle.cp_model.specs.Step.{Working, done, step}
 use Rattle.cp_model.specs.Past.{AgedTree, Aged, tree_of, past_of, past_at, loses_child, is_child, settle}
-use Rattle.cp_model.specs.Rows.{Effect, same, from, effect, effect_at}
+use Rattle.cp_model.specs.Rows.{same, from, Reading, left, gone, effect, effect_at}
 use Rattle.cp_model.specs.History.{State, rows_of, read, with_tid, settled, begun, AreWritten}
 use Rattle.cp_model.proofs.Lookups.{get-mapped, there-mapped}
 use Rattle.cp_model.proofs.Contents.{tree_of-settle}
@@ -31,16 +31,19 @@ use Rattle.cp_model.proofs.Effects.{working-step, same-there, from-there, read-r
 use Rattle.cp_model.proofs.RecordsLemmas.{rows_before, rows_now, rows_after}
 
 -- walks over what agrees up to a step agree there
-pub walked-alike : (R S : ℕ → Path → Effect) (L M : ℕ → Path → Bool) (n : ℕ) → ((t : ℕ) (p : Path) → t ≤ n → R t p ≡ S t p) → ((t : ℕ) (p : Path) → t ≤ n → L t p ≡ M t p) → (p : Path) → walked R L n p ≡ walked S M n p
+pub walked-alike : (R S : ℕ → Path → Reading) (L M : ℕ → Path → Bool) (n : ℕ) → ((t : ℕ) (p : Path) → t ≤ n → R t p ≡ S t p) → ((t : ℕ) (p : Path) → t ≤ n → L t p ≡ M t p) → (p : Path) → walked R L n p ≡ walked S M n p
 walked-alike R S L M zero r l p = refl
 walked-alike R S L M (suc n) r l p =
     let before : (p : Path) → walked R L n p ≡ walked S M n p = λ p. walked-alike R S L M n (λ t p h. r t p (omega arith)) (λ t p h. l t p (omega arith)) p in
     ap (walk_on (walked R L n) (suc n) p (L (suc n) p)) (r (suc n) p (omega arith))
-    ∙ walk_same (walked R L n) (walked S M n) (suc n) p (L (suc n) p) (M (suc n) p) (S (suc n) p)
-    (λ _. before p) (λ _. l (suc n) p (omega arith)) (λ q _ _. before q.path)
+    ∙ by (S (suc n) p) before (l (suc n) p (omega arith))
+  where
+    by : (d : Reading) → ((p : Path) → walked R L n p ≡ walked S M n p) → L (suc n) p ≡ M (suc n) p → walk_on (walked R L n) (suc n) p (L (suc n) p) d ≡ walk_on (walked S M n) (suc n) p (M (suc n) p) d
+    by (left e) b k = walk_same (walked R L n) (walked S M n) (suc n) p (L (suc n) p) (M (suc n) p) e (λ _. b p) (λ _. k) (λ q _ _. b q.path)
+    by gone b k = refl
 
 -- one step more is walked on
-pub walked-more : (R : ℕ → Path → Effect) (L : ℕ → Path → Bool) (n : ℕ) (p : Path) → walked R L (n + 1) p ≡ walk_on (walked R L n) (n + 1) p (L (n + 1) p) (R (n + 1) p)
+pub walked-more : (R : ℕ → Path → Reading) (L : ℕ → Path → Bool) (n : ℕ) (p : Path) → walked R L (n + 1) p ≡ walk_on (walked R L n) (n + 1) p (L (n + 1) p) (R (n + 1) p)
 walked-more R L n p = subst (λ m. walked R L m p ≡ walk_on (walked R L n) m p (L m p) (R m p)) (sym (add-one n)) refl
 
 -- a state whose records walk back to the pasts of its tree, with none of a later step

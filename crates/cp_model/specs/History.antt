@@ -14,7 +14,7 @@ use Rattle.cp_model.specs.Literals.{literal_rows}
 use Rattle.cp_model.specs.Tree.{Tree, IsTree, IsRooted, Source, source, text_bytes}
 use Rattle.cp_model.specs.Step.{Working, step, Outcome, done, refused, is_done}
 use Rattle.cp_model.specs.Past.{AgedTree, settle, tree_of, aged}
-use Rattle.cp_model.specs.Rows.{Mark, I, C, D, K, full_rows, reduced_rows, Effect, read_full, read_reduced}
+use Rattle.cp_model.specs.Rows.{Mark, I, C, D, K, full_rows, reduced_rows, Reading, read_full, read_reduced}
 use Rattle.cp_model.specs.declared.row.Content.{Content}
 use Rattle.cp_model.specs.declared.kind.Kind.{Kind}
 use Rattle.cp_model.specs.declared.kind.Kind.TheVariants as kind
@@ -51,7 +51,7 @@ rows_of kind.H a w = reduced_rows a w
 rows_of kind.HT a w = reduced_rows a w
 
 -- what a reader of each kind makes of the rows of one step at a place
-abbrev pub read : Kind → (Path → Option Mark) → Path → Effect
+abbrev pub read : Kind → (Path → Option Mark) → Path → Reading
 read kind.N f p = read_full f p
 read kind.T f p = read_full f p
 read kind.H f p = read_reduced f p

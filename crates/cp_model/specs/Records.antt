@@ -11,7 +11,7 @@ use Rattle.cp_model.specs.declared.record.RecOp.TheVariants as op
 use Rattle.cp_model.specs.Place.{Path}
 use Rattle.cp_model.specs.Keyed.{look}
 use Rattle.cp_model.specs.Past.{is_child}
-use Rattle.cp_model.specs.Rows.{Effect, Mark, I, C, D, K}
+use Rattle.cp_model.specs.Rows.{Reading, Mark, I, C, D, K}
 use Rattle.cp_model.specs.History.{read}
 
 -- the row says that the place is gone
@@ -38,7 +38,7 @@ unfoldable pub rows_at : List Record → ℕ → List (Path × Mark)
 rows_at rs t = filter_map (row_of t) rs
 
 -- what the records say that step t did to each place
-abbrev pub reads : Kind → List Record → ℕ → Path → Effect
+abbrev pub reads : Kind → List Record → ℕ → Path → Reading
 reads k rs t p = read k (λ r. look r (rows_at rs t)) p
 
 -- the records say that in step t a child of p is gone

@@ -1,4 +1,11 @@
 -- The effects of a step, its rows in full and reduced, and what a reader makes of rows.
+--
+-- What was inserted is named by each type in its own way:
+--     an origin    `new` (New)      an effect    `made` (New)      a row    `I` (Made)      an event    `born`
+-- and what was copied, what is as it was and what is gone so:
+--     an origin    `was q` (Was)    an effect    `from q` (From)   a row    `C q` (Copied)  an event    `copied`
+--     an origin    `was p` at p     an effect    `same` (Same)     a row    `K` (Kept)      no event
+--     no origin                     no effect, read as `gone`      a row    `D` (Gone)      an event    `lost`, of the place above
 use Rattle.std.specs.Prelude.{Bool, true, false, ◌&&◌, List, [], ◌∷◌, map, if◌then◌else◌}
 use Rattle.std.specs.List.{filter_map}
 use Rattle.std.specs.declared.option.Option.{Option}
@@ -9,15 +16,15 @@ use Rattle.cp_model.specs.Subtrees.{is_there, mapped, with_values}
 use Rattle.cp_model.specs.Tree.{Tree}
 use Rattle.cp_model.specs.Step.{Origin, new, was, Working}
 use Rattle.cp_path.specs.declared.loc.Loc.{Loc}
+pub use Rattle.cp_model.specs.declared.effect.Effect.{Effect}
+pub use Rattle.cp_model.specs.declared.effect.Effect.TheVariants.{Same as same, New as made, From as from}
 pub use Rattle.cp_model.specs.declared.record.RowMark.{RowMark as Mark}
 pub use Rattle.cp_model.specs.declared.record.RowMark.TheVariants.{Made as I, Copied as C, Gone as D, Kept as K}
 
--- what a step has done to a place; a reader may also find that the place is gone
-pub data Effect : Type 0 where
-  same : Effect
-  made : Effect
-  from : Loc → Effect
-  gone : Effect
+-- what a row tells of a place: that it is left, with what its step has done to it, or that it is gone
+pub data Reading : Type 0 where
+  left : Effect → Reading
+  gone : Reading
 
 -- a place that carries itself is the same, one that carries another place is from there
 abbrev pub effect : Path → Origin → Effect
@@ -29,7 +36,6 @@ abbrev pub gives : Effect → Label → Effect
 gives same a = same
 gives made a = made
 gives (from q) a = from (below_place q (a ∷ []))
-gives gone a = gone
 
 -- the effect at a place that is left
 abbrev pub effect_at : Working → Path → Option Effect
@@ -40,21 +46,18 @@ abbrev pub full_mark : Effect → Option Mark
 full_mark same = None
 full_mark made = Some I
 full_mark (from q) = Some (C q)
-full_mark gone = Some D
 
 -- the row of an effect that its parent's doesn't imply
 abbrev pub reduced_mark : Effect → Mark
 reduced_mark same = K
 reduced_mark made = I
 reduced_mark (from q) = C q
-reduced_mark gone = D
 
 -- two effects are the same
 abbrev pub effect_eq : Effect → Effect → Bool
 effect_eq same same = true
 effect_eq made made = true
 effect_eq (from p) (from q) = place_eq p q
-effect_eq gone gone = true
 effect_eq _ _ = false
 
 -- Same where there is no effect
@@ -71,38 +74,40 @@ given_by w (Some r) a = gives (or_same (effect_at w r)) a
 abbrev pub given : Working → Path → Effect
 given w p = given_by w (parent p) (last_label p)
 
--- the effect at the longest prefix that is in w
-abbrev pub nearest_effect : Option (Effect × Path) → Effect
-nearest_effect None = gone
-nearest_effect (Some e) = e.0
-
--- the effect at the longest prefix of p that is left
-abbrev pub above : Working → Path → Effect
-above w p = nearest_effect (nearest (effect_at w) p)
-
 -- nothing has changed
 abbrev pub is_same : Effect → Bool
 is_same same = true
 is_same made = false
 is_same (from q) = false
-is_same gone = false
 
--- the row of p in the full rows: of its effect, or D where it is gone and what is left above it is the same
+-- there is an effect, and it is the same
+abbrev pub nearest_is_same : Option (Effect × Path) → Bool
+nearest_is_same None = false
+nearest_is_same (Some e) = is_same e.0
+
+-- what is left nearest above p is the same
+abbrev pub same_above : Working → Path → Bool
+same_above w p = nearest_is_same (nearest (effect_at w) p)
+
+-- p was there, and what is left nearest above it is the same: so D is the row of p where p is gone
+abbrev pub lost_below_same : Tree → Working → Path → Bool
+lost_below_same a w p = is_there a p && same_above w p
+
+-- the row of p in the full rows: of its effect, or D
 unfoldable pub full_here : Tree → Working → Path → Option Mark
-full_here a w p = elim (effect_at w p) [ Some e ↦ full_mark e | None ↦ if is_there a p && is_same (above w p) then Some D else None ]
+full_here a w p = elim (effect_at w p) [ Some e ↦ full_mark e | None ↦ if lost_below_same a w p then Some D else None ]
 
 -- the parent is left
 abbrev pub parent_there : Working → Option Path → Bool
 parent_there w None = false
 parent_there w (Some r) = is_there w r
 
--- the row of p in the reduced rows: where its effect differs from what its parent's gives, or D where it is gone,
--- what is left above it is the same, and its parent is left
+-- the row of p in the reduced rows: where its effect differs from what its parent's gives, or D where its parent is left
 unfoldable pub reduced_here : Tree → Working → Path → Option Mark
 reduced_here a w p =
     elim (effect_at w p) [
       | Some e ↦ if effect_eq e (given w p) then None else Some (reduced_mark e)
-      | None ↦ if is_there a p && is_same (above w p) && parent_there w (parent p) then Some D else None
+      | None ↦ if lost_below_same a w p && parent_there w (parent p) then Some D else None
     ]
 
 -- the rows by place: each place of either tree that has a mark
@@ -128,21 +133,21 @@ abbrev pub within : Loc → Effect
 within q = if over_limit q then same else from q
 
 -- what a row says of the place this far below it
-abbrev pub read_mark : Mark → Path → Effect
-read_mark I s = made
-read_mark (C q) s = within (below_place q s)
-read_mark K s = same
+abbrev pub read_mark : Mark → Path → Reading
+read_mark I s = left made
+read_mark (C q) s = left (within (below_place q s))
+read_mark K s = left same
 read_mark D s = gone
 
 -- what the nearest row says; no row says that nothing has changed
-abbrev pub read_nearest : Option (Mark × Path) → Effect
-read_nearest None = same
+abbrev pub read_nearest : Option (Mark × Path) → Reading
+read_nearest None = left same
 read_nearest (Some e) = read_mark e.0 e.1
 
 -- the row at the place itself
-abbrev pub read_full : (Path → Option Mark) → Path → Effect
+abbrev pub read_full : (Path → Option Mark) → Path → Reading
 read_full f p = read_nearest (option_map (λ m. (m, [])) (f p))
 
 -- the row at the longest prefix that has one, carried down
-abbrev pub read_reduced : (Path → Option Mark) → Path → Effect
+abbrev pub read_reduced : (Path → Option Mark) → Path → Reading
 read_reduced f p = read_nearest (nearest f p)

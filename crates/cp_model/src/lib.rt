@@ -4,6 +4,7 @@
 #![tactic(auto)]
 
 mod answer;
+mod effect;
 mod kind;
 mod limits;
 mod literal;
@@ -19,6 +20,7 @@ mod stated;
 pub use answer::{
     Answer, FromAnswer, LogLine, LogList, Segment, SegmentList, Stats, TidList, Trace, TraceEnd,
 };
+pub use effect::Effect;
 pub use kind::Kind;
 pub use limits::{ENTRY_MAX, NODES_MAX, OPS_MAX, PLACE_WEIGHT, SOURCES_MAX, WEIGHT_MAX};
 pub use literal::{LitEdge, LitList, Literal};

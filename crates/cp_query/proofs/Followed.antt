@@ -9,9 +9,10 @@ use Rattle.std.specs.declared.option.Option.TheVariants.{None, Some}
 use Rattle.cp_path.specs.declared.loc.Loc.{Loc}
 use Rattle.cp_model.specs.Place.{Path, in_target}
 use Rattle.cp_model.specs.Past.{Event, born, copied, lost}
-use Rattle.cp_model.specs.Rows.{Effect, same, made, from, gone, is_same}
+use Rattle.cp_model.specs.declared.effect.Effect.TheVariants.{Same as same, New as made, From as from}
+use Rattle.cp_model.specs.Rows.{Reading, left, gone}
 use Rattle.cp_model.proofs.Walk.{walk_on, walked}
-use Rattle.cp_model.specs.Leaps.{Effects, last}
+use Rattle.cp_model.specs.Leaps.{Readings, tells_same, last}
 use Rattle.cp_model.proofs.LeapsLemmas.{Says, last-says}
 use Rattle.cp_model.specs.Answers.{segment, after_segment, alone, traced, src_of, copy_tid}
 use Rattle.cp_model.specs.declared.answer.TraceEnd.TheVariants as end
@@ -19,14 +20,14 @@ use Rattle.cp_query.specs.Following.{LookUps, event_then, change_then, followed,
 
 -- ---- how far it goes
 
-event_same : (f g : ℕ → Path → List Event) (u : ℕ) (e : Effect) → ((q : Path) → f (u - 1) q ≡ g (u - 1) q) → event_then f u e ≡ event_then g u e
-event_same f g u same h = refl
-event_same f g u made h = refl
-event_same f g u (from q) h = ap (λ es. copied u q ∷ (if in_target q then es else [])) (h q.path)
+event_same : (f g : ℕ → Path → List Event) (u : ℕ) (e : Reading) → ((q : Path) → f (u - 1) q ≡ g (u - 1) q) → event_then f u e ≡ event_then g u e
+event_same f g u (left same) h = refl
+event_same f g u (left made) h = refl
+event_same f g u (left (from q)) h = ap (λ es. copied u q ∷ (if in_target q then es else [])) (h q.path)
 event_same f g u gone h = refl
 
 -- what the newest change up to t gives depends on the versions before t alone
-change_same : (E : Effects) (t : ℕ) (p : Path) (f g : ℕ → Path → List Event) (o : Option (ℕ × Effect)) → Says E t p o →
+change_same : (E : Readings) (t : ℕ) (p : Path) (f g : ℕ → Path → List Event) (o : Option (ℕ × Reading)) → Says E t p o →
     ((u : ℕ) (q : Path) → u < t → f u q ≡ g u q) → change_then f o ≡ change_then g o
 unfolding Says
 change_same E t p f g None s h = refl
@@ -36,7 +37,7 @@ change_same E t p f g (Some c) s h =
     event_same f g c.0 c.1 (λ q. h (c.0 - 1) q (omega (arith, pos, le)))
 
 -- look-ups that answer alike up to a version are followed alike from there
-pub followed-alike : (E : Effects) (look : LookUps) (n t : ℕ) (p : Path) → ((u : ℕ) (q : Path) → u ≤ t → look u q ≡ last E u q) → followed look n t p ≡ followed (last E) n t p
+pub followed-alike : (E : Readings) (look : LookUps) (n t : ℕ) (p : Path) → ((u : ℕ) (q : Path) → u ≤ t → look u q ≡ last E u q) → followed look n t p ≡ followed (last E) n t p
 unfolding followed
 followed-alike E look zero t p h = refl
 followed-alike E look (suc n) t p h =
@@ -45,7 +46,7 @@ followed-alike E look (suc n) t p h =
     (λ u q b. followed-alike E look n u q (λ v r c. h v r (omega (arith, b, c))))
 
 -- more changes than versions are none too many
-followed-enough : (E : Effects) (n m t : ℕ) (p : Path) → t < n → t < m → followed (last E) n t p ≡ followed (last E) m t p
+followed-enough : (E : Readings) (n m t : ℕ) (p : Path) → t < n → t < m → followed (last E) n t p ≡ followed (last E) m t p
 unfolding followed
 followed-enough E zero m t p h k = absurd (omega arith)
 followed-enough E (suc n) zero t p h k = absurd (omega arith)
@@ -54,7 +55,7 @@ followed-enough E (suc n) (suc m) t p h k =
     (λ u q b. followed-enough E n m u q (omega (arith, b, h)) (omega (arith, b, k)))
 
 -- one change, and then from there
-pub back-step : (E : Effects) (t : ℕ) (p : Path) → back E t p ≡ change_then (back E) (last E t p)
+pub back-step : (E : Readings) (t : ℕ) (p : Path) → back E t p ≡ change_then (back E) (last E t p)
 unfolding followed
 back-step E t p =
     change_same E t p (followed (last E) t) (back E) (last E t p) (last-says E t p) (λ u q b. followed-enough E t (suc u) u q b (omega arith))
@@ -69,7 +70,7 @@ copy-stays : (t : ℕ) (q : Loc) (xs ys : List Event) → without_losses xs ≡ 
 copy-stays t q xs ys h = filter-append stays xs (copied t q ∷ []) ∙ ap (λ zs. zs ++ copied t q ∷ []) h ∙ sym (reverse-append (copied t q ∷ []) ys)
 
 -- a walk over every step, without its losses, is what following the newest changes gives
-pub walked-followed : (E : Effects) (L : ℕ → Path → Bool) (t : ℕ) (p : Path) → without_losses (walked E L t p) ≡ reverse (back E t p)
+pub walked-followed : (E : Readings) (L : ℕ → Path → Bool) (t : ℕ) (p : Path) → without_losses (walked E L t p) ≡ reverse (back E t p)
 unfolding followed last
 walked-followed E L zero p = refl
 walked-followed E L (suc t) p = by_effect (E (suc t) p) (λ q. walked-followed E L t q) ∙ ap reverse (sym (back-step E (suc t) p))
@@ -79,11 +80,11 @@ walked-followed E L (suc t) p = by_effect (E (suc t) p) (λ q. walked-followed E
     copy q true h = copy-stays (suc t) q (walked E L t q.path) (back E t q.path) h
     copy q false h = refl
 
-    by_effect : (e : Effect) → ((q : Path) → without_losses (walked E L t q) ≡ reverse (back E t q)) →
-        without_losses (walk_on (walked E L t) (suc t) p (L (suc t) p) e) ≡ reverse (change_then (back E) (if is_same e then last E t p else Some (suc t, e)))
-    by_effect same ih = losses-dropped (L (suc t) p) (suc t) (walked E L t p) ∙ ih p ∙ ap reverse (back-step E t p)
-    by_effect made ih = refl
-    by_effect (from q) ih =
+    by_effect : (e : Reading) → ((q : Path) → without_losses (walked E L t q) ≡ reverse (back E t q)) →
+        without_losses (walk_on (walked E L t) (suc t) p (L (suc t) p) e) ≡ reverse (change_then (back E) (if tells_same e then last E t p else Some (suc t, e)))
+    by_effect (left same) ih = losses-dropped (L (suc t) p) (suc t) (walked E L t p) ∙ ih p ∙ ap reverse (back-step E t p)
+    by_effect (left made) ih = refl
+    by_effect (left (from q)) ih =
         let z : t ≡ suc t - 1 = omega arith in
         copy q (in_target q) (ih q.path) ∙ ap (λ u. reverse (copied (suc t) q ∷ (if in_target q then back E u q.path else []))) z
     by_effect gone ih = refl
@@ -102,7 +103,7 @@ src-lost true t xs = src-more (lost t) xs refl
 src-lost false t xs = ap src_of (append-nil xs)
 
 -- a walk begins with an insertion exactly where it does so without its losses
-pub src-walked : (E : Effects) (L : ℕ → Path → Bool) (t : ℕ) (p : Path) → src_of (without_losses (walked E L t p)) ≡ src_of (walked E L t p)
+pub src-walked : (E : Readings) (L : ℕ → Path → Bool) (t : ℕ) (p : Path) → src_of (without_losses (walked E L t p)) ≡ src_of (walked E L t p)
 src-walked E L zero p = refl
 src-walked E L (suc t) p = by_effect (E (suc t) p) (λ q. src-walked E L t q)
   where
@@ -115,11 +116,11 @@ src-walked E L (suc t) p = by_effect (E (suc t) p) (λ q. src-walked E L t q)
         ∙ sym (src-more (copied (suc t) q) (walked E L t q.path) refl)
     copy q false h = refl
 
-    by_effect : (e : Effect) → ((q : Path) → src_of (without_losses (walked E L t q)) ≡ src_of (walked E L t q)) →
+    by_effect : (e : Reading) → ((q : Path) → src_of (without_losses (walked E L t q)) ≡ src_of (walked E L t q)) →
         src_of (without_losses (walk_on (walked E L t) (suc t) p (L (suc t) p) e)) ≡ src_of (walk_on (walked E L t) (suc t) p (L (suc t) p) e)
-    by_effect same ih = ap src_of (losses-dropped (L (suc t) p) (suc t) (walked E L t p)) ∙ ih p ∙ sym (src-lost (L (suc t) p) (suc t) (walked E L t p))
-    by_effect made ih = refl
-    by_effect (from q) ih = copy q (in_target q) (ih q.path)
+    by_effect (left same) ih = ap src_of (losses-dropped (L (suc t) p) (suc t) (walked E L t p)) ∙ ih p ∙ sym (src-lost (L (suc t) p) (suc t) (walked E L t p))
+    by_effect (left made) ih = refl
+    by_effect (left (from q)) ih = copy q (in_target q) (ih q.path)
     by_effect gone ih = refl
 
 -- the copies are no losses

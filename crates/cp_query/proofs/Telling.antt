@@ -7,7 +7,7 @@ use Rattle.cp_model.specs.Place.{Path}
 use Rattle.cp_model.specs.Past.{past_at}
 use Rattle.cp_model.specs.History.{State}
 use Rattle.cp_model.proofs.Walk.{walked}
-use Rattle.cp_model.specs.Leaps.{Effects}
+use Rattle.cp_model.specs.Leaps.{Readings}
 use Rattle.cp_model.proofs.LeapsLemmas.{leaped-walked}
 use Rattle.cp_model.proofs.Pasts.{legal-pasts}
 use Rattle.cp_model.specs.Records.{reads, loses}
@@ -20,17 +20,17 @@ use Rattle.cp_query.specs.Laws.{FollowingPassesLosses, Tells, LookUpsTellPasts}
 pub passes-losses : FollowingPassesLosses
 passes-losses E L t p = sym (walked-followed E L t p) ∙ ap without_losses (sym (leaped-walked E L (suc t) t p (omega arith)))
 
-trace-walked : (E : Effects) (L : ℕ → Path → Bool) (t : ℕ) (p : Path) → traced p t (back E t p) ≡ traced p t (reverse (walked E L t p))
+trace-walked : (E : Readings) (L : ℕ → Path → Bool) (t : ℕ) (p : Path) → traced p t (back E t p) ≡ traced p t (reverse (walked E L t p))
 trace-walked E L t p =
     ap (traced p t) (sym (reverse-reverse (back E t p)) ∙ ap reverse (sym (walked-followed E L t p)) ∙ sym (filter-reverse stays (walked E L t p)))
     ∙ trace-stays p t (reverse (walked E L t p))
 
-hist-walked : (E : Effects) (L : ℕ → Path → Bool) (t : ℕ) (p : Path) → reverse (filter_map copy_tid (back E t p)) ≡ filter_map copy_tid (walked E L t p)
+hist-walked : (E : Readings) (L : ℕ → Path → Bool) (t : ℕ) (p : Path) → reverse (filter_map copy_tid (back E t p)) ≡ filter_map copy_tid (walked E L t p)
 hist-walked E L t p =
     sym (filter_map-reverse copy_tid (back E t p)) ∙ ap (filter_map copy_tid) (sym (walked-followed E L t p)) ∙ copies-stay (walked E L t p)
 
 -- walks that are the past of a place tell of it
-tells : (s : State) (E : Effects) (L : ℕ → Path → Bool) (p : Path) → walked E L s.now p ≡ past_at s.tree p → Tells s p (back E s.now p)
+tells : (s : State) (E : Readings) (L : ℕ → Path → Bool) (p : Path) → walked E L s.now p ≡ past_at s.tree p → Tells s p (back E s.now p)
 tells s E L p e = record {
   past = sym (walked-followed E L s.now p) ∙ ap without_losses e;
   trace = trace-walked E L s.now p ∙ ap (λ es. traced p s.now (reverse es)) e;

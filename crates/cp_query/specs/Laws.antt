@@ -6,14 +6,14 @@ use Rattle.cp_model.specs.Place.{Path}
 use Rattle.cp_model.specs.Subtrees.{is_there}
 use Rattle.cp_model.specs.Past.{Event, past_at}
 use Rattle.cp_model.specs.History.{Entry, State, IsLegal, replay}
-use Rattle.cp_model.specs.Leaps.{Effects, last, leaped}
+use Rattle.cp_model.specs.Leaps.{Readings, last, leaped}
 use Rattle.cp_model.specs.Records.{reads}
 use Rattle.cp_model.specs.Answers.{traced, trace, src_of, src, copy_tid, hist}
 use Rattle.cp_query.specs.Following.{LookUps, followed, back, without_losses}
 
 -- following the newest changes back is the past without its losses, whatever the losses are
 abbrev pub FollowingPassesLosses : Type 0
-FollowingPassesLosses = (E : Effects) (L : ℕ → Path → Bool) (t : ℕ) (p : Path) → reverse (back E t p) ≡ without_losses (leaped E L (suc t) t p)
+FollowingPassesLosses = (E : Readings) (L : ℕ → Path → Bool) (t : ℕ) (p : Path) → reverse (back E t p) ≡ without_losses (leaped E L (suc t) t p)
 
 -- what these events, newest first, say of the place p is what its past says
 pub record Tells (s : State) (p : Path) (es : List Event) : Type 0 where

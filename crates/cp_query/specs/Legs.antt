@@ -7,8 +7,9 @@ use Rattle.cp_path.specs.declared.loc.Loc.{Loc}
 use Rattle.cp_model.specs.declared.answer.Trace.{Trace}
 use Rattle.cp_model.specs.declared.answer.TraceEnd.TheVariants as end
 use Rattle.cp_model.specs.Place.{in_target}
-use Rattle.cp_model.specs.Rows.{Effect, same, made, from, gone}
-use Rattle.cp_model.specs.Leaps.{Effects, last}
+use Rattle.cp_model.specs.declared.effect.Effect.TheVariants.{Same as same, New as made, From as from}
+use Rattle.cp_model.specs.Rows.{Reading, left, gone}
+use Rattle.cp_model.specs.Leaps.{Readings, last}
 use Rattle.cp_model.specs.Answers.{traced, src_of, copy_tid}
 use Rattle.cp_query.specs.Following.{back}
 use Rattle.cp_query.specs.declared.walk.Walk.{Walk}
@@ -24,20 +25,20 @@ came_with u q = if in_target q then Back (record { at = q; high = u - 1 }) else 
 abbrev pub leg_of : Walk → ℕ → Came → Leg
 leg_of w low c = record { segment = record { loc = w.at; low = low; high = w.high }; came = c }
 
--- the leg that an effect in step u begins
-abbrev pub leg_with : Walk → ℕ → Effect → Leg
-leg_with w u same = leg_of w 0 (End end.Start)
-leg_with w u made = leg_of w u (End end.New)
-leg_with w u (from q) = leg_of w u (came_with u q)
+-- the leg that begins with what step u tells
+abbrev pub leg_with : Walk → ℕ → Reading → Leg
+leg_with w u (left same) = leg_of w 0 (End end.Start)
+leg_with w u (left made) = leg_of w u (End end.New)
+leg_with w u (left (from q)) = leg_of w u (came_with u q)
 leg_with w u gone = leg_of w 0 (End end.Start)
 
 -- the leg that the newest change begins
-abbrev pub leg_by : Walk → Option (ℕ × Effect) → Leg
+abbrev pub leg_by : Walk → Option (ℕ × Reading) → Leg
 leg_by w None = leg_of w 0 (End end.Start)
 leg_by w (Some c) = leg_with w c.0 c.1
 
 -- the leg at the place of a walk
-abbrev pub leg : Effects → Walk → Leg
+abbrev pub leg : Readings → Walk → Leg
 leg E w = leg_by w (last E w.high w.at.path)
 
 -- the Tid with which a leg begins, if it is that of an insertion
@@ -55,11 +56,11 @@ copied_by u (End end.Start) = None
 copied_by u (End (end.Source q)) = Some u
 
 -- the trace, the insertion and the copies, newest first, that following the changes gives
-abbrev pub trace_from : Effects → Walk → Trace
+abbrev pub trace_from : Readings → Walk → Trace
 trace_from E w = traced w.at.path w.high (back E w.high w.at.path)
 
-abbrev pub src_from : Effects → Walk → Option ℕ
+abbrev pub src_from : Readings → Walk → Option ℕ
 src_from E w = src_of (reverse (back E w.high w.at.path))
 
-abbrev pub hist_from : Effects → Walk → List ℕ
+abbrev pub hist_from : Readings → Walk → List ℕ
 hist_from E w = filter_map copy_tid (back E w.high w.at.path)

@@ -6,7 +6,8 @@ use Rattle.std.specs.declared.option.Option.{Option}
 use Rattle.std.specs.declared.option.Option.TheVariants.{None, Some}
 use Rattle.cp_path.specs.declared.loc.Loc.{Loc}
 use Rattle.cp_model.specs.Place.{in_target, path_cmp}
-use Rattle.cp_model.specs.Rows.{Effect, made, from, gone}
+use Rattle.cp_model.specs.declared.effect.Effect.TheVariants.{New as made, From as from}
+use Rattle.cp_model.specs.Rows.{Reading, left, gone}
 use Rattle.cp_model.specs.Leaps.{last}
 use Rattle.cp_model.specs.Records.{reads}
 use Rattle.cp_model.specs.declared.kind.Kind.{Kind}
@@ -15,20 +16,20 @@ use Rattle.cp_store.specs.declared.change.Change.{Change}
 use Rattle.cp_store.specs.declared.change.What.{What}
 use Rattle.cp_store.specs.declared.change.What.TheVariants.{New, From, Gone}
 
--- what a change says, as an effect
-abbrev pub effect_of : What → Effect
-effect_of New = made
-effect_of (From q) = from q
-effect_of Gone = gone
+-- what a change tells of its place
+abbrev pub reading_of : What → Reading
+reading_of New = left made
+reading_of (From q) = left (from q)
+reading_of Gone = gone
 
--- the Tid of a change, and its effect
-abbrev pub seen : Option Change → Option (ℕ × Effect)
+-- the Tid of a change, and what it tells
+abbrev pub seen : Option Change → Option (ℕ × Reading)
 seen None = None
-seen (Some c) = Some (c.tid, effect_of c.what)
+seen (Some c) = Some (c.tid, reading_of c.what)
 
--- the greatest Tid up to t at which the rows give the place an effect other than Same, with that effect; no row is of
--- a place of a source
-unfoldable pub change_at : Kind → List Record → ℕ → Loc → Option (ℕ × Effect)
+-- the greatest Tid up to t at which the rows tell of the place other than that it is the same, with what they tell; no
+-- row is of a place of a source
+unfoldable pub change_at : Kind → List Record → ℕ → Loc → Option (ℕ × Reading)
 change_at k rs t q = if in_target q then last (reads k rs) t q.path else None
 
 -- the rows of one step
