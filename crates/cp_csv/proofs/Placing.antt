@@ -19,7 +19,7 @@ use Rattle.cp_model.specs.Keyed.{look}
 use Rattle.cp_model.specs.Subtrees.{is_there, replaced}
 use Rattle.cp_model.specs.Tree.{Tree, IsTree, IsRooted, weight, text_bytes}
 use Rattle.cp_model.proofs.SumsLemmas.{len_insert_new, weight_insert_new}
-use Rattle.cp_tree.specs.Rows.{alone, path_size, single}
+use Rattle.cp_tree.specs.Rows.{root_entries, path_size, single}
 use Rattle.cp_tree.proofs.Fits.{within-limit}
 use Rattle.cp_tree.proofs.Leaves.{nothing-below, leaf-insert, leaf-fits}
 use Rattle.std.specs.Str.{is_utf8}
@@ -35,7 +35,7 @@ use Rattle.cp_csv.proofs.Lists.{none_pass}
 
 -- a leaf below the root, or below a child of it, leaves a tree where there is room
 pub leaf_fits : (t : Tree) (p : Path) (a : Label) (c : Content) → IsTree t → keyed.get t p ≡ Some Node → length p ≤ 1 → path_size p ≤ 256 → length a ≤ LABEL_MAX → text_bytes c ≤ TEXT_MAX →
-    keyed.len t + 1 ≤ NODES_MAX → weight t + 16 + length a + text_bytes c ≤ WEIGHT_MAX → IsTree (replaced (child p a) (alone c) t)
+    keyed.len t + 1 ≤ NODES_MAX → weight t + 16 + length a + text_bytes c ≤ WEIGHT_MAX → IsTree (replaced (child p a) (root_entries c) t)
 leaf_fits t p a c h n deep large s x l w =
     leaf-fits t p a c h n (within-limit (child p a) (omega (arith, deep, length-append p (a ∷ []))) (omega (arith, large, s, sum_by-append (λ (a : Label). length a + 1) p (a ∷ [])))) x l w
 
@@ -94,7 +94,7 @@ pub record IsPut (t1 t : Tree) (row h : Label) (f : List ℕ) (hs : List Label) 
   pub count : keyed.len t1 ≡ keyed.len t + 1
   pub weighs : weight t1 ≡ weight t + 16 + length h + length f
 
-pub next_put : (t1 t : Tree) (row h : Label) (f : List ℕ) (hs : List Label) → IsTree t → IsBare t row (h ∷ hs) → t1 ≡ replaced (row ∷ h ∷ []) (alone (Leaf (Text f))) t → IsPut t1 t row h f hs
+pub next_put : (t1 t : Tree) (row h : Label) (f : List ℕ) (hs : List Label) → IsTree t → IsBare t row (h ∷ hs) → t1 ≡ replaced (row ∷ h ∷ []) (root_entries (Leaf (Text f))) t → IsPut t1 t row h f hs
 next_put t1 t row h f hs tree bare e =
     let c : Content = Leaf (Text f) in
     let none = next_free t row h hs bare c in
@@ -210,11 +210,11 @@ has_place t q x e = some_length q t.list x e
 
 -- a root alone
 pub single_root : keyed.get (single Node) [] ≡ Some Node
-single_root = find-from_entries (alone Node) []
+single_root = find-from_entries (root_entries Node) []
 
 pub single_shallow : IsShallow (single Node)
 single_shallow [] i = (omega arith, omega arith)
-single_shallow (a ∷ p) i = absurd (let no : is_there (single Node) (a ∷ p) ≡ false = ap is_some (find-from_entries (alone Node) (a ∷ p)) in cc)
+single_shallow (a ∷ p) i = absurd (let no : is_there (single Node) (a ∷ p) ≡ false = ap is_some (find-from_entries (root_entries Node) (a ∷ p)) in cc)
 
 -- a place of few short labels is within the limits of any database
 pub within : (t : Tree) (name : List ℕ) → IsShallow t → length name ≤ NAME_MAX → (p : Path) → is_there t p ≡ true → over_limit (record { db = name; path = p }) ≡ false

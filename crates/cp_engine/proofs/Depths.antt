@@ -17,7 +17,7 @@ use Rattle.cp_model.specs.Literals.{literal_rows, rows_under, edge_rows}
 use Rattle.cp_model.specs.Tree.{Tree, IsTree, reaches_over}
 use Rattle.cp_model.proofs.Accepted.{at_most}
 use Rattle.cp_tree.proofs.Edges.{deepest-literal}
-use Rattle.cp_tree.specs.Rows.{greatest, deepest, row_of}
+use Rattle.cp_tree.specs.Rows.{greatest, deepest, entry_row}
 use Rattle.cp_tree.proofs.Counted.{greatest-append}
 use Rattle.cp_engine.proofs.RowsAloneLemmas.{root-below}
 use Rattle.cp_engine.proofs.Limits.{over-reached}
@@ -51,7 +51,7 @@ pub below-within : (t : Tree) (q : Path) → IsTree t → is_there t q ≡ true 
 below-within t q h i = deepest-within (at_target q) (below q t) (root-below t q i) (below-reaches t q h)
 
 -- rows lie as deep as their entries
-pub deepest-rows : (es : List (Path × Content)) → greatest (λ (r : Row). length r.path) (map row_of es) ≡ deepest es
+pub deepest-rows : (es : List (Path × Content)) → greatest (λ (r : Row). length r.path) (map entry_row es) ≡ deepest es
 deepest-rows [] = refl
 deepest-rows (e ∷ es) = ap (max (length e.0)) (deepest-rows es)
 

@@ -13,7 +13,7 @@ use Rattle.cp_model.specs.Place.{Label, Path, child}
 use Rattle.cp_model.specs.Keyed as keyed
 use Rattle.cp_model.specs.Subtrees.{replaced, is_there}
 use Rattle.cp_model.specs.Tree.{Tree, IsTree, text_bytes}
-use Rattle.cp_tree.specs.Rows.{alone, single}
+use Rattle.cp_tree.specs.Rows.{root_entries, single}
 use Rattle.cp_json.specs.Places.{content_of}
 use Rattle.cp_json.specs.JsonTrees.{with_place}
 
@@ -63,7 +63,7 @@ or_node o = unwrap_or o Node
 
 -- a leaf more
 abbrev pub with_leaf : Tree → Path → Option Content → Tree
-with_leaf t p c = replaced p (alone (or_node c)) t
+with_leaf t p c = replaced p (root_entries (or_node c)) t
 
 -- the tree, once the places below p are put into it
 abbrev mutual

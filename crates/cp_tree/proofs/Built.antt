@@ -13,14 +13,14 @@ use Rattle.cp_model.specs.Keyed as keyed
 use Rattle.cp_model.specs.Subtrees.{replaced, is_there}
 use Rattle.cp_model.specs.Tree.{IsRooted}
 use Rattle.cp_model.specs.History.{IsLiteral}
-use Rattle.cp_tree.specs.Rows.{entries_in, alone, single, made}
+use Rattle.cp_tree.specs.Rows.{entries_in, root_entries, single, tree_of_rows}
 use Rattle.cp_tree.proofs.BranchLemmas.{entries-from_entries}
 use Rattle.cp_tree.proofs.Steps.{row_is_new, row_added, parent_there, first_is_root, others_below}
 
 module _ (first : Row) (rest : List Row) (l : IsLiteral (entries_in (first ∷ rest))) where
   -- the first row alone is a root alone
-  pub made-first : made (first ∷ []) ≡ single first.content
-  made-first = ap (λ p. keyed.from_entries ((p, first.content) ∷ [])) (first_is_root (first.path, first.content) (entries_in rest) l)
+  pub tree_of_rows-first : tree_of_rows (first ∷ []) ≡ single first.content
+  tree_of_rows-first = ap (λ p. keyed.from_entries ((p, first.content) ∷ [])) (first_is_root (first.path, first.content) (entries_in rest) l)
 
   -- the row at this index of the others
   module _ (i : ℕ) (row : Row) (lt : i < length rest) (at : row ≡ get_or rest i row) where
@@ -42,16 +42,16 @@ module _ (first : Row) (rest : List Row) (l : IsLiteral (entries_in (first ∷ r
       sorted_parts = subst (λ z. T (is_sorted path_cmp ((first.path, first.content) ∷ z))) parts l.sorted
 
       -- its parent is a node of the tree of those before it
-      pub made-parent : keyed.get (made (first ∷ take i rest)) p ≡ Some Node
-      made-parent = parent_there (entries_in (first ∷ take i rest)) p a row.content (entries_in (drop (suc i) rest)) sorted_parts (subst (λ z. IsRooted (keyed.from_entries ((first.path, first.content) ∷ z))) parts l.rooted)
+      pub tree_of_rows-parent : keyed.get (tree_of_rows (first ∷ take i rest)) p ≡ Some Node
+      tree_of_rows-parent = parent_there (entries_in (first ∷ take i rest)) p a row.content (entries_in (drop (suc i) rest)) sorted_parts (subst (λ z. IsRooted (keyed.from_entries ((first.path, first.content) ∷ z))) parts l.rooted)
 
       -- it is new to that tree
-      pub made-new : is_there (made (first ∷ take i rest)) (child p a) ≡ false
+      pub made-new : is_there (tree_of_rows (first ∷ take i rest)) (child p a) ≡ false
       made-new = row_is_new (entries_in (first ∷ take i rest)) p a row.content (entries_in (drop (suc i) rest)) sorted_parts
 
       -- and as a leaf added it makes the tree of one row more
-      pub made-more : made (first ∷ take (i + 1) rest) ≡ replaced (child p a) (alone row.content) (made (first ∷ take i rest))
-      made-more =
+      pub tree_of_rows-more : tree_of_rows (first ∷ take (i + 1) rest) ≡ replaced (child p a) (root_entries row.content) (tree_of_rows (first ∷ take i rest))
+      tree_of_rows-more =
           ap (λ z. keyed.from_entries ((first.path, first.content) ∷ z)) (ap entries_in (ap (λ k. take k rest) (add-one i) ∙ take_one) ∙ map-append (λ (r : Row). (r.path, r.content)) (take i rest) (row ∷ []) ∙ ap (λ q. entries_in (take i rest) ++ (q, row.content) ∷ []) path)
           ∙ row_added (entries_in (first ∷ take i rest)) p a row.content (entries_in (drop (suc i) rest)) sorted_parts
         where
@@ -59,13 +59,13 @@ module _ (first : Row) (rest : List Row) (l : IsLiteral (entries_in (first ∷ r
           take_one = take-suc rest i row lt ∙ ap (λ y. take i rest ++ y ∷ []) (sym at)
 
   -- all rows
-  pub made-all : (i : ℕ) → length rest ≤ i → made (first ∷ take i rest) ≡ made (first ∷ rest)
-  made-all i h = ap (λ z. made (first ∷ z)) (take_all i rest h)
+  pub tree_of_rows-all : (i : ℕ) → length rest ≤ i → tree_of_rows (first ∷ take i rest) ≡ tree_of_rows (first ∷ rest)
+  tree_of_rows-all i h = ap (λ z. tree_of_rows (first ∷ z)) (take_all i rest h)
 
 -- the entries of a tree made of rows are theirs
-pub made-entries : (rows : List Row) → IsLiteral (entries_in rows) → keyed.entries (made rows) ≡ entries_in rows
-made-entries rows l = entries-from_entries (entries_in rows) l.sorted
+pub entries-tree_of_rows : (rows : List Row) → IsLiteral (entries_in rows) → keyed.entries (tree_of_rows rows) ≡ entries_in rows
+entries-tree_of_rows rows l = entries-from_entries (entries_in rows) l.sorted
 
 -- a root alone has one entry
-pub entries-single : (c : Content) → keyed.entries (single c) ≡ alone c
-entries-single c = entries-from_entries (alone c) tt
+pub entries-single : (c : Content) → keyed.entries (single c) ≡ root_entries c
+entries-single c = entries-from_entries (root_entries c) tt

@@ -20,7 +20,7 @@ use Rattle.cp_model.proofs.Lookups.{find-below, find-from_entries, get-replaced,
 use Rattle.cp_model.proofs.SumsLemmas.{below-none, last_bytes_child}
 use Rattle.cp_model.proofs.Rooted.{AreRows, under-child}
 use Rattle.cp_model.proofs.Kept.{closed-tree}
-use Rattle.cp_tree.specs.Rows.{alone, single}
+use Rattle.cp_tree.specs.Rows.{root_entries, single}
 use Rattle.cp_tree.proofs.Built.{entries-single}
 use Rattle.cp_tree.proofs.Fits.{tree-fits}
 
@@ -28,28 +28,28 @@ use Rattle.cp_tree.proofs.Fits.{tree-fits}
 
 module _ (c : Content) where
   -- only the root is there
-  pub alone-root : (p : Path) → is_some (look p (alone c)) ≡ true → p ≡ []
+  pub alone-root : (p : Path) → is_some (look p (root_entries c)) ≡ true → p ≡ []
   alone-root [] i = refl
   alone-root (a ∷ p) i = absurd (cc)
 
-  alone-texts : text_bytes c ≤ TEXT_MAX → (p : Path) (d : Content) → look p (alone c) ≡ Some d → text_bytes d ≤ TEXT_MAX
+  alone-texts : text_bytes c ≤ TEXT_MAX → (p : Path) (d : Content) → look p (root_entries c) ≡ Some d → text_bytes d ≤ TEXT_MAX
   alone-texts h [] d e = (let same : c ≡ d = cc in subst (λ x. text_bytes x ≤ TEXT_MAX) same h)
   alone-texts h (a ∷ p) d e = absurd (cc)
 
-  no_child : (p : Path) (a : Label) → is_some (look (child p a) (alone c)) ≡ false
+  no_child : (p : Path) (a : Label) → is_some (look (child p a) (root_entries c)) ≡ false
   no_child [] a = refl
   no_child (b ∷ p) a = refl
 
   -- what is asked of the rows of a tree holds of it
-  pub alone-rows : text_bytes c ≤ TEXT_MAX → AreRows (alone c)
+  pub alone-rows : text_bytes c ≤ TEXT_MAX → AreRows (root_entries c)
   alone-rows h = record {
     root = refl;
-    parents = λ p a i. absurd (let no : is_some (look (child p a) (alone c)) ≡ false = no_child p a in cc);
+    parents = λ p a i. absurd (let no : is_some (look (child p a) (root_entries c)) ≡ false = no_child p a in cc);
     texts = alone-texts h;
   }
 
-  pub single-get : (p : Path) → keyed.get (single c) p ≡ look p (alone c)
-  single-get p = find-from_entries (alone c) p
+  pub single-get : (p : Path) → keyed.get (single c) p ≡ look p (root_entries c)
+  single-get p = find-from_entries (root_entries c) p
 
   pub single-len : keyed.len (single c) ≡ 1
   unfolding keyed.len keyed.entries
@@ -78,14 +78,14 @@ pub nothing-below : (t : Tree) (p r : Path) → IsRooted t → keyed.get t p ≡
 nothing-below t p r h n = sym (find-below p r t) ∙ ap (look r) (below-none t p (closed-tree t h) n)
 
 -- a leaf at a new place is one more entry
-pub leaf-insert : (t : Tree) (p : Path) (c : Content) → IsRooted t → keyed.get t p ≡ None → replaced p (alone c) t ≡ keyed.insert t p c
-leaf-insert t p c h n = same_map (replaced p (alone c) t) (keyed.insert t p c) (λ r.
-    get-replaced p (alone c) t r ∙ cases r (strip p r) refl ∙ ap (λ b. cond b (Some c) (keyed.get t r)) (sym (same_as r)) ∙ sym (get-insert t p c r))
+pub leaf-insert : (t : Tree) (p : Path) (c : Content) → IsRooted t → keyed.get t p ≡ None → replaced p (root_entries c) t ≡ keyed.insert t p c
+leaf-insert t p c h n = same_map (replaced p (root_entries c) t) (keyed.insert t p c) (λ r.
+    get-replaced p (root_entries c) t r ∙ cases r (strip p r) refl ∙ ap (λ b. cond b (Some c) (keyed.get t r)) (sym (same_as r)) ∙ sym (get-insert t p c r))
   where
     same_as : (r : Path) → path_eq r p ≡ rest_is (strip p r) []
     same_as r = path_eq-sym r p ∙ ap (λ q. path_eq q r) (sym (append-nil p)) ∙ path_eq-append p [] r
 
-    cases : (r : Path) (o : Option Path) → strip p r ≡ o → placed o (λ s. look s (alone c)) (keyed.get t r) ≡ cond (rest_is o []) (Some c) (keyed.get t r)
+    cases : (r : Path) (o : Option Path) → strip p r ≡ o → placed o (λ s. look s (root_entries c)) (keyed.get t r) ≡ cond (rest_is o []) (Some c) (keyed.get t r)
     cases r None e = refl
     cases r (Some z) e =
         ap (λ o. cond (path_eq z []) (Some c) o) (sym (ap (keyed.get t) (strip_is p r z e) ∙ nothing-below t p z h n))
@@ -93,10 +93,10 @@ leaf-insert t p c h n = same_map (replaced p (alone c) t) (keyed.insert t p c) (
 
 -- a leaf leaves a tree, where there is room and its place is within the limits
 pub leaf-fits : (t : Tree) (p : Path) (a : Label) (c : Content) → IsTree t → keyed.get t p ≡ Some Node → over_limit (at_target (child p a)) ≡ false → text_bytes c ≤ TEXT_MAX →
-    keyed.len t + 1 ≤ NODES_MAX → weight t + 16 + length a + text_bytes c ≤ WEIGHT_MAX → IsTree (replaced (child p a) (alone c) t)
+    keyed.len t + 1 ≤ NODES_MAX → weight t + 16 + length a + text_bytes c ≤ WEIGHT_MAX → IsTree (replaced (child p a) (root_entries c) t)
 leaf-fits t p a c h n near s l w =
-    tree-fits t (child p a) (alone c) h (alone-rows c s) tt (under-child t p a n) (omega (arith, l)) (omega (arith, w, last_bytes_child p a, sum_by-cons weight_of ([], c) [])) within
+    tree-fits t (child p a) (root_entries c) h (alone-rows c s) tt (under-child t p a n) (omega (arith, l)) (omega (arith, w, last_bytes_child p a, sum_by-cons weight_of ([], c) [])) within
   where
-    within : (r : Path) → is_some (look r (alone c)) ≡ true → over_limit (at_target (child p a ++ r)) ≡ false
+    within : (r : Path) → is_some (look r (root_entries c)) ≡ true → over_limit (at_target (child p a ++ r)) ≡ false
     within [] i = ap (λ q. over_limit (at_target q)) (append-nil (child p a)) ∙ near
     within (b ∷ r) i = absurd (cc)

@@ -11,13 +11,13 @@ use Rattle.cp_model.specs.declared.literal.LitEdge.{LitEdge}
 use Rattle.cp_model.specs.Literals.{literal_rows, rows_under, edge_rows}
 use Rattle.cp_model.specs.Place.{Path, child}
 use Rattle.cp_model.specs.Subtrees.{moved}
-use Rattle.cp_tree.proofs.ListingLemmas.{entries_in-rows, moved-append, moved-under, moved-first, moved-root}
+use Rattle.cp_tree.proofs.ListingLemmas.{entries_in-rows, moved-append, moved-below_label, moved-first, moved-root}
 use Rattle.cp_tree.proofs.Counted.{greatest-append}
 use Rattle.cp_tree.proofs.Edges.{deepest-literal, edge-fewer}
-use Rattle.cp_tree.specs.Rows.{row_of, entries_in, deepest}
+use Rattle.cp_tree.specs.Rows.{entry_row, entries_in, deepest}
 
 -- rows that are those of entries have these entries
-pub entries-listed : (rs vs : List Row) (es : List (Path × Content)) → rs ≡ vs → vs ≡ map row_of es → entries_in rs ≡ es
+pub entries-listed : (rs vs : List Row) (es : List (Path × Content)) → rs ≡ vs → vs ≡ map entry_row es → entries_in rs ≡ es
 entries-listed rs vs es r v = ap entries_in (r ∙ v) ∙ entries_in-rows es
 
 -- one row more
@@ -43,7 +43,7 @@ deepest-edge e rest tail t =
 pub rows-edge : (at path : Path) (e : LitEdge) (rest tail : List LitEdge) (old new total : List (Path × Content)) → tail ≡ e ∷ rest → path ≡ child at e.label →
     new ≡ old ++ moved path (literal_rows e.tree) → old ++ moved at (edge_rows tail) ≡ total → new ++ moved at (edge_rows rest) ≡ total
 rows-edge at path e rest tail old new total t p n h =
-    ap (λ xs. xs ++ moved at (edge_rows rest)) (n ∙ ap (λ q. old ++ moved q (literal_rows e.tree)) p ∙ ap (λ xs. old ++ xs) (sym (moved-under at e.label (literal_rows e.tree))))
+    ap (λ xs. xs ++ moved at (edge_rows rest)) (n ∙ ap (λ q. old ++ moved q (literal_rows e.tree)) p ∙ ap (λ xs. old ++ xs) (sym (moved-below_label at e.label (literal_rows e.tree))))
     ∙ append_assoc old (moved at (rows_under e.label (literal_rows e.tree))) (moved at (edge_rows rest))
     ∙ ap (λ xs. old ++ xs) (sym (moved-append at (rows_under e.label (literal_rows e.tree)) (edge_rows rest)))
     ∙ ap (λ es. old ++ moved at (edge_rows es)) (sym t)

@@ -19,13 +19,13 @@ use Rattle.cp_model.proofs.Lookups.{find-from_entries}
 use Rattle.cp_model.proofs.Rooted.{rows-below}
 use Rattle.cp_model.proofs.Strips.{append-nil}
 use Rattle.cp_model.proofs.Sorted.{parts_of, sorted-entries, sorted-below, root-first}
-use Rattle.cp_tree.specs.Branch.{under, kid_rows, branch, sub}
+use Rattle.cp_tree.specs.Branch.{below_label, child_rows, branch, sub}
 use Rattle.cp_tree.proofs.BranchLemmas.{entries-branch, entries-sub}
 use Rattle.cp_tree.specs.Good.{AllRooted, IsGood}
-use Rattle.cp_tree.specs.Rows.{row_of, entries_in, one_label, labels_at}
+use Rattle.cp_tree.specs.Rows.{entry_row, entries_in, only_label, labels_at}
 
 -- entries as rows and back
-pub entries_in-rows : (es : List (Path × Content)) → entries_in (map row_of es) ≡ es
+pub entries_in-rows : (es : List (Path × Content)) → entries_in (map entry_row es) ≡ es
 entries_in-rows [] = refl
 entries_in-rows (e ∷ es) = ap (λ z. e ∷ z) (entries_in-rows es)
 
@@ -57,46 +57,46 @@ module _ {X : Type 0} where
   moved-first p x es = ap (λ q. (q, x) ∷ moved p es) (append-nil p)
 
   -- the rows of a child, seen from its parent and then from further up
-  pub moved-under : (p : Path) (a : Label) (es : List (Path × X)) → moved p (under a es) ≡ moved (child p a) es
+  pub moved-below_label : (p : Path) (a : Label) (es : List (Path × X)) → moved p (below_label a es) ≡ moved (child p a) es
   unfolding moved
-  moved-under p a [] = refl
-  moved-under p a (e ∷ es) = λ i. (sym (append_assoc p (a ∷ []) e.0) i, e.1) ∷ moved-under p a es i
+  moved-below_label p a [] = refl
+  moved-below_label p a (e ∷ es) = λ i. (sym (append_assoc p (a ∷ []) e.0) i, e.1) ∷ moved-below_label p a es i
 
   -- the rows below edges and further edges
-  pub kid_rows-append : (es fs : List (Label × Keyed X)) → kid_rows (es ++ fs) ≡ kid_rows es ++ kid_rows fs
-  kid_rows-append [] fs = refl
-  kid_rows-append (e ∷ es) fs = ap (λ z. under e.0 (keyed.entries e.1) ++ z) (kid_rows-append es fs) ∙ sym (append_assoc (under e.0 (keyed.entries e.1)) (kid_rows es) (kid_rows fs))
+  pub child_rows-append : (es fs : List (Label × Keyed X)) → child_rows (es ++ fs) ≡ child_rows es ++ child_rows fs
+  child_rows-append [] fs = refl
+  child_rows-append (e ∷ es) fs = ap (λ z. below_label e.0 (keyed.entries e.1) ++ z) (child_rows-append es fs) ∙ sym (append_assoc (below_label e.0 (keyed.entries e.1)) (child_rows es) (child_rows fs))
 
   -- the rows of a tree at a place: that of its root, and those below its edges
-  pub moved-branch : (p : Path) (x : X) (es : List (Label × Keyed X)) → T (is_sorted text_cmp es) → moved p (keyed.entries (branch x es)) ≡ (p, x) ∷ moved p (kid_rows es)
-  moved-branch p x es s = ap (moved p) (entries-branch x es s) ∙ moved-first p x (kid_rows es)
+  pub moved-branch : (p : Path) (x : X) (es : List (Label × Keyed X)) → T (is_sorted text_cmp es) → moved p (keyed.entries (branch x es)) ≡ (p, x) ∷ moved p (child_rows es)
+  moved-branch p x es s = ap (moved p) (entries-branch x es s) ∙ moved-first p x (child_rows es)
 
 -- ---- labels
 
-one_labels : (k : Path) (es : List (Path × Content)) (a : Label) → T (below_all path_cmp k es) → filter_map (λ e. one_label e.0) (under a es) ≡ []
-one_labels k [] a h = refl
-one_labels k (([], c) ∷ es) a h = absurd (never k (parts_of (is_lt (path_cmp k [])) (below_all path_cmp k es) h).0)
+only_labels : (k : Path) (es : List (Path × Content)) (a : Label) → T (below_all path_cmp k es) → filter_map (λ e. only_label e.0) (below_label a es) ≡ []
+only_labels k [] a h = refl
+only_labels k (([], c) ∷ es) a h = absurd (never k (parts_of (is_lt (path_cmp k [])) (below_all path_cmp k es) h).0)
   where
     never : (q : Path) → T (is_lt (path_cmp q [])) → ⊥
     never [] t = t
     never (b ∷ q) t = t
-one_labels k ((b ∷ q, c) ∷ es) a h = one_labels k es a (parts_of (is_lt (path_cmp k (b ∷ q))) (below_all path_cmp k es) h).1
+only_labels k ((b ∷ q, c) ∷ es) a h = only_labels k es a (parts_of (is_lt (path_cmp k (b ∷ q))) (below_all path_cmp k es) h).1
 
-labels_kid : (a : Label) (es : List (Path × Content)) → T (is_sorted path_cmp es) → is_some (look [] es) ≡ true → filter_map (λ e. one_label e.0) (under a es) ≡ a ∷ []
-labels_kid a [] s r = absurd (cc)
-labels_kid a (([], c) ∷ es) s r = ap (λ z. a ∷ z) (one_labels [] es a (parts_of (below_all path_cmp [] es) (is_sorted path_cmp es) s).0)
-labels_kid a ((b ∷ q, c) ∷ es) s r = absurd (let none = root-first (b ∷ q) es (parts_of (below_all path_cmp (b ∷ q) es) (is_sorted path_cmp es) s).0 in let no = ap is_some none in cc)
+labels_child : (a : Label) (es : List (Path × Content)) → T (is_sorted path_cmp es) → is_some (look [] es) ≡ true → filter_map (λ e. only_label e.0) (below_label a es) ≡ a ∷ []
+labels_child a [] s r = absurd (cc)
+labels_child a (([], c) ∷ es) s r = ap (λ z. a ∷ z) (only_labels [] es a (parts_of (below_all path_cmp [] es) (is_sorted path_cmp es) s).0)
+labels_child a ((b ∷ q, c) ∷ es) s r = absurd (let none = root-first (b ∷ q) es (parts_of (below_all path_cmp (b ∷ q) es) (is_sorted path_cmp es) s).0 in let no = ap is_some none in cc)
 
-labels_kids : (es : List (Label × Tree)) → AllRooted es → filter_map (λ e. one_label e.0) (kid_rows es) ≡ map (λ e. e.0) es
-labels_kids [] t = refl
-labels_kids (e ∷ es) t =
-    filter_map-append (λ e. one_label e.0) (under e.0 (keyed.entries e.1)) (kid_rows es)
-    ∙ ap (λ z. z ++ filter_map (λ e. one_label e.0) (kid_rows es)) (labels_kid e.0 (keyed.entries e.1) (sorted-entries e.1) (ap is_some (sym (get-entries e.1 [])) ∙ t.0.root))
-    ∙ ap (λ z. e.0 ∷ z) (labels_kids es t.1)
+labels_children : (es : List (Label × Tree)) → AllRooted es → filter_map (λ e. only_label e.0) (child_rows es) ≡ map (λ e. e.0) es
+labels_children [] t = refl
+labels_children (e ∷ es) t =
+    filter_map-append (λ e. only_label e.0) (below_label e.0 (keyed.entries e.1)) (child_rows es)
+    ∙ ap (λ z. z ++ filter_map (λ e. only_label e.0) (child_rows es)) (labels_child e.0 (keyed.entries e.1) (sorted-entries e.1) (ap is_some (sym (get-entries e.1 [])) ∙ t.0.root))
+    ∙ ap (λ z. e.0 ∷ z) (labels_children es t.1)
 
 -- the labels below a place are those of the edges of the tree there
 pub labels-branch : (t : Tree) (p : Path) (x : Content) (es : List (Label × Tree)) → IsGood x es → branch x es ≡ sub t p → labels_at t p ≡ map (λ e. e.0) es
 unfolding labels_at
 labels-branch t p x es g is =
-    ap (filter_map (λ e. one_label e.0)) (sym (entries-sub t p) ∙ ap keyed.entries (sym is) ∙ entries-branch x es g.sorted)
-    ∙ labels_kids es g.trees
+    ap (filter_map (λ e. only_label e.0)) (sym (entries-sub t p) ∙ ap keyed.entries (sym is) ∙ entries-branch x es g.sorted)
+    ∙ labels_children es g.trees

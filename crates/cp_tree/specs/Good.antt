@@ -1,4 +1,4 @@
--- What keeps a tree rooted, seen from its root and its edges, and how a change at or below an edge keeps it.
+-- What keeps a tree rooted, seen from its root and its edges.
 use Rattle.std.specs.Prelude.{◌≡◌, List, [], ◌∷◌, ⊤}
 use Rattle.std.proofs.Common.{T}
 use Rattle.std.specs.FinMap.Entries.{is_sorted}

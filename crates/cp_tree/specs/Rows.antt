@@ -12,30 +12,30 @@ use Rattle.cp_model.specs.declared.row.Content.{Content}
 use Rattle.cp_tree.specs.declared.reach.Reach.{Reach}
 
 -- an entry of a tree as a row
-abbrev pub row_of : Path × Content → Row
-row_of e = record { path = e.0; content = e.1 }
+abbrev pub entry_row : Path × Content → Row
+entry_row e = record { path = e.0; content = e.1 }
 
 -- the rows as entries
 abbrev pub entries_in : List Row → List (Path × Content)
 entries_in rows = map (λ r. (r.path, r.content)) rows
 
 -- a root alone, as entries
-abbrev pub alone : Content → List (Path × Content)
-alone c = ([], c) ∷ []
+abbrev pub root_entries : Content → List (Path × Content)
+root_entries c = ([], c) ∷ []
 
 -- the tree of a root alone
 abbrev pub single : Content → Tree
-single c = keyed.from_entries (alone c)
+single c = keyed.from_entries (root_entries c)
 
 -- the label of a path that has one
-abbrev pub one_label : Path → Option Label
-one_label [] = None
-one_label (a ∷ []) = Some a
-one_label (a ∷ b ∷ p) = None
+abbrev pub only_label : Path → Option Label
+only_label [] = None
+only_label (a ∷ []) = Some a
+only_label (a ∷ b ∷ p) = None
 
 -- the labels below a place, in order
 unfoldable pub labels_at : Tree → Path → List Label
-labels_at t p = filter_map (λ e. one_label e.0) (below p t)
+labels_at t p = filter_map (λ e. only_label e.0) (below p t)
 
 -- ---- reach
 
@@ -61,5 +61,5 @@ abbrev pub reach_at : Tree → Path → Reach
 reach_at t p = reach_of (below p t)
 
 -- the tree of these rows
-abbrev pub made : List Row → Tree
-made rows = keyed.from_entries (entries_in rows)
+abbrev pub tree_of_rows : List Row → Tree
+tree_of_rows rows = keyed.from_entries (entries_in rows)

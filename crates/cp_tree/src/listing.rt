@@ -6,7 +6,7 @@ ghost use Rattle.cp_model.specs.declared.row.Content.TheVariants.{Leaf};
 ghost use Rattle.cp_tree.specs.Rows.{entries_in, deepest};
 
 use cp_model::{Content, LitList, Literal, Row};
-use cp_path::{Path, Value, LABELS_MAX};
+use cp_path::{LABELS_MAX, Path, Value};
 use std::alloc::{AllocError, Global};
 
 /// A leaf with this value. Costs its bytes.

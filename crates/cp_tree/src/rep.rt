@@ -7,7 +7,7 @@ ghost use Rattle.cp_model.specs.Subtrees.{below, without, replaced, is_there};
 ghost use Rattle.cp_model.specs.Tree.{Tree, IsTree, is_node, weight, text_bytes};
 ghost use Rattle.cp_model.specs.History.{IsLiteral};
 ghost use Rattle.cp_model.specs.declared.row.Content.TheVariants.{Node};
-ghost use Rattle.cp_tree.specs.Rows.{row_of, entries_in, alone, single, labels_at, reach_at};
+ghost use Rattle.cp_tree.specs.Rows.{entry_row, entries_in, root_entries, single, labels_at, reach_at};
 
 use crate::reach::Reach;
 use cp_model::{Content, Row, RowList};
@@ -26,85 +26,85 @@ pub trait TreeRep: Drop {
         requires text { text_bytes content.now ≤ TEXT_MAX }
         ensures { IfOk result (λ t. contents t ≡ single content.now) };
 
-    fn is_there(&self, p: &Path) -> bool
-        ensures { result ≡ is_there (contents self.now) p.now };
+    fn is_there(&self, place: &Path) -> bool
+        ensures { result ≡ is_there (contents self.now) place.now };
 
-    fn is_node(&self, p: &Path) -> bool
-        ensures { result ≡ is_node (get (contents self.now) p.now) };
+    fn is_node(&self, place: &Path) -> bool
+        ensures { result ≡ is_node (get (contents self.now) place.now) };
 
     /// Whether the place has something at the label below it.
-    fn has_child(&self, p: &Path, a: &Label) -> bool
-        ensures { result ≡ is_there (contents self.now) (child p.now a.now) };
+    fn has_child(&self, place: &Path, label: &Label) -> bool
+        ensures { result ≡ is_there (contents self.now) (child place.now label.now) };
 
     /// What stands at the place, `None` where it isn't there.
-    fn content_at(&self, alloc: Global, p: &Path) -> Result<Option<Content>, AllocError>
-        ensures { IfOk result (λ c. c ≡ get (contents self.now) p.now) };
+    fn content_at(&self, alloc: Global, place: &Path) -> Result<Option<Content>, AllocError>
+        ensures { IfOk result (λ c. c ≡ get (contents self.now) place.now) };
 
     /// The labels below a node, in order.
-    fn labels_of(&self, alloc: Global, p: &Path) -> Result<Vec<Label>, AllocError>
-        requires node { get (contents self.now) p.now ≡ Some Node }
-        ensures { IfOk result (λ v. v.items ≡ labels_at (contents self.now) p.now) };
+    fn labels_of(&self, alloc: Global, place: &Path) -> Result<Vec<Label>, AllocError>
+        requires node { get (contents self.now) place.now ≡ Some Node }
+        ensures { IfOk result (λ v. v.items ≡ labels_at (contents self.now) place.now) };
 
     /// How far the subtree at the place reaches.
-    fn reach(&self, p: &Path) -> Reach
-        requires there { is_there (contents self.now) p.now ≡ true }
-        ensures { result ≡ reach_at (contents self.now) p.now };
+    fn reach(&self, place: &Path) -> Reach
+        requires there { is_there (contents self.now) place.now ≡ true }
+        ensures { result ≡ reach_at (contents self.now) place.now };
 
     /// Adds a place without children below a node.
     fn insert_leaf(
         &mut self,
         alloc: Global,
-        p: &Path,
-        a: &Label,
+        place: &Path,
+        label: &Label,
         content: &Content,
     ) -> Result<(), AllocError>
-        requires node { get (contents self.old) p.now ≡ Some Node }
-        requires free { is_there (contents self.old) (child p.now a.now) ≡ false }
-        requires fits { IsTree (replaced (child p.now a.now) (alone content.now) (contents self.old)) }
-        ensures ok { OnOk result (contents self.new ≡ replaced (child p.now a.now) (alone content.now) (contents self.old)) }
+        requires node { get (contents self.old) place.now ≡ Some Node }
+        requires free { is_there (contents self.old) (child place.now label.now) ≡ false }
+        requires fits { IsTree (replaced (child place.now label.now) (root_entries content.now) (contents self.old)) }
+        ensures ok { OnOk result (contents self.new ≡ replaced (child place.now label.now) (root_entries content.now) (contents self.old)) }
         ensures err { OnErr result (contents self.new ≡ contents self.old) };
 
     /// Adds a whole tree below a node, given as its rows in order of places, from its root.
     fn insert_rows(
         &mut self,
         alloc: Global,
-        p: &Path,
-        a: &Label,
+        place: &Path,
+        label: &Label,
         rows: &[Row],
     ) -> Result<(), AllocError>
-        requires node { get (contents self.old) p.now ≡ Some Node }
-        requires free { is_there (contents self.old) (child p.now a.now) ≡ false }
+        requires node { get (contents self.old) place.now ≡ Some Node }
+        requires free { is_there (contents self.old) (child place.now label.now) ≡ false }
         requires rows { IsLiteral (entries_in rows.now) }
-        requires fits { IsTree (replaced (child p.now a.now) (entries_in rows.now) (contents self.old)) }
-        ensures ok { OnOk result (contents self.new ≡ replaced (child p.now a.now) (entries_in rows.now) (contents self.old)) }
+        requires fits { IsTree (replaced (child place.now label.now) (entries_in rows.now) (contents self.old)) }
+        ensures ok { OnOk result (contents self.new ≡ replaced (child place.now label.now) (entries_in rows.now) (contents self.old)) }
         ensures err { OnErr result (contents self.new ≡ contents self.old) };
 
     /// Takes out what stands at the label below the place, and all below it.
-    fn remove(&mut self, alloc: Global, p: &Path, a: &Label) -> Result<(), AllocError>
-        requires there { is_there (contents self.old) (child p.now a.now) ≡ true }
-        ensures ok { OnOk result (contents self.new ≡ without (child p.now a.now) (contents self.old)) }
+    fn remove(&mut self, alloc: Global, place: &Path, label: &Label) -> Result<(), AllocError>
+        requires there { is_there (contents self.old) (child place.now label.now) ≡ true }
+        ensures ok { OnOk result (contents self.new ≡ without (child place.now label.now) (contents self.old)) }
         ensures err { OnErr result (contents self.new ≡ contents self.old) };
 
     /// The subtree at the place becomes the tree of these rows, which come in order of places, from their root.
-    fn put_rows(&mut self, alloc: Global, p: &Path, rows: &[Row]) -> Result<(), AllocError>
-        requires there { is_there (contents self.old) p.now ≡ true }
+    fn put_rows(&mut self, alloc: Global, place: &Path, rows: &[Row]) -> Result<(), AllocError>
+        requires there { is_there (contents self.old) place.now ≡ true }
         requires rows { IsLiteral (entries_in rows.now) }
-        requires fits { IsTree (replaced p.now (entries_in rows.now) (contents self.old)) }
-        ensures ok { OnOk result (contents self.new ≡ replaced p.now (entries_in rows.now) (contents self.old)) }
+        requires fits { IsTree (replaced place.now (entries_in rows.now) (contents self.old)) }
+        ensures ok { OnOk result (contents self.new ≡ replaced place.now (entries_in rows.now) (contents self.old)) }
         ensures err { OnErr result (contents self.new ≡ contents self.old) };
 
-    /// The subtree at `p` becomes a copy of the one at `q` as it was before. One may lie inside the other.
-    fn copy_inside(&mut self, alloc: Global, q: &Path, p: &Path) -> Result<(), AllocError>
-        requires from { is_there (contents self.old) q.now ≡ true }
-        requires there { is_there (contents self.old) p.now ≡ true }
-        requires fits { IsTree (replaced p.now (below q.now (contents self.old)) (contents self.old)) }
-        ensures ok { OnOk result (contents self.new ≡ replaced p.now (below q.now (contents self.old)) (contents self.old)) }
+    /// The subtree at `place` becomes a copy of the one at `from` as it was before. One may lie inside the other.
+    fn copy_inside(&mut self, alloc: Global, from: &Path, place: &Path) -> Result<(), AllocError>
+        requires from { is_there (contents self.old) from.now ≡ true }
+        requires there { is_there (contents self.old) place.now ≡ true }
+        requires fits { IsTree (replaced place.now (below from.now (contents self.old)) (contents self.old)) }
+        ensures ok { OnOk result (contents self.new ≡ replaced place.now (below from.now (contents self.old)) (contents self.old)) }
         ensures err { OnErr result (contents self.new ≡ contents self.old) };
 
     /// The rows of the subtree at the place, in order, with their paths taken from the place on.
-    fn rows(&self, alloc: Global, p: &Path) -> Result<RowList, AllocError>
-        requires there { is_there (contents self.now) p.now ≡ true }
-        ensures { IfOk result (λ v. v ≡ map row_of (below p.now (contents self.now))) };
+    fn rows(&self, alloc: Global, place: &Path) -> Result<RowList, AllocError>
+        requires there { is_there (contents self.now) place.now ≡ true }
+        ensures { IfOk result (λ v. v ≡ map entry_row (below place.now (contents self.now))) };
 
     /// The number of places, the root counted.
     fn count(&self) -> u32

@@ -11,15 +11,15 @@ use Rattle.cp_model.specs.Subtrees.{replaced}
 use Rattle.cp_model.specs.Tree.{Tree}
 use Rattle.cp_model.specs.History.{IsLiteral}
 use Rattle.cp_model.proofs.Lookups.{find-from_entries}
-use Rattle.cp_tree.specs.Rows.{entries_in, alone, single, made}
-use Rattle.cp_tree.proofs.Built.{made-first, row_below, made-parent, made-more, made-all, entries-single}
+use Rattle.cp_tree.specs.Rows.{entries_in, root_entries, single, tree_of_rows}
+use Rattle.cp_tree.proofs.Built.{tree_of_rows-first, row_below, tree_of_rows-parent, tree_of_rows-more, tree_of_rows-all, entries-single}
 
 -- a leaf put at a row's place
 pub put_row : {E : Type 0} (r : Result (Unit {0}) E) (new root leaf : Tree) (path parent : Path) (a b : Label) (c d : Content) → path ≡ parent ++ a ∷ [] → b ≡ a → leaf ≡ single d → d ≡ c →
-    OnOk r (new ≡ replaced (child parent b) (keyed.entries leaf) root) → OnOk r (new ≡ replaced path (alone c) root)
+    OnOk r (new ≡ replaced (child parent b) (keyed.entries leaf) root) → OnOk r (new ≡ replaced path (root_entries c) root)
 put_row (Err y) new root leaf path parent a b c d p l s e h = tt
 put_row (Ok u) new root leaf path parent a b c d p l s e h =
-    let rows : keyed.entries leaf ≡ alone c = ap keyed.entries s ∙ entries-single d ∙ ap alone e in
+    let rows : keyed.entries leaf ≡ root_entries c = ap keyed.entries s ∙ entries-single d ∙ ap root_entries e in
     h ∙ ap (λ z. replaced (child parent z) (keyed.entries leaf) root) l ∙ ap (λ z. replaced z (keyed.entries leaf) root) (sym p) ∙ ap (λ z. replaced path z root) rows
 
 -- no rows are no tree
@@ -34,8 +34,8 @@ module _ (rows rest : List Row) (first : Row) (e : rows ≡ first ∷ rest) (l :
   literal = subst (λ z. IsLiteral (entries_in z)) e l
 
   -- the first row
-  pub begun_build : (root : Tree) (d : Content) → root ≡ single d → d ≡ first.content → root ≡ made (take (0 + 1) rows)
-  begun_build root d s c = s ∙ ap single c ∙ sym (made-first first rest literal) ∙ ap made (sym (take_first rows rest first 0 e))
+  pub begun_build : (root : Tree) (d : Content) → root ≡ single d → d ≡ first.content → root ≡ tree_of_rows (take (0 + 1) rows)
+  begun_build root d s c = s ∙ ap single c ∙ sym (tree_of_rows-first first rest literal) ∙ ap tree_of_rows (sym (take_first rows rest first 0 e))
 
   module _ (i : ℕ) (row : Row) (lt : i < length rest) (at : row ≡ get_or rest i row) where
     -- a further row is no root
@@ -46,18 +46,18 @@ module _ (rows rest : List Row) (first : Row) (e : rows ≡ first ∷ rest) (l :
         by [] k = absurd (let ne = row_below first rest literal i row lt at k in cc)
         by (a ∷ p) k = omega arith
 
-    module _ (root : Tree) (so_far : root ≡ made (take (i + 1) rows)) where
+    module _ (root : Tree) (so_far : root ≡ tree_of_rows (take (i + 1) rows)) where
       -- its parent is there
       pub row_parent : (p : Path) (a : Label) → row.path ≡ child p a → keyed.get root p ≡ Some Node
-      row_parent p a k = ap (λ z. keyed.get z p) (so_far ∙ ap made (take_first rows rest first i e)) ∙ made-parent first rest literal i row lt at p a k
+      row_parent p a k = ap (λ z. keyed.get z p) (so_far ∙ ap tree_of_rows (take_first rows rest first i e)) ∙ tree_of_rows-parent first rest literal i row lt at p a k
 
       -- with it the tree is that of one row more
-      pub row_built : (new : Tree) → new ≡ replaced row.path (alone row.content) root → new ≡ made (take ((i + 1) + 1) rows)
+      pub row_built : (new : Tree) → new ≡ replaced row.path (root_entries row.content) root → new ≡ tree_of_rows (take ((i + 1) + 1) rows)
       row_built new n =
-          n ∙ ap (replaced row.path (alone row.content)) (so_far ∙ ap made (take_first rows rest first i e))
-          ∙ by row.path refl ∙ ap made (sym (take_first rows rest first (i + 1) e))
+          n ∙ ap (replaced row.path (root_entries row.content)) (so_far ∙ ap tree_of_rows (take_first rows rest first i e))
+          ∙ by row.path refl ∙ ap tree_of_rows (sym (take_first rows rest first (i + 1) e))
         where
-          by : (p : Path) → row.path ≡ p → replaced row.path (alone row.content) (made (first ∷ take i rest)) ≡ made (first ∷ take (i + 1) rest)
+          by : (p : Path) → row.path ≡ p → replaced row.path (root_entries row.content) (tree_of_rows (first ∷ take i rest)) ≡ tree_of_rows (first ∷ take (i + 1) rest)
           by p k = last p k (ends p (λ z. row_below first rest literal i row lt at (k ∙ z)))
             where
               ends : (q : Path) → (q ≡ [] → true ≡ false) → (r : Path) × (a : Label) × (q ≡ child r a)
@@ -65,9 +65,9 @@ module _ (rows rest : List Row) (first : Row) (e : rows ≡ first ∷ rest) (l :
               ends (b ∷ []) f = ([], b, refl)
               ends (b ∷ c ∷ q) f = (let more = ends (c ∷ q) (λ z. absurd (cc)) in (b ∷ more.0, more.1, ap (λ z. b ∷ z) more.2))
 
-              last : (q : Path) → row.path ≡ q → (r : Path) × (a : Label) × (q ≡ child r a) → replaced row.path (alone row.content) (made (first ∷ take i rest)) ≡ made (first ∷ take (i + 1) rest)
-              last q k x = ap (λ z. replaced z (alone row.content) (made (first ∷ take i rest))) (k ∙ x.2) ∙ sym (made-more first rest literal i row lt at x.0 x.1 (k ∙ x.2))
+              last : (q : Path) → row.path ≡ q → (r : Path) × (a : Label) × (q ≡ child r a) → replaced row.path (root_entries row.content) (tree_of_rows (first ∷ take i rest)) ≡ tree_of_rows (first ∷ take (i + 1) rest)
+              last q k x = ap (λ z. replaced z (root_entries row.content) (tree_of_rows (first ∷ take i rest))) (k ∙ x.2) ∙ sym (tree_of_rows-more first rest literal i row lt at x.0 x.1 (k ∙ x.2))
 
   -- all rows
-  pub built_all : (i : ℕ) (root : Tree) → length rest ≤ i → root ≡ made (take (i + 1) rows) → root ≡ made rows
-  built_all i root h s = s ∙ ap made (take_first rows rest first i e) ∙ made-all first rest literal i h ∙ ap made (sym e)
+  pub built_all : (i : ℕ) (root : Tree) → length rest ≤ i → root ≡ tree_of_rows (take (i + 1) rows) → root ≡ tree_of_rows rows
+  built_all i root h s = s ∙ ap tree_of_rows (take_first rows rest first i e) ∙ tree_of_rows-all first rest literal i h ∙ ap tree_of_rows (sym e)

@@ -22,7 +22,7 @@ use Rattle.cp_tree.specs.Rows.{greatest, path_size, reach_of}
 use Rattle.cp_tree.specs.declared.reach.Reach.{Reach}
 use Rattle.cp_tree_box.specs.declared.spot.Spot.{Spot}
 use Rattle.cp_tree_box.specs.declared.tally.Tally.{Tally}
-use Rattle.cp_tree_box.specs.Tallies.{root_spot, child_spot, spot_at, IsNear, AreNear, Gauge, places, weighs, deep, large, one, row_counts, tree_counts, kept, row_depth, row_size, IsStretched}
+use Rattle.cp_tree_box.specs.Tallies.{root_spot, child_spot, spot_at, IsNear, AreNear, Gauge, places, weighs, deep, large, place_counts, row_counts, tree_counts, tally_counts, row_depth, row_size, IsReachWith}
 
 -- ---- places
 
@@ -85,7 +85,7 @@ same_greatest f g [] h = refl
 same_greatest f g (x ∷ xs) h = λ i. max (h x i) (same_greatest f g xs h i)
 
 counts_at : (j : Gauge) (p : Path) (es : List (Path × Content)) → sum_by (λ e. row_counts j root_spot (p ++ e.0, e.1)) es ≡ sum_by (row_counts j (spot_at root_spot p)) es
-counts_at j p es = same_sum (λ e. row_counts j root_spot (p ++ e.0, e.1)) (row_counts j (spot_at root_spot p)) es (λ e. ap (λ s. one j s e.1) (spot_append root_spot p e.0))
+counts_at j p es = same_sum (λ e. row_counts j root_spot (p ++ e.0, e.1)) (row_counts j (spot_at root_spot p)) es (λ e. ap (λ s. place_counts j s e.1) (spot_append root_spot p e.0))
 
 -- what stood at p counts no more, and what is put there does
 pub counts_replaced : (j : Gauge) (t n : Tree) (p : Path) → tree_counts j root_spot (replaced p (keyed.entries n) t) + tree_counts j (spot_at root_spot p) (sub t p) ≡ tree_counts j root_spot t + tree_counts j (spot_at root_spot p) n
@@ -119,10 +119,10 @@ unfolding weight
 counts_weight t = same_sum (row_counts weighs root_spot) weight_of (keyed.entries t) row_weight
 
 -- the reach from nothing on, with all of a tree
-pub stretched_all : (t : Tree) (r z : Reach) (s : Spot) → s ≡ root_spot → r ≡ record { nodes = 0; inner = 0; depth = 0; size = 0 } → IsStretched s t r z → z ≡ reach_of (keyed.entries t)
+pub reach_from_nothing : (t : Tree) (r z : Reach) (s : Spot) → s ≡ root_spot → r ≡ record { nodes = 0; inner = 0; depth = 0; size = 0 } → IsReachWith s t r z → z ≡ reach_of (keyed.entries t)
 unfolding reach_of
-stretched_all t r z s e f h =
-    let g : IsStretched root_spot t (record { nodes = 0; inner = 0; depth = 0; size = 0 }) z = subst (λ x. IsStretched x t (record { nodes = 0; inner = 0; depth = 0; size = 0 }) z) e (subst (λ x. IsStretched s t x z) f h) in
+reach_from_nothing t r z s e f h =
+    let g : IsReachWith root_spot t (record { nodes = 0; inner = 0; depth = 0; size = 0 }) z = subst (λ x. IsReachWith x t (record { nodes = 0; inner = 0; depth = 0; size = 0 }) z) e (subst (λ x. IsReachWith s t x z) f h) in
     let nodes : z.nodes ≡ length (keyed.entries t) = omega (arith, g.nodes, sum_by-one (keyed.entries t)) in
     let inner : z.inner ≡ sum_by weight_of (keyed.entries t) = omega (arith, g.inner, same_sum (row_counts weighs root_spot) weight_of (keyed.entries t) row_weight) in
     let depth : z.depth ≡ greatest (λ (x : Path × Content). length x.0) (keyed.entries t) = omega (arith, g.depth, same_greatest (row_depth root_spot) (λ (x : Path × Content). length x.0) (keyed.entries t) (λ x. spot_depth root_spot x.0 ∙ omega arith)) in
@@ -135,8 +135,8 @@ no_counts (suc n) zero = refl
 no_counts (suc n) (suc k) = no_counts n k
 
 -- a new tally
-pub none_kept : (t : Tally) (m n : ℕ) → t.places ≡ 0 → t.weight ≡ 0 → t.depths.items ≡ replicate m 0 → t.sizes.items ≡ replicate n 0 → (j : Gauge) → kept t j ≡ 0
-none_kept t m n p w d s places = p
-none_kept t m n p w d s weighs = w
-none_kept t m n p w d s (deep k) = ap (λ xs. slice_index xs k) d ∙ no_counts m k
-none_kept t m n p w d s (large k) = ap (λ xs. slice_index xs k) s ∙ no_counts n k
+pub none_counted : (t : Tally) (m n : ℕ) → t.places ≡ 0 → t.weight ≡ 0 → t.depths.items ≡ replicate m 0 → t.sizes.items ≡ replicate n 0 → (j : Gauge) → tally_counts t j ≡ 0
+none_counted t m n p w d s places = p
+none_counted t m n p w d s weighs = w
+none_counted t m n p w d s (deep k) = ap (λ xs. slice_index xs k) d ∙ no_counts m k
+none_counted t m n p w d s (large k) = ap (λ xs. slice_index xs k) s ∙ no_counts n k

@@ -18,13 +18,13 @@ use Rattle.cp_model.proofs.KeyedLemmas.{same_map}
 use Rattle.cp_model.specs.Keyed as keyed
 use Rattle.cp_model.specs.Subtrees.{moved}
 use Rattle.cp_model.specs.Tree.{Tree, IsRooted}
-use Rattle.cp_tree.specs.Branch.{branch, kid_rows, sub, under, kids_len}
+use Rattle.cp_tree.specs.Branch.{branch, child_rows, sub, below_label, children_len}
 use Rattle.cp_tree.proofs.BranchLemmas.{label_total, get-sub, sub-root}
 use Rattle.cp_tree.specs.Good.{IsGood}
 use Rattle.cp_tree.proofs.GoodLemmas.{rooted_found, sub_below, get_nothing}
-use Rattle.cp_tree.specs.Rows.{row_of}
+use Rattle.cp_tree.specs.Rows.{entry_row}
 use Rattle.cp_tree.proofs.Rising.{put_end}
-use Rattle.cp_tree.proofs.ListingLemmas.{moved-append, moved-under, moved-branch}
+use Rattle.cp_tree.proofs.ListingLemmas.{moved-append, moved-below_label, moved-branch}
 use Rattle.cp_tree.proofs.Totals.{len-branch}
 use Rattle.cp_tree_box.proofs.Maps.{looked, insert-put}
 
@@ -36,17 +36,17 @@ sub-child m n p a e = same_map (sub n (a ∷ [])) (sub m (child p a)) (λ q.
 
 -- the child of a node that was found at p in m
 module _ (m n : Tree) (x : Content) (es : List (Label × Tree)) (p : Path) (a : Label) (at : n ≡ sub m p) (view : branch x es ≡ n) (g : IsGood x es) where
-  pub kid_there : (o : Option (Bor Tree)) → option_copied o ≡ lookup (is_at (text_cmp a)) es → IfSome o (λ k. k.now ≡ sub m (child p a))
-  kid_there None e = tt
-  kid_there (Some k) e = sym (sub_below n x es es a view g [] k.now (looked a es (Some k.now) e) ∙ sub-root k.now) ∙ sub-child m n p a at
+  pub child_there : (o : Option (Bor Tree)) → option_copied o ≡ lookup (is_at (text_cmp a)) es → IfSome o (λ k. k.now ≡ sub m (child p a))
+  child_there None e = tt
+  child_there (Some k) e = sym (sub_below n x es es a view g [] k.now (looked a es (Some k.now) e) ∙ sub-root k.now) ∙ sub-child m n p a at
 
-  pub kid_rooted : (o : Option (Bor Tree)) → option_copied o ≡ lookup (is_at (text_cmp a)) es → IfSome o (λ k. IsRooted k.now)
-  kid_rooted None e = tt
-  kid_rooted (Some k) e = rooted_found a es k.now g.trees (looked a es (Some k.now) e)
+  pub child_rooted : (o : Option (Bor Tree)) → option_copied o ≡ lookup (is_at (text_cmp a)) es → IfSome o (λ k. IsRooted k.now)
+  child_rooted None e = tt
+  child_rooted (Some k) e = rooted_found a es k.now g.trees (looked a es (Some k.now) e)
 
-  pub kid_gone : (o : Option (Bor Tree)) → option_copied o ≡ lookup (is_at (text_cmp a)) es → IfNone o (keyed.get m (child p a) ≡ None)
-  kid_gone (Some k) e = tt
-  kid_gone None e =
+  pub child_gone : (o : Option (Bor Tree)) → option_copied o ≡ lookup (is_at (text_cmp a)) es → IfNone o (keyed.get m (child p a) ≡ None)
+  child_gone (Some k) e = tt
+  child_gone None e =
       sym (get-sub m p (a ∷ [])) ∙ ap (λ z. keyed.get z (a ∷ [])) (sym at) ∙ get_nothing n x es es a view g [] (looked a es None e)
 
 -- one edge more is copied
@@ -59,12 +59,12 @@ copied done new it rest all a b k l s d i ea ek n =
     ap (λ z. z ++ rest) (n ∙ put_is) ∙ append_assoc done ((a, k) ∷ []) rest ∙ whole
 
 -- the places below some edges are fewer than those of the tree
-pub kids_fewer : (m : Tree) (x : Content) (es its : List (Label × Tree)) → branch x es ≡ m → IsGood x es → its ≡ es → kids_len its + 1 ≤ keyed.len m
-kids_fewer m x es its view g e = omega (arith, ap kids_len e, ap keyed.len view, len-branch x es g.sorted)
+pub children_fewer : (m : Tree) (x : Content) (es its : List (Label × Tree)) → branch x es ≡ m → IsGood x es → its ≡ es → children_len its + 1 ≤ keyed.len m
+children_fewer m x es its view g e = omega (arith, ap children_len e, ap keyed.len view, len-branch x es g.sorted)
 
 -- and so are those below the others
-pub still_fewer : (n : ℕ) (it rest : List (Label × Tree)) (a : Label) (k : Tree) → kids_len it + 1 ≤ n → it ≡ (a, k) ∷ rest → kids_len rest + 1 ≤ n
-still_fewer n it rest a k h e = omega (arith, h, ap kids_len e)
+pub still_fewer : (n : ℕ) (it rest : List (Label × Tree)) (a : Label) (k : Tree) → children_len it + 1 ≤ n → it ≡ (a, k) ∷ rest → children_len rest + 1 ≤ n
+still_fewer n it rest a k h e = omega (arith, h, ap children_len e)
 
 -- what is pushed and taken off again leaves a list
 pub pop_push : {X : Type 0} (xs ys : List X) (x : X) (n : ℕ) → ys ≡ xs ++ x ∷ [] → n ≡ length ys → take (n - 1) ys ≡ xs
@@ -72,12 +72,12 @@ pop_push xs ys x n is len = (let e : n - 1 ≡ length xs = omega (arith, ap leng
 
 -- the rows of one edge more are written
 pub rows_more : (out new total : List Row) (p : Path) (it rest : List (Label × Tree)) (a : Label) (k : Tree) → it ≡ (a, k) ∷ rest →
-    new ≡ out ++ map row_of (moved (child p a) (keyed.entries k)) → out ++ map row_of (moved p (kid_rows it)) ≡ total → new ++ map row_of (moved p (kid_rows rest)) ≡ total
+    new ≡ out ++ map entry_row (moved (child p a) (keyed.entries k)) → out ++ map entry_row (moved p (child_rows it)) ≡ total → new ++ map entry_row (moved p (child_rows rest)) ≡ total
 rows_more out new total p it rest a k i n h =
-    ap (λ z. z ++ map row_of (moved p (kid_rows rest))) n
-    ∙ append_assoc out (map row_of (moved (child p a) (keyed.entries k))) (map row_of (moved p (kid_rows rest)))
-    ∙ ap (λ z. out ++ z) (sym (map-append row_of (moved (child p a) (keyed.entries k)) (moved p (kid_rows rest)))
-    ∙ ap (map row_of) (ap (λ z. z ++ moved p (kid_rows rest)) (sym (moved-under p a (keyed.entries k))) ∙ sym (moved-append p (under a (keyed.entries k)) (kid_rows rest)) ∙ ap (λ z. moved p (kid_rows z)) (sym i)))
+    ap (λ z. z ++ map entry_row (moved p (child_rows rest))) n
+    ∙ append_assoc out (map entry_row (moved (child p a) (keyed.entries k))) (map entry_row (moved p (child_rows rest)))
+    ∙ ap (λ z. out ++ z) (sym (map-append entry_row (moved (child p a) (keyed.entries k)) (moved p (child_rows rest)))
+    ∙ ap (map entry_row) (ap (λ z. z ++ moved p (child_rows rest)) (sym (moved-below_label p a (keyed.entries k))) ∙ sym (moved-append p (below_label a (keyed.entries k)) (child_rows rest)) ∙ ap (λ z. moved p (child_rows z)) (sym i)))
     ∙ h
 
 moved-none : (p : Path) → moved {X = Content} p [] ≡ []
@@ -87,14 +87,14 @@ moved-none p = refl
 -- the rows of a root and all its edges are written
 pub rows_all : (m : Tree) (x : Content) (es it all : List (Label × Tree)) (before first out : List Row) (p : Path) (row : Row) → branch x es ≡ m → IsGood x es → all ≡ es → it ≡ [] →
     first ≡ before ++ row ∷ [] → row.path ≡ p → row.content ≡ x →
-    out ++ map row_of (moved p (kid_rows it)) ≡ first ++ map row_of (moved p (kid_rows all)) → out ≡ before ++ map row_of (moved p (keyed.entries m))
+    out ++ map entry_row (moved p (child_rows it)) ≡ first ++ map entry_row (moved p (child_rows all)) → out ≡ before ++ map entry_row (moved p (keyed.entries m))
 rows_all m x es it all before first out p row view g a i f rp rx h =
-    let ends : out ≡ first ++ map row_of (moved p (kid_rows all)) = sym (append-nil out) ∙ ap (λ z. out ++ map row_of z) (sym (moved-none p)) ∙ ap (λ z. out ++ map row_of (moved p (kid_rows z))) (sym i) ∙ h in
-    let is_row : row ≡ row_of (p, x) = λ j. record { path = rp j; content = rx j } in
-    let rows : map row_of (moved p (keyed.entries m)) ≡ row_of (p, x) ∷ map row_of (moved p (kid_rows all)) =
-    ap (λ z. map row_of (moved p (keyed.entries z))) (sym view) ∙ ap (map row_of) (moved-branch p x es g.sorted) ∙ ap (λ z. row_of (p, x) ∷ map row_of (moved p (kid_rows z))) (sym a) in
-    ends ∙ ap (λ z. z ++ map row_of (moved p (kid_rows all))) f ∙ append_assoc before (row ∷ []) (map row_of (moved p (kid_rows all)))
-    ∙ ap (λ z. before ++ z ∷ map row_of (moved p (kid_rows all))) is_row ∙ ap (λ z. before ++ z) (sym rows)
+    let ends : out ≡ first ++ map entry_row (moved p (child_rows all)) = sym (append-nil out) ∙ ap (λ z. out ++ map entry_row z) (sym (moved-none p)) ∙ ap (λ z. out ++ map entry_row (moved p (child_rows z))) (sym i) ∙ h in
+    let is_row : row ≡ entry_row (p, x) = λ j. record { path = rp j; content = rx j } in
+    let rows : map entry_row (moved p (keyed.entries m)) ≡ entry_row (p, x) ∷ map entry_row (moved p (child_rows all)) =
+    ap (λ z. map entry_row (moved p (keyed.entries z))) (sym view) ∙ ap (map entry_row) (moved-branch p x es g.sorted) ∙ ap (λ z. entry_row (p, x) ∷ map entry_row (moved p (child_rows z))) (sym a) in
+    ends ∙ ap (λ z. z ++ map entry_row (moved p (child_rows all))) f ∙ append_assoc before (row ∷ []) (map entry_row (moved p (child_rows all)))
+    ∙ ap (λ z. before ++ z ∷ map entry_row (moved p (child_rows all))) is_row ∙ ap (λ z. before ++ z) (sym rows)
 
 -- edges that are those of a good root rise
 pub sorted_as : {all es : List (Label × Tree)} → all ≡ es → T (is_sorted text_cmp es) → T (is_sorted text_cmp all)
@@ -120,6 +120,6 @@ gone_below m p a r e = by (keyed.get m (child p a)) refl
     by (Some c) k = (let up = r.parents p a (ap is_some k) in absurd (cc))
 
 -- the rows of an edge's tree, written at the label's place
-pub listed_kid : (out new : List Row) (p at deeper : Path) (a b : Label) (k : Tree) → new ≡ out ++ map row_of (moved deeper (keyed.entries k)) → deeper ≡ at ++ b ∷ [] → at ≡ p → b ≡ a →
-    new ≡ out ++ map row_of (moved (child p a) (keyed.entries k))
-listed_kid out new p at deeper a b k n d e l = n ∙ ap (λ q. out ++ map row_of (moved q (keyed.entries k))) (d ∙ ap (λ q. q ++ b ∷ []) e ∙ ap (λ z. p ++ z ∷ []) l)
+pub listed_child : (out new : List Row) (p at deeper : Path) (a b : Label) (k : Tree) → new ≡ out ++ map entry_row (moved deeper (keyed.entries k)) → deeper ≡ at ++ b ∷ [] → at ≡ p → b ≡ a →
+    new ≡ out ++ map entry_row (moved (child p a) (keyed.entries k))
+listed_child out new p at deeper a b k n d e l = n ∙ ap (λ q. out ++ map entry_row (moved q (keyed.entries k))) (d ∙ ap (λ q. q ++ b ∷ []) e ∙ ap (λ z. p ++ z ∷ []) l)

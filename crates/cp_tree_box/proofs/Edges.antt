@@ -46,8 +46,8 @@ module _ (m : Tree) (x : Content) (es : List (Label × Tree)) (view : branch x e
   cut_here fs p a e is = subst (λ q. IsNow x fs (without (child q a) m)) (sym e) (dropped_here m x es fs a view g (sym (remove-without a es g.sorted) ∙ sym is))
 
   -- the subtree at a label
-  pub kid_here : (p : Path) (a : Label) (k : Tree) → p ≡ [] → Some k ≡ lookup (is_at (text_cmp a)) es → k ≡ sub m (child p a)
-  kid_here p a k e f = subst (λ q. k ≡ sub m (child q a)) (sym e) (sym (sub_below m x es es a view g [] k (looked a es (Some k) f) ∙ sub-root k))
+  pub child_here : (p : Path) (a : Label) (k : Tree) → p ≡ [] → Some k ≡ lookup (is_at (text_cmp a)) es → k ≡ sub m (child p a)
+  child_here p a k e f = subst (λ q. k ≡ sub m (child q a)) (sym e) (sym (sub_below m x es es a view g [] k (looked a es (Some k) f) ∙ sub-root k))
 
   -- where no edge is found nothing is there
   pub nothing : (p : Path) (b : Label) (q : Path) → p ≡ b ∷ q → None ≡ lookup (is_at (text_cmp b)) es → keyed.get m p ≡ None

@@ -5,4 +5,3 @@ mod Tallying
 mod Changes
 mod Building
 mod Wrapping
-mod Testing

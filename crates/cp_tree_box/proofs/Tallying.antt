@@ -13,15 +13,15 @@ use Rattle.cp_model.specs.Place.{Label, Path}
 use Rattle.cp_model.specs.Keyed as keyed
 use Rattle.cp_model.specs.Subtrees.{is_there}
 use Rattle.cp_model.specs.Tree.{Tree}
-use Rattle.cp_tree.specs.Branch.{branch, under, kid_rows}
+use Rattle.cp_tree.specs.Branch.{branch, below_label, child_rows}
 use Rattle.cp_tree.proofs.BranchLemmas.{get-branch_root, entries-branch}
 use Rattle.cp_tree.specs.Good.{IsGood}
 use Rattle.cp_tree.proofs.GoodLemmas.{rooted_found, get_below}
 use Rattle.cp_tree.specs.Rows.{greatest}
 use Rattle.cp_tree.proofs.Counted.{greatest-append}
-use Rattle.cp_tree.proofs.Totals.{kids_total, total-branch, len-branch, len-find}
+use Rattle.cp_tree.proofs.Totals.{children_total, total-branch, len-branch, len-find}
 use Rattle.cp_tree_box.specs.declared.spot.Spot.{Spot}
-use Rattle.cp_tree_box.specs.Tallies.{child_spot, IsNear, AreNear, Gauge, one, row_counts, tree_counts}
+use Rattle.cp_tree_box.specs.Tallies.{child_spot, IsNear, AreNear, Gauge, place_counts, row_counts, tree_counts}
 use Rattle.cp_tree_box.proofs.Maps.{looked}
 
 -- a number is itself
@@ -51,11 +51,11 @@ module _ (m : Tree) (x : Content) (es : List (Label × Tree)) (view : branch x e
   near_root near = near [] (ap (λ z. is_there z []) (sym view) ∙ ap is_some (get-branch_root x es))
 
   -- what the tree counts for is what its root and the trees at its edges do
-  pub counts_root : (j : Gauge) → tree_counts j s m ≡ one j s x + kids_total (row_counts j s) es
+  pub counts_root : (j : Gauge) → tree_counts j s m ≡ place_counts j s x + children_total (row_counts j s) es
   counts_root j = ap (tree_counts j s) (sym view) ∙ total-branch (row_counts j s) x es g.sorted
 
   -- so the root counts for no more
-  pub root_counts : (j : Gauge) → one j s x ≤ tree_counts j s m
+  pub root_counts : (j : Gauge) → place_counts j s x ≤ tree_counts j s m
   root_counts j = omega (arith, counts_root j)
 
   module _ (a : Label) (k : Tree) (f : lookup (is_at (text_cmp a)) es ≡ Some k) where
@@ -63,29 +63,29 @@ module _ (m : Tree) (x : Content) (es : List (Label × Tree)) (view : branch x e
     found = looked a es (Some k) (sym f)
 
     -- the places of an edge's tree are within the limits
-    pub near_kid : AreNear s m → AreNear (child_spot s a) k
-    near_kid near q t = near (a ∷ q) (ap is_some (get_below m x es es a view g q k found) ∙ t)
+    pub near_child_tree : AreNear s m → AreNear (child_spot s a) k
+    near_child_tree near q t = near (a ∷ q) (ap is_some (get_below m x es es a view g q k found) ∙ t)
 
     -- and so is its root
     pub near_edge : AreNear s m → IsNear (child_spot s a)
-    near_edge near = near_kid near [] (rooted_found a es k g.trees found).root
+    near_edge near = near_child_tree near [] (rooted_found a es k g.trees found).root
 
   -- the greatest of the tree
-  pub greatest_root : (f : Path × Content → ℕ) → greatest f (keyed.entries m) ≡ max (f ([], x)) (greatest f (kid_rows es))
+  pub greatest_root : (f : Path × Content → ℕ) → greatest f (keyed.entries m) ≡ max (f ([], x)) (greatest f (child_rows es))
   greatest_root f = ap (λ z. greatest f (keyed.entries z)) (sym view) ∙ ap (greatest f) (entries-branch x es g.sorted)
 
-greatest_under : (f : Path × Content → ℕ) (a : Label) (rs : List (Path × Content)) → greatest f (under a rs) ≡ greatest (λ r. f (a ∷ r.0, r.1)) rs
+greatest_under : (f : Path × Content → ℕ) (a : Label) (rs : List (Path × Content)) → greatest f (below_label a rs) ≡ greatest (λ r. f (a ∷ r.0, r.1)) rs
 greatest_under f a [] = refl
 greatest_under f a (r ∷ rs) = ap (max (f (a ∷ r.0, r.1))) (greatest_under f a rs)
 
 -- the greatest below an edge and the others
-pub greatest_kid : (f : Path × Content → ℕ) (it rest : List (Label × Tree)) (a : Label) (k : Tree) → it ≡ (a, k) ∷ rest → greatest f (kid_rows it) ≡ max (greatest (λ r. f (a ∷ r.0, r.1)) (keyed.entries k)) (greatest f (kid_rows rest))
-greatest_kid f it rest a k i = ap (λ z. greatest f (kid_rows z)) i ∙ greatest-append f (under a (keyed.entries k)) (kid_rows rest) ∙ ap (λ n. max n (greatest f (kid_rows rest))) (greatest_under f a (keyed.entries k))
+pub greatest_child : (f : Path × Content → ℕ) (it rest : List (Label × Tree)) (a : Label) (k : Tree) → it ≡ (a, k) ∷ rest → greatest f (child_rows it) ≡ max (greatest (λ r. f (a ∷ r.0, r.1)) (keyed.entries k)) (greatest f (child_rows rest))
+greatest_child f it rest a k i = ap (λ z. greatest f (child_rows z)) i ∙ greatest-append f (below_label a (keyed.entries k)) (child_rows rest) ∙ ap (λ n. max n (greatest f (child_rows rest))) (greatest_under f a (keyed.entries k))
 
 -- what an edge and the others count for
-pub counts_kid : (j : Gauge) (s : Spot) (it rest : List (Label × Tree)) (a : Label) (k : Tree) → it ≡ (a, k) ∷ rest → kids_total (row_counts j s) it ≡ tree_counts j (child_spot s a) k + kids_total (row_counts j s) rest
-counts_kid j s it rest a k i = ap (kids_total (row_counts j s)) i
+pub counts_child : (j : Gauge) (s : Spot) (it rest : List (Label × Tree)) (a : Label) (k : Tree) → it ≡ (a, k) ∷ rest → children_total (row_counts j s) it ≡ tree_counts j (child_spot s a) k + children_total (row_counts j s) rest
+counts_child j s it rest a k i = ap (children_total (row_counts j s)) i
 
 -- a tree of an edge has fewer places
-pub fewer_kid : (m : Tree) (x : Content) (es : List (Label × Tree)) (view : branch x es ≡ m) (g : IsGood x es) (a : Label) (k : Tree) → lookup (is_at (text_cmp a)) es ≡ Some k → keyed.len k < keyed.len m
-fewer_kid m x es view g a k f = omega (arith, ap keyed.len view, len-branch x es g.sorted, len-find a k es (looked a es (Some k) (sym f)))
+pub fewer_child : (m : Tree) (x : Content) (es : List (Label × Tree)) (view : branch x es ≡ m) (g : IsGood x es) (a : Label) (k : Tree) → lookup (is_at (text_cmp a)) es ≡ Some k → keyed.len k < keyed.len m
+fewer_child m x es view g a k f = omega (arith, ap keyed.len view, len-branch x es g.sorted, len-find a k es (looked a es (Some k) (sym f)))

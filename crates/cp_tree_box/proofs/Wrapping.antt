@@ -24,15 +24,15 @@ use Rattle.cp_model.proofs.Kept.{closed-tree}
 use Rattle.cp_tree.specs.Branch.{sub}
 use Rattle.cp_tree.proofs.BranchLemmas.{get-sub, sub-root, entries-sub}
 use Rattle.cp_tree.proofs.Leaves.{single-tree}
-use Rattle.cp_tree.specs.Rows.{made, row_of, entries_in, alone, single, one_label, labels_at, path_size, greatest, reach_of}
-use Rattle.cp_tree.proofs.Built.{made-entries, entries-single}
+use Rattle.cp_tree.specs.Rows.{tree_of_rows, entry_row, entries_in, root_entries, single, only_label, labels_at, path_size, greatest, reach_of}
+use Rattle.cp_tree.proofs.Built.{entries-tree_of_rows, entries-single}
 use Rattle.cp_model.specs.History.{IsLiteral}
 use Rattle.cp_tree.proofs.Counted.{is_one, counted, greatest_is}
 use Rattle.cp_tree.proofs.ListingLemmas.{moved-root}
 use Rattle.cp_tree.specs.declared.reach.Reach.{Reach}
 use Rattle.cp_tree_box.specs.declared.spot.Spot.{Spot}
 use Rattle.cp_tree_box.specs.declared.tally.Tally.{Tally}
-use Rattle.cp_tree_box.specs.Tallies.{root_spot, child_spot, spot_at, IsNear, AreNear, Gauge, places, weighs, deep, large, row_counts, tree_counts, kept, IsTallyOf}
+use Rattle.cp_tree_box.specs.Tallies.{root_spot, child_spot, spot_at, IsNear, AreNear, Gauge, places, weighs, deep, large, row_counts, tree_counts, tally_counts, IsTallyOf}
 use Rattle.cp_tree_box.proofs.Changes.{spot_append, spot_depth, spot_size, spot_last, near_front, near_tree, near_put, same_sum, counts_replaced, counts_without, counts_places, counts_weight}
 
 -- ---- answers
@@ -53,13 +53,13 @@ below_is n m p q e k = ap keyed.entries e ∙ entries-sub m q ∙ ap (λ z. belo
 -- the labels below a place
 pub labels_sub : (n m : Tree) (p q : Path) → n ≡ sub m q → q ≡ p → labels_at n [] ≡ labels_at m p
 unfolding labels_at
-labels_sub n m p q e k = ap (filter_map (λ e. one_label e.0)) (sym (entries-sub n []) ∙ ap keyed.entries (sub-root n) ∙ below_is n m p q e k)
+labels_sub n m p q e k = ap (filter_map (λ e. only_label e.0)) (sym (entries-sub n []) ∙ ap keyed.entries (sub-root n) ∙ below_is n m p q e k)
 
 -- the rows that were listed
-pub rows_at : (out first : List Row) (at : Path) (n m : Tree) (p q : Path) → out ≡ first ++ map row_of (moved at (keyed.entries n)) → first ≡ [] → at ≡ [] → n ≡ sub m q → q ≡ p → out ≡ map row_of (below p m)
+pub rows_at : (out first : List Row) (at : Path) (n m : Tree) (p q : Path) → out ≡ first ++ map entry_row (moved at (keyed.entries n)) → first ≡ [] → at ≡ [] → n ≡ sub m q → q ≡ p → out ≡ map entry_row (below p m)
 rows_at out first at n m p q o f a e k =
-    o ∙ ap (λ z. z ++ map row_of (moved at (keyed.entries n))) f ∙ ap (λ z. map row_of (moved z (keyed.entries n))) a
-    ∙ ap (map row_of) (moved-root (keyed.entries n) ∙ below_is n m p q e k)
+    o ∙ ap (λ z. z ++ map entry_row (moved at (keyed.entries n))) f ∙ ap (λ z. map entry_row (moved z (keyed.entries n))) a
+    ∙ ap (map entry_row) (moved-root (keyed.entries n) ∙ below_is n m p q e k)
 
 -- ---- reach
 
@@ -158,36 +158,36 @@ none_of (Some c) e = absurd (cc)
 no_counts_below : (j : Gauge) (s : Spot) (m : Tree) (p : Path) → IsTree m → is_there m p ≡ false → tree_counts j s (sub m p) ≡ 0
 no_counts_below j s m p t f = ap (sum_by (row_counts j s)) (entries-sub m p ∙ below-none m p (closed-tree m t.rooted) (none_of (keyed.get m p) f))
 
-module _ (t : Tally) (m n : Tree) (p : Path) (w : IsTree m) (kept_is : IsTallyOf t m) (fits : IsTree (replaced p (keyed.entries n) m)) where
+module _ (t : Tally) (m n : Tree) (p : Path) (w : IsTree m) (is_tally : IsTallyOf t m) (fits : IsTree (replaced p (keyed.entries n) m)) where
   -- a new subtree fits what is kept
-  pub plant_room : is_there m p ≡ false → (k : Tree) → k ≡ n → (j : Gauge) → kept t j + tree_counts j (spot_at root_spot p) k ≤ 4294967295
-  plant_room f k e j = omega (arith, kept_is j, ap (tree_counts j (spot_at root_spot p)) e, counts_replaced j m n p, no_counts_below j (spot_at root_spot p) m p w f, small_counts (replaced p (keyed.entries n) m) fits j)
+  pub insert_room : is_there m p ≡ false → (k : Tree) → k ≡ n → (j : Gauge) → tally_counts t j + tree_counts j (spot_at root_spot p) k ≤ 4294967295
+  insert_room f k e j = omega (arith, is_tally j, ap (tree_counts j (spot_at root_spot p)) e, counts_replaced j m n p, no_counts_below j (spot_at root_spot p) m p w f, small_counts (replaced p (keyed.entries n) m) fits j)
 
   -- with it, what is kept is that of the new tree
-  pub planted : is_there m p ≡ false → (k : Tree) → k ≡ n → (u : Tally) → ((j : Gauge) → kept u j ≡ kept t j + tree_counts j (spot_at root_spot p) k) → IsTallyOf u (replaced p (keyed.entries n) m)
-  planted f k e u h j = omega (arith, h j, kept_is j, ap (tree_counts j (spot_at root_spot p)) e, counts_replaced j m n p, no_counts_below j (spot_at root_spot p) m p w f)
+  pub inserted_tally : is_there m p ≡ false → (k : Tree) → k ≡ n → (u : Tally) → ((j : Gauge) → tally_counts u j ≡ tally_counts t j + tree_counts j (spot_at root_spot p) k) → IsTallyOf u (replaced p (keyed.entries n) m)
+  inserted_tally f k e u h j = omega (arith, h j, is_tally j, ap (tree_counts j (spot_at root_spot p)) e, counts_replaced j m n p, no_counts_below j (spot_at root_spot p) m p w f)
 
   -- a subtree in place of another fits, with both
-  pub swap_room : (j : Gauge) → kept t j + tree_counts j (spot_at root_spot p) n ≤ 4294967295
-  swap_room j = omega (arith, kept_is j, counts_replaced j m n p, counts_without j m p, small_counts m w j, small_counts (replaced p (keyed.entries n) m) fits j)
+  pub swap_room : (j : Gauge) → tally_counts t j + tree_counts j (spot_at root_spot p) n ≤ 4294967295
+  swap_room j = omega (arith, is_tally j, counts_replaced j m n p, counts_without j m p, small_counts m w j, small_counts (replaced p (keyed.entries n) m) fits j)
 
-  module _ (u : Tally) (k : Tree) (e : k ≡ sub m p) (h : (j : Gauge) → kept u j ≡ kept t j + tree_counts j (spot_at root_spot p) n) where
+  module _ (u : Tally) (k : Tree) (e : k ≡ sub m p) (h : (j : Gauge) → tally_counts u j ≡ tally_counts t j + tree_counts j (spot_at root_spot p) n) where
     -- what was there is counted
-    pub swap_there : (j : Gauge) → tree_counts j (spot_at root_spot p) k ≤ kept u j
-    swap_there j = omega (arith, h j, kept_is j, ap (tree_counts j (spot_at root_spot p)) e, counts_without j m p)
+    pub swap_there : (j : Gauge) → tree_counts j (spot_at root_spot p) k ≤ tally_counts u j
+    swap_there j = omega (arith, h j, is_tally j, ap (tree_counts j (spot_at root_spot p)) e, counts_without j m p)
 
     -- without it, what is kept is that of the new tree
-    pub swapped : (v : Tally) → ((j : Gauge) → kept v j + tree_counts j (spot_at root_spot p) k ≡ kept u j) → IsTallyOf v (replaced p (keyed.entries n) m)
-    swapped v g j = omega (arith, g j, h j, kept_is j, ap (tree_counts j (spot_at root_spot p)) e, counts_replaced j m n p)
+    pub swapped_tally : (v : Tally) → ((j : Gauge) → tally_counts v j + tree_counts j (spot_at root_spot p) k ≡ tally_counts u j) → IsTallyOf v (replaced p (keyed.entries n) m)
+    swapped_tally v g j = omega (arith, g j, h j, is_tally j, ap (tree_counts j (spot_at root_spot p)) e, counts_replaced j m n p)
 
-module _ (t : Tally) (m : Tree) (p : Path) (kept_is : IsTallyOf t m) (k : Tree) (e : k ≡ sub m p) where
+module _ (t : Tally) (m : Tree) (p : Path) (is_tally : IsTallyOf t m) (k : Tree) (e : k ≡ sub m p) where
   -- what is taken out was counted
-  pub cut_there : (j : Gauge) → tree_counts j (spot_at root_spot p) k ≤ kept t j
-  cut_there j = omega (arith, kept_is j, ap (tree_counts j (spot_at root_spot p)) e, counts_without j m p)
+  pub cut_there : (j : Gauge) → tree_counts j (spot_at root_spot p) k ≤ tally_counts t j
+  cut_there j = omega (arith, is_tally j, ap (tree_counts j (spot_at root_spot p)) e, counts_without j m p)
 
   -- without it, what is kept is that of the new tree
-  pub cut : (u : Tally) → ((j : Gauge) → kept u j + tree_counts j (spot_at root_spot p) k ≡ kept t j) → IsTallyOf u (without p m)
-  cut u g j = omega (arith, g j, kept_is j, ap (tree_counts j (spot_at root_spot p)) e, counts_without j m p)
+  pub tally_cut : (u : Tally) → ((j : Gauge) → tally_counts u j + tree_counts j (spot_at root_spot p) k ≡ tally_counts t j) → IsTallyOf u (without p m)
+  tally_cut u g j = omega (arith, g j, is_tally j, ap (tree_counts j (spot_at root_spot p)) e, counts_without j m p)
 
 -- the places of a subtree that is there are within the limits
 pub near_sub : (m n : Tree) (p : Path) → IsTree m → n ≡ sub m p → AreNear (spot_at root_spot p) n
@@ -208,11 +208,11 @@ module _ (c d : Content) (h : text_bytes c ≤ TEXT_MAX) (same_content : d ≡ c
   pub single_near : (s : Spot) → s ≡ root_spot → AreNear s m
   single_near s k = subst (λ z. AreNear z m) (sym k) (near_tree m single_tree)
 
-  module _ (t : Tally) (s : Spot) (k : s ≡ root_spot) (none : (j : Gauge) → kept t j ≡ 0) where
-    pub single_room : (j : Gauge) → kept t j + tree_counts j s m ≤ 4294967295
+  module _ (t : Tally) (s : Spot) (k : s ≡ root_spot) (none : (j : Gauge) → tally_counts t j ≡ 0) where
+    pub single_room : (j : Gauge) → tally_counts t j + tree_counts j s m ≤ 4294967295
     single_room j = omega (arith, none j, ap (λ z. tree_counts j z m) k, small_counts m single_tree j)
 
-    pub single_tallied : (u : Tally) → ((j : Gauge) → kept u j ≡ kept t j + tree_counts j s m) → IsTallyOf u m
+    pub single_tallied : (u : Tally) → ((j : Gauge) → tally_counts u j ≡ tally_counts t j + tree_counts j s m) → IsTallyOf u m
     single_tallied u g j = omega (arith, g j, none j, ap (λ z. tree_counts j z m) k)
 
 -- ---- the places of changes
@@ -251,16 +251,16 @@ pub near_new : (m n k : Tree) (p : Path) (s : Spot) → s ≡ spot_at root_spot 
 near_new m n k p s e fits is = subst (λ z. AreNear z k) (sym e) (subst (AreNear (spot_at root_spot p)) (sym is) (near_put m n p fits))
 
 -- the tree with a subtree at a label
-pub plant_is : (new m n : Tree) (p : Path) (a b : Label) → b ≡ a → new ≡ replaced (child p b) (keyed.entries n) m → new ≡ replaced (child p a) (keyed.entries n) m
-plant_is new m n p a b e is = is ∙ ap (λ z. replaced (child p z) (keyed.entries n) m) e
+pub insert_is : (new m n : Tree) (p : Path) (a b : Label) → b ≡ a → new ≡ replaced (child p b) (keyed.entries n) m → new ≡ replaced (child p a) (keyed.entries n) m
+insert_is new m n p a b e is = is ∙ ap (λ z. replaced (child p z) (keyed.entries n) m) e
 
 -- that subtree
-pub plant_kid : (new m n k : Tree) (p : Path) → new ≡ replaced p (keyed.entries n) m → k ≡ sub new p → k ≡ n
-plant_kid new m n k p is e = e ∙ ap (λ z. sub z p) is ∙ sub-replaced m n p
+pub insert_child : (new m n k : Tree) (p : Path) → new ≡ replaced p (keyed.entries n) m → k ≡ sub new p → k ≡ n
+insert_child new m n k p is e = e ∙ ap (λ z. sub z p) is ∙ sub-replaced m n p
 
 -- it is found
-pub plant_found : (new m n : Tree) (p : Path) → new ≡ replaced p (keyed.entries n) m → IsRooted n → keyed.get new p ≡ None → ⊥
-plant_found new m n p is r e = (let there = put_there m n p r in let none = ap is_some (ap (λ z. keyed.get z p) (sym is) ∙ e) in absurd (cc))
+pub insert_found : (new m n : Tree) (p : Path) → new ≡ replaced p (keyed.entries n) m → IsRooted n → keyed.get new p ≡ None → ⊥
+insert_found new m n p is r e = (let there = put_there m n p r in let none = ap is_some (ap (λ z. keyed.get z p) (sym is) ∙ e) in absurd (cc))
 
 -- ---- the same change, said of other rows and another path
 
@@ -279,9 +279,9 @@ module _ (m : Tree) (p q : Path) (es fs : List (Path × Content)) (k : q ≡ p) 
   tried_as (Err y) new h = tt
 
 -- the rows of a leaf
-pub leaf_rows : (n : Tree) (c d : Content) → n ≡ single d → d ≡ c → keyed.entries n ≡ alone c
-leaf_rows n c d e k = ap keyed.entries e ∙ entries-single d ∙ ap alone k
+pub leaf_rows : (n : Tree) (c d : Content) → n ≡ single d → d ≡ c → keyed.entries n ≡ root_entries c
+leaf_rows n c d e k = ap keyed.entries e ∙ entries-single d ∙ ap root_entries k
 
 -- the rows of a tree that was built
-pub built_rows : (n : Tree) (rows : List Row) → IsLiteral (entries_in rows) → n ≡ made rows → (keyed.entries n ≡ entries_in rows) × IsRooted n
-built_rows n rows l e = (ap keyed.entries e ∙ made-entries rows l, subst IsRooted (sym e) l.rooted)
+pub built_rows : (n : Tree) (rows : List Row) → IsLiteral (entries_in rows) → n ≡ tree_of_rows rows → (keyed.entries n ≡ entries_in rows) × IsRooted n
+built_rows n rows l e = (ap keyed.entries e ∙ entries-tree_of_rows rows l, subst IsRooted (sym e) l.rooted)

@@ -6,8 +6,8 @@ use Rattle.cp_tree_box.specs.declared.node.BoxNode.TheInside.{Inside}
 
 -- the tree of what stands at the node, and of the nodes below it
 abbrev pub tree_of : Inside → Tree
-tree_of a = branch a.content a.kids.entries
+tree_of a = branch a.content a.children.entries
 
 -- the labels below rise, a leaf has none, and each leads to a rooted tree
 abbrev pub IsGoodNode : Inside → Type 0
-IsGoodNode a = IsGood a.content a.kids.entries
+IsGoodNode a = IsGood a.content a.children.entries

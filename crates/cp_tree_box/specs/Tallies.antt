@@ -42,30 +42,30 @@ pub data Gauge : Type 0 where
   large : ℕ → Gauge
 
 -- what a place counts for
-abbrev pub one : Gauge → Spot → Content → ℕ
-one places s c = 1
-one weighs s c = 16 + s.last + text_bytes c
-one (deep k) s c = cond (s.depth == k) 1 0
-one (large k) s c = cond (s.size == k) 1 0
+abbrev pub place_counts : Gauge → Spot → Content → ℕ
+place_counts places s c = 1
+place_counts weighs s c = 16 + s.last + text_bytes c
+place_counts (deep k) s c = cond (s.depth == k) 1 0
+place_counts (large k) s c = cond (s.size == k) 1 0
 
 -- what a row of a tree that lies there counts for
 abbrev pub row_counts : Gauge → Spot → Path × Content → ℕ
-row_counts g s e = one g (spot_at s e.0) e.1
+row_counts g s e = place_counts g (spot_at s e.0) e.1
 
 -- what the whole tree counts for
 abbrev pub tree_counts : Gauge → Spot → Tree → ℕ
 tree_counts g s m = total (row_counts g s) m
 
 -- what is kept
-abbrev pub kept : Tally → Gauge → ℕ
-kept t places = t.places
-kept t weighs = t.weight
-kept t (deep k) = slice_index t.depths.items k
-kept t (large k) = slice_index t.sizes.items k
+abbrev pub tally_counts : Tally → Gauge → ℕ
+tally_counts t places = t.places
+tally_counts t weighs = t.weight
+tally_counts t (deep k) = slice_index t.depths.items k
+tally_counts t (large k) = slice_index t.sizes.items k
 
 -- what is kept are the numbers of the tree
 abbrev pub IsTallyOf : Tally → Tree → Type 0
-IsTallyOf t m = (g : Gauge) → kept t g ≡ tree_counts g root_spot m
+IsTallyOf t m = (g : Gauge) → tally_counts t g ≡ tree_counts g root_spot m
 
 -- the labels and the size of a row's place
 abbrev pub row_depth : Spot → Path × Content → ℕ
@@ -75,7 +75,7 @@ abbrev pub row_size : Spot → Path × Content → ℕ
 row_size s e = (spot_at s e.0).size
 
 -- a reach with all of the tree that lies there
-pub record IsStretched (s : Spot) (m : Tree) (r t : Reach) : Type 0 where
+pub record IsReachWith (s : Spot) (m : Tree) (r t : Reach) : Type 0 where
   pub nodes : t.nodes ≡ r.nodes + tree_counts places s m
   pub inner : t.inner ≡ r.inner + tree_counts weighs s m
   pub depth : t.depth ≡ max r.depth (greatest (row_depth s) (keyed.entries m))

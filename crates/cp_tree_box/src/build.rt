@@ -5,8 +5,8 @@ ghost use Rattle.cp_model.specs.Keyed.{get};
 ghost use Rattle.cp_model.specs.Subtrees.{replaced};
 ghost use Rattle.cp_model.specs.History.{IsLiteral};
 ghost use Rattle.cp_model.specs.declared.row.Content.TheVariants.{Node};
-ghost use Rattle.cp_tree.specs.Rows.{made};
-ghost use Rattle.cp_tree.specs.Rows.{entries_in, alone};
+ghost use Rattle.cp_tree.specs.Rows.{tree_of_rows};
+ghost use Rattle.cp_tree.specs.Rows.{entries_in, root_entries};
 
 use crate::node::{BoxNode, copy_content};
 use cp_model::Row;
@@ -16,19 +16,19 @@ use std::alloc::{AllocError, Global};
 fn add_row(alloc: Global, root: &mut BoxNode, row: &Row) -> Result<(), AllocError>
     requires deep { 0 < length row.now.path }
     requires parent { (p : Path) (a : Label) → row.now.path ≡ child p a → get root.old p ≡ Some Node }
-    ensures { OnOk result (root.new ≡ replaced row.now.path (alone row.now.content) root.old) }
+    ensures { OnOk result (root.new ≡ replaced row.now.path (root_entries row.now.content) root.old) }
 {
     let leaf = BoxNode::leaf(alloc, copy_content(&row.content)?);
     match row.path.labels().split_last() {
         None => unreachable!(),
-        Some((a, parent)) => root.insert(parent, a.clone()?, leaf),
+        Some((label, parent)) => root.insert(parent, label.clone()?, leaf),
     }
 }
 
 /// The tree of these rows, which come in order. Costs a search among siblings for each of their labels.
 pub(crate) fn build(alloc: Global, rows: &[Row]) -> Result<BoxNode, AllocError>
     requires { IsLiteral (entries_in rows.now) }
-    ensures { IfOk result (λ t. t ≡ made rows.now) }
+    ensures { IfOk result (λ t. t ≡ tree_of_rows rows.now) }
 {
     match rows.split_first() {
         None => unreachable!(),

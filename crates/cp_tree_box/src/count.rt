@@ -1,12 +1,12 @@
 ghost use Rattle.std.specs.Prelude.{◌≡◌, ◌≤◌, ◌<◌, ◌+◌, ◌⊎◌, ℕ, IfOk, length, replicate, slice_index};
 ghost use Rattle.cp_model.specs.Tree.{text_bytes};
-ghost use Rattle.cp_tree_box.specs.Tallies.{IsNear, AreNear, Gauge, one, tree_counts, kept};
+ghost use Rattle.cp_tree_box.specs.Tallies.{IsNear, AreNear, Gauge, place_counts, tree_counts, tally_counts};
 
 use crate::node::BoxNode;
 use crate::spot::Spot;
 use crate::tally::Tally;
 use cp_model::{Content, PLACE_WEIGHT};
-use cp_path::{LABELS_MAX, Value, LOC_MAX};
+use cp_path::{LABELS_MAX, LOC_MAX, Value};
 use cp_tree::Reach;
 use std::alloc::{AllocError, Global};
 
@@ -56,8 +56,8 @@ impl Tally {
 
     fn add_one(&mut self, at: Spot, content: &Content)
         requires near { IsNear at }
-        requires room { (g : Gauge) → kept self.old g + one g at content.now ≤ 4294967295 }
-        ensures { (g : Gauge) → kept self.new g ≡ kept self.old g + one g at content.now }
+        requires room { (g : Gauge) → tally_counts self.old g + place_counts g at content.now ≤ 4294967295 }
+        ensures { (g : Gauge) → tally_counts self.new g ≡ tally_counts self.old g + place_counts g at content.now }
     {
         self.places += 1;
         self.weight += PLACE_WEIGHT + u64::from(at.last) + text_bytes(content);
@@ -67,8 +67,8 @@ impl Tally {
 
     fn subtract_one(&mut self, at: Spot, content: &Content)
         requires near { IsNear at }
-        requires there { (g : Gauge) → one g at content.now ≤ kept self.old g }
-        ensures { (g : Gauge) → kept self.new g + one g at content.now ≡ kept self.old g }
+        requires there { (g : Gauge) → place_counts g at content.now ≤ tally_counts self.old g }
+        ensures { (g : Gauge) → tally_counts self.new g + place_counts g at content.now ≡ tally_counts self.old g }
     {
         self.places -= 1;
         self.weight -= PLACE_WEIGHT + u64::from(at.last) + text_bytes(content);
@@ -79,24 +79,24 @@ impl Tally {
     /// With the places of a subtree at this place. Costs their number.
     pub(crate) fn add(&mut self, at: Spot, node: &BoxNode)
         requires near { AreNear at node.now }
-        requires room { (g : Gauge) → kept self.old g + tree_counts g at node.now ≤ 4294967295 }
-        ensures { (g : Gauge) → kept self.new g ≡ kept self.old g + tree_counts g at node.now }
+        requires room { (g : Gauge) → tally_counts self.old g + tree_counts g at node.now ≤ 4294967295 }
+        ensures { (g : Gauge) → tally_counts self.new g ≡ tally_counts self.old g + tree_counts g at node.now }
     {
         self.add_one(at, &node.content);
-        for (a, kid) in &node.kids {
-            self.add(at.child(a), kid);
+        for (label, child) in &node.children {
+            self.add(at.child(label), child);
         }
     }
 
     /// Without the places of a subtree at this place. Costs their number.
     pub(crate) fn subtract(&mut self, at: Spot, node: &BoxNode)
         requires near { AreNear at node.now }
-        requires there { (g : Gauge) → tree_counts g at node.now ≤ kept self.old g }
-        ensures { (g : Gauge) → kept self.new g + tree_counts g at node.now ≡ kept self.old g }
+        requires there { (g : Gauge) → tree_counts g at node.now ≤ tally_counts self.old g }
+        ensures { (g : Gauge) → tally_counts self.new g + tree_counts g at node.now ≡ tally_counts self.old g }
     {
         self.subtract_one(at, &node.content);
-        for (a, kid) in &node.kids {
-            self.subtract(at.child(a), kid);
+        for (label, child) in &node.children {
+            self.subtract(at.child(label), child);
         }
     }
 
@@ -118,7 +118,7 @@ impl Tally {
     }
 
     pub(crate) fn copy(&self) -> Result<Tally, AllocError>
-        ensures { IfOk result (λ t. (g : Gauge) → kept t g ≡ kept self.now g) }
+        ensures { IfOk result (λ t. (g : Gauge) → tally_counts t g ≡ tally_counts self.now g) }
     {
         Ok(Tally {
             places: self.places,

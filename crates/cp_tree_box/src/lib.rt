@@ -4,12 +4,9 @@
 mod build;
 mod count;
 mod node;
+mod reach;
 mod spot;
-mod stretch;
 mod tally;
 mod tree;
 
 pub use tree::BoxTree;
-
-#[cfg(test)]
-mod tests;

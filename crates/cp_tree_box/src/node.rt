@@ -6,7 +6,7 @@ ghost use Rattle.cp_model.specs.Subtrees.{moved, without, replaced, is_there};
 ghost use Rattle.cp_model.specs.Tree.{IsRooted, is_node};
 ghost use Rattle.cp_model.specs.declared.row.Content.TheVariants.{Node};
 ghost use Rattle.cp_tree.specs.Branch.{sub};
-ghost use Rattle.cp_tree.specs.Rows.{row_of, single, labels_at};
+ghost use Rattle.cp_tree.specs.Rows.{entry_row, single, labels_at};
 
 use cp_model::{Content, Row};
 use cp_path::{Label, Path};
@@ -19,7 +19,7 @@ use std::marker::Model;
 #[derive(Drop)]
 pub(crate) struct BoxNode {
     pub(crate) content: Content,
-    pub(crate) kids: BTreeMap<Label, BoxNode>,
+    pub(crate) children: BTreeMap<Label, BoxNode>,
 }
 
 impl Model for BoxNode {
@@ -57,95 +57,100 @@ pub(crate) fn copy_content(content: &Content) -> Result<Content, AllocError>
 impl BoxNode {
     /// A root alone.
     pub(crate) fn leaf(alloc: Global, content: Content) -> BoxNode
-        ensures alone { result ≡ single content }
+        ensures tree { result ≡ single content }
         ensures rooted { IsRooted result }
     {
         BoxNode {
             content,
-            kids: BTreeMap::new(alloc),
+            children: BTreeMap::new(alloc),
         }
     }
 
     /// The node at the place. Costs a search among siblings for each label.
-    pub(crate) fn find(&self, p: &[Label]) -> Option<&BoxNode>
-        ensures there { IfSome result (λ n. n.now ≡ sub self.now p.now) }
+    pub(crate) fn find(&self, place: &[Label]) -> Option<&BoxNode>
+        ensures there { IfSome result (λ n. n.now ≡ sub self.now place.now) }
         ensures rooted { IfSome result (λ n. IsRooted n.now) }
-        ensures gone { IfNone result (get self.now p.now ≡ None) }
+        ensures gone { IfNone result (get self.now place.now ≡ None) }
         ensures whole { IsRooted self.now }
     {
         let _content = &self.content;
-        match p.split_first() {
+        match place.split_first() {
             None => Some(self),
-            Some((a, rest)) => match self.kids.get(a) {
-                Some(kid) => kid.find(rest),
+            Some((first, rest)) => match self.children.get(first) {
+                Some(child) => child.find(rest),
                 None => None,
             },
         }
     }
 
     /// The node at the label below the place.
-    pub(crate) fn find_child(&self, p: &[Label], a: &Label) -> Option<&BoxNode>
-        ensures there { IfSome result (λ n. n.now ≡ sub self.now (child p.now a.now)) }
+    pub(crate) fn find_child(&self, place: &[Label], label: &Label) -> Option<&BoxNode>
+        ensures there { IfSome result (λ n. n.now ≡ sub self.now (child place.now label.now)) }
         ensures rooted { IfSome result (λ n. IsRooted n.now) }
-        ensures gone { IfNone result (get self.now (child p.now a.now) ≡ None) }
+        ensures gone { IfNone result (get self.now (child place.now label.now) ≡ None) }
     {
-        match self.find(p) {
-            Some(node) => node.kids.get(a),
+        match self.find(place) {
+            Some(node) => node.children.get(label),
             None => None,
         }
     }
 
-    /// Adds a subtree at a new label below the node at `p`. Costs a search among siblings for each label.
-    pub(crate) fn insert(&mut self, p: &[Label], a: Label, new: BoxNode) -> Result<(), AllocError>
-        requires node { get self.old p.now ≡ Some Node }
+    /// Adds a subtree at a new label below the node at `place`. Costs a search among siblings for each label.
+    pub(crate) fn insert(
+        &mut self,
+        place: &[Label],
+        label: Label,
+        new: BoxNode,
+    ) -> Result<(), AllocError>
+        requires node { get self.old place.now ≡ Some Node }
         requires rooted { IsRooted new }
-        ensures ok { OnOk result (self.new ≡ replaced (child p.now a) (entries new) self.old) }
+        ensures ok { OnOk result (self.new ≡ replaced (child place.now label) (entries new) self.old) }
         ensures err { OnErr result (self.new ≡ self.old) }
         ensures whole { IsRooted self.new }
     {
-        match p.split_first() {
+        match place.split_first() {
             None => {
-                self.kids.insert(a, new)?;
+                self.children.insert(label, new)?;
                 Ok(())
             }
-            Some((b, rest)) => match self.kids.get_mut(b) {
-                Some(kid) => kid.insert(rest, a, new),
+            Some((first, rest)) => match self.children.get_mut(first) {
+                Some(child) => child.insert(rest, label, new),
                 None => unreachable!(),
             },
         }
     }
 
-    /// The subtree at `p` becomes `new`, and is given back.
-    pub(crate) fn swap(&mut self, p: &[Label], new: BoxNode) -> BoxNode
-        requires there { is_there self.old p.now ≡ true }
+    /// The subtree at `place` becomes `new`, and is given back.
+    pub(crate) fn swap(&mut self, place: &[Label], new: BoxNode) -> BoxNode
+        requires there { is_there self.old place.now ≡ true }
         requires rooted { IsRooted new }
-        ensures changed { self.new ≡ replaced p.now (entries new) self.old }
-        ensures back { result ≡ sub self.old p.now }
+        ensures changed { self.new ≡ replaced place.now (entries new) self.old }
+        ensures back { result ≡ sub self.old place.now }
         ensures whole { IsRooted self.new }
     {
-        match p.split_first() {
+        match place.split_first() {
             None => std::mem::replace(self, new),
-            Some((b, rest)) => match self.kids.get_mut(b) {
-                Some(kid) => kid.swap(rest, new),
+            Some((first, rest)) => match self.children.get_mut(first) {
+                Some(child) => child.swap(rest, new),
                 None => unreachable!(),
             },
         }
     }
 
-    /// Takes out the subtree at the label below the node at `p`.
-    pub(crate) fn remove(&mut self, p: &[Label], a: &Label) -> BoxNode
-        requires there { is_there self.old (child p.now a.now) ≡ true }
-        ensures changed { self.new ≡ without (child p.now a.now) self.old }
-        ensures back { result ≡ sub self.old (child p.now a.now) }
+    /// Takes out the subtree at the label below the node at `place`.
+    pub(crate) fn remove(&mut self, place: &[Label], label: &Label) -> BoxNode
+        requires there { is_there self.old (child place.now label.now) ≡ true }
+        ensures changed { self.new ≡ without (child place.now label.now) self.old }
+        ensures back { result ≡ sub self.old (child place.now label.now) }
         ensures whole { IsRooted self.new }
     {
-        match p.split_first() {
-            None => match self.kids.remove(a) {
-                Some(kid) => kid,
+        match place.split_first() {
+            None => match self.children.remove(label) {
+                Some(child) => child,
                 None => unreachable!(),
             },
-            Some((b, rest)) => match self.kids.get_mut(b) {
-                Some(kid) => kid.remove(rest, a),
+            Some((first, rest)) => match self.children.get_mut(first) {
+                Some(child) => child.remove(rest, label),
                 None => unreachable!(),
             },
         }
@@ -165,8 +170,8 @@ impl BoxNode {
         ensures { IfOk result (λ v. v.items ≡ labels_at self.now []) }
     {
         let mut labels = Vec::new(alloc);
-        for (a, _) in &self.kids {
-            labels.push(a.clone()?)?;
+        for (label, _) in &self.children {
+            labels.push(label.clone()?)?;
         }
         Ok(labels)
     }
@@ -175,12 +180,12 @@ impl BoxNode {
     pub(crate) fn copy(&self, alloc: Global) -> Result<BoxNode, AllocError>
         ensures { IfOk result (λ t. t ≡ self.now) }
     {
-        let mut kids = BTreeMap::new(alloc);
-        for (a, kid) in &self.kids {
-            kids.insert(a.clone()?, kid.copy(alloc)?)?;
+        let mut children = BTreeMap::new(alloc);
+        for (label, child) in &self.children {
+            children.insert(label.clone()?, child.copy(alloc)?)?;
         }
         let content = copy_content(&self.content)?;
-        Ok(BoxNode { content, kids })
+        Ok(BoxNode { content, children })
     }
 
     /// The rows of the node at the place `at`, in order.
@@ -190,7 +195,7 @@ impl BoxNode {
         at: &mut Vec<Label>,
         out: &mut Vec<Row>,
     ) -> Result<(), AllocError>
-        ensures rows { OnOk result (out.new.items ≡ out.old.items ++ map row_of (moved at.old.items (entries self.now))) }
+        ensures rows { OnOk result (out.new.items ≡ out.old.items ++ map entry_row (moved at.old.items (entries self.now))) }
         ensures same_place { OnOk result (at.new.items ≡ at.old.items) }
     {
         let content = copy_content(&self.content)?;
@@ -198,9 +203,9 @@ impl BoxNode {
             return Err(AllocError);
         };
         out.push(Row { path, content })?;
-        for (a, kid) in &self.kids {
-            at.push(a.clone()?)?;
-            kid.rows_into(alloc, at, out)?;
+        for (label, child) in &self.children {
+            at.push(label.clone()?)?;
+            child.rows_into(alloc, at, out)?;
             at.pop();
         }
         Ok(())

@@ -23,11 +23,11 @@ impl Spot {
     }
 
     /// One label further down.
-    pub(crate) fn child(self, a: &Label) -> Spot
-        requires { IsNear (child_spot self a.now) }
-        ensures { result ≡ child_spot self a.now }
+    pub(crate) fn child(self, label: &Label) -> Spot
+        requires { IsNear (child_spot self label.now) }
+        ensures { result ≡ child_spot self label.now }
     {
-        let last = a.as_str().len() as u32;
+        let last = label.as_str().len() as u32;
         Spot {
             depth: self.depth + 1,
             size: self.size + last + 1,
@@ -42,7 +42,7 @@ impl Spot {
     {
         match labels.split_first() {
             None => self,
-            Some((a, rest)) => self.child(a).below(rest),
+            Some((first, rest)) => self.child(first).below(rest),
         }
     }
 }

@@ -11,8 +11,8 @@ ghost use Rattle.cp_tree_box.specs.Tallies.{IsTallyOf, IsTallyOf-prop};
 
 use crate::build::build;
 use crate::node::{BoxNode, copy_content};
+use crate::reach::reach_of;
 use crate::spot::Spot;
-use crate::stretch::reach_of;
 use crate::tally::Tally;
 use cp_model::{Content, Row, RowList};
 use cp_path::{Label, Path};
@@ -33,43 +33,43 @@ pub struct BoxTree {
 
 impl BoxTree {
     /// A new subtree at a new label.
-    fn plant(&mut self, p: &[Label], a: &Label, new: BoxNode) -> Result<(), AllocError>
-        requires node { get self.old.root p.now ≡ Some Node }
-        requires free { is_there self.old.root (child p.now a.now) ≡ false }
+    fn insert(&mut self, place: &[Label], label: &Label, new: BoxNode) -> Result<(), AllocError>
+        requires node { get self.old.root place.now ≡ Some Node }
+        requires free { is_there self.old.root (child place.now label.now) ≡ false }
         requires rooted { IsRooted new }
-        requires fits { IsTree (replaced (child p.now a.now) (entries new) self.old.root) }
-        ensures ok { OnOk result (self.new.root ≡ replaced (child p.now a.now) (entries new) self.old.root) }
+        requires fits { IsTree (replaced (child place.now label.now) (entries new) self.old.root) }
+        ensures ok { OnOk result (self.new.root ≡ replaced (child place.now label.now) (entries new) self.old.root) }
         ensures err { OnErr result (self.new.root ≡ self.old.root) }
     {
-        let at = Spot::root().below(p).child(a);
-        self.root.insert(p, a.clone()?, new)?;
-        match self.root.find_child(p, a) {
-            Some(kid) => self.tally.add(at, kid),
+        let at = Spot::root().below(place).child(label);
+        self.root.insert(place, label.clone()?, new)?;
+        match self.root.find_child(place, label) {
+            Some(child) => self.tally.add(at, child),
             None => unreachable!(),
         }
         Ok(())
     }
 
     /// The subtree at the place becomes `new`.
-    fn swap(&mut self, p: &[Label], new: BoxNode)
-        requires there { is_there self.old.root p.now ≡ true }
+    fn swap(&mut self, place: &[Label], new: BoxNode)
+        requires there { is_there self.old.root place.now ≡ true }
         requires rooted { IsRooted new }
-        requires fits { IsTree (replaced p.now (entries new) self.old.root) }
-        ensures { self.new.root ≡ replaced p.now (entries new) self.old.root }
+        requires fits { IsTree (replaced place.now (entries new) self.old.root) }
+        ensures { self.new.root ≡ replaced place.now (entries new) self.old.root }
     {
-        let at = Spot::root().below(p);
+        let at = Spot::root().below(place);
         self.tally.add(at, &new);
-        let old = self.root.swap(p, new);
+        let old = self.root.swap(place, new);
         self.tally.subtract(at, &old);
     }
 
     /// The node at a place that is there.
-    fn node(&self, p: &[Label]) -> &BoxNode
-        requires { is_there self.now.root p.now ≡ true }
-        ensures at { result.now ≡ sub self.now.root p.now }
+    fn node(&self, place: &[Label]) -> &BoxNode
+        requires { is_there self.now.root place.now ≡ true }
+        ensures at { result.now ≡ sub self.now.root place.now }
         ensures rooted { IsRooted result.now }
     {
-        match self.root.find(p) {
+        match self.root.find(place) {
             Some(node) => node,
             None => unreachable!(),
         }
@@ -86,85 +86,85 @@ impl TreeRep for BoxTree {
         Ok(BoxTree { root, tally })
     }
 
-    fn is_there(&self, p: &Path) -> bool {
-        self.root.find(p.labels()).is_some()
+    fn is_there(&self, place: &Path) -> bool {
+        self.root.find(place.labels()).is_some()
     }
 
-    fn is_node(&self, p: &Path) -> bool {
-        match self.root.find(p.labels()) {
+    fn is_node(&self, place: &Path) -> bool {
+        match self.root.find(place.labels()) {
             Some(node) => node.is_node(),
             None => false,
         }
     }
 
-    fn has_child(&self, p: &Path, a: &Label) -> bool {
-        self.root.find_child(p.labels(), a).is_some()
+    fn has_child(&self, place: &Path, label: &Label) -> bool {
+        self.root.find_child(place.labels(), label).is_some()
     }
 
-    fn content_at(&self, _alloc: Global, p: &Path) -> Result<Option<Content>, AllocError> {
-        match self.root.find(p.labels()) {
+    fn content_at(&self, _alloc: Global, place: &Path) -> Result<Option<Content>, AllocError> {
+        match self.root.find(place.labels()) {
             Some(node) => Ok(Some(copy_content(&node.content)?)),
             None => Ok(None),
         }
     }
 
     /// Costs the labels.
-    fn labels_of(&self, alloc: Global, p: &Path) -> Result<Vec<Label>, AllocError> {
-        self.node(p.labels()).labels(alloc)
+    fn labels_of(&self, alloc: Global, place: &Path) -> Result<Vec<Label>, AllocError> {
+        self.node(place.labels()).labels(alloc)
     }
 
     /// Costs the subtree, but 1,089 steps at most at the root.
-    fn reach(&self, p: &Path) -> Reach {
-        if p.labels().is_empty() {
+    fn reach(&self, place: &Path) -> Reach {
+        if place.labels().is_empty() {
             return self.tally.reach();
         }
-        reach_of(self.node(p.labels()))
+        reach_of(self.node(place.labels()))
     }
 
     fn insert_leaf(
         &mut self,
         alloc: Global,
-        p: &Path,
-        a: &Label,
+        place: &Path,
+        label: &Label,
         content: &Content,
     ) -> Result<(), AllocError> {
         let leaf = BoxNode::leaf(alloc, copy_content(content)?);
-        self.plant(p.labels(), a, leaf)
+        self.insert(place.labels(), label, leaf)
     }
 
     fn insert_rows(
         &mut self,
         alloc: Global,
-        p: &Path,
-        a: &Label,
+        place: &Path,
+        label: &Label,
         rows: &[Row],
     ) -> Result<(), AllocError> {
         let new = build(alloc, rows)?;
-        self.plant(p.labels(), a, new)
+        self.insert(place.labels(), label, new)
     }
 
-    fn remove(&mut self, _alloc: Global, p: &Path, a: &Label) -> Result<(), AllocError> {
-        let gone = self.root.remove(p.labels(), a);
+    fn remove(&mut self, _alloc: Global, place: &Path, label: &Label) -> Result<(), AllocError> {
+        let gone = self.root.remove(place.labels(), label);
         self.tally
-            .subtract(Spot::root().below(p.labels()).child(a), &gone);
+            .subtract(Spot::root().below(place.labels()).child(label), &gone);
         Ok(())
     }
 
-    fn put_rows(&mut self, alloc: Global, p: &Path, rows: &[Row]) -> Result<(), AllocError> {
+    fn put_rows(&mut self, alloc: Global, place: &Path, rows: &[Row]) -> Result<(), AllocError> {
         let new = build(alloc, rows)?;
-        self.swap(p.labels(), new);
+        self.swap(place.labels(), new);
         Ok(())
     }
 
-    fn copy_inside(&mut self, alloc: Global, q: &Path, p: &Path) -> Result<(), AllocError> {
-        let new = self.node(q.labels()).copy(alloc)?;
-        self.swap(p.labels(), new);
+    fn copy_inside(&mut self, alloc: Global, from: &Path, place: &Path) -> Result<(), AllocError> {
+        let new = self.node(from.labels()).copy(alloc)?;
+        self.swap(place.labels(), new);
         Ok(())
     }
 
-    fn rows(&self, alloc: Global, p: &Path) -> Result<RowList, AllocError> {
+    fn rows(&self, alloc: Global, place: &Path) -> Result<RowList, AllocError> {
         let mut items = Vec::new(alloc);
-        self.node(p.labels())
+        self.node(place.labels())
             .rows_into(alloc, &mut Vec::new(alloc), &mut items)?;
         Ok(RowList { items })
     }

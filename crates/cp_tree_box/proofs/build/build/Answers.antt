@@ -7,7 +7,7 @@ pub unreachable-requires : goal.unreachable-requires
 unreachable-requires c = no_rows _ (no_length _ c.in-None.ensures.cases) c.requires
 
 pub loop-row-init : goal.loop-row-init
-loop-row-init c = begun_build _ _ _ c.in-Some.ensures.cases.0 c.requires _ _ c.leaf-root.ensures.alone c.in_ok-copy_content-in-Some.ensures
+loop-row-init c = begun_build _ _ _ c.in-Some.ensures.cases.0 c.requires _ _ c.leaf-root.ensures.tree c.in_ok-copy_content-in-Some.ensures
 
 pub add_row-requires-clause-deep : goal.add_row-requires-clause-deep
 add_row-requires-clause-deep c = row_deep _ _ _ c.in-Some.ensures.cases.0 c.requires c.loop-row.row-index c.row-item.result c.loop-row-test.true c.row-item.is

@@ -1,37 +1,37 @@
 use Rattle.std.proofs.Common.{◌∙◌, ap, ◌++◌}
 use Rattle.std.specs.Map.Iter.{deref_pair}
 use Rattle.std.proofs.lemmas.Map.Iter.{rest_more, rest_all}
-use Rattle.cp_tree_box.proofs.Copies.{copied, kids_fewer, still_fewer, sorted_as, good_copy, same_copy}
+use Rattle.cp_tree_box.proofs.Copies.{copied, children_fewer, still_fewer, sorted_as, good_copy, same_copy}
 use Rattle.cp_tree_box.proofs.node.BoxNode.+copy.Goals as goal
 
-pub loop-a-init : goal.loop-a-init
-loop-a-init t c = record {
-  all = ap (λ z. z ++ c.into_iter-a-iterator.result) c.new-kids.ensures.empty;
-  fewer = kids_fewer _ _ _ c.into_iter-a-iterator.result c.self.view_is c.self.invariant c.into_iter-a-iterator.ensures.into_iter_gives.0;
+pub loop-label-init : goal.loop-label-init
+loop-label-init t c = record {
+  all = ap (λ z. z ++ c.into_iter-label-iterator.result) c.new-children.ensures.empty;
+  fewer = children_fewer _ _ _ c.into_iter-label-iterator.result c.self.view_is c.self.invariant c.into_iter-label-iterator.ensures.into_iter_gives.0;
 }
 
-pub loop-a-preserved-in_ok-insert : goal.loop-a-preserved-in_ok-insert
-loop-a-preserved-in_ok-insert t c =
-    let more = rest_more deref_pair c.loop-a.a-iterator c.next.new.self c.next.result (c.in-Some.a, c.in-Some.kid) c.in-Some.is c.next.ensures.steps in
+pub loop-label-preserved-in_ok-insert : goal.loop-label-preserved-in_ok-insert
+loop-label-preserved-in_ok-insert t c =
+    let more = rest_more deref_pair c.loop-label.label-iterator c.next.new.self c.next.result (c.in-Some.label, c.in-Some.child) c.in-Some.is c.next.ensures.steps in
     record {
-      all = copied _ _ _ _ _ _ _ _ _ (sorted_as c.into_iter-a-iterator.ensures.into_iter_gives.0 c.self.invariant.sorted) c.loop-a.invariant.all more c.in_ok-clone.ensures.cases c.in_ok-copy.ensures c.in_ok-insert.ensures.entries;
-      fewer = still_fewer _ _ _ _ _ c.loop-a.invariant.fewer more;
+      all = copied _ _ _ _ _ _ _ _ _ (sorted_as c.into_iter-label-iterator.ensures.into_iter_gives.0 c.self.invariant.sorted) c.loop-label.invariant.all more c.in_ok-clone.ensures.cases c.in_ok-copy.ensures c.in_ok-insert.ensures.entries;
+      fewer = still_fewer _ _ _ _ _ c.loop-label.invariant.fewer more;
     }
 
-pub loop-a-preserved : goal.loop-a-preserved
-loop-a-preserved t c =
-    let more = rest_more deref_pair c.loop-a.a-iterator c.next.new.self c.next.result (c.in-Some.a, c.in-Some.kid) c.in-Some.is c.next.ensures.steps in
+pub loop-label-preserved : goal.loop-label-preserved
+loop-label-preserved t c =
+    let more = rest_more deref_pair c.loop-label.label-iterator c.next.new.self c.next.result (c.in-Some.label, c.in-Some.child) c.in-Some.is c.next.ensures.steps in
     record {
-      all = copied _ _ _ _ _ _ _ _ _ (sorted_as c.into_iter-a-iterator.ensures.into_iter_gives.0 c.self.invariant.sorted) c.loop-a.invariant.all more c.in_ok-clone.ensures.cases c.in_ok-copy.ensures c.in_ok-insert.ensures.entries;
-      fewer = still_fewer _ _ _ _ _ c.loop-a.invariant.fewer more;
+      all = copied _ _ _ _ _ _ _ _ _ (sorted_as c.into_iter-label-iterator.ensures.into_iter_gives.0 c.self.invariant.sorted) c.loop-label.invariant.all more c.in_ok-clone.ensures.cases c.in_ok-copy.ensures c.in_ok-insert.ensures.entries;
+      fewer = still_fewer _ _ _ _ _ c.loop-label.invariant.fewer more;
     }
 
 pub invariant_of-result : goal.invariant_of-result
 invariant_of-result t c =
-    let none = rest_all deref_pair c.loop-a.a-iterator c.next.new.self c.next.result c.in-None.is c.next.ensures.steps in
-    good_copy _ _ _ _ _ _ c.in_ok-content.ensures c.into_iter-a-iterator.ensures.into_iter_gives.0 none c.loop-a.invariant.all c.self.invariant
+    let none = rest_all deref_pair c.loop-label.label-iterator c.next.new.self c.next.result c.in-None.is c.next.ensures.steps in
+    good_copy _ _ _ _ _ _ c.in_ok-content.ensures c.into_iter-label-iterator.ensures.into_iter_gives.0 none c.loop-label.invariant.all c.self.invariant
 
 pub returns : goal.returns
 returns t c =
-    let none = rest_all deref_pair c.loop-a.a-iterator c.next.new.self c.next.result c.in-None.is c.next.ensures.steps in
-    same_copy _ _ _ _ _ _ c.in_ok-content.ensures c.into_iter-a-iterator.ensures.into_iter_gives.0 none c.loop-a.invariant.all ∙ c.self.view_is
+    let none = rest_all deref_pair c.loop-label.label-iterator c.next.new.self c.next.result c.in-None.is c.next.ensures.steps in
+    same_copy _ _ _ _ _ _ c.in_ok-content.ensures c.into_iter-label-iterator.ensures.into_iter_gives.0 none c.loop-label.invariant.all ∙ c.self.view_is

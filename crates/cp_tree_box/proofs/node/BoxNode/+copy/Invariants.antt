@@ -1,12 +1,12 @@
 use Rattle.std.proofs.Common.{◌≡◌, ◌++◌, ◌+◌, ◌≤◌}
 use Rattle.cp_model.specs.Keyed.{len}
-use Rattle.cp_tree.specs.Branch.{kids_len}
+use Rattle.cp_tree.specs.Branch.{children_len}
 use Rattle.cp_tree_box.proofs.node.BoxNode.+copy.Given as goal
 
-abbrev pub invariant-loop-a : goal.invariant-loop-a
-invariant-loop-a l = record {
-  all : l.kids.entries ++ l.a-iterator ≡ l.initial.a-iterator;
-  fewer : kids_len l.a-iterator + 1 ≤ len l.fn.self;
+abbrev pub invariant-loop-label : goal.invariant-loop-label
+invariant-loop-label l = record {
+  all : l.children.entries ++ l.label-iterator ≡ l.initial.label-iterator;
+  fewer : children_len l.label-iterator + 1 ≤ len l.fn.self;
 }
 
 abbrev pub decreases-copy : goal.decreases-copy

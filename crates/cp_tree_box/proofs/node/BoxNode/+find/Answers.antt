@@ -13,18 +13,18 @@ returns-in-None-clause-rooted t c = rooted_view _ _ _ c.self.view_is c.self.inva
 
 pub returns-in-Some-get-clause-there : goal.returns-in-Some-get-clause-there
 returns-in-Some-get-clause-there t c =
-    let below = sub_below c.args.self.now _ _ c.self.inside.kids.entries c.in-Some.a.now c.self.view_is c.self.invariant c.in-Some.rest.now _ (looked c.in-Some.a.now c.self.inside.kids.entries _ c.in-Some-get.ensures.value) in
+    let below = sub_below c.args.self.now _ _ c.self.inside.children.entries c.in-Some.first.now c.self.view_is c.self.invariant c.in-Some.rest.now _ (looked c.in-Some.first.now c.self.inside.children.entries _ c.in-Some-get.ensures.value) in
     rw (c.in-Some.ensures.cases.0, below) c.find.ensures.there
 
 pub returns-in-Some-get-clause-gone : goal.returns-in-Some-get-clause-gone
 returns-in-Some-get-clause-gone t c =
-    let below = get_below c.args.self.now _ _ c.self.inside.kids.entries c.in-Some.a.now c.self.view_is c.self.invariant c.in-Some.rest.now _ (looked c.in-Some.a.now c.self.inside.kids.entries _ c.in-Some-get.ensures.value) in
+    let below = get_below c.args.self.now _ _ c.self.inside.children.entries c.in-Some.first.now c.self.view_is c.self.invariant c.in-Some.rest.now _ (looked c.in-Some.first.now c.self.inside.children.entries _ c.in-Some-get.ensures.value) in
     rw (c.in-Some.ensures.cases.0, below) c.find.ensures.gone
 
 pub returns-in-None-get-clause-gone : goal.returns-in-None-get-clause-gone
 returns-in-None-get-clause-gone t c =
-    let none = looked c.in-Some.a.now c.self.inside.kids.entries _ c.in-None-get.ensures.value in
-    rw c.in-Some.ensures.cases.0 (get_nothing c.args.self.now _ _ c.self.inside.kids.entries c.in-Some.a.now c.self.view_is c.self.invariant c.in-Some.rest.now none)
+    let none = looked c.in-Some.first.now c.self.inside.children.entries _ c.in-None-get.ensures.value in
+    rw c.in-Some.ensures.cases.0 (get_nothing c.args.self.now _ _ c.self.inside.children.entries c.in-Some.first.now c.self.view_is c.self.invariant c.in-Some.rest.now none)
 
 pub returns-in-None-clause-whole : goal.returns-in-None-clause-whole
 returns-in-None-clause-whole t c = rooted_view _ _ _ c.self.view_is c.self.invariant

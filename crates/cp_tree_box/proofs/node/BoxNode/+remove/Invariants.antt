@@ -2,4 +2,4 @@ use Rattle.std.proofs.Common.{length}
 use Rattle.cp_tree_box.proofs.node.BoxNode.+remove.Given as goal
 
 abbrev pub decreases-remove : goal.decreases-remove
-decreases-remove l = length l.p.now
+decreases-remove l = length l.place.now

@@ -8,6 +8,6 @@ use Rattle.cp_tree_box.proofs.node.BoxNode.labels.Goals as goal
 
 pub returns : goal.returns
 returns c =
-    let none = rest_all deref_pair c.loop-a.a-iterator c.next.new.self c.next.result c.in-None.is c.next.ensures.steps in
-    sym (append-nil c.loop-a.labels.items) ∙ ap (λ z. c.loop-a.labels.items ++ keys_of z) (sym none) ∙ c.loop-a.invariant ∙ ap keys_of c.into_iter-a-iterator.ensures.into_iter_gives.0
-    ∙ sym (labels-branch c.args.self.now [] c.self.inside.content c.self.inside.kids.entries c.self.invariant (c.self.view_is ∙ sym (sub-root c.args.self.now)))
+    let none = rest_all deref_pair c.loop-label.label-iterator c.next.new.self c.next.result c.in-None.is c.next.ensures.steps in
+    sym (append-nil c.loop-label.labels.items) ∙ ap (λ z. c.loop-label.labels.items ++ keys_of z) (sym none) ∙ c.loop-label.invariant ∙ ap keys_of c.into_iter-label-iterator.ensures.into_iter_gives.0
+    ∙ sym (labels-branch c.args.self.now [] c.self.inside.content c.self.inside.children.entries c.self.invariant (c.self.view_is ∙ sym (sub-root c.args.self.now)))

@@ -1,7 +1,7 @@
 use Rattle.std.proofs.Common.{◌≡◌, ◌+◌}
-use Rattle.cp_tree.proofs.Totals.{kids_total}
-use Rattle.cp_tree_box.specs.Tallies.{Gauge, row_counts, kept}
+use Rattle.cp_tree.proofs.Totals.{children_total}
+use Rattle.cp_tree_box.specs.Tallies.{Gauge, row_counts, tally_counts}
 use Rattle.cp_tree_box.proofs.tally.Tally.+add.Given as goal
 
-abbrev pub invariant-loop-a : goal.invariant-loop-a
-invariant-loop-a l = (g : Gauge) → kept l.self g + kids_total (row_counts g l.at) l.a-iterator ≡ kept l.initial.self g + kids_total (row_counts g l.at) l.initial.a-iterator
+abbrev pub invariant-loop-label : goal.invariant-loop-label
+invariant-loop-label l = (g : Gauge) → tally_counts l.self g + children_total (row_counts g l.at) l.label-iterator ≡ tally_counts l.initial.self g + children_total (row_counts g l.at) l.initial.label-iterator

@@ -4,4 +4,4 @@ use Rattle.cp_tree_box.proofs.Wrapping.{got}
 use Rattle.cp_tree_box.proofs.tree.BoxTreeTreeRep.has_child.Goals as goal
 
 pub returns : goal.returns
-returns c = c.is_some.ensures ∙ got _ _ _ _ (ap (λ z. child z c.args.a.now) c.labels.ensures.labels) c.find_child.ensures.there c.find_child.ensures.rooted c.find_child.ensures.gone
+returns c = c.is_some.ensures ∙ got _ _ _ _ (ap (λ z. child z c.args.label.now) c.labels.ensures.labels) c.find_child.ensures.there c.find_child.ensures.rooted c.find_child.ensures.gone

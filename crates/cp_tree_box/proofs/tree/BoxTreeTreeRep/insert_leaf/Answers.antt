@@ -3,12 +3,12 @@ use Rattle.cp_model.specs.Place.{child}
 use Rattle.cp_tree_box.proofs.Wrapping.{fits_as, tried_as, leaf_rows}
 use Rattle.cp_tree_box.proofs.tree.BoxTreeTreeRep.insert_leaf.Goals as goal
 
-pub plant-requires-clause-fits : goal.plant-requires-clause-fits
-plant-requires-clause-fits c =
-    let rows = leaf_rows _ _ _ c.leaf-leaf.ensures.alone c.in_ok-copy_content.ensures in
-    fits_as _ _ _ _ _ (ap (λ z. child z c.args.a.now) c.labels.ensures.labels) rows c.requires.fits
+pub insert-requires-clause-fits : goal.insert-requires-clause-fits
+insert-requires-clause-fits c =
+    let rows = leaf_rows _ _ _ c.leaf-leaf.ensures.tree c.in_ok-copy_content.ensures in
+    fits_as _ _ _ _ _ (ap (λ z. child z c.args.label.now) c.labels.ensures.labels) rows c.requires.fits
 
 pub returns-clause-ok : goal.returns-clause-ok
 returns-clause-ok c =
-    let rows = leaf_rows _ _ _ c.leaf-leaf.ensures.alone c.in_ok-copy_content.ensures in
-    tried_as _ _ _ _ _ (ap (λ z. child z c.args.a.now) c.labels.ensures.labels) rows c.plant.result _ c.plant.ensures.ok
+    let rows = leaf_rows _ _ _ c.leaf-leaf.ensures.tree c.in_ok-copy_content.ensures in
+    tried_as _ _ _ _ _ (ap (λ z. child z c.args.label.now) c.labels.ensures.labels) rows c.insert.result _ c.insert.ensures.ok

@@ -3,11 +3,11 @@ use Rattle.cp_model.specs.Place.{child}
 use Rattle.cp_tree_box.proofs.Wrapping.{fits_as, tried_as, built_rows}
 use Rattle.cp_tree_box.proofs.tree.BoxTreeTreeRep.insert_rows.Goals as goal
 
-pub plant-requires-clause-fits : goal.plant-requires-clause-fits
-plant-requires-clause-fits c = fits_as _ _ _ _ _ (ap (λ z. child z c.args.a.now) c.labels.ensures.labels) (built_rows _ _ c.requires.rows c.in_ok-new.ensures).0 c.requires.fits
+pub insert-requires-clause-fits : goal.insert-requires-clause-fits
+insert-requires-clause-fits c = fits_as _ _ _ _ _ (ap (λ z. child z c.args.label.now) c.labels.ensures.labels) (built_rows _ _ c.requires.rows c.in_ok-new.ensures).0 c.requires.fits
 
-pub plant-requires-clause-rooted : goal.plant-requires-clause-rooted
-plant-requires-clause-rooted c = (built_rows _ _ c.requires.rows c.in_ok-new.ensures).1
+pub insert-requires-clause-rooted : goal.insert-requires-clause-rooted
+insert-requires-clause-rooted c = (built_rows _ _ c.requires.rows c.in_ok-new.ensures).1
 
 pub returns-clause-ok : goal.returns-clause-ok
-returns-clause-ok c = tried_as _ _ _ _ _ (ap (λ z. child z c.args.a.now) c.labels.ensures.labels) (built_rows _ _ c.requires.rows c.in_ok-new.ensures).0 c.plant.result _ c.plant.ensures.ok
+returns-clause-ok c = tried_as _ _ _ _ _ (ap (λ z. child z c.args.label.now) c.labels.ensures.labels) (built_rows _ _ c.requires.rows c.in_ok-new.ensures).0 c.insert.result _ c.insert.ensures.ok

@@ -7,7 +7,7 @@ pub returns-then-is_empty : goal.returns-then-is_empty
 returns-then-is_empty c =
     let r = c.reach.ensures in
     let s = c.args.self.now in
-    reach_whole _ c.args.p.now _ (search rules) (reach_kept s.tally s.root _ s.tallied r.nodes r.inner r.depth r.some_depth r.size r.some_size)
+    reach_whole _ c.args.place.now _ (search rules) (reach_kept s.tally s.root _ s.tallied r.nodes r.inner r.depth r.some_depth r.size r.some_size)
 
 pub reach_of-requires-clause-near : goal.reach_of-requires-clause-near
 reach_of-requires-clause-near c = sub_near _ c.args.self.now.tree _ _ c.node.ensures.at

@@ -1,7 +1,7 @@
 ghost use Rattle.std.specs.Prelude.{◌≡◌, ◌≤◌, ◌<◌, ◌+◌, max};
 ghost use Rattle.cp_model.specs.Keyed.{entries};
 ghost use Rattle.cp_tree.specs.Rows.{reach_of};
-ghost use Rattle.cp_tree_box.specs.Tallies.{AreNear, places, weighs, one, tree_counts, root_spot, IsStretched};
+ghost use Rattle.cp_tree_box.specs.Tallies.{AreNear, places, weighs, place_counts, tree_counts, root_spot, IsReachWith};
 
 use crate::count::text_bytes;
 use crate::node::BoxNode;
@@ -9,11 +9,11 @@ use crate::spot::Spot;
 use cp_model::{Content, PLACE_WEIGHT};
 use cp_tree::Reach;
 
-fn stretch_one(reach: &mut Reach, at: Spot, content: &Content)
+fn reach_place(reach: &mut Reach, at: Spot, content: &Content)
     requires nodes { reach.old.nodes < 4294967295 }
-    requires inner { reach.old.inner + one weighs at content.now ≤ 4294967295 }
+    requires inner { reach.old.inner + place_counts weighs at content.now ≤ 4294967295 }
     ensures nodes { reach.new.nodes ≡ reach.old.nodes + 1 }
-    ensures inner { reach.new.inner ≡ reach.old.inner + one weighs at content.now }
+    ensures inner { reach.new.inner ≡ reach.old.inner + place_counts weighs at content.now }
     ensures depth { reach.new.depth ≡ max reach.old.depth at.depth }
     ensures size { reach.new.size ≡ max reach.old.size at.size }
 {
@@ -24,15 +24,15 @@ fn stretch_one(reach: &mut Reach, at: Spot, content: &Content)
 }
 
 /// The reach with the places of a subtree that lies there. Costs their number.
-fn stretch(reach: &mut Reach, at: Spot, node: &BoxNode)
+fn reach_subtree(reach: &mut Reach, at: Spot, node: &BoxNode)
     requires near { AreNear at node.now }
     requires nodes { reach.old.nodes + tree_counts places at node.now ≤ 4294967295 }
     requires inner { reach.old.inner + tree_counts weighs at node.now ≤ 4294967295 }
-    ensures { IsStretched at node.now reach.old reach.new }
+    ensures { IsReachWith at node.now reach.old reach.new }
 {
-    stretch_one(reach, at, &node.content);
-    for (a, kid) in &node.kids {
-        stretch(reach, at.child(a), kid);
+    reach_place(reach, at, &node.content);
+    for (label, child) in &node.children {
+        reach_subtree(reach, at.child(label), child);
     }
 }
 
@@ -49,6 +49,6 @@ pub(crate) fn reach_of(node: &BoxNode) -> Reach
         depth: 0,
         size: 0,
     };
-    stretch(&mut reach, Spot::root(), node);
+    reach_subtree(&mut reach, Spot::root(), node);
     reach
 }

@@ -1,8 +1,0 @@
-use Rattle.std.proofs.Common.{rules}
-use Rattle.cp_tree_box.proofs.Testing.{subtree_fits}
-use Rattle.cp_tree_box.proofs.tests.graft_whole.Goals as goal
-
-pub graft-requires-clause-fits : goal.graft-requires-clause-fits
-graft-requires-clause-fits g c =
-    subtree_fits _ _ _ _ _ c.reach-reach.ensures c.args.tree.now.tree c.args.other.now.tree (search rules) (search rules) c.in_ok-room.ensures.nodes c.in_ok-room.ensures.weight
-    c.in_ok-room.ensures.depth c.in_ok-room.ensures.size c.in_ok-p.ensures.few c.in_ok-p.ensures.short c.in_ok-p.ensures.last
