@@ -1,7 +1,7 @@
 -- What the reading of words rests on: the scan's answers, and the text in quotation marks.
-use Rattle.std.proofs.Common.{◌≡◌, ℕ, List, [], ◌∷◌, Bool, true, false, ◌||◌, get_or, refl, ap, sym, ◌∙◌, rules, cond, append-nil, Some}
+use Rattle.std.proofs.Common.{◌≡◌, ◌==◌, ◌-◌, ◌++◌, ℕ, suc, List, [], ◌∷◌, length, length-append, slice_index, Bool, true, false, ◌||◌, get_or, refl, ap, sym, ◌∙◌, rules, arith, cond, subst, append-nil, Some, None}
 use Rattle.std.specs.Option.{option_and_then}
-use Rattle.json.specs.Print.{quoted, print, print_from, ArePrintable}
+use Rattle.json.specs.Print.{quoted, escape, print, print_from, ArePrintable}
 use Rattle.json.specs.Lex.{tokens}
 use Rattle.json.specs.Json as json
 use Rattle.json.specs.Token.{Token}
@@ -10,7 +10,9 @@ use Rattle.serde_json.specs.Data.{string}
 use Rattle.serde_json.specs.Read.{read, of_json, max_depth}
 use Rattle.cp_path.specs.Spelling.{is_trigger, has_trigger, label_word}
 use Rattle.cp_path.specs.Scan.{Accepts, StopsAt}
-use Rattle.cp_path.specs.Reading.{LabelSpelled, PlaceSpelled, IsBadAt}
+use Rattle.cp_path.specs.Reading.{LabelSpelled, PlaceSpelled, IsBadAt, SpellsString, is_in_quotes}
+use Rattle.cp_path.specs.Words.{string_reading}
+use Rattle.serde_json.specs.Find.{as_str}
 use Rattle.cp_path.specs.declared.scan.Part.TheVariants as part
 use Rattle.cp_path.specs.declared.scan.Spot.TheVariants as spot
 use Rattle.cp_path.proofs.Sound.{Spelt}
@@ -52,9 +54,26 @@ quoted_or_bare w (x ∷ r) e false t f =
     let first : x ≡ 34 = ap (λ v. get_or v 0 0) (sym same) ∙ f in
     let bad : true ≡ false = sym (ap (λ y. is_trigger y || has_trigger r) first) ∙ t in absurd (cc)
 
+last_of_quotes : (s : List ℕ) (x : ℕ) → get_or (s ++ x ∷ []) (length s) 0 ≡ x
+last_of_quotes [] x = refl
+last_of_quotes (y ∷ s) x = last_of_quotes s x
+
+last_mark : (s : List ℕ) → slice_index (quoted s) (length (quoted s) - 1) ≡ 34
+last_mark s =
+    let n : length (quoted s) - 1 ≡ suc (length (escape s)) = omega (arith, length-append (escape s) (34 ∷ [])) in
+    ap (λ k. slice_index (quoted s) k) n ∙ last_of_quotes (escape s) 34
+
+-- what stands in quotation marks is a JSON string of the text, with nothing round it
+pub quoted_spells : (s : List ℕ) → SpellsString (quoted s) s
+quoted_spells s = (ap (λ x. x == 34) (last_mark s), read_quoted s)
+
 -- behind a quotation mark stands a JSON string of the text
-pub quoted_word : (w r : List ℕ) → w ≡ label_word r → get_or w 0 0 ≡ 34 → read w ≡ Some (string r)
-quoted_word w r e f = ap read (quoted_or_bare w r e (has_trigger r) refl f) ∙ read_quoted r
+pub quoted_word : (w r : List ℕ) → w ≡ label_word r → get_or w 0 0 ≡ 34 → SpellsString w r
+quoted_word w r e f = subst (λ v. SpellsString v r) (sym (quoted_or_bare w r e (has_trigger r) refl f)) (quoted_spells r)
+
+-- a JSON string is read as its text
+pub string_reading_spelled : (w t : List ℕ) → SpellsString w t → string_reading w ≡ Some t
+string_reading_spelled w t h = ap (λ b. cond b (option_and_then as_str (read w)) None) h.0 ∙ ap (option_and_then as_str) h.1
 
 bare_or_quoted : (w r : List ℕ) → w ≡ label_word r → (b : Bool) → has_trigger r ≡ b → ¬ (get_or w 0 0 ≡ 34) → w ≡ r
 bare_or_quoted w [] e b t f = absurd (f (ap (λ v. get_or v 0 0) e))

@@ -17,9 +17,9 @@ use Rattle.cp_path.specs.Text.{text_eq}
 use Rattle.cp_path.proofs.Same.{text_eq-same}
 use Rattle.cp_path.specs.Whole.{IsWhole}
 use Rattle.cp_path.specs.Spelling.{is_trigger, has_trigger, whole_text, value_text}
-use Rattle.cp_path.specs.Reading.{IsNoWord, IsNoWhole, IsNoString, IsNoText, SpellsText, SpellsValue}
+use Rattle.cp_path.specs.Reading.{IsNoWord, IsNoWhole, IsNoString, IsNoText, SpellsString, SpellsText, SpellsValue, is_in_quotes}
 use Rattle.cp_path.specs.Words.{string_reading, word_reading, is_whole, whole_reading, text_reading, text_or_bad, whole_or, value_or, value_reading}
-use Rattle.cp_path.proofs.Accepted.{read_quoted}
+use Rattle.cp_path.proofs.Accepted.{quoted_spells, string_reading_spelled}
 use Rattle.cp_path.proofs.Runs.{all_below, below}
 use Rattle.cp_path.specs.Laws.{Shape, IsNoValue, IsWithin}
 use Rattle.cp_path.proofs.WordLaws.{quoted_shape}
@@ -136,7 +136,7 @@ no_whole w h = λ n fits e. not_both n (whole_reading w) (whole_reading_spelled 
 -- ---- texts
 
 pub string_reads_back : (t : List ℕ) → string_reading (quoted t) ≡ Some t
-string_reads_back t = ap (option_and_then as_str) (read_quoted t)
+string_reads_back t = string_reading_spelled (quoted t) t (quoted_spells t)
 
 as_string : (d : Data) (t : List ℕ) → as_str d ≡ Some t → d ≡ string t
 as_string data_of.null t e = absurd (cc)
@@ -146,34 +146,35 @@ as_string (data_of.string s) t e = ap string (some_value s t (Some s) refl e)
 as_string (data_of.array ds) t e = absurd (cc)
 as_string (data_of.object ms) t e = absurd (cc)
 
-pub string_read : (w t : List ℕ) → string_reading w ≡ Some t → read w ≡ Some (string t)
-string_read w t h = by (read w) refl h
+pub string_spells : (w t : List ℕ) → string_reading w ≡ Some t → SpellsString w t
+string_spells w t h = by (is_in_quotes w) refl h
   where
-    by : (o : Option Data) → read w ≡ o → option_and_then as_str o ≡ Some t → o ≡ Some (string t)
-    by None e k = absurd (cc)
-    by (Some d) e k = ap (λ v. Some v) (as_string d t k)
+    at : (o : Option Data) → option_and_then as_str o ≡ Some t → o ≡ Some (string t)
+    at None k = absurd (cc)
+    at (Some d) k = ap (λ v. Some v) (as_string d t k)
 
-pub string_reading_read : (w t : List ℕ) → read w ≡ Some (string t) → string_reading w ≡ Some t
-string_reading_read w t h = ap (option_and_then as_str) h
+    by : (b : Bool) → is_in_quotes w ≡ b → cond b (option_and_then as_str (read w)) None ≡ Some t → SpellsString w t
+    by true e k = (e, at (read w) k)
+    by false e k = absurd (cc)
 
 pub string_reading_none : (w : List ℕ) → IsNoString w → string_reading w ≡ None
 string_reading_none w h = by (string_reading w) refl
   where
     by : (o : Option (List ℕ)) → string_reading w ≡ o → o ≡ None
     by None e = refl
-    by (Some t) e = absurd (h t (string_read w t e))
+    by (Some t) e = absurd (h t (string_spells w t e))
 
 abbrev bounded : List ℕ → Option (List ℕ)
 bounded t = cond (nat_le (length t) TEXT_MAX) (Some t) None
 
 pub text_reading_spelled : (w t : List ℕ) → SpellsText w t → text_reading w ≡ Some t
-text_reading_spelled w t h = ap (option_and_then bounded) (string_reading_read w t h.0) ∙ rw (le-leb (length t) TEXT_MAX h.1) refl
+text_reading_spelled w t h = ap (option_and_then bounded) (string_reading_spelled w t h.0) ∙ rw (le-leb (length t) TEXT_MAX h.1) refl
 
 text_spells : (w t : List ℕ) → text_reading w ≡ Some t → SpellsText w t
 text_spells w t h = by (string_reading w) refl h
   where
     at : (s : List ℕ) → string_reading w ≡ Some s → (b : Bool) → nat_le (length s) TEXT_MAX ≡ b → cond b (Some s) None ≡ Some t → SpellsText w t
-    at s e true f k = subst (SpellsText w) (some_value s t (Some s) refl k) (string_read w s e, leb-true (length s) TEXT_MAX f)
+    at s e true f k = subst (SpellsText w) (some_value s t (Some s) refl k) (string_spells w s e, leb-true (length s) TEXT_MAX f)
     at s e false f k = absurd (cc)
 
     by : (o : Option (List ℕ)) → string_reading w ≡ o → option_and_then bounded o ≡ Some t → SpellsText w t
@@ -276,7 +277,7 @@ value_reads_back (Whole n) h =
 value_reads_back (Text t) h =
     let none : IsNoWhole (quoted t) = λ n fits e. let first = whole_first n fits in let same : 34 ≡ slice_index (whole_text n) 0 = ap (λ v. slice_index v 0) e in omega (arith, first.0) in
     value_reading_text (quoted t) (word_reading_none (quoted t) (no_letter (quoted t) (omega arith))) (whole_reading_none (quoted t) none)
-    ∙ ap text_or_bad (text_reading_spelled (quoted t) t (read_quoted t, h))
+    ∙ ap text_or_bad (text_reading_spelled (quoted t) t (quoted_spells t, h))
 
 -- two values are never spelled alike
 pub value_spelled_once : (u v : Value) → IsWithin u → IsWithin v → value_text u ≡ value_text v → u ≡ v

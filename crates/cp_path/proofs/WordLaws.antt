@@ -5,7 +5,6 @@ use Rattle.std.proofs.lemmas.Bool.{ltb-true, ltb-false, lt-ltb, eqb-true}
 use Rattle.std.proofs.lemmas.Bool.Decides.{nat_tests}
 use Rattle.std.specs.Option.{option_map, option_and_then, unwrap_or}
 use Rattle.json.specs.Print.{quoted}
-use Rattle.serde_json.specs.Find.{as_str}
 use Rattle.cp_path.specs.Text.{is_name}
 use Rattle.cp_path.specs.Place.{Label, size}
 use Rattle.cp_path.specs.Spelling.{escaped, raw_place, label_word, label_text, place_text, has_trigger}
@@ -20,7 +19,7 @@ use Rattle.cp_path.specs.declared.scan.Spot.{Spot}
 use Rattle.cp_path.specs.declared.scan.Spot.TheVariants as spot
 use Rattle.cp_path.proofs.Placed.{word_place}
 use Rattle.cp_path.proofs.PiecesLemmas.{pieces_of_label, pieces_of_place}
-use Rattle.cp_path.proofs.Accepted.{label_accepted, label_stopped, place_accepted, place_stopped, quoted_word, bare_text}
+use Rattle.cp_path.proofs.Accepted.{label_accepted, label_stopped, place_accepted, place_stopped, quoted_word, bare_text, string_reading_spelled}
 use Rattle.cp_path.specs.Laws.{IsSpelling, Shape}
 
 -- ---- the scan as a function
@@ -77,7 +76,7 @@ unquoted_spelling w r e = by (slice_index w 0 == 34) refl
   where
     by : (b : Bool) → (slice_index w 0 == 34) ≡ b → unquoted w ≡ r
     by true h =
-        ap (λ c. cond c (unwrap_or (string_reading w) []) w) h ∙ ap (λ o. unwrap_or (option_and_then as_str o) []) (quoted_word w r e (eqb-true (slice_index w 0) 34 h))
+        ap (λ c. cond c (unwrap_or (string_reading w) []) w) h ∙ ap (λ o. unwrap_or o []) (string_reading_spelled w r (quoted_word w r e (eqb-true (slice_index w 0) 34 h)))
     by false h = ap (λ c. cond c (unwrap_or (string_reading w) []) w) h ∙ bare_text w r e (λ k. let bad : true ≡ false = sym (ap (λ x. x == 34) k) ∙ h in cc)
 
 -- ---- places

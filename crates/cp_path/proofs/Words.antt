@@ -2,7 +2,8 @@
 use Rattle.cp_path.specs.declared.limits.TheConstants.{LABELS_MAX, LABEL_MAX, LOC_MAX}
 use Rattle.std.proofs.Common.{◌≡◌, ℕ, List, ◌∷◌, true, false, ap, sym, ◌∙◌, subst, Option, Some, None, Result, Ok, Err, MatchResult, MatchOption, IfOk, IfErr, ◌≤◌, length}
 use Rattle.cp_path.specs.Scan.{Accepts, StopsAt, place_from}
-use Rattle.cp_path.specs.Reading.{LabelSpelled, PlaceSpelled, SpellsPlace, IsBadAt, IsOver, PlaceFault, any_long}
+use Rattle.cp_path.specs.Answers.{Answers}
+use Rattle.cp_path.specs.Reading.{LabelSpelled, PlaceSpelled, SpellsPlace, IsBadAt, IsOver, PlaceFault, LabelFault, any_long}
 use Rattle.cp_path.specs.declared.loc.Loc.{Loc}
 use Rattle.cp_path.specs.declared.fault.PathFault.{PathFault}
 use Rattle.cp_path.specs.declared.fault.PathFault.TheVariants as fault
@@ -11,7 +12,7 @@ use Rattle.cp_path.specs.declared.scan.Spot.TheVariants as spot
 use Rattle.cp_path.specs.Place.{Label, size}
 use Rattle.cp_path.specs.Spelling.{label_text}
 use Rattle.cp_path.specs.Words.{place_reading, place_within, label_reading}
-use Rattle.cp_path.proofs.WordLaws.{place_reading_spelled, place_within_limits, label_reads_back}
+use Rattle.cp_path.proofs.WordLaws.{place_reading_spelled, place_within_limits, label_reads_back, label_fault_reading, place_fault_reading}
 use Rattle.cp_path.proofs.Accepted.{label_accepted, label_stopped, place_accepted, place_stopped}
 
 pub label_checked : (v w : List ℕ) (r : Result (Unit {0}) ℕ) → v ≡ w
@@ -51,6 +52,13 @@ place_made w ps v (Ok p) e h k m =
     let same : p ≡ h.0 = k.0 ∙ ap place_from (e ∙ h.2) in
     place_reading_spelled w h.0 h.1 ∙ ap place_within (sym same) ∙ place_within_limits p m.0 m.1 k.1
 
-pub label_made : (w : List ℕ) (r : Result Label PathFault) → IfOk r (λ a. label_text a ≡ w) → IfOk r (λ a. length a ≤ LABEL_MAX) → IfOk r (λ a. label_reading w ≡ Ok a)
-label_made w (Err f) h k = tt
-label_made w (Ok a) h k = subst (λ v. label_reading v ≡ Ok a) h (label_reads_back a k)
+-- what a word that spells a label is read as
+pub label_answers : (w : List ℕ) (r : Result Label PathFault) → IfOk r (λ a. label_text a ≡ w) → IfErr r (λ e. LabelFault e w) → IfOk r (λ a. length a ≤ LABEL_MAX)
+    → Answers fault.Memory (label_reading w) r
+label_answers w (Err f) h k s = label_fault_reading f w k
+label_answers w (Ok a) h k s = subst (λ v. label_reading v ≡ Ok a) h (label_reads_back a s)
+
+-- what a word that spells a place is read as
+pub place_answers : (w : List ℕ) (r : Result Loc PathFault) → IfOk r (λ q. place_reading w ≡ Ok q) → IfErr r (λ e. PlaceFault e w) → Answers fault.Memory (place_reading w) r
+place_answers w (Err f) h k = place_fault_reading f w k
+place_answers w (Ok q) h k = h

@@ -1,6 +1,6 @@
 -- What a word is read as: places, labels and values by their spellings, and how far a word goes before no spelling begins so.
 use Rattle.cp_path.specs.declared.limits.TheConstants.{LABELS_MAX, LABEL_MAX, LOC_MAX, TEXT_MAX}
-use Rattle.std.specs.Prelude.{ℕ, ℤ, Bool, true, false, nat_lt, ◌≡◌, ◌≤◌, ◌<◌, ◌++◌, take, List, codes, length, Some}
+use Rattle.std.specs.Prelude.{ℕ, ℤ, Bool, true, false, nat_lt, ◌&&◌, ◌==◌, ◌-◌, ◌≡◌, ◌≤◌, ◌<◌, ◌++◌, take, List, codes, length, slice_index, Some}
 use Rattle.serde_json.specs.Data.{string}
 use Rattle.serde_json.specs.Read.{read}
 use Rattle.cp_path.specs.Whole.{IsWhole}
@@ -76,11 +76,20 @@ IsNoWord w = ¬ (w ≡ codes "null") × ¬ (w ≡ codes "false") × ¬ (w ≡ co
 abbrev pub IsNoWhole : List ℕ → Type 0
 IsNoWhole w = (n : ℤ) → IsWhole n → ¬ (w ≡ whole_text n)
 
+-- the first byte is a quotation mark, and so is the last
+abbrev pub is_in_quotes : List ℕ → Bool
+is_in_quotes w = (slice_index w 0 == 34) && (slice_index w (length w - 1) == 34)
+
+-- the word is a JSON string of the text, with nothing round it
+abbrev pub SpellsString : List ℕ → List ℕ → Type 0
+SpellsString w t = (is_in_quotes w ≡ true) × (read w ≡ Some (string t))
+
+-- the word is a JSON string of the text, which is within its limit
 abbrev pub SpellsText : List ℕ → List ℕ → Type 0
-SpellsText w t = (read w ≡ Some (string t)) × (length t ≤ TEXT_MAX)
+SpellsText w t = SpellsString w t × (length t ≤ TEXT_MAX)
 
 abbrev pub IsNoString : List ℕ → Type 0
-IsNoString w = (t : List ℕ) → ¬ (read w ≡ Some (string t))
+IsNoString w = (t : List ℕ) → ¬ SpellsString w t
 
 abbrev pub IsNoText : List ℕ → Type 0
 IsNoText w = (t : List ℕ) → ¬ SpellsText w t

@@ -63,8 +63,7 @@ impl Loc {
             return Err(PathFault::PathTooLong);
         }
         let db = self.db.clone()?;
-        let mut path = self.path.clone()?;
-        path.push(a.clone()?)?;
+        let path = self.path.child(a)?;
         Ok(Loc { db, path })
     }
 }

@@ -67,10 +67,8 @@ impl Path {
         if self.labels.len() >= LABELS_MAX {
             return Err(PathFault::TooDeep);
         }
-        match self.labels.push(a) {
-            Ok(()) => Ok(()),
-            Err(_) => Err(PathFault::Memory),
-        }
+        self.labels.push(a)?;
+        Ok(())
     }
 
     /// The path one label further down. Costs its bytes.

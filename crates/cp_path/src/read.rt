@@ -1,4 +1,5 @@
 ghost use Rattle.std.specs.Prelude.{◌≡◌, ◌≤◌, ◌<◌, ◌⊎◌, ℕ, List, [], ◌∷◌, length, true, false, IfOk, IfErr, MatchResult, string_bytes};
+ghost use Rattle.cp_path.specs.Answers.{Answers};
 ghost use Rattle.cp_path.specs.Text.{is_name};
 ghost use Rattle.cp_path.specs.Place.{size};
 ghost use Rattle.cp_path.specs.Spelling.{label_word, label_text, place_text};
@@ -73,8 +74,7 @@ impl Label {
     pub fn read(alloc: Global, word: &str) -> Result<Label, PathFault>
         ensures value { IfOk result (λ a. label_text a ≡ word.now) }
         ensures fault { IfErr result (λ e. LabelFault e word.now) }
-        ensures reads { IfOk result (λ a. label_reading word.now ≡ Ok a) }
-        ensures refuses { IfErr result (λ e. (e ≡ PathFault.Memory) ⊎ (label_reading word.now ≡ Err e)) }
+        ensures answers { Answers PathFault.Memory (label_reading word.now) result }
     {
         match check_label(word) {
             Ok(()) => spelled_label(alloc, word),
@@ -133,8 +133,7 @@ impl Loc {
     pub fn read(alloc: Global, word: &str) -> Result<Loc, PathFault>
         ensures value { IfOk result (λ q. (place_text q ≡ word.now) × (size q ≤ LOC_MAX)) }
         ensures fault { IfErr result (λ e. PlaceFault e word.now) }
-        ensures reads { IfOk result (λ q. place_reading word.now ≡ Ok q) }
-        ensures refuses { IfErr result (λ e. (e ≡ PathFault.Memory) ⊎ (place_reading word.now ≡ Err e)) }
+        ensures answers { Answers PathFault.Memory (place_reading word.now) result }
     {
         match check_place(word) {
             Ok(()) => spelled_place(alloc, word),

@@ -3,7 +3,8 @@ ghost use Rattle.serde_json.specs.Data.{string};
 ghost use Rattle.serde_json.specs.Read.{read};
 ghost use Rattle.cp_path.specs.Whole.{IsWhole};
 ghost use Rattle.cp_path.specs.Spelling.{whole_text};
-ghost use Rattle.cp_path.specs.Reading.{SpellsValue, IsNoWord, IsNoWhole, IsNoString, IsNoText, SpellsText};
+ghost use Rattle.cp_path.specs.Answers.{Answers};
+ghost use Rattle.cp_path.specs.Reading.{SpellsValue, IsNoWord, IsNoWhole, IsNoString, IsNoText, SpellsString, SpellsText, is_in_quotes};
 ghost use Rattle.cp_path.specs.Words.{string_reading, word_reading, whole_reading, text_reading, value_reading};
 ghost use Rattle.cp_path.specs.declared.value.Value.{Value};
 
@@ -58,10 +59,25 @@ fn read_whole(alloc: Global, word: &str) -> Result<Option<Whole>, AllocError>
     }
 }
 
-/// The text of a JSON string. Costs the word's bytes.
-pub(crate) fn read_string(alloc: Global, word: &str) -> Result<Option<String>, AllocError>
-    ensures { IfOk result (λ o. MatchOption o (IsNoString word.now) (λ t. read word.now ≡ Some (string (string_bytes t)))) }
+/// Whether the word begins and ends with a quotation mark.
+fn is_in_quotes(word: &[u8]) -> bool
+    ensures { result ≡ is_in_quotes word.now }
 {
+    if word.is_empty() {
+        return false;
+    }
+    let begins = word[0] == b'"';
+    let ends = word[word.len() - 1] == b'"';
+    begins && ends
+}
+
+/// The text of the JSON string that the word is, with nothing round it. Costs the word's bytes.
+pub(crate) fn read_string(alloc: Global, word: &str) -> Result<Option<String>, AllocError>
+    ensures { IfOk result (λ o. MatchOption o (IsNoString word.now) (λ t. SpellsString word.now (string_bytes t))) }
+{
+    if !is_in_quotes(word.as_bytes()) {
+        return Ok(None);
+    }
     match serde_json::Value::from_str(alloc, word) {
         Ok(serde_json::Value::String(text)) => Ok(Some(text)),
         Ok(_) => Ok(None),
@@ -86,7 +102,7 @@ fn read_text(alloc: Global, word: &str) -> Result<Option<Text>, AllocError>
 }
 
 impl Text {
-    #[tactic(auto, using(crate::proofs::ValueLaws::string_reading_none, crate::proofs::ValueLaws::string_reading_read))]
+    #[tactic(auto, using(crate::proofs::ValueLaws::string_reading_none, crate::proofs::Accepted::string_reading_spelled))]
     /// The text of the JSON string that the word is, of any length. Costs the word's bytes.
     pub fn read(alloc: Global, word: &str) -> Result<Option<Text>, AllocError>
         ensures { IfOk result (λ o. o ≡ string_reading word.now) }
@@ -106,8 +122,7 @@ impl Value {
         ensures value { IfOk result (λ v. SpellsValue word.now v) }
         ensures bad { IfErr result (λ e. e ≡ PathFault.BadValue → (v : Value) → ¬ SpellsValue word.now v) }
         ensures faults { IfErr result (λ e. (e ≡ PathFault.BadValue) ⊎ (e ≡ PathFault.Memory)) }
-        ensures reads { IfOk result (λ v. value_reading word.now ≡ Ok v) }
-        ensures refuses { IfErr result (λ e. (e ≡ PathFault.Memory) ⊎ (value_reading word.now ≡ Err e)) }
+        ensures answers { Answers PathFault.Memory (value_reading word.now) result }
     {
         if let Some(value) = read_word(word) {
             return Ok(value);

@@ -8,7 +8,7 @@ use crate::loc::Loc;
 use crate::value::Value;
 use std::alloc::{AllocError, Global};
 
-/// Whether no unquoted word holds the byte: white space, a control byte, or one of `" ; { } : ,`.
+/// Whether no unquoted word holds the byte: the space and every byte below it, or one of `" ; { } : ,`.
 pub fn is_trigger(byte: u8) -> bool
     ensures { result ≡ is_trigger byte }
 {

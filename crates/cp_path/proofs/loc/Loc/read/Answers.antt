@@ -1,6 +1,10 @@
 use Rattle.std.proofs.Common.{inr}
 use Rattle.cp_path.proofs.WordLaws.{place_bad_at}
+use Rattle.cp_path.proofs.Words.{place_answers}
 use Rattle.cp_path.proofs.loc.Loc.read.Goals as goal
 
-pub returns-in-Err-clause-refuses : goal.returns-in-Err-clause-refuses
-returns-in-Err-clause-refuses c = inr (place_bad_at c.args.word.now c.in-Err.at c.in-Err.ensures)
+pub returns-in-Err-clause-answers : goal.returns-in-Err-clause-answers
+returns-in-Err-clause-answers c = inr (place_bad_at c.args.word.now c.in-Err.at c.in-Err.ensures)
+
+pub returns-in-Ok-clause-answers : goal.returns-in-Ok-clause-answers
+returns-in-Ok-clause-answers c = place_answers c.args.word.now c.spelled_place.result c.spelled_place.ensures.reads c.spelled_place.ensures.fault
