@@ -15,9 +15,9 @@ use std::{io, rt};
 /// nothing of its path: a test shows it.
 ///
 /// The empty name, and a name that opening tells is not there, are `Missing`. Running out of memory
-/// is `Memory`. Every other error is `Failed`, and is counted: a name with a NUL byte, a folder, a way
-/// that leads through a file, a file that may not be read. A read that a signal interrupts is tried
-/// again. The files are read as they stand, and nothing is held open between two calls.
+/// is `Memory`. Every other error is `Failed`, and is counted: a name with a NUL byte, a folder, a
+/// way that leads through a file, a file that may not be read. A read that a signal interrupts is
+/// tried again. The files are read as they stand, and nothing is held open between two calls.
 #[derive(Drop)]
 pub struct HostFiles<R> {
     runtime: R,
@@ -43,9 +43,12 @@ impl<R> HostFiles<R> {
         ensures refused { IsErr result }
         ensures reads { files_reads self.new ≡ files_reads self.old }
         ensures cause { Accounts BlamesFile (files_faults self.old) (files_faults self.new) result }
-        ensures failed { IsErrOf result FilesFault.Failed → files_faults self.new ≡ one_more (files_faults self.old) }
-        ensures memory { IsErrOf result FilesFault.Memory → files_faults self.new ≡ files_faults self.old }
-        ensures kind { IsErrOf result FilesFault.Memory ↔ error_kind error.now ≡ ErrorKind.OutOfMemory }
+        ensures failed { IsErrOf result FilesFault.Failed
+            → files_faults self.new ≡ one_more (files_faults self.old) }
+        ensures memory { IsErrOf result FilesFault.Memory
+            → files_faults self.new ≡ files_faults self.old }
+        ensures kind { IsErrOf result FilesFault.Memory
+            ↔ error_kind error.now ≡ ErrorKind.OutOfMemory }
     {
         if error.kind() == ErrorKind::OutOfMemory {
             return Err(FilesFault::Memory);
@@ -121,8 +124,10 @@ impl<R: rt::Files> Files for HostFiles<R> {
 
         // The empty name names nothing, and each failure is counted once.
         ensures nameless { name.now ≡ [] → result ≡ Ok FileEnd.Missing }
-        ensures failed { IsErrOf result FilesFault.Failed → files_faults self.new ≡ one_more (files_faults self.old) }
-        ensures memory { IsErrOf result FilesFault.Memory → files_faults self.new ≡ files_faults self.old }
+        ensures failed { IsErrOf result FilesFault.Failed
+            → files_faults self.new ≡ one_more (files_faults self.old) }
+        ensures memory { IsErrOf result FilesFault.Memory
+            → files_faults self.new ≡ files_faults self.old }
     {
         self.reads = self.reads.saturating_add(1);
         match read_named(&self.runtime, name, limit, into) {

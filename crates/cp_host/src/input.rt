@@ -53,7 +53,8 @@ impl<R: Read> Source for StdinSource<R> {
     fn read(&mut self, into: &mut [u8]) -> Result<usize, Failed>
         requires { 0 < length into.old }
         ensures bound { ReadsAtMost result into.new }
-        ensures bytes { ReadConsumes (R.remaining (source_inner self.old)) (R.remaining (source_inner self.new)) result into.new }
+        ensures bytes { ReadConsumes (R.remaining (source_inner self.old))
+            (R.remaining (source_inner self.new)) result into.new }
         ensures counted { CountsBytes (source_given self.old) (source_given self.new) result }
         ensures cause { Accounts AnyError (source_faults self.old) (source_faults self.new) result }
 

@@ -37,12 +37,14 @@ impl<W: Write> Sink for StdoutSink<W> {
     fn write(&mut self, bytes: &[u8]) -> Result<usize, SinkFault>
         requires { 0 < length bytes.now }
         ensures some { TakesSome result bytes.now }
-        ensures bytes { WriteAppends (W.contents (sink_inner self.old)) (W.contents (sink_inner self.new)) result bytes.now }
+        ensures bytes { WriteAppends (W.contents (sink_inner self.old)) (W.contents (sink_inner self.new))
+            result bytes.now }
         ensures cause { Accounts BlamesOutput (sink_faults self.old) (sink_faults self.new) result }
         ensures refused { Accounts AnyError (sink_faults self.old) (sink_faults self.new) result }
 
         // Each refusal is a failure, and is counted once.
-        ensures failed { IfErr result (λ e. (e ≡ SinkFault.Failed) × (sink_faults self.new ≡ one_more (sink_faults self.old))) }
+        ensures failed { IfErr result (λ e. (e ≡ SinkFault.Failed)
+            × (sink_faults self.new ≡ one_more (sink_faults self.old))) }
     {
         match self.inner.write(bytes) {
             Ok(count) if 0 < count => Ok(count),

@@ -71,7 +71,8 @@ pub trait Files {
         limit: u64,
         into: &mut Vec<u8>,
     ) -> Result<FileEnd, FilesFault>
-        ensures read { IfOk result (λ end. ReadsFile (found self.old) name.now limit into.new.items end) }
+        ensures read { IfOk result (λ end.
+            ReadsFile (found self.old) name.now limit into.new.items end) }
         ensures same { found self.new ≡ found self.old }
         ensures counted { reads self.new ≡ one_more (reads self.old) }
         ensures cause { Accounts BlamesFile (faults self.old) (faults self.new) result };

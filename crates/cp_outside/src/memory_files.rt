@@ -133,14 +133,16 @@ impl Files for MemFiles {
         limit: u64,
         into: &mut Vec<u8>,
     ) -> Result<FileEnd, FilesFault>
-        ensures read { IfOk result (λ end. ReadsFile (Some (named self.old.files)) name.now limit into.new.items end) }
+        ensures read { IfOk result (λ end.
+            ReadsFile (Some (named self.old.files)) name.now limit into.new.items end) }
         ensures same { Some (named self.new.files) ≡ Some (named self.old.files) }
         ensures counted { self.new.calls ≡ one_more self.old.calls }
         ensures cause { Accounts BlamesFile self.old.faults self.new.faults result }
 
         // The reads that the list names fail, and the others give what the name names, where there
         // is memory.
-        ensures listed { IsErrOf result FilesFault.Failed ↔ Contains self.old.fails (one_more self.old.calls) }
+        ensures listed { IsErrOf result FilesFault.Failed
+            ↔ Contains self.old.fails (one_more self.old.calls) }
         ensures ends { IfOk result (EndsAs (named self.old.files name.now) limit into.new.items) }
         ensures done { OnOk result (self.new ≡ after_file self.old) }
         ensures failed { IsErrOf result FilesFault.Failed → self.new ≡ after_failed_file self.old }

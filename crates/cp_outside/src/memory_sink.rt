@@ -76,7 +76,8 @@ impl Sink for MemSink {
         ensures refused { Accounts AnyError self.old.refusals self.new.refusals result }
 
         // The writes that the list names fail, and the others take all, where there is memory.
-        ensures listed { IsErrOf result SinkFault.Failed ↔ Contains self.old.fails (one_more self.old.calls) }
+        ensures listed { IsErrOf result SinkFault.Failed
+            ↔ Contains self.old.fails (one_more self.old.calls) }
         ensures count { IfOk result (λ n. n ≡ length bytes.now) }
         ensures taken { OnOk result (self.new ≡ after_write self.old bytes.now) }
         ensures failed { IsErrOf result SinkFault.Failed → self.new ≡ after_failed_write self.old }

@@ -11,7 +11,7 @@ use crate::source::Source;
 use std::alloc::{AllocError, Global};
 use std::marker::Model;
 
-/// A source over bytes of its own, which tells what is left and how many it gave. The reads whose numbers a list names
+/// A source over bytes of its own, which tells what is left. The reads whose numbers a list names
 /// fail, and no others do.
 #[derive(Drop)]
 pub struct MemSource {

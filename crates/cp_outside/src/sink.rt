@@ -66,7 +66,8 @@ pub trait Sink {
 /// refuses. After an error a front part of the bytes was taken, which may be none of them.
 pub fn write_all<O: Sink>(output: &mut O, bytes: &[u8]) -> Result<(), SinkFault>
     ensures all { OnOk result (Appends (O.contents output.old) (O.contents output.new) bytes.now) }
-    ensures part { OnErr result (TakesPart (O.contents output.old) (O.contents output.new) bytes.now) }
+    ensures part { OnErr result
+        (TakesPart (O.contents output.old) (O.contents output.new) bytes.now) }
     ensures cause { Accounts BlamesOutput (O.faults output.old) (O.faults output.new) result }
     ensures refused { Accounts AnyError (O.refusals output.old) (O.refusals output.new) result }
 {

@@ -3,7 +3,7 @@ use cp_path::{Bytes, Text};
 use std::alloc::AllocError;
 use std::test::*;
 
-// What the contracts leave open: that a call with ample memory answers, and the texts of the faults.
+// What the contracts leave open: that a call answers where there is memory, and what faults print.
 
 #[test]
 fn bytes_are_read(rt: HostRuntime) -> Result<(), Fail> {
