@@ -1,2 +1,2 @@
-pub mod Named
-pub mod KnownBytes
+mod Named
+mod WritesInTurn
