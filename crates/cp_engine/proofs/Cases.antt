@@ -12,7 +12,8 @@ use Rattle.cp_model.specs.Place.{Label, Path, child, below_place, in_target}
 use Rattle.cp_model.specs.Subtrees.{below, is_there, replaced}
 use Rattle.cp_model.specs.Literals.{literal_rows}
 use Rattle.cp_engine.specs.Reaching.{copied_cases}
-use Rattle.cp_model.specs.Tree.{Tree, Source, refusal, cases_of, changed, first_case, at_node, reaches_over, limits_of, origin_there, taken, database}
+use Rattle.cp_model.specs.Cases.{first_case}
+use Rattle.cp_model.specs.Tree.{Tree, Source, refusal, cases_of, changed, at_node, reaches_over, limits_of, origin_there, taken, database}
 
 -- the first case of more cases is that of the first ones, if one of them applies
 first-of : (xs ys : List (Bool × Refusal)) (r : Refusal) → first_case xs ≡ Some r → first_case (xs ++ ys) ≡ Some r

@@ -27,7 +27,8 @@ use Rattle.cp_model.proofs.Weights.{weight-moved, weight-put, weight-swapped}
 use Rattle.cp_model.proofs.Accepted.{none_is}
 use Rattle.cp_model.proofs.Kept.{closed-tree}
 use Rattle.cp_model.proofs.Rooted.{rows-literal}
-use Rattle.cp_model.specs.Tree.{Tree, IsTree, first_case, limits_of, reaches_over, weight, weight_of}
+use Rattle.cp_model.specs.Cases.{first_case}
+use Rattle.cp_model.specs.Tree.{Tree, IsTree, limits_of, reaches_over, weight, weight_of}
 use Rattle.cp_tree.specs.Rows.{path_size, greatest, reach_of, reach_at}
 use Rattle.cp_tree.specs.declared.reach.Reach.{Reach}
 use Rattle.cp_engine.proofs.RowsAloneLemmas.{root-below}

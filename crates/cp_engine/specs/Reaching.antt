@@ -6,7 +6,8 @@ use Rattle.std.specs.declared.option.Option.{Option}
 use Rattle.cp_path.specs.declared.loc.Loc.{Loc}
 use Rattle.cp_model.specs.Place.{Label, Path, size}
 use Rattle.cp_model.specs.Subtrees.{below, is_there, replaced}
-use Rattle.cp_model.specs.Tree.{Tree, first_case, limits_of, reaches_over}
+use Rattle.cp_model.specs.Cases.{first_case}
+use Rattle.cp_model.specs.Tree.{Tree, limits_of, reaches_over}
 use Rattle.cp_model.specs.Literals.{literal_rows, rows_under}
 use Rattle.cp_model.specs.declared.literal.Literal.{Literal}
 use Rattle.cp_model.specs.declared.refusal.Refusal.{Refusal}

@@ -1,6 +1,7 @@
 ghost use Rattle.std.specs.Prelude.{◌≡◌, true, ◌≤◌, ◌<◌, ◌+◌, ◌^◌, List, length};
 ghost use Rattle.cp_model.specs.Subtrees.{is_there};
-ghost use Rattle.cp_model.specs.Tree.{Source, refusal, first_case, at_node, text_bytes};
+ghost use Rattle.cp_model.specs.Cases.{first_case};
+ghost use Rattle.cp_model.specs.Tree.{Source, refusal, at_node, text_bytes};
 ghost use Rattle.cp_model.specs.History.{IsWritten, IsLiteral};
 ghost use Rattle.cp_model.specs.Literals.{literal_rows};
 ghost use Rattle.cp_model.specs.declared.op.Op.TheVariants.{Ins, Del, Copy};

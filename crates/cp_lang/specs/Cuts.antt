@@ -28,9 +28,13 @@ pub record Scan : Type 0 where
 abbrev pub scan_start : Scan
 scan_start = record { text = []; mode = Outside }
 
--- white space alone is no statement, however long; any other text is cut out, or too long
+-- white space alone is no statement, however long; any other text is a cut of this sort, or too long
+abbrev pub cut_by : (List ℕ → Cut) → List ℕ → List Cut
+cut_by sort text = if is_blank text then [] else (if nat_lt STATEMENT_MAX (length text) then TooLong ∷ [] else sort text ∷ [])
+
+-- a text that a semicolon ends
 abbrev pub cut_of : List ℕ → List Cut
-cut_of text = if is_blank text then [] else (if nat_lt STATEMENT_MAX (length text) then TooLong ∷ [] else Text text ∷ [])
+cut_of text = cut_by Text text
 
 -- what bytes bring: the cuts that end in them, and where the scan stands then
 pub record Scanned : Type 0 where
@@ -54,7 +58,7 @@ scanned s (b ∷ bs) = scan_on (scan_byte s b) (λ t. scanned t bs)
 
 -- what is left at the end of the input
 abbrev pub rest_of : Scan → List Cut
-rest_of s = if is_blank s.text then [] else (if nat_lt STATEMENT_MAX (length s.text) then TooLong ∷ [] else Unfinished s.text ∷ [])
+rest_of s = cut_by Unfinished s.text
 
 -- the cuts that end in these bytes
 abbrev pub cuts_in : List ℕ → List Cut

@@ -12,10 +12,11 @@ use Rattle.cp_model.specs.declared.op.Op.TheVariants.{Ins, Del, Copy}
 use Rattle.cp_model.specs.declared.refusal.Refusal.{Refusal}
 use Rattle.cp_model.specs.declared.refusal.Refusal.TheVariants.{TooDeep}
 use Rattle.cp_model.specs.Place.{Label, child, in_target, below_place}
+use Rattle.cp_model.specs.Cases.{first_case}
 use Rattle.cp_model.specs.Keyed as keyed
 use Rattle.cp_model.specs.Subtrees.{is_there, below, replaced}
 use Rattle.cp_model.specs.Literals.{literal_rows}
-use Rattle.cp_model.specs.Tree.{Tree, Source, database, taken, refusal, cases_of, changed, first_case, is_node, reaches_over, limits_of, origin_there, IsWithin}
+use Rattle.cp_model.specs.Tree.{Tree, Source, database, taken, refusal, cases_of, changed, is_node, reaches_over, limits_of, origin_there, IsWithin}
 
 -- no case applies
 abbrev pub AllFail : List (Bool × Refusal) → Type 0

@@ -16,6 +16,7 @@ use Rattle.cp_model.specs.Step.{Working, step, Outcome, done, refused, is_done}
 use Rattle.cp_model.specs.Past.{AgedTree, settle, tree_of, aged}
 use Rattle.cp_model.specs.Rows.{Mark, I, C, D, K, full_rows, reduced_rows, Reading, read_full, read_reduced}
 use Rattle.cp_model.specs.declared.row.Content.{Content}
+use Rattle.cp_model.specs.declared.answer.LogLine.{LogLine}
 use Rattle.cp_model.specs.declared.kind.Kind.{Kind}
 use Rattle.cp_model.specs.declared.kind.Kind.TheVariants as kind
 use Rattle.cp_model.specs.declared.op.Op.{Op}
@@ -124,6 +125,24 @@ then_entry (Some s) (commit stamp ops) = Some (after_commit s ops)
 -- the state that a history leads to; none where it is empty
 unfoldable pub replay : List Entry → Option State
 replay h = fold then_entry None h
+
+-- ---- the log
+
+-- the line of a commit after the Tid t: its first and last Tid, its stamp, and the number of its operations
+abbrev pub log_line : Kind → ℕ → Stamp → List Op → LogLine
+log_line k t stamp ops =
+    record { low = t + 1; high = t + length (steps_of k ops); curator = stamp.curator; moment = stamp.moment; operations = length ops }
+
+-- the lines of the commits among these entries, in a history of kind k whose last Tid before them is t
+abbrev pub log_after : Kind → ℕ → List Entry → List LogLine
+log_after k t [] = []
+log_after k t (start j tree ∷ es) = log_after j 0 es
+log_after k t (load n tree ∷ es) = log_after k t es
+log_after k t (commit stamp ops ∷ es) = log_line k t stamp ops ∷ log_after k (t + length (steps_of k ops)) es
+
+-- the log of a history; before its start entry it has no commits
+abbrev pub log_of : List Entry → List LogLine
+log_of h = log_after kind.N 0 h
 
 -- ---- legal histories
 

@@ -1,4 +1,5 @@
 pub mod Place
+pub mod Cases
 pub mod Keyed
 pub mod Codes
 pub mod Literals

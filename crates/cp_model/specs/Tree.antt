@@ -6,6 +6,7 @@ use Rattle.std.specs.List.{list_any}
 use Rattle.std.specs.declared.option.Option.{Option}
 use Rattle.std.specs.declared.option.Option.TheVariants.{None, Some}
 use Rattle.cp_model.specs.Place.{Label, Path, at_target, in_target, label_eq, child, below_place, over_limit}
+use Rattle.cp_model.specs.Cases.{first_case}
 use Rattle.cp_model.specs.Keyed as keyed
 use Rattle.cp_model.specs.Keyed.{Keyed}
 use Rattle.cp_model.specs.Subtrees.{below, without, replaced, is_there}
@@ -100,11 +101,6 @@ changed ss t (Ins p a l) = replaced (child p.path a) (literal_rows l) t
 changed ss t (Del a p) = without (child p.path a) t
 changed ss t (Copy q p) = replaced p.path (taken (database ss t q) q.path) t
 
--- the first case that applies is the refusal
-abbrev pub first_case : List (Bool × Refusal) → Option Refusal
-first_case [] = None
-first_case (c ∷ cs) = if c.0 then Some c.1 else first_case cs
-
 -- some place of the subtree would be over a limit of places when it stands at p
 abbrev pub reaches_over : {X : Type 0} → Loc → List (Path × X) → Bool
 reaches_over p es = list_any (λ e. over_limit (below_place p e.0)) es
@@ -126,12 +122,16 @@ origin_there (Some t) q = (not (is_there t q), NoOrigin) ∷ []
 unfoldable pub cases_of : List Source → Tree → Op → List (Bool × Refusal)
 cases_of ss t (Ins p a l) =
     at_node t p
-    ++ (is_there t (child p.path a), LabelThere) ∷ (reaches_over (below_place p (a ∷ [])) (literal_rows l), TooDeep) ∷ limits_of (changed ss t (Ins p a l))
-cases_of ss t (Del a p) = at_node t p ++ (not (is_there t (child p.path a)), NoLabel) ∷ []
+    ++ ((is_there t (child p.path a), LabelThere)
+    ∷ (reaches_over (below_place p (a ∷ [])) (literal_rows l), TooDeep)
+    ∷ limits_of (changed ss t (Ins p a l)))
+cases_of ss t (Del a p) = at_node t p ++ ((not (is_there t (child p.path a)), NoLabel) ∷ [])
 cases_of ss t (Copy q p) =
-    (not (in_target p), ReadOnly) ∷ (not (is_there t p.path), NoPlace) ∷ []
-    ++ origin_there (database ss t q) q.path
-    ++ (reaches_over p (taken (database ss t q) q.path), TooDeep) ∷ limits_of (changed ss t (Copy q p))
+    (not (in_target p), ReadOnly)
+    ∷ (not (is_there t p.path), NoPlace)
+    ∷ (origin_there (database ss t q) q.path
+    ++ ((reaches_over p (taken (database ss t q) q.path), TooDeep)
+    ∷ limits_of (changed ss t (Copy q p))))
 
 -- why the operation is refused, if it is
 unfoldable pub refusal : List Source → Tree → Op → Option Refusal

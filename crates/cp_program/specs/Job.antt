@@ -72,7 +72,7 @@ reading text = read_as text (bytes_reading text)
 
 -- the whole language is read, and sources are loaded from these files
 abbrev pub setting : FileTable → Setting
-setting files = record { read = reading; fetch = fetch files; fits = λ stamp ops records. true; has_room = λ n t. true; curator = [] }
+setting files = record { read = reading; fetch = fetch files; fits = λ history stamp ops records. true; has_room = λ history n t. true; curator = [] }
 
 -- a root alone
 abbrev pub empty_tree : Tree

@@ -174,8 +174,8 @@ setting =
     record {
       read = λ _. unread (why.Syntax 0);
       fetch = λ l. file_named l.file;
-      fits = λ _ _ _. true;
-      has_room = λ _ _. true;
+      fits = λ _ _ _ _. true;
+      has_room = λ _ _ _. true;
       curator = [];
     }
 

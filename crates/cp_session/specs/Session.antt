@@ -53,10 +53,10 @@ pub data Fetched : Type 0 where
 pub record Setting : Type 0 where
   pub read : List ℕ → Reading
   pub fetch : Load → Fetched
-  -- the entry of these operations and records is within the limit of an entry's bytes
-  pub fits : Stamp → List Op → List Record → Bool
-  -- the store has room for this source
-  pub has_room : List ℕ → Tree → Bool
+  -- after this history an entry of these operations and records is within the limits of an entry's bytes and the file's
+  pub fits : List Entry → Stamp → List Op → List Record → Bool
+  -- after this history the file has room for an entry of this source
+  pub has_room : List Entry → List ℕ → Tree → Bool
   pub curator : Label
 
 -- ---- states
@@ -101,41 +101,41 @@ with_entry s e = record { history = s.history ++ e ∷ []; opened = s.opened; mo
 
 -- ---- operations
 
--- the place and the label that a refusal names
+-- what is refused of the label a at the place p: what a reply names
+abbrev pub why_label_refused : Loc → Label → Refusal → Why
+why_label_refused p a refusal.NoPlace = why.NoPlace p
+why_label_refused p a refusal.LabelThere = why.LabelThere a p
+why_label_refused p a refusal.NoLabel = why.NoLabel a p
+why_label_refused p a refusal.NotANode = why.NotANode p
+why_label_refused p a refusal.ReadOnly = why.ReadOnly p
+why_label_refused p a refusal.TooDeep = why.TooDeep
+why_label_refused p a refusal.TooMany = why.TooMany
+why_label_refused p a refusal.TooBig = why.TooBig
+why_label_refused p a refusal.TooManyOps = why.TooManyOps
+-- neither an insertion nor a deletion is refused so
+why_label_refused p a refusal.NoSource = why.NoSource p.db
+why_label_refused p a refusal.NoOrigin = why.NoOrigin p
+
+-- what is refused of a copy of the place q into p
+abbrev pub why_copy_refused : Loc → Loc → Refusal → Why
+why_copy_refused q p refusal.NoPlace = why.NoPlace p
+why_copy_refused q p refusal.ReadOnly = why.ReadOnly p
+why_copy_refused q p refusal.NoSource = why.NoSource q.db
+why_copy_refused q p refusal.NoOrigin = why.NoOrigin q
+why_copy_refused q p refusal.TooDeep = why.TooDeep
+why_copy_refused q p refusal.TooMany = why.TooMany
+why_copy_refused q p refusal.TooBig = why.TooBig
+why_copy_refused q p refusal.TooManyOps = why.TooManyOps
+-- no copy is refused so
+why_copy_refused q p refusal.LabelThere = why.NoPlace p
+why_copy_refused q p refusal.NoLabel = why.NoPlace p
+why_copy_refused q p refusal.NotANode = why.NotANode p
+
+-- the place and the label that the refusal of an operation names
 abbrev pub why_refused : Op → Refusal → Why
-why_refused (Ins p a l) refusal.NoPlace = why.NoPlace p
-why_refused (Ins p a l) refusal.LabelThere = why.LabelThere a p
-why_refused (Ins p a l) refusal.NoLabel = why.NoLabel a p
-why_refused (Ins p a l) refusal.NotANode = why.NotANode p
-why_refused (Ins p a l) refusal.ReadOnly = why.ReadOnly p
-why_refused (Ins p a l) refusal.NoSource = why.NoSource p.db
-why_refused (Ins p a l) refusal.NoOrigin = why.NoOrigin p
-why_refused (Ins p a l) refusal.TooDeep = why.TooDeep
-why_refused (Ins p a l) refusal.TooMany = why.TooMany
-why_refused (Ins p a l) refusal.TooBig = why.TooBig
-why_refused (Ins p a l) refusal.TooManyOps = why.TooManyOps
-why_refused (Del a p) refusal.NoPlace = why.NoPlace p
-why_refused (Del a p) refusal.LabelThere = why.LabelThere a p
-why_refused (Del a p) refusal.NoLabel = why.NoLabel a p
-why_refused (Del a p) refusal.NotANode = why.NotANode p
-why_refused (Del a p) refusal.ReadOnly = why.ReadOnly p
-why_refused (Del a p) refusal.NoSource = why.NoSource p.db
-why_refused (Del a p) refusal.NoOrigin = why.NoOrigin p
-why_refused (Del a p) refusal.TooDeep = why.TooDeep
-why_refused (Del a p) refusal.TooMany = why.TooMany
-why_refused (Del a p) refusal.TooBig = why.TooBig
-why_refused (Del a p) refusal.TooManyOps = why.TooManyOps
-why_refused (Copy q p) refusal.NoPlace = why.NoPlace p
-why_refused (Copy q p) refusal.LabelThere = why.NoPlace p
-why_refused (Copy q p) refusal.NoLabel = why.NoPlace p
-why_refused (Copy q p) refusal.NotANode = why.NotANode p
-why_refused (Copy q p) refusal.ReadOnly = why.ReadOnly p
-why_refused (Copy q p) refusal.NoSource = why.NoSource q.db
-why_refused (Copy q p) refusal.NoOrigin = why.NoOrigin q
-why_refused (Copy q p) refusal.TooDeep = why.TooDeep
-why_refused (Copy q p) refusal.TooMany = why.TooMany
-why_refused (Copy q p) refusal.TooBig = why.TooBig
-why_refused (Copy q p) refusal.TooManyOps = why.TooManyOps
+why_refused (Ins p a l) r = why_label_refused p a r
+why_refused (Del a p) r = why_label_refused p a r
+why_refused (Copy q p) r = why_copy_refused q p r
 
 -- the refusal of an operation on the working tree of the operations so far, if there is one
 abbrev pub refusal_on : State → Outcome → Op → Option Refusal
@@ -194,7 +194,7 @@ stamp_of c s = record { curator = c.curator; moment = next_moment s.moments }
 -- the Tids of the commit, unless its entry is too large
 abbrev pub committed : Setting → Session → State → List Op → Turn
 committed c s t ops =
-    if c.fits (stamp_of c s) ops (new_records t (after_commit t ops))
+    if c.fits s.history (stamp_of c s) ops (new_records t (after_commit t ops))
     then replies (reply.Committed (t.now + 1) (t.now + length (steps_of t.kind ops))) (with_entry (after_moment s) (commit (stamp_of c s) ops))
     else replies (reply.Refused of.Commit why.TransactionTooLarge) (after_moment s)
 
@@ -226,7 +226,7 @@ is_closed (failed n c) = false
 abbrev pub fetched : Setting → Session → List ℕ → Fetched → Turn
 fetched c s n (withholds w) = refused_load w s
 fetched c s n (gives t) =
-    if c.has_room n t then replies (reply.Loaded n (keyed.len t)) (with_entry s (load n t)) else refused_load why.StoreTooLarge s
+    if c.has_room s.history n t then replies (reply.Loaded n (keyed.len t)) (with_entry s (load n t)) else refused_load why.StoreTooLarge s
 
 -- the refusals of load in their order
 abbrev pub loading : Setting → Session → State → Load → Turn
