@@ -3,7 +3,7 @@ use Rattle.cp_path.specs.declared.limits.TheConstants.{LABELS_MAX, LABEL_MAX, LO
 use Rattle.std.proofs.Common.{◌≡◌, ℕ, List, ◌∷◌, true, false, ap, sym, ◌∙◌, subst, Option, Some, None, Result, Ok, Err, MatchResult, MatchOption, IfOk, IfErr, ◌≤◌, length}
 use Rattle.cp_path.specs.Scan.{Accepts, StopsAt, place_from}
 use Rattle.cp_path.specs.Answers.{Answers}
-use Rattle.cp_path.specs.Reading.{LabelSpelled, PlaceSpelled, SpellsPlace, IsBadAt, IsOver, PlaceFault, LabelFault, any_long}
+use Rattle.cp_path.specs.Reading.{IsLabelSpelling, IsPlaceSpelling, SpellsPlace, IsBadAt, IsOver, PlaceFault, LabelFault, any_long}
 use Rattle.cp_path.specs.declared.loc.Loc.{Loc}
 use Rattle.cp_path.specs.declared.fault.PathFault.{PathFault}
 use Rattle.cp_path.specs.declared.fault.PathFault.TheVariants as fault
@@ -17,13 +17,13 @@ use Rattle.cp_path.proofs.Accepted.{label_accepted, label_stopped, place_accepte
 
 pub label_checked : (v w : List ℕ) (r : Result (Unit {0}) ℕ) → v ≡ w
     → MatchResult r (λ _. Accepts false (spot.Start part.Empty) v) (λ at. StopsAt false (spot.Start part.Empty) v at)
-    → MatchResult r (λ _. LabelSpelled w) (λ at. IsBadAt LabelSpelled w at)
+    → MatchResult r (λ _. IsLabelSpelling w) (λ at. IsBadAt IsLabelSpelling w at)
 label_checked v w (Ok u) e h = label_accepted w (subst (Accepts false (spot.Start part.Empty)) e h)
 label_checked v w (Err at) e h = label_stopped w at (subst (λ a. StopsAt false (spot.Start part.Empty) a at) e h)
 
 pub place_checked : (v w : List ℕ) (r : Result (Unit {0}) ℕ) → v ≡ w
     → MatchResult r (λ _. Accepts true (spot.Start part.Begin) v) (λ at. StopsAt true (spot.Start part.Begin) v at)
-    → MatchResult r (λ _. PlaceSpelled w) (λ at. IsBadAt PlaceSpelled w at)
+    → MatchResult r (λ _. IsPlaceSpelling w) (λ at. IsBadAt IsPlaceSpelling w at)
 place_checked v w (Ok u) e h = place_accepted w (subst (Accepts true (spot.Start part.Begin)) e h)
 place_checked v w (Err at) e h = place_stopped w at (subst (λ a. StopsAt true (spot.Start part.Begin) a at) e h)
 

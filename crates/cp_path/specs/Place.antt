@@ -92,8 +92,8 @@ abbrev pub parent_place : Loc → Option Loc
 parent_place q = option_map (λ p. record { db = q.db; path = p }) (parent q.path)
 
 -- where p lies once all of old lies at to
-abbrev pub moved : Loc → Loc → Loc → Loc
-moved p old to = below_place to (unwrap_or (strip old.path p.path) [])
+abbrev pub moved_place : Loc → Loc → Loc → Loc
+moved_place p old to = below_place to (unwrap_or (strip old.path p.path) [])
 
 -- the last label, and the empty one at the root
 abbrev pub last_label : Path → Label

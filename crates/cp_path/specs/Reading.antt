@@ -23,19 +23,19 @@ abbrev pub IsBadAt : (List ℕ → Type 0) → List ℕ → ℕ → Type 0
 IsBadAt Spells w at = ¬ Spells w × (at ≤ length w) × Begins Spells (take at w) × ((n : ℕ) → at < n → n ≤ length w → ¬ Begins Spells (take n w))
 
 -- the word is the spelling of a label of any bytes, where it stands alone
-abbrev pub LabelSpelled : List ℕ → Type 0
-LabelSpelled w = (a : Label) × (w ≡ label_text a)
+abbrev pub IsLabelSpelling : List ℕ → Type 0
+IsLabelSpelling w = (a : Label) × (w ≡ label_text a)
 
 -- the word spells the place, whose labels are of any bytes
 abbrev pub SpellsPlace : List ℕ → Loc → Type 0
 SpellsPlace w q = (is_name q.db ≡ true) × (w ≡ place_text q)
 
-abbrev pub PlaceSpelled : List ℕ → Type 0
-PlaceSpelled w = (q : Loc) × SpellsPlace w q
+abbrev pub IsPlaceSpelling : List ℕ → Type 0
+IsPlaceSpelling w = (q : Loc) × SpellsPlace w q
 
 -- why a word is read as no label: it is no spelling, or that of too long a label
 abbrev pub LabelFault : PathFault → List ℕ → Type 0
-LabelFault (fault.BadEscape at) w = IsBadAt LabelSpelled w at
+LabelFault (fault.BadEscape at) w = IsBadAt IsLabelSpelling w at
 LabelFault fault.LabelTooLong w = (a : Label) × (w ≡ label_text a) × (LABEL_MAX < length a)
 LabelFault fault.TooDeep w = ⊥
 LabelFault fault.PathTooLong w = ⊥
@@ -61,7 +61,7 @@ SpellsOver e w = (q : Loc) × SpellsPlace w q × IsOver e q
 
 -- why a word is read as no place: it is no spelling, or that of a place over a limit
 abbrev pub PlaceFault : PathFault → List ℕ → Type 0
-PlaceFault (fault.BadEscape at) w = IsBadAt PlaceSpelled w at
+PlaceFault (fault.BadEscape at) w = IsBadAt IsPlaceSpelling w at
 PlaceFault fault.LabelTooLong w = SpellsOver fault.LabelTooLong w
 PlaceFault fault.TooDeep w = SpellsOver fault.TooDeep w
 PlaceFault fault.PathTooLong w = SpellsOver fault.PathTooLong w

@@ -43,11 +43,11 @@ part_step deep part.Empty x = label_step deep x
 part_step deep part.Label x = label_step deep x
 part_step deep part.Tilde x = if (x == 48) || (x == 49) then Some part.Label else None
 
-abbrev pub bare : Bool → Part → ℕ → Option Spot
-bare deep p x = if is_trigger x then None else option_map spot.Bare (part_step deep p x)
+abbrev pub bare_step : Bool → Part → ℕ → Option Spot
+bare_step deep p x = if is_trigger x then None else option_map spot.Bare (part_step deep p x)
 
-abbrev pub inside : Bool → Part → Bool → ℕ → Option Spot
-inside deep p t x =
+abbrev pub quoted_step : Bool → Part → Bool → ℕ → Option Spot
+quoted_step deep p t x =
     if x == 34 then (if closes p t then Some spot.Ended else None)
     else (if x == 92 then (if is_label p then Some (spot.Backslash t) else None)
     else (if nat_lt x 32 then None else option_map (λ q. spot.Quoted q (t || is_trigger x)) (part_step deep p x)))
@@ -79,9 +79,9 @@ unicode_step spot.Ended x = None
 
 -- one byte of the word
 abbrev pub step : Bool → Spot → ℕ → Option Spot
-step deep (spot.Start p) x = if x == 34 then Some (spot.Quoted p false) else bare deep p x
-step deep (spot.Bare p) x = bare deep p x
-step deep (spot.Quoted p t) x = inside deep p t x
+step deep (spot.Start p) x = if x == 34 then Some (spot.Quoted p false) else bare_step deep p x
+step deep (spot.Bare p) x = bare_step deep p x
+step deep (spot.Quoted p t) x = quoted_step deep p t x
 step deep (spot.Backslash t) x = escape_step t x
 step deep spot.Unicode x = unicode_step spot.Unicode x
 step deep spot.Zero x = unicode_step spot.Zero x
@@ -119,8 +119,8 @@ pieces t a [] = a ∷ []
 pieces true a (x ∷ w) = pieces false (a ++ (if x == 48 then 126 else (if x == 49 then 47 else x)) ∷ []) w
 pieces false a (x ∷ w) = if x == 126 then pieces true a w else (if x == 47 then a ∷ pieces false [] w else pieces false (a ++ x ∷ []) w)
 
-abbrev pub unescaped : ℕ → ℕ
-unescaped x = if x == 48 then 126 else (if x == 49 then 47 else x)
+abbrev pub unescaped_byte : ℕ → ℕ
+unescaped_byte x = if x == 48 then 126 else (if x == 49 then 47 else x)
 
 -- the place whose name is the first piece, and whose labels are the others
 abbrev pub place_from : List (List ℕ) → Loc

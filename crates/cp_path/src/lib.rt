@@ -7,16 +7,13 @@ mod limits;
 mod loc;
 mod name;
 mod path;
-mod read;
-mod read_value;
-mod relate;
 mod scan;
+mod spelling;
 mod split;
 mod stated;
 mod text;
 mod value;
 mod whole;
-mod write;
 
 pub use fault::PathFault;
 pub use label::Label;
@@ -28,7 +25,7 @@ pub use stated::laws;
 pub use text::{Bytes, Text};
 pub use value::Value;
 pub use whole::Whole;
-pub use write::is_trigger;
+pub use spelling::is_trigger;
 
 #[cfg(test)]
 mod tests;

@@ -1,10 +1,10 @@
 ghost use Rattle.std.specs.Prelude.{◌≡◌, ◌&&◌, ◌||◌, ◌==◌, ◌<◌, Some, None, Ok, Err, nat_le, nat_lt, true, false, take, length, MatchResult};
 ghost use Rattle.cp_path.specs.Text.{is_letter, is_name_byte};
-ghost use Rattle.cp_path.specs.Scan.{part_step, step, is_label, closes, accepts, ends_low, ends_high, bare, inside, escape_step, unicode_step, StopsAt, Accepts};
+ghost use Rattle.cp_path.specs.Scan.{part_step, step, is_label, closes, accepts, ends_low, ends_high, bare_step, quoted_step, escape_step, unicode_step, StopsAt, Accepts};
 
 use crate::limits::NAME_MAX;
 use crate::name::{is_letter, is_name_byte};
-use crate::write::is_trigger;
+use crate::spelling::is_trigger;
 
 /// Where a scan stands in the text that a word spells.
 #[derive(Clone, Copy)]
@@ -99,8 +99,8 @@ fn part_step(deep: bool, part: Part, byte: u8) -> Option<Part>
     }
 }
 
-fn bare(deep: bool, part: Part, byte: u8) -> Option<Spot>
-    ensures { result ≡ bare deep part byte }
+fn bare_step(deep: bool, part: Part, byte: u8) -> Option<Spot>
+    ensures { result ≡ bare_step deep part byte }
 {
     if is_trigger(byte) {
         return None;
@@ -111,8 +111,8 @@ fn bare(deep: bool, part: Part, byte: u8) -> Option<Spot>
     }
 }
 
-fn inside(deep: bool, part: Part, has_trigger: bool, byte: u8) -> Option<Spot>
-    ensures { result ≡ inside deep part has_trigger byte }
+fn quoted_step(deep: bool, part: Part, has_trigger: bool, byte: u8) -> Option<Spot>
+    ensures { result ≡ quoted_step deep part has_trigger byte }
 {
     if byte == b'"' {
         return if closes(part, has_trigger) {
@@ -186,11 +186,11 @@ fn step(deep: bool, spot: Spot, byte: u8) -> Option<Spot>
             if byte == b'"' {
                 Some(Spot::Quoted(part, false))
             } else {
-                bare(deep, part, byte)
+                bare_step(deep, part, byte)
             }
         }
-        Spot::Bare(part) => bare(deep, part, byte),
-        Spot::Quoted(part, has_trigger) => inside(deep, part, has_trigger, byte),
+        Spot::Bare(part) => bare_step(deep, part, byte),
+        Spot::Quoted(part, has_trigger) => quoted_step(deep, part, has_trigger, byte),
         Spot::Backslash(has_trigger) => escape_step(has_trigger, byte),
         _ => unicode_step(spot, byte),
     }
