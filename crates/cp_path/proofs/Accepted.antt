@@ -10,7 +10,7 @@ use Rattle.serde_json.specs.Data.{string}
 use Rattle.serde_json.specs.Read.{read, of_json, max_depth}
 use Rattle.cp_path.specs.Spelling.{is_trigger, has_trigger, label_word}
 use Rattle.cp_path.specs.Scan.{Accepts, StopsAt}
-use Rattle.cp_path.specs.Reading.{IsLabelSpelling, IsPlaceSpelling, IsBadAt, SpellsString, is_in_quotes}
+use Rattle.cp_path.specs.Reading.{IsLabelSpelling, IsPlaceSpelling, IsBadAt, SpellsString}
 use Rattle.cp_path.specs.Words.{string_reading}
 use Rattle.serde_json.specs.Find.{as_str}
 use Rattle.cp_path.specs.declared.scan.Part.TheVariants as part

@@ -153,7 +153,7 @@ over_within fault.BadValue q h = absurd h
 over_within fault.BadName q h = absurd h
 over_within fault.Memory q h = inl refl
 
-over_fault : (e : PathFault) (q : Loc) (w : List ℕ) → SpellsPlace w q → IsOver e q → PlaceFault e w
+pub over_fault : (e : PathFault) (q : Loc) (w : List ℕ) → SpellsPlace w q → IsOver e q → PlaceFault e w
 over_fault (fault.BadEscape at) q w s o = absurd o
 over_fault fault.LabelTooLong q w s o = (q, s, o)
 over_fault fault.TooDeep q w s o = (q, s, o)

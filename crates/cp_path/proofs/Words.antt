@@ -12,7 +12,7 @@ use Rattle.cp_path.specs.declared.scan.Spot.TheVariants as spot
 use Rattle.cp_path.specs.Place.{Label, size}
 use Rattle.cp_path.specs.Spelling.{label_text}
 use Rattle.cp_path.specs.Words.{place_reading, place_within, label_reading}
-use Rattle.cp_path.proofs.WordLaws.{place_reading_spelled, place_within_limits, label_reads_back, label_fault_reading, place_fault_reading}
+use Rattle.cp_path.proofs.WordLaws.{place_reading_spelled, place_within_limits, label_reads_back, label_fault_reading, place_fault_reading, over_fault}
 use Rattle.cp_path.proofs.Accepted.{label_accepted, label_stopped, place_accepted, place_stopped}
 
 pub label_checked : (v w : List ℕ) (r : Result (Unit {0}) ℕ) → v ≡ w
@@ -30,15 +30,6 @@ place_checked v w (Err at) e h = place_stopped w at (subst (λ a. StopsAt true (
 pub no_text : {S : Type 0} (o : Option S) (P : Type 0) (Q : S → Type 0) → o ≡ None → MatchOption o P Q → P
 no_text None P Q e h = h
 no_text (Some s) P Q e h = absurd (cc)
-
-over_fault : (e : PathFault) (q : Loc) (w : List ℕ) → SpellsPlace w q → IsOver e q → PlaceFault e w
-over_fault (fault.BadEscape at) q w s o = absurd o
-over_fault fault.LabelTooLong q w s o = (q, s, o)
-over_fault fault.TooDeep q w s o = (q, s, o)
-over_fault fault.PathTooLong q w s o = (q, s, o)
-over_fault fault.BadValue q w s o = o
-over_fault fault.BadName q w s o = o
-over_fault fault.Memory q w s o = o
 
 pub place_fault : {X : Type 0} (r : Result X PathFault) (ps v : List (List ℕ)) (w : List ℕ) → ps ≡ v → (q : Loc) × SpellsPlace w q × (v ≡ q.db ∷ q.path)
     → IfErr r (λ e. IsOver e (place_from ps)) → IfErr r (λ e. PlaceFault e w)

@@ -30,6 +30,7 @@ IsLabelSpelling w = (a : Label) × (w ≡ label_text a)
 abbrev pub SpellsPlace : List ℕ → Loc → Type 0
 SpellsPlace w q = (is_name q.db ≡ true) × (w ≡ place_text q)
 
+-- the word is the spelling of a place with labels of any bytes
 abbrev pub IsPlaceSpelling : List ℕ → Type 0
 IsPlaceSpelling w = (q : Loc) × SpellsPlace w q
 
@@ -43,6 +44,7 @@ LabelFault fault.BadValue w = ⊥
 LabelFault fault.BadName w = ⊥
 LabelFault fault.Memory w = Unit {0}
 
+-- some label is longer than a label may be
 abbrev pub any_long : Path → Bool
 any_long path = list_any (λ a. nat_lt LABEL_MAX (length a)) path
 
@@ -56,6 +58,7 @@ IsOver fault.BadValue q = ⊥
 IsOver fault.BadName q = ⊥
 IsOver fault.Memory q = Unit {0}
 
+-- the word spells a place that is over this limit
 abbrev pub SpellsOver : PathFault → List ℕ → Type 0
 SpellsOver e w = (q : Loc) × SpellsPlace w q × IsOver e q
 
@@ -73,6 +76,7 @@ PlaceFault fault.Memory w = Unit {0}
 abbrev pub IsNoWord : List ℕ → Type 0
 IsNoWord w = ¬ (w ≡ codes "null") × ¬ (w ≡ codes "false") × ¬ (w ≡ codes "true")
 
+-- the word is the spelling of no whole number
 abbrev pub IsNoWhole : List ℕ → Type 0
 IsNoWhole w = (n : ℤ) → IsWhole n → ¬ (w ≡ whole_text n)
 
@@ -88,9 +92,11 @@ SpellsString w t = (is_in_quotes w ≡ true) × (read w ≡ Some (string t))
 abbrev pub SpellsText : List ℕ → List ℕ → Type 0
 SpellsText w t = SpellsString w t × (length t ≤ TEXT_MAX)
 
+-- the word is a JSON string of no text
 abbrev pub IsNoString : List ℕ → Type 0
 IsNoString w = (t : List ℕ) → ¬ SpellsString w t
 
+-- the word is a JSON string of no text within its limit
 abbrev pub IsNoText : List ℕ → Type 0
 IsNoText w = (t : List ℕ) → ¬ SpellsText w t
 

@@ -13,7 +13,7 @@ use crate::text::Text;
 use std::alloc::{AllocError, Global};
 use std::marker::Model;
 
-/// The name of an edge: any text of at most 255 bytes, the empty one included.
+/// The name of an edge: any text of at most [`LABEL_MAX`] bytes, the empty one included.
 #[derive(Clone, PartialEq, Eq, PartialOrd, Ord, Hash, Drop)]
 pub struct Label {
     text: Text,
@@ -91,12 +91,14 @@ impl Label {
     }
 }
 
+/// Whether the word is a label's spelling, or else the length of its longest beginning that some begins with.
 fn check_label(word: &str) -> Result<(), usize>
     ensures { MatchResult result (λ _. IsLabelSpelling word.now) (λ at. IsBadAt IsLabelSpelling word.now at) }
 {
     scan(false, Part::Empty, word.as_bytes())
 }
 
+/// The label that the word is the spelling of.
 fn spelled_label(alloc: Global, word: &str) -> Result<Label, PathFault>
     requires { IsLabelSpelling word.now }
     ensures value { IfOk result (λ a. label_text a ≡ word.now) }

@@ -19,7 +19,7 @@ use crate::split::pieces_of;
 use crate::text::Text;
 use std::alloc::{AllocError, Global};
 
-/// A place of a database. Places compare by name, then label by label, and a place comes before those below it.
+/// A place of a database. Places are ordered by name, then label by label, and a place comes before those below it.
 #[derive(Clone, PartialEq, Eq, PartialOrd, Ord, Drop)]
 pub struct Loc {
     pub db: Name,
@@ -185,13 +185,14 @@ fn bytes_of(labels: &[Label]) -> u32
     total
 }
 
+/// Whether the word is a place's spelling, or else the length of its longest beginning that some begins with.
 fn check_place(word: &str) -> Result<(), usize>
     ensures { MatchResult result (λ _. IsPlaceSpelling word.now) (λ at. IsBadAt IsPlaceSpelling word.now at) }
 {
     scan(true, Part::Begin, word.as_bytes())
 }
 
-/// `LabelTooLong` where one of them is.
+/// The pieces as labels, or `LabelTooLong` where one of them is too long.
 fn labels_of(alloc: Global, pieces: &[Text]) -> Result<Vec<Label>, PathFault>
     ensures value { IfOk result (λ v. v.items ≡ pieces.now) }
     ensures short { IfOk result (λ _. any_long pieces.now ≡ false) }
@@ -224,6 +225,7 @@ fn place_of(alloc: Global, pieces: &[Text]) -> Result<Loc, PathFault>
     Ok(place)
 }
 
+/// The place that the word is the spelling of, unless it is over a limit.
 fn spelled_place(alloc: Global, word: &str) -> Result<Loc, PathFault>
     requires { IsPlaceSpelling word.now }
     ensures value { IfOk result (λ q. (place_text q ≡ word.now) × (size q ≤ LOC_MAX)) }

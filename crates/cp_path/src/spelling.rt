@@ -9,13 +9,7 @@ use std::alloc::{AllocError, Global};
 pub fn is_trigger(byte: u8) -> bool
     ensures { result ≡ is_trigger byte }
 {
-    byte <= b' '
-        || byte == b'"'
-        || byte == b';'
-        || byte == b'{'
-        || byte == b'}'
-        || byte == b':'
-        || byte == b','
+    byte <= b' ' || matches!(byte, b'"' | b';' | b'{' | b'}' | b':' | b',')
 }
 
 /// Whether some byte makes the word be quoted.

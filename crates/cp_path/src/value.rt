@@ -20,7 +20,7 @@ pub enum Value {
     False,
     True,
     Whole(Whole),
-    /// A text of at most 1,048,576 bytes where it stands in a tree.
+    /// A text, of at most [`TEXT_MAX`] bytes where it stands in a tree.
     Text(Text),
 }
 
@@ -74,6 +74,7 @@ impl Value {
     }
 }
 
+/// The value that is one of the three words.
 #[tactic(auto, using(crate::proofs::ValueLaws::word_reading_none))]
 fn read_word(word: &str) -> Option<Value>
     ensures spells { MatchOption result (IsNoWord word.now) (λ v. SpellsValue word.now v) }
@@ -100,7 +101,7 @@ fn parse_whole(word: &str) -> Option<Whole>
     }
 }
 
-/// A number is written in one way, so a word that reads as one is its spelling where it is written so.
+/// The number that the word is the spelling of. A number is written in one way, so it is written to compare.
 #[tactic(auto, using(crate::proofs::ValueLaws::whole_reading_none, crate::proofs::ValueLaws::whole_reading_spelled))]
 fn read_whole(alloc: Global, word: &str) -> Result<Option<Whole>, AllocError>
     ensures spells { IfOk result (λ o. MatchOption o (IsNoWhole word.now) (λ n. word.now ≡ whole_text n)) }
@@ -117,6 +118,7 @@ fn read_whole(alloc: Global, word: &str) -> Result<Option<Whole>, AllocError>
     }
 }
 
+/// The text of the JSON string that the word is, within the limit of a text value.
 #[tactic(auto, using(crate::proofs::ValueLaws::text_reading_none, crate::proofs::ValueLaws::text_reading_spelled))]
 fn read_text(alloc: Global, word: &str) -> Result<Option<Text>, AllocError>
     ensures spells { IfOk result (λ o. MatchOption o (IsNoText word.now) (λ t. SpellsText word.now t)) }
