@@ -10,7 +10,7 @@ use Rattle.serde_json.specs.Data.{string}
 use Rattle.serde_json.specs.Read.{read, of_json, max_depth}
 use Rattle.cp_path.specs.Spelling.{is_trigger, has_trigger, label_word}
 use Rattle.cp_path.specs.Scan.{Accepts, StopsAt}
-use Rattle.cp_path.specs.Reading.{LabelSpelled, PlaceSpelled, IsBadAt, SpellsString, is_in_quotes}
+use Rattle.cp_path.specs.Reading.{IsLabelSpelling, IsPlaceSpelling, IsBadAt, SpellsString}
 use Rattle.cp_path.specs.Words.{string_reading}
 use Rattle.serde_json.specs.Find.{as_str}
 use Rattle.cp_path.specs.declared.scan.Part.TheVariants as part
@@ -20,17 +20,17 @@ use Rattle.cp_path.proofs.Complete.{stops, goes_through, bad_by}
 use Rattle.cp_path.proofs.Spelled.{label_spelled, spelled_label}
 use Rattle.cp_path.proofs.Placed.{place_spelled, spelled_place}
 
-pub label_accepted : (w : List ℕ) → Accepts false (spot.Start part.Empty) w → LabelSpelled w
+pub label_accepted : (w : List ℕ) → Accepts false (spot.Start part.Empty) w → IsLabelSpelling w
 label_accepted w h = label_spelled w (goes_through false part.Empty w h.0 h.1 h.2)
 
-pub label_stopped : (w : List ℕ) (at : ℕ) → StopsAt false (spot.Start part.Empty) w at → IsBadAt LabelSpelled w at
-label_stopped w at h = bad_by (Spelt false part.Empty) LabelSpelled w at label_spelled spelled_label (stops false part.Empty w at refl h)
+pub label_stopped : (w : List ℕ) (at : ℕ) → StopsAt false (spot.Start part.Empty) w at → IsBadAt IsLabelSpelling w at
+label_stopped w at h = bad_by (Spelt false part.Empty) IsLabelSpelling w at label_spelled spelled_label (stops false part.Empty w at refl h)
 
-pub place_accepted : (w : List ℕ) → Accepts true (spot.Start part.Begin) w → PlaceSpelled w
+pub place_accepted : (w : List ℕ) → Accepts true (spot.Start part.Begin) w → IsPlaceSpelling w
 place_accepted w h = place_spelled w (goes_through true part.Begin w h.0 h.1 h.2)
 
-pub place_stopped : (w : List ℕ) (at : ℕ) → StopsAt true (spot.Start part.Begin) w at → IsBadAt PlaceSpelled w at
-place_stopped w at h = bad_by (Spelt true part.Begin) PlaceSpelled w at place_spelled spelled_place (stops true part.Begin w at refl h)
+pub place_stopped : (w : List ℕ) (at : ℕ) → StopsAt true (spot.Start part.Begin) w at → IsBadAt IsPlaceSpelling w at
+place_stopped w at h = bad_by (Spelt true part.Begin) IsPlaceSpelling w at place_spelled spelled_place (stops true part.Begin w at refl h)
 
 printed_string : (s : List ℕ) → print (Token.string s ∷ []) ≡ quoted s
 unfolding print_from

@@ -9,7 +9,7 @@ use Rattle.std.specs.List.{slice_get}
 use Rattle.json.specs.Print.{escape_byte, escape, quoted}
 use Rattle.cp_path.specs.Text.{is_letter, is_name_byte}
 use Rattle.cp_path.specs.Spelling.{is_trigger, has_trigger, label_word}
-use Rattle.cp_path.specs.Scan.{part_step, step, run, bare, is_label, closes, ends, accepts, StopsAt}
+use Rattle.cp_path.specs.Scan.{part_step, step, run, bare_step, is_label, closes, ends, accepts, StopsAt}
 use Rattle.cp_path.proofs.ScanLemmas.{part_run}
 use Rattle.cp_path.specs.Reading.{Begins, IsBadAt}
 use Rattle.cp_path.specs.declared.scan.Part.{Part}
@@ -171,7 +171,7 @@ cond_no false m n e = refl
 bare_through : (d : Bool) (s p : Part) (x : ℕ) (r : List ℕ) → part_run d s (x ∷ r) ≡ Some p → ends p ≡ true → has_trigger (x ∷ r) ≡ false → Through d s (x ∷ r)
 bare_through d s p x r e h t = (
   spot.Bare p,
-  ap (λ o. option_and_then (λ u. run d u r) o) (cond_no (x == 34) (Some (spot.Quoted s false)) (bare d s x) (not_quote x (or_parts (is_trigger x) (has_trigger r) t).0))
+  ap (λ o. option_and_then (λ u. run d u r) o) (cond_no (x == 34) (Some (spot.Quoted s false)) (bare_step d s x) (not_quote x (or_parts (is_trigger x) (has_trigger r) t).0))
       ∙ bares_run d s p (x ∷ r) e t,
   h,
 )

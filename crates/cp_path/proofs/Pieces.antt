@@ -6,10 +6,10 @@ use Rattle.std.proofs.lemmas.Str.{encode_ascii, inside_one, encodes-append, leng
 use Rattle.std.specs.Char.{encode_utf8}
 use Rattle.std.specs.Str.{encode_utf8_all}
 use Rattle.cp_path.specs.Place.{Label}
-use Rattle.cp_path.specs.Spelling.{escaped, raw_place, label_word, label_text}
-use Rattle.cp_path.specs.Reading.{LabelSpelled, PlaceSpelled, SpellsPlace}
+use Rattle.cp_path.specs.Spelling.{escaped_text, raw_place, label_word, label_text}
+use Rattle.cp_path.specs.Reading.{IsLabelSpelling, IsPlaceSpelling, SpellsPlace}
 use Rattle.cp_path.proofs.Placed.{word_place}
-use Rattle.cp_path.specs.Scan.{pieces, unescaped}
+use Rattle.cp_path.specs.Scan.{pieces, unescaped_byte}
 use Rattle.cp_path.specs.declared.loc.Loc.{Loc}
 use Rattle.cp_path.proofs.PiecesLemmas.{one_byte, pieces_of_label, pieces_of_place}
 
@@ -30,7 +30,7 @@ after_tilde : (a xs w : List ℕ) → 0 < length xs → ArePlain xs → pieces t
 after_tilde a [] w l h = absurd (omega arith)
 after_tilde a (x ∷ xs) w l h =
     let here = h 0 (omega arith) in
-    let same : unescaped x ≡ x = rw (here.2, here.3) refl in
+    let same : unescaped_byte x ≡ x = rw (here.2, here.3) refl in
     ap (λ y. pieces false (a ++ y ∷ []) (xs ++ w)) same ∙ plain_bytes (a ++ x ∷ []) xs w (λ k m. h (suc k) (omega arith)) ∙ ap (λ v. pieces false v w) (append_assoc a (x ∷ []) xs)
 
 high_byte : (c k n : ℕ) → 128 ≤ c → n < 128 → k < length (encode_utf8 c) → (get_or (encode_utf8 c) k 0 == n) ≡ false
@@ -43,17 +43,17 @@ high c h = λ k l. (high_byte c k 126 h (omega arith) l, high_byte c k 47 h (ome
 some_bytes : (c : ℕ) → 0 < length (encode_utf8 c)
 some_bytes c = let b = (len_utf8_bounds c).0 in omega (arith, length-encode c)
 
-pub behind_tilde : (a : List ℕ) (c : ℕ) (w : List ℕ) → pieces true a (encode_utf8 c ++ w) ≡ pieces false (a ++ encode_utf8 (unescaped c)) w
+pub behind_tilde : (a : List ℕ) (c : ℕ) (w : List ℕ) → pieces true a (encode_utf8 c ++ w) ≡ pieces false (a ++ encode_utf8 (unescaped_byte c)) w
 behind_tilde a c w = by (nat_lt c 128) refl
   where
-    low : (n : ℕ) → n < 128 → unescaped n < 128
+    low : (n : ℕ) → n < 128 → unescaped_byte n < 128
     low n h = grind (arith, nat_tests)
 
-    by : (b : Bool) → nat_lt c 128 ≡ b → pieces true a (encode_utf8 c ++ w) ≡ pieces false (a ++ encode_utf8 (unescaped c)) w
-    by true h = let l = ltb-true c 128 h in ap (λ v. pieces true a (v ++ w)) (encode_ascii c l) ∙ ap (λ v. pieces false (a ++ v) w) (sym (encode_ascii (unescaped c) (low c l)))
+    by : (b : Bool) → nat_lt c 128 ≡ b → pieces true a (encode_utf8 c ++ w) ≡ pieces false (a ++ encode_utf8 (unescaped_byte c)) w
+    by true h = let l = ltb-true c 128 h in ap (λ v. pieces true a (v ++ w)) (encode_ascii c l) ∙ ap (λ v. pieces false (a ++ v) w) (sym (encode_ascii (unescaped_byte c) (low c l)))
     by false h =
         let l = ltb-false c 128 h in
-        let same : unescaped c ≡ c = rw (ne_eqb c 48 (λ e. omega arith), ne_eqb c 49 (λ e. omega arith)) refl in
+        let same : unescaped_byte c ≡ c = rw (ne_eqb c 48 (λ e. omega arith), ne_eqb c 49 (λ e. omega arith)) refl in
         after_tilde a (encode_utf8 c) w (some_bytes c) (high c l) ∙ ap (λ y. pieces false (a ++ encode_utf8 y) w) (sym same)
 
 pub plain_piece : (a : List ℕ) (c : ℕ) (w : List ℕ) → ¬ (c ≡ 126) → ¬ (c ≡ 47) → pieces false a (encode_utf8 c ++ w) ≡ pieces false (a ++ encode_utf8 c) w
@@ -71,10 +71,10 @@ split_step cs rest c =
     sym (append_assoc (encode_utf8_all cs) (encode_utf8 c) rest)
     ∙ ap (λ v. v ++ rest) (ap (λ v. encode_utf8_all cs ++ v) (sym (append-nil (encode_utf8 c))) ∙ sym (encodes-append cs (c ∷ [])))
 
-pub label_pieces : (text : List ℕ) (v : List (List ℕ)) (w : List ℕ) → v ≡ pieces false [] text → ((r : List ℕ) → w ≡ label_word r → text ≡ r) → LabelSpelled w → (a : Label) × (w ≡ label_text a) × (v ≡ a ∷ [])
-label_pieces text v w e f h = (h.0, h.1, e ∙ ap (pieces false []) (f (escaped h.0) h.1) ∙ pieces_of_label h.0)
+pub label_pieces : (text : List ℕ) (v : List (List ℕ)) (w : List ℕ) → v ≡ pieces false [] text → ((r : List ℕ) → w ≡ label_word r → text ≡ r) → IsLabelSpelling w → (a : Label) × (w ≡ label_text a) × (v ≡ a ∷ [])
+label_pieces text v w e f h = (h.0, h.1, e ∙ ap (pieces false []) (f (escaped_text h.0) h.1) ∙ pieces_of_label h.0)
 
-pub place_pieces : (text : List ℕ) (v : List (List ℕ)) (w : List ℕ) → v ≡ pieces false [] text → ((r : List ℕ) → w ≡ label_word r → text ≡ r) → PlaceSpelled w → (q : Loc) × SpellsPlace w q × (v ≡ q.db ∷ q.path)
+pub place_pieces : (text : List ℕ) (v : List (List ℕ)) (w : List ℕ) → v ≡ pieces false [] text → ((r : List ℕ) → w ≡ label_word r → text ≡ r) → IsPlaceSpelling w → (q : Loc) × SpellsPlace w q × (v ≡ q.db ∷ q.path)
 place_pieces text v w e f h =
     (h.0, h.1, e ∙ ap (pieces false []) (f (raw_place h.0) (h.1.1 ∙ sym (word_place h.0 h.1.0))) ∙ pieces_of_place h.0 h.1.0)
 

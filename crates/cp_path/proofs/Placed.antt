@@ -7,10 +7,10 @@ use Rattle.std.proofs.lemmas.Grind.{flat_map-append}
 use Rattle.std.specs.List.{list_all}
 use Rattle.cp_path.specs.Text.{is_letter, is_name_byte, is_name}
 use Rattle.cp_path.specs.Place.{Label, Path, child_place}
-use Rattle.cp_path.specs.Spelling.{escaped, raw_place, label_word, place_text}
+use Rattle.cp_path.specs.Spelling.{escaped_text, raw_place, label_word, place_text}
 use Rattle.cp_path.specs.Scan.{part_step, label_step, ends}
 use Rattle.cp_path.proofs.ScanLemmas.{part_run}
-use Rattle.cp_path.specs.Reading.{PlaceSpelled}
+use Rattle.cp_path.specs.Reading.{IsPlaceSpelling}
 use Rattle.cp_path.specs.declared.loc.Loc.{Loc}
 use Rattle.cp_path.specs.declared.scan.Part.{Part}
 use Rattle.cp_path.specs.declared.scan.Part.TheVariants as part
@@ -29,12 +29,12 @@ AtPlace part.Label r = BehindSlash InLabel r
 AtPlace part.Tilde r = BehindSlash InTilde r
 
 abbrev slashed : Label → List ℕ
-slashed a = 47 ∷ escaped a
+slashed a = 47 ∷ escaped_text a
 
-raw_child : (q : Loc) (a : Label) → raw_place (child_place q a) ≡ (raw_place q ++ 47 ∷ []) ++ escaped a
+raw_child : (q : Loc) (a : Label) → raw_place (child_place q a) ≡ (raw_place q ++ 47 ∷ []) ++ escaped_text a
 raw_child q a =
     ap (λ v. q.db ++ v) (flat_map-append slashed q.path (a ∷ []) ∙ ap (λ v. flat_map slashed q.path ++ v) (append-nil (slashed a)))
-    ∙ sym (append_assoc q.db (flat_map slashed q.path) (slashed a)) ∙ sym (append_assoc (raw_place q) (47 ∷ []) (escaped a))
+    ∙ sym (append_assoc q.db (flat_map slashed q.path) (slashed a)) ∙ sym (append_assoc (raw_place q) (47 ∷ []) (escaped_text a))
 
 -- a slash begins a label
 slash : (q : Loc) (r : List ℕ) (x : ℕ) → is_name q.db ≡ true → r ≡ raw_place q → (x == 47) ≡ true → BehindSlash InLabel (r ++ x ∷ [])
@@ -124,7 +124,7 @@ word_place q n = by q.db q.path n
     by [] path k = cc
     by (x ∷ db) path k = refl
 
-pub place_spelled : (w : List ℕ) → Spelt true part.Begin w → PlaceSpelled w
+pub place_spelled : (w : List ℕ) → Spelt true part.Begin w → IsPlaceSpelling w
 place_spelled w h =
     let l = place_ends h.1 h.0 (place_on part.Begin h.1 [] h.0 refl h.2) h.3 in
     (l.0, (l.1, h.4 ∙ ap label_word l.2 ∙ word_place l.0 l.1))
@@ -155,15 +155,15 @@ labels_run : (path : Path) → RunsOut part.Label path
 labels_run [] = (part.Label, refl, refl)
 labels_run (a ∷ path) =
     let more = labels_run path in
-    (more.0, part_run_on true part.Label part.Label (escaped a) (flat_map slashed path) (label_run true a) ∙ more.1, more.2)
+    (more.0, part_run_on true part.Label part.Label (escaped_text a) (flat_map slashed path) (label_run true a) ∙ more.1, more.2)
 
 path_run : (n : ℕ) (path : Path) → RunsOut (part.Name n) path
 path_run n [] = (part.Name n, refl, refl)
 path_run n (a ∷ path) =
     let more = labels_run path in
-    (more.0, part_run_on true part.Label part.Label (escaped a) (flat_map slashed path) (label_run true a) ∙ more.1, more.2)
+    (more.0, part_run_on true part.Label part.Label (escaped_text a) (flat_map slashed path) (label_run true a) ∙ more.1, more.2)
 
-pub spelled_place : (w : List ℕ) → PlaceSpelled w → Spelt true part.Begin w
+pub spelled_place : (w : List ℕ) → IsPlaceSpelling w → Spelt true part.Begin w
 spelled_place w h =
     let q = h.0 in
     let n = h.1.0 in

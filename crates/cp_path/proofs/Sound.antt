@@ -10,7 +10,7 @@ use Rattle.json.specs.Print.{escape_byte, escape, quoted}
 use Rattle.cp_path.specs.Text.{text_eq, is_letter, is_name_byte}
 use Rattle.cp_path.proofs.Same.{text_eq-same}
 use Rattle.cp_path.specs.Spelling.{is_trigger, has_trigger, label_word}
-use Rattle.cp_path.specs.Scan.{part_step, label_step, step, run, bare, inside, escape_step, is_label, closes, ends, accepts, ends_low, ends_high, is_letter_escape}
+use Rattle.cp_path.specs.Scan.{part_step, label_step, step, run, bare_step, quoted_step, escape_step, is_label, closes, ends, accepts, ends_low, ends_high, is_letter_escape}
 use Rattle.cp_path.proofs.ScanLemmas.{part_run}
 use Rattle.cp_path.specs.declared.scan.Part.{Part}
 use Rattle.cp_path.specs.declared.scan.Part.TheVariants as part
@@ -147,14 +147,14 @@ escape_written d s pend w x c h g =
 
 -- ---- one byte more
 
-bare_seen : (d : Bool) (s p : Part) (x : ℕ) (u : Spot) (w : List ℕ) → part_run d s w ≡ Some p → has_trigger w ≡ false → bare d p x ≡ Some u → Seen d s u (w ++ x ∷ [])
+bare_seen : (d : Bool) (s p : Part) (x : ℕ) (u : Spot) (w : List ℕ) → part_run d s w ≡ Some p → has_trigger w ≡ false → bare_step d p x ≡ Some u → Seen d s u (w ++ x ∷ [])
 bare_seen d s p x u w e t h = if_split (is_trigger x) None (option_map spot.Bare (part_step d p x)) u h
     (λ f n. none_some u n)
     (λ f n. let q = map_split spot.Bare (part_step d p x) u n in
     subst (λ v. Seen d s v (w ++ x ∷ [])) q.2
     (part_more d s p q.0 w x e q.1, trigger_more w x ∙ ap (λ b. b || is_trigger x) t ∙ f, omega (arith, length-append w (x ∷ []))))
 
-inside_seen : (d : Bool) (s p : Part) (t : Bool) (x : ℕ) (u : Spot) (w : List ℕ) → Held d s [] p t w → inside d p t x ≡ Some u → Seen d s u (w ++ x ∷ [])
+inside_seen : (d : Bool) (s p : Part) (t : Bool) (x : ℕ) (u : Spot) (w : List ℕ) → Held d s [] p t w → quoted_step d p t x ≡ Some u → Seen d s u (w ++ x ∷ [])
 inside_seen d s p t x u w h g =
     let plain : Option Spot = option_map (λ q. spot.Quoted q (t || is_trigger x)) (part_step d p x) in
     let third : Option Spot = cond (nat_lt x 32) None plain in
@@ -193,7 +193,7 @@ escape_seen d s p t x u w k h g =
     (λ l o. none_some u o)))
 
 seen_step : (d : Bool) (s : Part) (t : Spot) (x : ℕ) (u : Spot) (w : List ℕ) → Seen d s t w → step d t x ≡ Some u → Seen d s u (w ++ x ∷ [])
-seen_step d s (spot.Start p) x u w h g = if_split (x == 34) (Some (spot.Quoted p false)) (bare d p x) u g
+seen_step d s (spot.Start p) x u w h g = if_split (x == 34) (Some (spot.Quoted p false)) (bare_step d p x) u g
     (λ e n. subst (λ v. Seen d s v (w ++ x ∷ [])) (some_same (spot.Quoted p false) u n)
     ([], ap (λ v. v ++ x ∷ []) h.0 ∙ ap (λ y. y ∷ []) (eqb-true x 34 e), ap (λ q. Some q) (sym h.1), refl))
     (λ e n. bare_seen d s p x u w (ap (part_run d s) h.0 ∙ ap (λ q. Some q) (sym h.1)) (ap has_trigger h.0) n)

@@ -3,10 +3,10 @@ use Rattle.std.proofs.Common.{◌≡◌, ℕ, List, [], ◌∷◌, ◌++◌, Boo
 use Rattle.std.proofs.lemmas.Bool.{eqb-true}
 use Rattle.std.proofs.lemmas.Grind.{flat_map-append}
 use Rattle.cp_path.specs.Place.{Label}
-use Rattle.cp_path.specs.Spelling.{escape_label_byte, escaped, label_word, label_text}
+use Rattle.cp_path.specs.Spelling.{escape_label_byte, escaped_text, label_word, label_text}
 use Rattle.cp_path.specs.Scan.{part_step, label_step, ends, is_label}
 use Rattle.cp_path.proofs.ScanLemmas.{part_run}
-use Rattle.cp_path.specs.Reading.{LabelSpelled}
+use Rattle.cp_path.specs.Reading.{IsLabelSpelling}
 use Rattle.cp_path.specs.declared.scan.Part.{Part}
 use Rattle.cp_path.specs.declared.scan.Part.TheVariants as part
 use Rattle.cp_path.proofs.Runs.{part_run_on, next_part}
@@ -25,27 +25,27 @@ no_part u e = absurd (cc)
 -- ---- behind the bytes pre: an escaped label, and one with a `~` behind it
 
 abbrev pub InLabel : List ℕ → List ℕ → Type 0
-InLabel pre r = (a : Label) × (r ≡ pre ++ escaped a)
+InLabel pre r = (a : Label) × (r ≡ pre ++ escaped_text a)
 
 abbrev pub InTilde : List ℕ → List ℕ → Type 0
-InTilde pre r = (a : Label) × (r ≡ pre ++ (escaped a ++ 126 ∷ []))
+InTilde pre r = (a : Label) × (r ≡ pre ++ (escaped_text a ++ 126 ∷ []))
 
-one_more : (a : Label) (c : ℕ) → escaped (a ++ c ∷ []) ≡ escaped a ++ escape_label_byte c
-one_more a c = flat_map-append escape_label_byte a (c ∷ []) ∙ ap (λ v. escaped a ++ v) (append-nil (escape_label_byte c))
+one_more : (a : Label) (c : ℕ) → escaped_text (a ++ c ∷ []) ≡ escaped_text a ++ escape_label_byte c
+one_more a c = flat_map-append escape_label_byte a (c ∷ []) ∙ ap (λ v. escaped_text a ++ v) (append-nil (escape_label_byte c))
 
 pub grow : (pre r : List ℕ) (x : ℕ) → InLabel pre r → (x == 126) ≡ false → (x == 47) ≡ false → InLabel pre (r ++ x ∷ [])
 grow pre r x h t s =
     let itself : escape_label_byte x ≡ x ∷ [] = rw (t, s) refl in
-    (h.0 ++ x ∷ [], ap (λ v. v ++ x ∷ []) h.1 ∙ append_assoc pre (escaped h.0) (x ∷ []) ∙ ap (λ v. pre ++ v) (ap (λ v. escaped h.0 ++ v) (sym itself) ∙ sym (one_more h.0 x)))
+    (h.0 ++ x ∷ [], ap (λ v. v ++ x ∷ []) h.1 ∙ append_assoc pre (escaped_text h.0) (x ∷ []) ∙ ap (λ v. pre ++ v) (ap (λ v. escaped_text h.0 ++ v) (sym itself) ∙ sym (one_more h.0 x)))
 
 pub tilde : (pre r : List ℕ) (x : ℕ) → InLabel pre r → (x == 126) ≡ true → InTilde pre (r ++ x ∷ [])
-tilde pre r x h t = (h.0, ap (λ v. v ++ x ∷ []) h.1 ∙ append_assoc pre (escaped h.0) (x ∷ []) ∙ ap (λ y. pre ++ (escaped h.0 ++ y ∷ [])) (eqb-true x 126 t))
+tilde pre r x h t = (h.0, ap (λ v. v ++ x ∷ []) h.1 ∙ append_assoc pre (escaped_text h.0) (x ∷ []) ∙ ap (λ y. pre ++ (escaped_text h.0 ++ y ∷ [])) (eqb-true x 126 t))
 
 untilde_with : (pre r : List ℕ) (x y c : ℕ) → InTilde pre r → (x == y) ≡ true → escape_label_byte c ≡ 126 ∷ y ∷ [] → InLabel pre (r ++ x ∷ [])
 untilde_with pre r x y c h e w = (
   h.0 ++ c ∷ [],
-  ap (λ v. v ++ x ∷ []) h.1 ∙ append_assoc pre (escaped h.0 ++ 126 ∷ []) (x ∷ [])
-      ∙ ap (λ v. pre ++ v) (append_assoc (escaped h.0) (126 ∷ []) (x ∷ []) ∙ ap (λ z. escaped h.0 ++ (126 ∷ z ∷ [])) (eqb-true x y e) ∙ ap (λ v. escaped h.0 ++ v) (sym w) ∙ sym (one_more h.0 c)),
+  ap (λ v. v ++ x ∷ []) h.1 ∙ append_assoc pre (escaped_text h.0 ++ 126 ∷ []) (x ∷ [])
+      ∙ ap (λ v. pre ++ v) (append_assoc (escaped_text h.0) (126 ∷ []) (x ∷ []) ∙ ap (λ z. escaped_text h.0 ++ (126 ∷ z ∷ [])) (eqb-true x y e) ∙ ap (λ v. escaped_text h.0 ++ v) (sym w) ∙ sym (one_more h.0 c)),
 )
 
 pub untilde : (pre r : List ℕ) (x : ℕ) → InTilde pre r → ((x == 48) || (x == 49)) ≡ true → InLabel pre (r ++ x ∷ [])
@@ -97,7 +97,7 @@ label_ends part.Empty r h e = ([], h)
 label_ends part.Label r h e = h
 label_ends part.Tilde r h e = cc
 
-pub label_spelled : (w : List ℕ) → Spelt false part.Empty w → LabelSpelled w
+pub label_spelled : (w : List ℕ) → Spelt false part.Empty w → IsLabelSpelling w
 label_spelled w h =
     let l = label_ends h.1 h.0 (label_on part.Empty h.1 [] h.0 refl h.2) h.3 in
     (l.0, h.4 ∙ ap label_word l.1)
@@ -116,13 +116,13 @@ byte_run d p x l = by (x == 126) (x == 47) refl refl p l
     by b c e f (part.Name n) k = cc
     by b c e f part.Tilde k = cc
 
-pub label_run : (d : Bool) (a : Label) → part_run d part.Label (escaped a) ≡ Some part.Label
+pub label_run : (d : Bool) (a : Label) → part_run d part.Label (escaped_text a) ≡ Some part.Label
 label_run d [] = refl
-label_run d (x ∷ a) = part_run_on d part.Label part.Label (escape_label_byte x) (escaped a) (byte_run d part.Label x refl) ∙ label_run d a
+label_run d (x ∷ a) = part_run_on d part.Label part.Label (escape_label_byte x) (escaped_text a) (byte_run d part.Label x refl) ∙ label_run d a
 
-pub spelled_label : (w : List ℕ) → LabelSpelled w → Spelt false part.Empty w
+pub spelled_label : (w : List ℕ) → IsLabelSpelling w → Spelt false part.Empty w
 spelled_label w h = subst (Spelt false part.Empty) (sym h.1) (by h.0)
   where
     by : (a : Label) → Spelt false part.Empty (label_text a)
     by [] = ([], part.Empty, refl, refl, refl)
-    by (x ∷ a) = (escaped (x ∷ a), part.Label, part_run_on false part.Empty part.Label (escape_label_byte x) (escaped a) (byte_run false part.Empty x refl) ∙ label_run false a, refl, refl)
+    by (x ∷ a) = (escaped_text (x ∷ a), part.Label, part_run_on false part.Empty part.Label (escape_label_byte x) (escaped_text a) (byte_run false part.Empty x refl) ∙ label_run false a, refl, refl)

@@ -7,10 +7,10 @@ use Rattle.std.specs.Option.{option_map, option_and_then, unwrap_or}
 use Rattle.json.specs.Print.{quoted}
 use Rattle.cp_path.specs.Text.{is_name}
 use Rattle.cp_path.specs.Place.{Label, size}
-use Rattle.cp_path.specs.Spelling.{escaped, raw_place, label_word, label_text, place_text, has_trigger}
+use Rattle.cp_path.specs.Spelling.{escaped_text, raw_place, label_word, label_text, place_text, has_trigger}
 use Rattle.cp_path.specs.Scan.{step, run, accepts, Accepts, StopsAt, pieces, place_from}
-use Rattle.cp_path.specs.Reading.{any_long, LabelSpelled, PlaceSpelled, SpellsPlace, IsBadAt, IsOver, PlaceFault, LabelFault}
-use Rattle.cp_path.specs.Words.{string_reading, unquoted, accepted, reach, place_within, place_reading, label_within, label_reading}
+use Rattle.cp_path.specs.Reading.{any_long, IsLabelSpelling, IsPlaceSpelling, SpellsPlace, IsBadAt, IsOver, PlaceFault, LabelFault}
+use Rattle.cp_path.specs.Words.{string_reading, unquoted_text, is_accepted, reach, place_within, place_reading, label_within, label_reading}
 use Rattle.cp_path.specs.declared.loc.Loc.{Loc}
 use Rattle.cp_path.specs.declared.fault.PathFault.{PathFault}
 use Rattle.cp_path.specs.declared.fault.PathFault.TheVariants as fault
@@ -24,7 +24,7 @@ use Rattle.cp_path.specs.Laws.{IsSpelling, Shape}
 
 -- ---- the scan as a function
 
-accepted_accepts : (d : Bool) (s : Spot) (w : List ℕ) → accepted d s w ≡ true → Accepts d s w
+accepted_accepts : (d : Bool) (s : Spot) (w : List ℕ) → is_accepted d s w ≡ true → Accepts d s w
 accepted_accepts d s w h = by (run d s w) refl h
   where
     by : (o : Option Spot) → run d s w ≡ o → unwrap_or (option_map accepts o) false ≡ true → Accepts d s w
@@ -50,14 +50,14 @@ halts_later d s u x w h k =
     subst (StopsAt d s (x ∷ w)) (sym (reach_next d s x w (Some u) h))
     (k.0, ap (λ o. option_and_then (λ t. run d t (take (reach d u w) w)) o) h ∙ k.1, further d k.0 x w (reach d u w) k.2)
 
-accepted_next : (d : Bool) (s u : Spot) (x : ℕ) (w : List ℕ) → step d s x ≡ Some u → accepted d s (x ∷ w) ≡ accepted d u w
+accepted_next : (d : Bool) (s u : Spot) (x : ℕ) (w : List ℕ) → step d s x ≡ Some u → is_accepted d s (x ∷ w) ≡ is_accepted d u w
 accepted_next d s u x w h = ap (λ o. unwrap_or (option_map accepts (option_and_then (λ t. run d t w) o)) false) h
 
-reach_stops : (d : Bool) (s : Spot) (w : List ℕ) → accepted d s w ≡ false → StopsAt d s w (reach d s w)
+reach_stops : (d : Bool) (s : Spot) (w : List ℕ) → is_accepted d s w ≡ false → StopsAt d s w (reach d s w)
 reach_stops d s [] e = (s, refl, inl (refl, e))
 reach_stops d s (x ∷ w) e = by (step d s x) refl (λ u k. reach_stops d u w k)
   where
-    by : (o : Option Spot) → step d s x ≡ o → ((u : Spot) → accepted d u w ≡ false → StopsAt d u w (reach d u w)) → StopsAt d s (x ∷ w) (reach d s (x ∷ w))
+    by : (o : Option Spot) → step d s x ≡ o → ((u : Spot) → is_accepted d u w ≡ false → StopsAt d u w (reach d u w)) → StopsAt d s (x ∷ w) (reach d s (x ∷ w))
     by None h f = halts_here d s x w h
     by (Some u) h f = halts_later d s u x w h (f u (sym (accepted_next d s u x w h) ∙ e))
 
@@ -71,35 +71,35 @@ bad_once S w m n f g = by (nat_lt m n) (nat_lt n m) refl refl
     by false false h k = omega (arith, ltb-false m n h, ltb-false n m k)
 
 -- what a spelling's quotation marks hold
-pub unquoted_spelling : (w r : List ℕ) → w ≡ label_word r → unquoted w ≡ r
+pub unquoted_spelling : (w r : List ℕ) → w ≡ label_word r → unquoted_text w ≡ r
 unquoted_spelling w r e = by (slice_index w 0 == 34) refl
   where
-    by : (b : Bool) → (slice_index w 0 == 34) ≡ b → unquoted w ≡ r
+    by : (b : Bool) → (slice_index w 0 == 34) ≡ b → unquoted_text w ≡ r
     by true h =
         ap (λ c. cond c (unwrap_or (string_reading w) []) w) h ∙ ap (λ o. unwrap_or o []) (string_reading_spelled w r (quoted_word w r e (eqb-true (slice_index w 0) 34 h)))
     by false h = ap (λ c. cond c (unwrap_or (string_reading w) []) w) h ∙ bare_text w r e (λ k. let bad : true ≡ false = sym (ap (λ x. x == 34) k) ∙ h in cc)
 
 -- ---- places
 
-place_bad : (w : List ℕ) → accepted true (spot.Start part.Begin) w ≡ false → IsBadAt PlaceSpelled w (reach true (spot.Start part.Begin) w)
+place_bad : (w : List ℕ) → is_accepted true (spot.Start part.Begin) w ≡ false → IsBadAt IsPlaceSpelling w (reach true (spot.Start part.Begin) w)
 place_bad w e = place_stopped w (reach true (spot.Start part.Begin) w) (reach_stops true (spot.Start part.Begin) w e)
 
-place_goes : (w : List ℕ) → PlaceSpelled w → accepted true (spot.Start part.Begin) w ≡ true
-place_goes w h = by (accepted true (spot.Start part.Begin) w) refl
+place_goes : (w : List ℕ) → IsPlaceSpelling w → is_accepted true (spot.Start part.Begin) w ≡ true
+place_goes w h = by (is_accepted true (spot.Start part.Begin) w) refl
   where
-    by : (b : Bool) → accepted true (spot.Start part.Begin) w ≡ b → b ≡ true
+    by : (b : Bool) → is_accepted true (spot.Start part.Begin) w ≡ b → b ≡ true
     by true e = refl
     by false e = absurd ((place_bad w e).0 h)
 
 -- a spelling is read as its place, unless that is over a limit
 pub place_reading_spelled : (w : List ℕ) (q : Loc) → SpellsPlace w q → place_reading w ≡ place_within q
 place_reading_spelled w q h =
-    let text : unquoted w ≡ raw_place q = unquoted_spelling w (raw_place q) (h.1 ∙ sym (word_place q h.0)) in
-    ap (λ b. cond b (place_within (place_from (pieces false [] (unquoted w)))) (Err (fault.BadEscape (reach true (spot.Start part.Begin) w)))) (place_goes w (q, h))
+    let text : unquoted_text w ≡ raw_place q = unquoted_spelling w (raw_place q) (h.1 ∙ sym (word_place q h.0)) in
+    ap (λ b. cond b (place_within (place_from (pieces false [] (unquoted_text w)))) (Err (fault.BadEscape (reach true (spot.Start part.Begin) w)))) (place_goes w (q, h))
     ∙ ap place_within (ap (λ v. place_from (pieces false [] v)) text ∙ ap place_from (pieces_of_place q h.0))
 
-place_reading-bad : (w : List ℕ) → accepted true (spot.Start part.Begin) w ≡ false → place_reading w ≡ Err (fault.BadEscape (reach true (spot.Start part.Begin) w))
-place_reading-bad w e = ap (λ b. cond b (place_within (place_from (pieces false [] (unquoted w)))) (Err (fault.BadEscape (reach true (spot.Start part.Begin) w)))) e
+place_reading-bad : (w : List ℕ) → is_accepted true (spot.Start part.Begin) w ≡ false → place_reading w ≡ Err (fault.BadEscape (reach true (spot.Start part.Begin) w))
+place_reading-bad w e = ap (λ b. cond b (place_within (place_from (pieces false [] (unquoted_text w)))) (Err (fault.BadEscape (reach true (spot.Start part.Begin) w)))) e
 
 not_over : (m n : ℕ) → n ≤ m → nat_lt m n ≡ false
 not_over m n h = grind (arith, nat_tests)
@@ -153,7 +153,7 @@ over_within fault.BadValue q h = absurd h
 over_within fault.BadName q h = absurd h
 over_within fault.Memory q h = inl refl
 
-over_fault : (e : PathFault) (q : Loc) (w : List ℕ) → SpellsPlace w q → IsOver e q → PlaceFault e w
+pub over_fault : (e : PathFault) (q : Loc) (w : List ℕ) → SpellsPlace w q → IsOver e q → PlaceFault e w
 over_fault (fault.BadEscape at) q w s o = absurd o
 over_fault fault.LabelTooLong q w s o = (q, s, o)
 over_fault fault.TooDeep q w s o = (q, s, o)
@@ -167,9 +167,9 @@ spelling_of w p q s k = subst (IsSpelling w) k.0 (sym s.1, k.1.0, k.1.1, s.0, k.
 
 -- a word that is read as a place is its spelling
 pub place_read : (w : List ℕ) (q : Loc) → place_reading w ≡ Ok q → IsSpelling w q
-place_read w q h = by (accepted true (spot.Start part.Begin) w) refl
+place_read w q h = by (is_accepted true (spot.Start part.Begin) w) refl
   where
-    by : (b : Bool) → accepted true (spot.Start part.Begin) w ≡ b → IsSpelling w q
+    by : (b : Bool) → is_accepted true (spot.Start part.Begin) w ≡ b → IsSpelling w q
     by true e =
         let p = place_accepted w (accepted_accepts true (spot.Start part.Begin) w e) in
         spelling_of w p.0 q p.1 (within_is p.0 q (sym (place_reading_spelled w p.0 p.1) ∙ h))
@@ -177,9 +177,9 @@ place_read w q h = by (accepted true (spot.Start part.Begin) w) refl
 
 -- why a word is read as no place
 pub place_refused : (w : List ℕ) (e : PathFault) → place_reading w ≡ Err e → PlaceFault e w
-place_refused w f h = by (accepted true (spot.Start part.Begin) w) refl
+place_refused w f h = by (is_accepted true (spot.Start part.Begin) w) refl
   where
-    by : (b : Bool) → accepted true (spot.Start part.Begin) w ≡ b → PlaceFault f w
+    by : (b : Bool) → is_accepted true (spot.Start part.Begin) w ≡ b → PlaceFault f w
     by true e =
         let p = place_accepted w (accepted_accepts true (spot.Start part.Begin) w e) in
         over_fault f p.0 w p.1 (within_not p.0 f (sym (place_reading_spelled w p.0 p.1) ∙ h))
@@ -192,13 +192,13 @@ place_not_over e w q s o = by (over_within e q o)
     by (inl k) = inl k
     by (inr k) = inr (place_reading_spelled w q s ∙ k)
 
-pub place_bad_at : (w : List ℕ) (at : ℕ) → IsBadAt PlaceSpelled w at → place_reading w ≡ Err (fault.BadEscape at)
-place_bad_at w at h = by (accepted true (spot.Start part.Begin) w) refl
+pub place_bad_at : (w : List ℕ) (at : ℕ) → IsBadAt IsPlaceSpelling w at → place_reading w ≡ Err (fault.BadEscape at)
+place_bad_at w at h = by (is_accepted true (spot.Start part.Begin) w) refl
   where
-    by : (b : Bool) → accepted true (spot.Start part.Begin) w ≡ b → place_reading w ≡ Err (fault.BadEscape at)
+    by : (b : Bool) → is_accepted true (spot.Start part.Begin) w ≡ b → place_reading w ≡ Err (fault.BadEscape at)
     by true e = absurd (h.0 (place_accepted w (accepted_accepts true (spot.Start part.Begin) w e)))
     by false e =
-        place_reading-bad w e ∙ ap (λ n. Err (fault.BadEscape n)) (bad_once PlaceSpelled w (reach true (spot.Start part.Begin) w) at (place_bad w e) h)
+        place_reading-bad w e ∙ ap (λ n. Err (fault.BadEscape n)) (bad_once IsPlaceSpelling w (reach true (spot.Start part.Begin) w) at (place_bad w e) h)
 
 -- a fault of a word is what its reading says
 pub place_fault_reading : (e : PathFault) (w : List ℕ) → PlaceFault e w → (e ≡ fault.Memory) ⊎ (place_reading w ≡ Err e)
@@ -212,24 +212,24 @@ place_fault_reading fault.Memory w h = inl refl
 
 -- ---- labels
 
-label_bad : (w : List ℕ) → accepted false (spot.Start part.Empty) w ≡ false → IsBadAt LabelSpelled w (reach false (spot.Start part.Empty) w)
+label_bad : (w : List ℕ) → is_accepted false (spot.Start part.Empty) w ≡ false → IsBadAt IsLabelSpelling w (reach false (spot.Start part.Empty) w)
 label_bad w e = label_stopped w (reach false (spot.Start part.Empty) w) (reach_stops false (spot.Start part.Empty) w e)
 
-label_goes : (w : List ℕ) → LabelSpelled w → accepted false (spot.Start part.Empty) w ≡ true
-label_goes w h = by (accepted false (spot.Start part.Empty) w) refl
+label_goes : (w : List ℕ) → IsLabelSpelling w → is_accepted false (spot.Start part.Empty) w ≡ true
+label_goes w h = by (is_accepted false (spot.Start part.Empty) w) refl
   where
-    by : (b : Bool) → accepted false (spot.Start part.Empty) w ≡ b → b ≡ true
+    by : (b : Bool) → is_accepted false (spot.Start part.Empty) w ≡ b → b ≡ true
     by true e = refl
     by false e = absurd ((label_bad w e).0 h)
 
-label_reading-with : (w : List ℕ) (b : Bool) → accepted false (spot.Start part.Empty) w ≡ b
-    → label_reading w ≡ cond b (label_within (slice_index_or (pieces false [] (unquoted w)) 0 [])) (Err (fault.BadEscape (reach false (spot.Start part.Empty) w)))
-label_reading-with w b e = ap (λ b. cond b (label_within (slice_index_or (pieces false [] (unquoted w)) 0 [])) (Err (fault.BadEscape (reach false (spot.Start part.Empty) w)))) e
+label_reading-with : (w : List ℕ) (b : Bool) → is_accepted false (spot.Start part.Empty) w ≡ b
+    → label_reading w ≡ cond b (label_within (slice_index_or (pieces false [] (unquoted_text w)) 0 [])) (Err (fault.BadEscape (reach false (spot.Start part.Empty) w)))
+label_reading-with w b e = ap (λ b. cond b (label_within (slice_index_or (pieces false [] (unquoted_text w)) 0 [])) (Err (fault.BadEscape (reach false (spot.Start part.Empty) w)))) e
 
 -- a spelling is read as its label, unless that is too long
 pub label_reading_spelled : (w : List ℕ) (a : Label) → w ≡ label_text a → label_reading w ≡ label_within a
 label_reading_spelled w a h =
-    let text : unquoted w ≡ escaped a = unquoted_spelling w (escaped a) h in
+    let text : unquoted_text w ≡ escaped_text a = unquoted_spelling w (escaped_text a) h in
     label_reading-with w true (label_goes w (a, h))
     ∙ ap (λ ps. label_within (slice_index_or ps 0 [])) (ap (λ v. pieces false [] v) text ∙ pieces_of_label a)
 
@@ -238,7 +238,7 @@ label_reads_back a short = label_reading_spelled (label_text a) a refl ∙ rw (n
 
 -- a word that is read as a label is its spelling
 pub label_read : (w : List ℕ) (a : Label) → label_reading w ≡ Ok a → (w ≡ label_text a) × (length a ≤ LABEL_MAX)
-label_read w a h = by (accepted false (spot.Start part.Empty) w) refl
+label_read w a h = by (is_accepted false (spot.Start part.Empty) w) refl
   where
     at : (b : Label) → w ≡ label_text b → (c : Bool) → nat_lt LABEL_MAX (length b) ≡ c → cond c (Err fault.LabelTooLong) (Ok b) ≡ Ok a → (w ≡ label_text a) × (length a ≤ LABEL_MAX)
     at b s true e k = absurd (cc)
@@ -246,7 +246,7 @@ label_read w a h = by (accepted false (spot.Start part.Empty) w) refl
         let same = same_value b a (Ok b) refl k in
         (s ∙ ap label_text same, subst (λ v. length v ≤ LABEL_MAX) same (ltb-false LABEL_MAX (length b) e))
 
-    by : (b : Bool) → accepted false (spot.Start part.Empty) w ≡ b → (w ≡ label_text a) × (length a ≤ LABEL_MAX)
+    by : (b : Bool) → is_accepted false (spot.Start part.Empty) w ≡ b → (w ≡ label_text a) × (length a ≤ LABEL_MAX)
     by true e =
         let p = label_accepted w (accepted_accepts false (spot.Start part.Empty) w e) in
         at p.0 p.1 (nat_lt LABEL_MAX (length p.0)) refl (sym (label_reading_spelled w p.0 p.1) ∙ h)
@@ -254,25 +254,25 @@ label_read w a h = by (accepted false (spot.Start part.Empty) w) refl
 
 -- why a word is read as no label
 pub label_refused : (w : List ℕ) (e : PathFault) → label_reading w ≡ Err e → LabelFault e w
-label_refused w f h = by (accepted false (spot.Start part.Empty) w) refl
+label_refused w f h = by (is_accepted false (spot.Start part.Empty) w) refl
   where
     at : (b : Label) → w ≡ label_text b → (c : Bool) → nat_lt LABEL_MAX (length b) ≡ c → cond c (Err fault.LabelTooLong) (Ok b) ≡ Err f → LabelFault f w
     at b s true e k = subst (λ v. LabelFault v w) (same_fault {A = Label} fault.LabelTooLong f (Err fault.LabelTooLong) refl k) (b, s, ltb-true LABEL_MAX (length b) e)
     at b s false e k = absurd (cc)
 
-    by : (b : Bool) → accepted false (spot.Start part.Empty) w ≡ b → LabelFault f w
+    by : (b : Bool) → is_accepted false (spot.Start part.Empty) w ≡ b → LabelFault f w
     by true e =
         let p = label_accepted w (accepted_accepts false (spot.Start part.Empty) w e) in
         at p.0 p.1 (nat_lt LABEL_MAX (length p.0)) refl (sym (label_reading_spelled w p.0 p.1) ∙ h)
     by false e = subst (λ v. LabelFault v w) (same_fault (fault.BadEscape (reach false (spot.Start part.Empty) w)) f (label_reading w) (label_reading-with w false e) h) (label_bad w e)
 
-pub label_bad_at : (w : List ℕ) (at : ℕ) → IsBadAt LabelSpelled w at → label_reading w ≡ Err (fault.BadEscape at)
-label_bad_at w at h = by (accepted false (spot.Start part.Empty) w) refl
+pub label_bad_at : (w : List ℕ) (at : ℕ) → IsBadAt IsLabelSpelling w at → label_reading w ≡ Err (fault.BadEscape at)
+label_bad_at w at h = by (is_accepted false (spot.Start part.Empty) w) refl
   where
-    by : (b : Bool) → accepted false (spot.Start part.Empty) w ≡ b → label_reading w ≡ Err (fault.BadEscape at)
+    by : (b : Bool) → is_accepted false (spot.Start part.Empty) w ≡ b → label_reading w ≡ Err (fault.BadEscape at)
     by true e = absurd (h.0 (label_accepted w (accepted_accepts false (spot.Start part.Empty) w e)))
     by false e =
-        label_reading-with w false e ∙ ap (λ n. Err (fault.BadEscape n)) (bad_once LabelSpelled w (reach false (spot.Start part.Empty) w) at (label_bad w e) h)
+        label_reading-with w false e ∙ ap (λ n. Err (fault.BadEscape n)) (bad_once IsLabelSpelling w (reach false (spot.Start part.Empty) w) at (label_bad w e) h)
 
 -- a fault of a word is what its reading says
 pub label_fault_reading : (e : PathFault) (w : List ℕ) → LabelFault e w → (e ≡ fault.Memory) ⊎ (label_reading w ≡ Err e)
@@ -295,7 +295,7 @@ place_spelled_once w p q h k =
 -- two labels are never spelled alike
 pub label_spelled_once : (a b : Label) → label_text a ≡ label_text b → a ≡ b
 label_spelled_once a b e =
-    let raw : escaped a ≡ escaped b = sym (unquoted_spelling (label_text a) (escaped a) refl) ∙ unquoted_spelling (label_text a) (escaped b) e in
+    let raw : escaped_text a ≡ escaped_text b = sym (unquoted_spelling (label_text a) (escaped_text a) refl) ∙ unquoted_spelling (label_text a) (escaped_text b) e in
     ap (λ ps. slice_index_or ps 0 []) (sym (pieces_of_label a) ∙ ap (pieces false []) raw ∙ pieces_of_label b)
 
 -- ---- what a spelling looks like
@@ -312,7 +312,7 @@ word_shape (x ∷ r) = by (has_trigger (x ∷ r)) refl
     by false e = (omega arith, inl e)
 
 pub label_shape : (a : Label) → Shape (label_text a)
-label_shape a = word_shape (escaped a)
+label_shape a = word_shape (escaped_text a)
 
 pub place_shape : (q : Loc) → is_name q.db ≡ true → Shape (place_text q)
 place_shape q n = subst Shape (word_place q n) (word_shape (raw_place q))

@@ -3,7 +3,7 @@ use Rattle.cp_path.specs.declared.limits.TheConstants.{LABELS_MAX, LABEL_MAX, LO
 use Rattle.std.proofs.Common.{◌≡◌, ℕ, List, ◌∷◌, true, false, ap, sym, ◌∙◌, subst, Option, Some, None, Result, Ok, Err, MatchResult, MatchOption, IfOk, IfErr, ◌≤◌, length}
 use Rattle.cp_path.specs.Scan.{Accepts, StopsAt, place_from}
 use Rattle.cp_path.specs.Answers.{Answers}
-use Rattle.cp_path.specs.Reading.{LabelSpelled, PlaceSpelled, SpellsPlace, IsBadAt, IsOver, PlaceFault, LabelFault, any_long}
+use Rattle.cp_path.specs.Reading.{IsLabelSpelling, IsPlaceSpelling, SpellsPlace, IsBadAt, IsOver, PlaceFault, LabelFault, any_long}
 use Rattle.cp_path.specs.declared.loc.Loc.{Loc}
 use Rattle.cp_path.specs.declared.fault.PathFault.{PathFault}
 use Rattle.cp_path.specs.declared.fault.PathFault.TheVariants as fault
@@ -12,33 +12,24 @@ use Rattle.cp_path.specs.declared.scan.Spot.TheVariants as spot
 use Rattle.cp_path.specs.Place.{Label, size}
 use Rattle.cp_path.specs.Spelling.{label_text}
 use Rattle.cp_path.specs.Words.{place_reading, place_within, label_reading}
-use Rattle.cp_path.proofs.WordLaws.{place_reading_spelled, place_within_limits, label_reads_back, label_fault_reading, place_fault_reading}
+use Rattle.cp_path.proofs.WordLaws.{place_reading_spelled, place_within_limits, label_reads_back, label_fault_reading, place_fault_reading, over_fault}
 use Rattle.cp_path.proofs.Accepted.{label_accepted, label_stopped, place_accepted, place_stopped}
 
 pub label_checked : (v w : List ℕ) (r : Result (Unit {0}) ℕ) → v ≡ w
     → MatchResult r (λ _. Accepts false (spot.Start part.Empty) v) (λ at. StopsAt false (spot.Start part.Empty) v at)
-    → MatchResult r (λ _. LabelSpelled w) (λ at. IsBadAt LabelSpelled w at)
+    → MatchResult r (λ _. IsLabelSpelling w) (λ at. IsBadAt IsLabelSpelling w at)
 label_checked v w (Ok u) e h = label_accepted w (subst (Accepts false (spot.Start part.Empty)) e h)
 label_checked v w (Err at) e h = label_stopped w at (subst (λ a. StopsAt false (spot.Start part.Empty) a at) e h)
 
 pub place_checked : (v w : List ℕ) (r : Result (Unit {0}) ℕ) → v ≡ w
     → MatchResult r (λ _. Accepts true (spot.Start part.Begin) v) (λ at. StopsAt true (spot.Start part.Begin) v at)
-    → MatchResult r (λ _. PlaceSpelled w) (λ at. IsBadAt PlaceSpelled w at)
+    → MatchResult r (λ _. IsPlaceSpelling w) (λ at. IsBadAt IsPlaceSpelling w at)
 place_checked v w (Ok u) e h = place_accepted w (subst (Accepts true (spot.Start part.Begin)) e h)
 place_checked v w (Err at) e h = place_stopped w at (subst (λ a. StopsAt true (spot.Start part.Begin) a at) e h)
 
 pub no_text : {S : Type 0} (o : Option S) (P : Type 0) (Q : S → Type 0) → o ≡ None → MatchOption o P Q → P
 no_text None P Q e h = h
 no_text (Some s) P Q e h = absurd (cc)
-
-over_fault : (e : PathFault) (q : Loc) (w : List ℕ) → SpellsPlace w q → IsOver e q → PlaceFault e w
-over_fault (fault.BadEscape at) q w s o = absurd o
-over_fault fault.LabelTooLong q w s o = (q, s, o)
-over_fault fault.TooDeep q w s o = (q, s, o)
-over_fault fault.PathTooLong q w s o = (q, s, o)
-over_fault fault.BadValue q w s o = o
-over_fault fault.BadName q w s o = o
-over_fault fault.Memory q w s o = o
 
 pub place_fault : {X : Type 0} (r : Result X PathFault) (ps v : List (List ℕ)) (w : List ℕ) → ps ≡ v → (q : Loc) × SpellsPlace w q × (v ≡ q.db ∷ q.path)
     → IfErr r (λ e. IsOver e (place_from ps)) → IfErr r (λ e. PlaceFault e w)

@@ -5,16 +5,16 @@ use Rattle.cp_path.specs.Place.{Path}
 use Rattle.cp_path.specs.declared.loc.Loc.{Loc}
 
 -- bytes behind their number
-abbrev pub counted : List ℕ → List ℕ
-counted bytes = length bytes ∷ bytes
+abbrev pub counted_bytes : List ℕ → List ℕ
+counted_bytes bytes = length bytes ∷ bytes
 
 -- the number of labels, and then each of them
 abbrev pub path_bytes : Path → List ℕ
-path_bytes p = length p ∷ flat_map counted p
+path_bytes p = length p ∷ flat_map counted_bytes p
 
 -- the name and the path
 abbrev pub place_bytes : Loc → List ℕ
-place_bytes q = counted q.db ++ path_bytes q.path
+place_bytes q = counted_bytes q.db ++ path_bytes q.path
 
 -- the bytes of no place begin those of another
 abbrev pub NoneBeginsAnother : Type 0

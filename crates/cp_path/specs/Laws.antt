@@ -12,7 +12,6 @@ use Rattle.cp_path.specs.declared.fault.PathFault.{PathFault}
 use Rattle.cp_path.specs.declared.fault.PathFault.TheVariants as fault
 use Rattle.cp_path.specs.declared.value.Value.{Value}
 use Rattle.std.proofs.Common.{◌<◌, ◌⊎◌}
-use Rattle.serde_json.specs.Read.{read}
 use Rattle.cp_path.specs.Whole.{IsWhole}
 use Rattle.cp_path.specs.declared.value.Value.TheVariants.{Null, False, True, Whole, Text}
 
@@ -34,7 +33,7 @@ Shape w = (0 < length w) × ((has_trigger w ≡ false) ⊎ ((t : List ℕ) × (w
 abbrev pub IsNoValue : List ℕ → Type 0
 IsNoValue w = (v : Value) → ¬ SpellsValue w v
 
--- the value has a place in a tree: a number in the range, a text of at most 1,048,576 bytes
+-- the value has a place in a tree: a number in the range, a text within its limit
 abbrev pub IsWithin : Value → Type 0
 IsWithin Null = Unit {0}
 IsWithin False = Unit {0}

@@ -7,14 +7,18 @@ use Rattle.std.specs.Cmp.Lexicographic.{lists_equiv, lists_total, lists_ties, na
 use Rattle.cp_path.specs.Text.{text_cmp}
 use Rattle.cp_path.specs.Place.{Path, path_eq, path_cmp}
 
+-- equality of paths is an equivalence
 pub path_eq_equiv : IsEquivalence path_eq
 path_eq_equiv = lists_equiv nat_list_eq_equiv
 
+-- their order is total
 pub path_total : IsTotalOrder path_cmp
 path_total = lists_total nat_list_cmp_total
 
+-- two paths are equal where neither comes first
 pub path_ties : (x y : Path) → path_eq x y ≡ eq_by_cmp path_cmp x y
 path_ties = lists_ties text_cmp texts_ties
 
+-- the order as a partial one
 pub path_po : IsPartialOrder path_eq (λ x y. Some (path_cmp x y))
 path_po = partial_order_from_agreeing_total path_cmp path_total (λ x y. refl) path_ties

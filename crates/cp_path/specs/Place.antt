@@ -77,7 +77,7 @@ lies_below p q = label_eq p.db q.db && starts_with p.path q.path
 abbrev pub size : Loc → ℕ
 size q = length q.db + sum_by (λ a. length a + 1) q.path
 
--- more than 64 labels, or a size above 1,024
+-- more labels than a path may have, or a larger size than a place may have
 abbrev pub over_limit : Loc → Bool
 over_limit q = nat_lt LABELS_MAX (length q.path) || nat_lt LOC_MAX (size q)
 
@@ -92,8 +92,8 @@ abbrev pub parent_place : Loc → Option Loc
 parent_place q = option_map (λ p. record { db = q.db; path = p }) (parent q.path)
 
 -- where p lies once all of old lies at to
-abbrev pub moved : Loc → Loc → Loc → Loc
-moved p old to = below_place to (unwrap_or (strip old.path p.path) [])
+abbrev pub moved_place : Loc → Loc → Loc → Loc
+moved_place p old to = below_place to (unwrap_or (strip old.path p.path) [])
 
 -- the last label, and the empty one at the root
 abbrev pub last_label : Path → Label

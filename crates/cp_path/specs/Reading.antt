@@ -23,19 +23,20 @@ abbrev pub IsBadAt : (List ℕ → Type 0) → List ℕ → ℕ → Type 0
 IsBadAt Spells w at = ¬ Spells w × (at ≤ length w) × Begins Spells (take at w) × ((n : ℕ) → at < n → n ≤ length w → ¬ Begins Spells (take n w))
 
 -- the word is the spelling of a label of any bytes, where it stands alone
-abbrev pub LabelSpelled : List ℕ → Type 0
-LabelSpelled w = (a : Label) × (w ≡ label_text a)
+abbrev pub IsLabelSpelling : List ℕ → Type 0
+IsLabelSpelling w = (a : Label) × (w ≡ label_text a)
 
 -- the word spells the place, whose labels are of any bytes
 abbrev pub SpellsPlace : List ℕ → Loc → Type 0
 SpellsPlace w q = (is_name q.db ≡ true) × (w ≡ place_text q)
 
-abbrev pub PlaceSpelled : List ℕ → Type 0
-PlaceSpelled w = (q : Loc) × SpellsPlace w q
+-- the word is the spelling of a place with labels of any bytes
+abbrev pub IsPlaceSpelling : List ℕ → Type 0
+IsPlaceSpelling w = (q : Loc) × SpellsPlace w q
 
 -- why a word is read as no label: it is no spelling, or that of too long a label
 abbrev pub LabelFault : PathFault → List ℕ → Type 0
-LabelFault (fault.BadEscape at) w = IsBadAt LabelSpelled w at
+LabelFault (fault.BadEscape at) w = IsBadAt IsLabelSpelling w at
 LabelFault fault.LabelTooLong w = (a : Label) × (w ≡ label_text a) × (LABEL_MAX < length a)
 LabelFault fault.TooDeep w = ⊥
 LabelFault fault.PathTooLong w = ⊥
@@ -43,6 +44,7 @@ LabelFault fault.BadValue w = ⊥
 LabelFault fault.BadName w = ⊥
 LabelFault fault.Memory w = Unit {0}
 
+-- some label is longer than a label may be
 abbrev pub any_long : Path → Bool
 any_long path = list_any (λ a. nat_lt LABEL_MAX (length a)) path
 
@@ -56,12 +58,13 @@ IsOver fault.BadValue q = ⊥
 IsOver fault.BadName q = ⊥
 IsOver fault.Memory q = Unit {0}
 
+-- the word spells a place that is over this limit
 abbrev pub SpellsOver : PathFault → List ℕ → Type 0
 SpellsOver e w = (q : Loc) × SpellsPlace w q × IsOver e q
 
 -- why a word is read as no place: it is no spelling, or that of a place over a limit
 abbrev pub PlaceFault : PathFault → List ℕ → Type 0
-PlaceFault (fault.BadEscape at) w = IsBadAt PlaceSpelled w at
+PlaceFault (fault.BadEscape at) w = IsBadAt IsPlaceSpelling w at
 PlaceFault fault.LabelTooLong w = SpellsOver fault.LabelTooLong w
 PlaceFault fault.TooDeep w = SpellsOver fault.TooDeep w
 PlaceFault fault.PathTooLong w = SpellsOver fault.PathTooLong w
@@ -73,6 +76,7 @@ PlaceFault fault.Memory w = Unit {0}
 abbrev pub IsNoWord : List ℕ → Type 0
 IsNoWord w = ¬ (w ≡ codes "null") × ¬ (w ≡ codes "false") × ¬ (w ≡ codes "true")
 
+-- the word is the spelling of no whole number
 abbrev pub IsNoWhole : List ℕ → Type 0
 IsNoWhole w = (n : ℤ) → IsWhole n → ¬ (w ≡ whole_text n)
 
@@ -88,9 +92,11 @@ SpellsString w t = (is_in_quotes w ≡ true) × (read w ≡ Some (string t))
 abbrev pub SpellsText : List ℕ → List ℕ → Type 0
 SpellsText w t = SpellsString w t × (length t ≤ TEXT_MAX)
 
+-- the word is a JSON string of no text
 abbrev pub IsNoString : List ℕ → Type 0
 IsNoString w = (t : List ℕ) → ¬ SpellsString w t
 
+-- the word is a JSON string of no text within its limit
 abbrev pub IsNoText : List ℕ → Type 0
 IsNoText w = (t : List ℕ) → ¬ SpellsText w t
 

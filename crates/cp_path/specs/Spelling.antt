@@ -20,12 +20,12 @@ abbrev pub escape_label_byte : ℕ → List ℕ
 escape_label_byte x = if x == 126 then codes "~0" else (if x == 47 then codes "~1" else x ∷ [])
 
 -- the label, escaped byte by byte
-abbrev pub escaped : Label → List ℕ
-escaped a = flat_map escape_label_byte a
+abbrev pub escaped_text : Label → List ℕ
+escaped_text a = flat_map escape_label_byte a
 
 -- the name, then a slash and the escaped label for each label
 abbrev pub raw_place : Loc → List ℕ
-raw_place q = q.db ++ flat_map (λ a. 47 ∷ escaped a) q.path
+raw_place q = q.db ++ flat_map (λ a. 47 ∷ escaped_text a) q.path
 
 -- a word without a trigger stands for itself, any other in quotation marks
 abbrev pub unless_quoted : List ℕ → List ℕ
@@ -42,7 +42,7 @@ label_word (x ∷ w) = unless_quoted (x ∷ w)
 
 -- the spelling of a label that stands alone
 abbrev pub label_text : Label → List ℕ
-label_text a = label_word (escaped a)
+label_text a = label_word (escaped_text a)
 
 -- digits, with a minus before a negative number
 abbrev pub whole_text : ℤ → List ℕ

@@ -26,6 +26,6 @@ is_digit x = nat_le 48 x && nat_le x 57
 abbrev pub is_name_byte : ℕ → Bool
 is_name_byte x = is_letter x || is_digit x || (x == 95)
 
--- a letter first, at most 32 letters, digits and underscores in all
+-- a letter first, and letters, digits and underscores behind it, no more than a name may have
 abbrev pub is_name : List ℕ → Bool
 is_name w = nat_le 1 (length w) && (nat_le (length w) NAME_MAX && (is_letter (slice_index w 0) && list_all is_name_byte w))

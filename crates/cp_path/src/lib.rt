@@ -7,16 +7,13 @@ mod limits;
 mod loc;
 mod name;
 mod path;
-mod read;
-mod read_value;
-mod relate;
 mod scan;
+mod spelling;
 mod split;
 mod stated;
 mod text;
 mod value;
 mod whole;
-mod write;
 
 pub use fault::PathFault;
 pub use label::Label;
@@ -24,11 +21,8 @@ pub use limits::{LABEL_MAX, LABELS_MAX, LOC_MAX, NAME_MAX, TEXT_MAX};
 pub use loc::Loc;
 pub use name::Name;
 pub use path::Path;
+pub use spelling::is_trigger;
 pub use stated::laws;
 pub use text::{Bytes, Text};
 pub use value::Value;
 pub use whole::Whole;
-pub use write::is_trigger;
-
-#[cfg(test)]
-mod tests;

@@ -1,14 +1,25 @@
-ghost use Rattle.std.specs.Prelude.{◌≡◌, ◌≤◌, ◌<◌, ◌↔◌, ◌⊎◌, ◌+◌, ℕ, length, IfOk, IfErr, IsTrue};
-ghost use Rattle.std.specs.declared.option.Option.TheVariants.{Some, None};
+ghost use Rattle.std.specs.Prelude.{◌≡◌, ◌≤◌, ◌<◌, ◌↔◌, ◌⊎◌, ◌+◌, ◌*◌, [], length, sum_by, true, false, IfOk, IfErr, IsTrue, MatchResult, string_bytes};
+ghost use Rattle.std.specs.Option.{unwrap_or};
+ghost use Rattle.cp_path.specs.Answers.{Answers};
+ghost use Rattle.cp_path.specs.Text.{is_name};
+ghost use Rattle.cp_path.specs.Place.{size, child_place, lies_below, at_target, parent_place, moved_place, below_place, strip};
+ghost use Rattle.cp_path.specs.Spelling.{raw_place, place_text};
+ghost use Rattle.cp_path.specs.Scan.{place_from};
+ghost use Rattle.cp_path.specs.Reading.{IsPlaceSpelling, IsBadAt, PlaceFault, any_long, IsOver};
+ghost use Rattle.cp_path.specs.Words.{place_reading};
 
-use crate::limits::{LABEL_MAX, LABELS_MAX, LOC_MAX, NAME_MAX};
 use crate::fault::PathFault;
 use crate::label::Label;
+use crate::limits::{LABEL_MAX, LABELS_MAX, LOC_MAX, NAME_MAX};
 use crate::name::Name;
 use crate::path::Path;
+use crate::scan::{Part, scan};
+use crate::spelling::{push_escaped, unless_quoted};
+use crate::split::pieces_of;
+use crate::text::Text;
 use std::alloc::{AllocError, Global};
 
-/// A place of a database. Places compare by name, then label by label, and a place comes before those below it.
+/// A place of a database. Places are ordered by name, then label by label, and a place comes before those below it.
 #[derive(Clone, PartialEq, Eq, PartialOrd, Ord, Drop)]
 pub struct Loc {
     pub db: Name,
@@ -16,9 +27,6 @@ pub struct Loc {
 }
 
 impl Loc {
-    ghost use Rattle.std.specs.Prelude.{◌≡◌, ◌≤◌, ◌<◌, ◌↔◌, ◌⊎◌, ◌+◌, ◌*◌, ◌&&◌, ◌||◌, ℕ, [], ◌∷◌, length, not, nat_lt, true, false, IfOk, IfErr, IsTrue};
-    ghost use Rattle.cp_path.specs.Place.{size, over_limit, child_place, lies_below, in_target, at_target, target};
-
     /// The root of the database that curators change.
     pub fn target(alloc: Global) -> Result<Loc, AllocError>
         ensures { IfOk result (λ q. q ≡ at_target []) }
@@ -66,4 +74,164 @@ impl Loc {
         let path = self.path.child(a)?;
         Ok(Loc { db, path })
     }
+
+    /// Whether this place lies at or below the other. Costs the other's size.
+    #[tactic(auto, using(crate::proofs::Relating::starts_with_lists))]
+    pub fn starts_with(&self, other: &Loc) -> bool
+        ensures { result ≡ lies_below self.now other.now }
+    {
+        self.db == other.db && self.path.labels().starts_with(other.path.labels())
+    }
+
+    /// The place without its last label, or none at a root. Costs the place's size.
+    #[tactic(auto, using(crate::proofs::Relating::parent_last))]
+    pub fn parent(&self) -> Result<Option<Loc>, AllocError>
+        ensures { IfOk result (λ place. place ≡ parent_place self.now) }
+    {
+        let mut path = self.path.clone()?;
+        match path.pop() {
+            None => Ok(None),
+            Some(_) => {
+                let db = self.db.clone()?;
+                Ok(Some(Loc { db, path }))
+            }
+        }
+    }
+
+    /// The place that this one becomes where `old`, at or above it, becomes `to`. `TooDeep` goes before
+    /// `PathTooLong`. Costs the sizes of the three.
+    pub fn rebase(&self, old: &Loc, to: &Loc) -> Result<Loc, PathFault>
+        requires { lies_below self.now old.now ≡ true }
+        ensures value { IfOk result (λ q. q ≡ moved_place self.now old.now to.now) }
+        ensures deep { (result ≡ Err PathFault.TooDeep) ↔ (LABELS_MAX < length (moved_place self.now old.now to.now).path) }
+        ensures long { (result ≡ Err PathFault.PathTooLong) ↔ ((length (moved_place self.now old.now to.now).path ≤ LABELS_MAX) × (LOC_MAX < size (moved_place self.now old.now to.now))) }
+        ensures faults { IfErr result (λ e. (e ≡ PathFault.TooDeep) ⊎ (e ≡ PathFault.PathTooLong) ⊎ (e ≡ PathFault.Memory)) }
+    {
+        to.below(self.after(old))
+    }
+
+    /// The labels that follow those of `old`.
+    #[tactic(auto, using(crate::proofs::Relating::starts_with_length, crate::proofs::Relating::below_starts, crate::proofs::Relating::strip_drop))]
+    fn after<'a>(&'a self, old: &Loc) -> &'a [Label]
+        requires { lies_below self.now old.now ≡ true }
+        ensures { result.now ≡ unwrap_or (strip old.now.path self.now.path) [] }
+    {
+        self.path.labels().split_at(old.path.labels().len()).1
+    }
+
+    /// The place below this one at these labels.
+    #[tactic(auto, using(crate::proofs::Relating::size_below, std::proofs::lemmas::Grind::common_steps))]
+    fn below(&self, labels: &[Label]) -> Result<Loc, PathFault>
+        ensures value { IfOk result (λ q. q ≡ below_place self.now labels.now) }
+        ensures deep { (result ≡ Err PathFault.TooDeep) ↔ (LABELS_MAX < length (below_place self.now labels.now).path) }
+        ensures long { (result ≡ Err PathFault.PathTooLong) ↔ ((length (below_place self.now labels.now).path ≤ LABELS_MAX) × (LOC_MAX < size (below_place self.now labels.now))) }
+        ensures faults { IfErr result (λ e. (e ≡ PathFault.TooDeep) ⊎ (e ≡ PathFault.PathTooLong) ⊎ (e ≡ PathFault.Memory)) }
+    {
+        if labels.len() > LABELS_MAX - self.path.labels().len() {
+            return Err(PathFault::TooDeep);
+        }
+        if self.size() + bytes_of(labels) > LOC_MAX as u32 {
+            return Err(PathFault::PathTooLong);
+        }
+        let db = self.db.clone()?;
+        let path = self.path.joined(labels)?;
+        Ok(Loc { db, path })
+    }
+
+    /// The place that a word spells. `BadEscape` has the length of the word's longest beginning that some
+    /// place's spelling begins with. Costs the word's bytes.
+    #[tactic(auto, using(crate::proofs::WordLaws::place_fault_reading))]
+    pub fn read(alloc: Global, word: &str) -> Result<Loc, PathFault>
+        ensures value { IfOk result (λ q. (place_text q ≡ word.now) × (size q ≤ LOC_MAX)) }
+        ensures fault { IfErr result (λ e. PlaceFault e word.now) }
+        ensures answers { Answers PathFault.Memory (place_reading word.now) result }
+    {
+        match check_place(word) {
+            Ok(()) => spelled_place(alloc, word),
+            Err(at) => Err(PathFault::BadEscape(at)),
+        }
+    }
+
+    /// The name, then a slash and the escaped label for each label.
+    fn raw_text(&self, alloc: Global) -> Result<String, AllocError>
+        ensures { IfOk result (λ s. string_bytes s ≡ raw_place self.now) }
+    {
+        let mut word = String::from_str(alloc, self.db.as_str())?;
+        for label in self.path.labels() {
+            word.push('/')?;
+            push_escaped(&mut word, label.as_str())?;
+        }
+        Ok(word)
+    }
+
+    /// The place's spelling. Costs the place's size.
+    pub fn text(&self, alloc: Global) -> Result<String, AllocError>
+        ensures { IfOk result (λ s. string_bytes s ≡ place_text self.now) }
+    {
+        unless_quoted(alloc, self.raw_text(alloc)?)
+    }
+}
+
+/// What these labels add to a place's size.
+fn bytes_of(labels: &[Label]) -> u32
+    requires { length labels.now ≤ LABELS_MAX }
+    ensures bytes { result ≡ sum_by (λ a. length a + 1) labels.now }
+    ensures bound { result ≤ LABELS_MAX * (LABEL_MAX + 1) }
+{
+    let mut total = 0;
+    for label in labels {
+        total += label.as_str().len() as u32 + 1;
+    }
+    total
+}
+
+/// Whether the word is a place's spelling, or else the length of its longest beginning that some begins with.
+fn check_place(word: &str) -> Result<(), usize>
+    ensures { MatchResult result (λ _. IsPlaceSpelling word.now) (λ at. IsBadAt IsPlaceSpelling word.now at) }
+{
+    scan(true, Part::Begin, word.as_bytes())
+}
+
+/// The pieces as labels, or `LabelTooLong` where one of them is too long.
+fn labels_of(alloc: Global, pieces: &[Text]) -> Result<Vec<Label>, PathFault>
+    ensures value { IfOk result (λ v. v.items ≡ pieces.now) }
+    ensures short { IfOk result (λ _. any_long pieces.now ≡ false) }
+    ensures long { IfErr result (λ e. ((e ≡ PathFault.LabelTooLong) × (any_long pieces.now ≡ true)) ⊎ (e ≡ PathFault.Memory)) }
+{
+    let mut labels = Vec::new(alloc);
+    for piece in pieces {
+        let label = Label::new(alloc, piece.items.as_str())?;
+        labels.push(label)?;
+    }
+    Ok(labels)
+}
+
+/// The place whose name is the first piece, and whose labels are the others.
+fn place_of(alloc: Global, pieces: &[Text]) -> Result<Loc, PathFault>
+    requires some { 0 < length pieces.now }
+    requires name { is_name (place_from pieces.now).db ≡ true }
+    ensures value { IfOk result (λ q. (q ≡ place_from pieces.now) × (size q ≤ LOC_MAX)) }
+    ensures within { IfOk result (λ q. (any_long q.path ≡ false) × (length q.path ≤ LABELS_MAX)) }
+    ensures fault { IfErr result (λ e. IsOver e (place_from pieces.now)) }
+{
+    let labels = labels_of(alloc, &pieces[1..])?;
+    let path = Path::of(alloc, labels.as_slice())?;
+    let name: &Text = &pieces[0];
+    let db = Name::read(alloc, name.items.as_str())?;
+    let place = Loc { db, path };
+    if place.size() > LOC_MAX as u32 {
+        return Err(PathFault::PathTooLong);
+    }
+    Ok(place)
+}
+
+/// The place that the word is the spelling of, unless it is over a limit.
+fn spelled_place(alloc: Global, word: &str) -> Result<Loc, PathFault>
+    requires { IsPlaceSpelling word.now }
+    ensures value { IfOk result (λ q. (place_text q ≡ word.now) × (size q ≤ LOC_MAX)) }
+    ensures fault { IfErr result (λ e. PlaceFault e word.now) }
+    ensures reads { IfOk result (λ q. place_reading word.now ≡ Ok q) }
+{
+    let pieces = pieces_of(alloc, word)?;
+    place_of(alloc, pieces.as_slice())
 }

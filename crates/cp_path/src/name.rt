@@ -3,13 +3,14 @@ ghost use Rattle.std.specs.List.{list_all};
 ghost use Rattle.cp_path.specs.Text.{text_eq, text_cmp, is_letter, is_digit, is_name_byte, is_name};
 ghost use Rattle.cp_path.specs.declared.fault.PathFault.TheVariants as fault;
 
-use crate::limits::NAME_MAX;
 use crate::fault::PathFault;
+use crate::limits::NAME_MAX;
 use crate::text::Text;
 use std::alloc::{AllocError, Global};
 use std::marker::Model;
 
-/// The name of a database: an ASCII letter, then at most 31 ASCII letters, digits or `_`. `T` is the curated one.
+/// The name of a database: an ASCII letter, then ASCII letters, digits or `_`, [`NAME_MAX`] characters at most.
+/// `T` is the one that curators change.
 #[derive(Clone, PartialEq, Eq, PartialOrd, Ord, Hash, Drop)]
 pub struct Name {
     text: Text,
@@ -31,13 +32,13 @@ impl Model for Name {
 pub(crate) fn is_letter(byte: u8) -> bool
     ensures { result ≡ is_letter byte }
 {
-    (b'A' <= byte && byte <= b'Z') || (b'a' <= byte && byte <= b'z')
+    matches!(byte, b'A'..=b'Z' | b'a'..=b'z')
 }
 
 pub(crate) fn is_name_byte(byte: u8) -> bool
     ensures { result ≡ is_name_byte byte }
 {
-    is_letter(byte) || (b'0' <= byte && byte <= b'9') || byte == b'_'
+    is_letter(byte) || matches!(byte, b'0'..=b'9' | b'_')
 }
 
 fn all_name_bytes(word: &[u8]) -> bool

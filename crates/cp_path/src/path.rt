@@ -2,14 +2,14 @@ ghost use Rattle.std.specs.Prelude.{◌≡◌, ◌≤◌, ◌<◌, ◌+◌, ◌�
 ghost use Rattle.std.specs.declared.option.Option.TheVariants.{Some};
 ghost use Rattle.std.specs.Option.{option_to_list};
 
-use crate::limits::LABELS_MAX;
 use crate::fault::PathFault;
 use crate::label::Label;
+use crate::limits::LABELS_MAX;
 use std::alloc::{AllocError, Global};
 use std::cmp::Ordering;
 use std::marker::Model;
 
-/// The labels from a root down to a place, at most 64.
+/// The labels from a root down to a place, at most [`LABELS_MAX`].
 #[derive(Drop)]
 pub struct Path {
     labels: Vec<Label>,

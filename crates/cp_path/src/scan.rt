@@ -1,10 +1,10 @@
 ghost use Rattle.std.specs.Prelude.{◌≡◌, ◌&&◌, ◌||◌, ◌==◌, ◌<◌, Some, None, Ok, Err, nat_le, nat_lt, true, false, take, length, MatchResult};
 ghost use Rattle.cp_path.specs.Text.{is_letter, is_name_byte};
-ghost use Rattle.cp_path.specs.Scan.{part_step, step, is_label, closes, accepts, ends_low, ends_high, bare, inside, escape_step, unicode_step, StopsAt, Accepts};
+ghost use Rattle.cp_path.specs.Scan.{part_step, step, is_label, closes, accepts, ends_low, ends_high, bare_step, quoted_step, escape_step, unicode_step, StopsAt, Accepts};
 
 use crate::limits::NAME_MAX;
 use crate::name::{is_letter, is_name_byte};
-use crate::write::is_trigger;
+use crate::spelling::is_trigger;
 
 /// Where a scan stands in the text that a word spells.
 #[derive(Clone, Copy)]
@@ -38,12 +38,14 @@ pub(crate) enum Spot {
     Ended,
 }
 
+/// Whether a label has begun, or may begin and end at once.
 fn is_label(part: Part) -> bool
     ensures { result ≡ is_label part }
 {
     matches!(part, Part::Empty | Part::Label)
 }
 
+/// Whether the closing quotation mark may stand there.
 fn closes(part: Part, has_trigger: bool) -> bool
     ensures { result ≡ closes part has_trigger }
 {
@@ -54,6 +56,7 @@ fn closes(part: Part, has_trigger: bool) -> bool
     }
 }
 
+/// One byte behind so many of a name.
 fn after_name(count: u8, byte: u8) -> Option<Part>
     ensures { result ≡ part_step true (Part.Name count) byte }
 {
@@ -68,6 +71,7 @@ fn after_name(count: u8, byte: u8) -> Option<Part>
     }
 }
 
+/// One byte of the text; `deep` where a slash may begin the next label.
 fn part_step(deep: bool, part: Part, byte: u8) -> Option<Part>
     ensures { result ≡ part_step deep part byte }
 {
@@ -81,7 +85,7 @@ fn part_step(deep: bool, part: Part, byte: u8) -> Option<Part>
         }
         Part::Name(count) => after_name(count, byte),
         Part::Tilde => {
-            if byte == b'0' || byte == b'1' {
+            if matches!(byte, b'0' | b'1') {
                 Some(Part::Label)
             } else {
                 None
@@ -99,20 +103,20 @@ fn part_step(deep: bool, part: Part, byte: u8) -> Option<Part>
     }
 }
 
-fn bare(deep: bool, part: Part, byte: u8) -> Option<Spot>
-    ensures { result ≡ bare deep part byte }
+/// One byte of a word without quotation marks.
+fn bare_step(deep: bool, part: Part, byte: u8) -> Option<Spot>
+    ensures { result ≡ bare_step deep part byte }
 {
     if is_trigger(byte) {
         return None;
     }
-    match part_step(deep, part, byte) {
-        Some(next) => Some(Spot::Bare(next)),
-        None => None,
-    }
+    let next = part_step(deep, part, byte)?;
+    Some(Spot::Bare(next))
 }
 
-fn inside(deep: bool, part: Part, has_trigger: bool, byte: u8) -> Option<Spot>
-    ensures { result ≡ inside deep part has_trigger byte }
+/// One byte inside quotation marks.
+fn quoted_step(deep: bool, part: Part, has_trigger: bool, byte: u8) -> Option<Spot>
+    ensures { result ≡ quoted_step deep part has_trigger byte }
 {
     if byte == b'"' {
         return if closes(part, has_trigger) {
@@ -132,10 +136,8 @@ fn inside(deep: bool, part: Part, has_trigger: bool, byte: u8) -> Option<Spot>
         return None;
     }
     let triggers = is_trigger(byte);
-    match part_step(deep, part, byte) {
-        Some(next) => Some(Spot::Quoted(next, has_trigger || triggers)),
-        None => None,
-    }
+    let next = part_step(deep, part, byte)?;
+    Some(Spot::Quoted(next, has_trigger || triggers))
 }
 
 /// Behind `\`: the escapes of one letter, and `u`.
@@ -154,13 +156,14 @@ fn escape_step(has_trigger: bool, byte: u8) -> Option<Spot>
 fn ends_low(byte: u8) -> bool
     ensures { result ≡ ends_low byte }
 {
-    (b'0' <= byte && byte <= b'7') || byte == b'b' || byte == b'e' || byte == b'f'
+    matches!(byte, b'0'..=b'7' | b'b' | b'e' | b'f')
 }
 
+/// Whether `\u001` and this digit stand for a byte.
 fn ends_high(byte: u8) -> bool
     ensures { result ≡ ends_high byte }
 {
-    (b'0' <= byte && byte <= b'9') || (b'a' <= byte && byte <= b'f')
+    matches!(byte, b'0'..=b'9' | b'a'..=b'f')
 }
 
 /// Behind `\u`: two zeros, a zero or a one, and a digit.
@@ -178,6 +181,7 @@ fn unicode_step(spot: Spot, byte: u8) -> Option<Spot>
     }
 }
 
+/// Where one byte of the word leads, if anywhere.
 fn step(deep: bool, spot: Spot, byte: u8) -> Option<Spot>
     ensures { result ≡ step deep spot byte }
 {
@@ -186,16 +190,17 @@ fn step(deep: bool, spot: Spot, byte: u8) -> Option<Spot>
             if byte == b'"' {
                 Some(Spot::Quoted(part, false))
             } else {
-                bare(deep, part, byte)
+                bare_step(deep, part, byte)
             }
         }
-        Spot::Bare(part) => bare(deep, part, byte),
-        Spot::Quoted(part, has_trigger) => inside(deep, part, has_trigger, byte),
+        Spot::Bare(part) => bare_step(deep, part, byte),
+        Spot::Quoted(part, has_trigger) => quoted_step(deep, part, has_trigger, byte),
         Spot::Backslash(has_trigger) => escape_step(has_trigger, byte),
         _ => unicode_step(spot, byte),
     }
 }
 
+/// Whether the word may end there.
 fn accepts(spot: Spot) -> bool
     ensures { result ≡ accepts spot }
 {

@@ -1,8 +1,11 @@
-ghost use Rattle.std.specs.Prelude.{◌≡◌, ◌++◌, ℕ, List, [], false, IfOk, OnOk, string_bytes};
+ghost use Rattle.std.specs.Prelude.{◌≡◌, ◌++◌, ◌∷◌, ℕ, List, [], false, IfOk, OnOk, string_bytes};
 ghost use Rattle.std.specs.Char.{encode_utf8};
-ghost use Rattle.cp_path.specs.Scan.{pieces, unescaped};
+ghost use Rattle.cp_path.specs.Spelling.{label_word, label_text};
+ghost use Rattle.cp_path.specs.Scan.{pieces, unescaped_byte};
+ghost use Rattle.cp_path.specs.Reading.{IsLabelSpelling, IsPlaceSpelling, SpellsPlace};
+ghost use Rattle.cp_path.specs.declared.loc.Loc.{Loc};
 
-use crate::text::Text;
+use crate::text::{Text, read_string};
 use std::alloc::{AllocError, Global};
 
 /// A text cut at its slashes, as far as it was read.
@@ -15,8 +18,8 @@ struct Splitter {
 }
 
 /// The character that `~` and this one stand for.
-fn unescaped(character: char) -> char
-    ensures { result ≡ unescaped character }
+fn unescaped_byte(character: char) -> char
+    ensures { result ≡ unescaped_byte character }
 {
     if character == '0' {
         '~'
@@ -34,7 +37,7 @@ impl Splitter {
     {
         if self.is_escape {
             self.is_escape = false;
-            self.piece.push(unescaped(character))
+            self.piece.push(unescaped_byte(character))
         } else if character == '~' {
             self.is_escape = true;
             Ok(())
@@ -58,7 +61,7 @@ fn take_all(alloc: Global, splitter: &mut Splitter, text: &str) -> Result<(), Al
 }
 
 /// The pieces between slashes, unescaped. Costs the text's bytes.
-pub(crate) fn split(alloc: Global, text: &str) -> Result<Vec<Text>, AllocError>
+fn split(alloc: Global, text: &str) -> Result<Vec<Text>, AllocError>
     ensures { IfOk result (λ v. v.items ≡ pieces false [] text.now) }
 {
     let mut splitter = Splitter {
@@ -74,4 +77,29 @@ pub(crate) fn split(alloc: Global, text: &str) -> Result<Vec<Text>, AllocError>
     } = splitter;
     done.push(Text { items: piece })?;
     Ok(done)
+}
+
+/// The text that a word spells: what its quotation marks hold, or the word itself.
+#[tactic(auto, using(crate::proofs::Accepted::quoted_word, crate::proofs::Accepted::bare_text))]
+fn text_of(alloc: Global, word: &str) -> Result<String, AllocError>
+    ensures { IfOk result (λ s. (r : List ℕ) → word.now ≡ label_word r → string_bytes s ≡ r) }
+{
+    let bytes = word.as_bytes();
+    if bytes.is_empty() || bytes[0] != b'"' {
+        return String::from_str(alloc, word);
+    }
+    match read_string(alloc, word)? {
+        Some(text) => Ok(text),
+        None => Ok(String::new(alloc)),
+    }
+}
+
+/// The pieces of the text that a word spells: of a label it is the label alone, of a place its name and its labels.
+pub(crate) fn pieces_of(alloc: Global, word: &str) -> Result<Vec<Text>, AllocError>
+    ensures label { IfOk result (λ v. IsLabelSpelling word.now → (a : List ℕ) × (word.now ≡ label_text a) × (v.items ≡ a ∷ [])) }
+    ensures place { IfOk result (λ v. IsPlaceSpelling word.now → (q : Loc) × SpellsPlace word.now q × (v.items ≡ q.db ∷ q.path)) }
+{
+    let text = text_of(alloc, word)?;
+    let pieces = split(alloc, text.as_str())?;
+    Ok(pieces)
 }

@@ -5,7 +5,7 @@ use Rattle.std.proofs.lemmas.List.Concat.{flat_map-append}
 use Rattle.std.specs.List.{flat_map, AllByRecursion}
 use Rattle.std.specs.Option.{option_map}
 use Rattle.std.specs.Int.{to_be_bytes, w64}
-use Rattle.cp_path.specs.Encoding.{counted, path_bytes, place_bytes}
+use Rattle.cp_path.specs.Encoding.{counted_bytes, path_bytes, place_bytes}
 use Rattle.cp_path.specs.Place.{Path, Label, target}
 use Rattle.cp_path.specs.declared.loc.Loc.{Loc}
 use Rattle.cp_model.specs.declared.record.Record.{Record}
@@ -20,9 +20,9 @@ on_ok (Ok x) e p = p
 on_ok (Err x) e p = absurd (cc)
 
 -- the next label, and what follows it
-pub next_label : (p : Path) (rest now : List ℕ) (k : ℕ) → k < length p → now ≡ flat_map counted (drop k p) ++ rest → now ≡ counted (get_or p k []) ++ (flat_map counted (drop (k + 1) p) ++ rest)
+pub next_label : (p : Path) (rest now : List ℕ) (k : ℕ) → k < length p → now ≡ flat_map counted_bytes (drop k p) ++ rest → now ≡ counted_bytes (get_or p k []) ++ (flat_map counted_bytes (drop (k + 1) p) ++ rest)
 next_label p rest now k h e =
-    e ∙ ap (λ (l : Path). flat_map counted l ++ rest) (drop_more p k [] h) ∙ append_assoc (counted (get_or p k [])) (flat_map counted (drop (k + 1) p)) rest
+    e ∙ ap (λ (l : Path). flat_map counted_bytes l ++ rest) (drop_more p k [] h) ∙ append_assoc (counted_bytes (get_or p k [])) (flat_map counted_bytes (drop (k + 1) p)) rest
 
 -- one label more
 pub one_more : (p path new : Path) (a : Label) (k : ℕ) → k < length p → path ≡ take k p → a ≡ get_or p k [] → new ≡ path ++ a ∷ [] → new ≡ take (k + 1) p
@@ -33,8 +33,8 @@ pub all_labels : (p path : Path) (k : ℕ) → length p ≤ k → path ≡ take 
 all_labels p path k h e = e ∙ take_all k p h
 
 -- nothing but the rest is left
-pub none_left : (p : Path) (rest now : List ℕ) (k : ℕ) → length p ≤ k → now ≡ flat_map counted (drop k p) ++ rest → now ≡ rest
-none_left p rest now k h e = e ∙ ap (λ (l : Path). flat_map counted l ++ rest) (drop_all k p h)
+pub none_left : (p : Path) (rest now : List ℕ) (k : ℕ) → length p ≤ k → now ≡ flat_map counted_bytes (drop k p) ++ rest → now ≡ rest
+none_left p rest now k h e = e ∙ ap (λ (l : Path). flat_map counted_bytes l ++ rest) (drop_all k p h)
 
 -- ---- one record
 

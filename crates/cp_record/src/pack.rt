@@ -1,7 +1,7 @@
 ghost use Rattle.std.specs.Prelude.{◌≡◌, ◌≤◌, ◌+◌, ◌++◌, ◌∷◌, length, OnOk, IfSome};
 ghost use Rattle.std.specs.List.{flat_map};
 ghost use Rattle.std.specs.Option.{option_map};
-ghost use Rattle.cp_path.specs.Encoding.{counted, path_bytes, place_bytes};
+ghost use Rattle.cp_path.specs.Encoding.{counted_bytes, path_bytes, place_bytes};
 ghost use Rattle.cp_path.specs.Place.{below_place};
 ghost use Rattle.cp_record.specs.Bytes.{letter, record_bytes, record_below};
 ghost use Rattle.cp_record.specs.Packed.{Grew};
@@ -25,7 +25,7 @@ fn letter(op: RecOp) -> u8
 /// Writes bytes behind their number.
 fn push_counted(out: &mut Vec<u8>, bytes: &[u8]) -> Result<(), AllocError>
     requires { length bytes.now ≤ LABEL_MAX }
-    ensures ok { OnOk result (out.new.items ≡ out.old.items ++ counted bytes.now) }
+    ensures ok { OnOk result (out.new.items ≡ out.old.items ++ counted_bytes bytes.now) }
     ensures err { Grew out.old.items out.new.items }
 {
     out.push(bytes.len() as u8)?;
@@ -35,7 +35,7 @@ fn push_counted(out: &mut Vec<u8>, bytes: &[u8]) -> Result<(), AllocError>
 
 /// Writes labels, each behind its length.
 fn push_labels(out: &mut Vec<u8>, labels: &[Label]) -> Result<(), AllocError>
-    ensures ok { OnOk result (out.new.items ≡ out.old.items ++ flat_map counted labels.now) }
+    ensures ok { OnOk result (out.new.items ≡ out.old.items ++ flat_map counted_bytes labels.now) }
     ensures err { Grew out.old.items out.new.items }
 {
     for label in labels {

@@ -2,7 +2,7 @@ ghost use Rattle.std.specs.Prelude.{◌≡◌, ◌<◌, ◌≤◌, ◌++◌, ◌
 ghost use Rattle.std.specs.List.{flat_map};
 ghost use Rattle.std.specs.declared.option.Option.{Option};
 ghost use Rattle.std.specs.Int.{to_be_bytes, w64};
-ghost use Rattle.cp_path.specs.Encoding.{counted, path_bytes, place_bytes};
+ghost use Rattle.cp_path.specs.Encoding.{counted_bytes, path_bytes, place_bytes};
 ghost use Rattle.cp_path.specs.Place.{Path};
 ghost use Rattle.cp_path.specs.declared.loc.Loc.{Loc};
 ghost use Rattle.cp_model.specs.declared.record.Record.{Record};
@@ -47,7 +47,7 @@ fn op_at(bytes: &[u8]) -> Option<(RecOp, &[u8])>
 
 /// The bytes behind their number, and what follows.
 fn counted_at(bytes: &[u8]) -> Option<(&[u8], &[u8])>
-    ensures value { (xs : List ℕ) → (rest : List ℕ) → bytes.now ≡ counted xs ++ rest → IfSome result (λ y. (y.0.now ≡ xs) × (y.1.now ≡ rest)) }
+    ensures value { (xs : List ℕ) → (rest : List ℕ) → bytes.now ≡ counted_bytes xs ++ rest → IfSome result (λ y. (y.0.now ≡ xs) × (y.1.now ≡ rest)) }
     ensures shorter { IfSome result (λ y. length y.1.now < length bytes.now) }
 {
     let (count, rest) = bytes.split_first()?;
@@ -56,7 +56,7 @@ fn counted_at(bytes: &[u8]) -> Option<(&[u8], &[u8])>
 
 /// The text behind its length, and what follows.
 fn text_at(bytes: &[u8]) -> Option<(&str, &[u8])>
-    ensures value { (xs : List ℕ) → (rest : List ℕ) → bytes.now ≡ counted xs ++ rest → IfSome result (λ y. (y.0.now ≡ xs) × (y.1.now ≡ rest)) }
+    ensures value { (xs : List ℕ) → (rest : List ℕ) → bytes.now ≡ counted_bytes xs ++ rest → IfSome result (λ y. (y.0.now ≡ xs) × (y.1.now ≡ rest)) }
     ensures shorter { IfSome result (λ y. length y.1.now < length bytes.now) }
 {
     let (text, rest) = counted_at(bytes)?;
@@ -68,7 +68,7 @@ fn text_at(bytes: &[u8]) -> Option<(&str, &[u8])>
 
 /// The label behind its length, and what follows.
 fn label_at(alloc: Global, bytes: &[u8]) -> Result<(Label, &[u8]), AllocError>
-    ensures value { (a : List ℕ) → (rest : List ℕ) → bytes.now ≡ counted a ++ rest → IfOk result (λ y. (y.0 ≡ a) × (y.1.now ≡ rest)) }
+    ensures value { (a : List ℕ) → (rest : List ℕ) → bytes.now ≡ counted_bytes a ++ rest → IfOk result (λ y. (y.0 ≡ a) × (y.1.now ≡ rest)) }
     ensures shorter { IfOk result (λ y. length y.1.now < length bytes.now) }
 {
     match text_at(bytes) {
@@ -82,7 +82,7 @@ fn label_at(alloc: Global, bytes: &[u8]) -> Result<(Label, &[u8]), AllocError>
 
 /// The name behind its length, and what follows.
 fn name_at(alloc: Global, bytes: &[u8]) -> Result<(Name, &[u8]), AllocError>
-    ensures value { (a : List ℕ) → (rest : List ℕ) → bytes.now ≡ counted a ++ rest → IfOk result (λ y. (y.0 ≡ a) × (y.1.now ≡ rest)) }
+    ensures value { (a : List ℕ) → (rest : List ℕ) → bytes.now ≡ counted_bytes a ++ rest → IfOk result (λ y. (y.0 ≡ a) × (y.1.now ≡ rest)) }
     ensures shorter { IfOk result (λ y. length y.1.now < length bytes.now) }
 {
     match text_at(bytes) {
@@ -96,7 +96,7 @@ fn name_at(alloc: Global, bytes: &[u8]) -> Result<(Name, &[u8]), AllocError>
 
 /// The path of so many labels, and what follows.
 fn labels_at(alloc: Global, count: u8, bytes: &[u8]) -> Result<(Path, &[u8]), AllocError>
-    ensures value { (p : Path) → (rest : List ℕ) → count ≡ length p → bytes.now ≡ flat_map counted p ++ rest → IfOk result (λ y. (y.0 ≡ p) × (y.1.now ≡ rest)) }
+    ensures value { (p : Path) → (rest : List ℕ) → count ≡ length p → bytes.now ≡ flat_map counted_bytes p ++ rest → IfOk result (λ y. (y.0 ≡ p) × (y.1.now ≡ rest)) }
     ensures shorter { IfOk result (λ y. length y.1.now ≤ length bytes.now) }
 {
     let mut path = Path::root(alloc);

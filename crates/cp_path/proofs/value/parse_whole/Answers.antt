@@ -1,7 +1,7 @@
 use Rattle.std.proofs.Common.{sym, subst, FitsSigned, to_z-of_z}
 use mir.Syntax.{w128}
 use Rattle.cp_path.proofs.Numbers.{made, parsed, refused}
-use Rattle.cp_path.proofs.read_value.parse_whole.Goals as goal
+use Rattle.cp_path.proofs.value.parse_whole.Goals as goal
 
 pub returns-in-Ok : goal.returns-in-Ok
 returns-in-Ok c = λ n range is.

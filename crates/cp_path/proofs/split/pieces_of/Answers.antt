@@ -1,7 +1,7 @@
 use Rattle.std.proofs.Common.{ap, ◌∙◌, [], false, string_bytes}
 use Rattle.cp_path.specs.Scan.{pieces}
 use Rattle.cp_path.proofs.Pieces.{label_pieces, place_pieces}
-use Rattle.cp_path.proofs.read.pieces_of.Goals as goal
+use Rattle.cp_path.proofs.split.pieces_of.Goals as goal
 
 pub returns-clause-label : goal.returns-clause-label
 returns-clause-label c = label_pieces (string_bytes c.in_ok-text.text) c.in_ok-pieces.pieces.items c.args.word.now (c.in_ok-pieces.ensures ∙ ap (pieces false []) c.as_str.ensures.value) c.in_ok-text.ensures

@@ -1,7 +1,7 @@
 use Rattle.std.proofs.Common.{◌≡◌, rules, sym}
 use Rattle.cp_path.specs.Spelling.{whole_text}
 use Rattle.cp_path.proofs.ValueLaws.{whole_reading_spelled}
-use Rattle.cp_path.proofs.read_value.read_whole.Goals as goal
+use Rattle.cp_path.proofs.value.read_whole.Goals as goal
 
 pub returns-then-eq-clause-reads : goal.returns-then-eq-clause-reads
 returns-then-eq-clause-reads c =
