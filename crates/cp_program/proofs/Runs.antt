@@ -1,4 +1,5 @@
 -- A run is its first turns, and then the rest.
+use Rattle.cp_program.specs.declared.limits.TheConstants.{INPUT_MAX, PIECE_MAX}
 use Rattle.std.proofs.Common.{◌≡◌, ℕ, ◌+◌, ◌≤◌, ◌<◌, List, [], ◌++◌, take, length, Bool, Option, Err, inl, inr, refl, sym, ap, ◌∙◌, subst, append_assoc, append-nil, arith}
 use Rattle.std.proofs.Math.Bool.{or_assoc}
 use Rattle.std.specs.Prelude.{◌||◌}
@@ -9,8 +10,8 @@ use Rattle.cp_outside.specs.Causes.{Rose}
 use Rattle.std.specs.declared.option.Option.TheVariants.{Some}
 use Rattle.cp_outside.specs.FileReads.{FileTable}
 use Rattle.cp_outside.specs.Sinks.{TakesPart}
-use Rattle.cp_outside.specs.KnownBytes.{Appends-then, Consumes-then, Consumes-none, Consumes-kept}
-use Rattle.cp_program.specs.Words.{most_input, most_piece, input_line, file_line, memory_line, too_long_line}
+use Rattle.std.proofs.KnownBytes.{Appends-trans, Consumes-trans, Consumes-nil, Consumes-kept}
+use Rattle.cp_program.specs.Words.{input_line, file_line, memory_line, too_long_line}
 use Rattle.cp_program.specs.Job.{Ended}
 use Rattle.cp_program.specs.Play.{Seen, plays, after_play, closes, plays_all}
 use Rattle.cp_program.specs.Story.{WritesLast, WroteRefusal, Took, IsCalm}
@@ -38,8 +39,8 @@ rose-on a b c r h = omega arith
 -- a last line behind what was written before
 pub last-behind : (b m a : Option (List ℕ)) (r s t : ℕ) (xs ys last : List ℕ) → r ≤ s → Appends b m xs → WritesLast m a s t ys last → WritesLast b a r t (xs ++ ys) last
 last-behind b m a r s t xs ys last le h w = elim w [
-  | inl whole ↦ inl (subst (Appends b a) (sym (append_assoc xs ys last)) (Appends-then b m a xs (ys ++ last) h whole))
-  | inr part ↦ inr (rose-later r s t le part.0, part.1, part.2, subst (Appends b a) (sym (append_assoc xs ys (take part.1 last))) (Appends-then b m a xs (ys ++ take part.1 last) h part.3))
+  | inl whole ↦ inl (subst (Appends b a) (sym (append_assoc xs ys last)) (Appends-trans b m a xs (ys ++ last) h whole))
+  | inr part ↦ inr (rose-later r s t le part.0, part.1, part.2, subst (Appends b a) (sym (append_assoc xs ys (take part.1 last))) (Appends-trans b m a xs (ys ++ take part.1 last) h part.3))
 ]
 
 module _ (files : FileTable) where
@@ -67,7 +68,7 @@ module _ (files : FileTable) where
 
   -- all that is written behind the bytes
   all-whole : (s : Seen) (xs ys : List ℕ) (b m a : Option (List ℕ)) → Appends b m (plays files s xs).out → Appends m a (plays_all files (after_play files s xs) ys).out → Appends b a (plays_all files s (xs ++ ys)).out
-  all-whole s xs ys b m a h t = rw (out-then s xs ys) (Appends-then b m a (plays files s xs).out (plays_all files (after_play files s xs) ys).out h t)
+  all-whole s xs ys b m a h t = rw (out-then s xs ys) (Appends-trans b m a (plays files s xs).out (plays_all files (after_play files s xs) ys).out h t)
 
   -- a last line behind the bytes
   played-last : (s : Seen) (xs ys last : List ℕ) (b m a : Option (List ℕ)) (q r v : ℕ) → q ≤ r → Appends b m (plays files s xs).out → WritesLast m a r v (plays files (after_play files s xs) ys).out last → WritesLast b a q v (plays files s (xs ++ ys)).out last
@@ -121,7 +122,7 @@ module _ (files : FileTable) where
   wrote-closed s f count left b a r v how.TooLong end c = absurd c
 
   -- too much has come
-  pub wrote-too-long : (s : Seen) (f : Bool) (count : ℕ) (bytes : List ℕ) (left b a : Option (List ℕ)) (r v : ℕ) → count ≤ most_input → length bytes ≤ most_piece → WritesLast b a r v [] too_long_line
+  pub wrote-too-long : (s : Seen) (f : Bool) (count : ℕ) (bytes : List ℕ) (left b a : Option (List ℕ)) (r v : ℕ) → count ≤ INPUT_MAX → length bytes ≤ PIECE_MAX → WritesLast b a r v [] too_long_line
       → WroteOn files s f count bytes left b a r v how.TooLong
   wrote-too-long s f count bytes left b a r v le piece w = (0, omega arith, omega arith, last-first b a r v s too_long_line w)
 
@@ -164,14 +165,14 @@ closes-stopped files s f old new b m a r t v Memory rt tv g w full = inr (last-a
 -- ---- bytes that are taken
 
 -- a call that was stopped took no more than it may
-pub took-stopped : (count : ℕ) (bytes : List ℕ) (stop : Stop) → count + length bytes ≤ most_input → Took count bytes (status_of stop)
+pub took-stopped : (count : ℕ) (bytes : List ℕ) (stop : Stop) → count + length bytes ≤ INPUT_MAX → Took count bytes (status_of stop)
 took-stopped count bytes Output le = le
 took-stopped count bytes Full le = le
 took-stopped count bytes File le = le
 took-stopped count bytes Memory le = le
 
 -- nor did one whose input has ended
-pub took-closed : (count : ℕ) (e : End) → IsClosing e → count ≤ most_input → Took count [] e
+pub took-closed : (count : ℕ) (e : End) → IsClosing e → count ≤ INPUT_MAX → Took count [] e
 took-closed count how.Done c le = omega (arith, le)
 took-closed count how.Refused c le = omega (arith, le)
 took-closed count how.Usage c le = absurd c
@@ -196,21 +197,21 @@ took-then count xs ys how.TooLong t = omega (arith, t, length-append xs ys)
 
 module _ {R : Type 0} (view : R → Tree) (found : Option FileTable) where
   -- the input failed
-  pub ran-input : (x : Kept R) (count : ℕ) (l0 l1 b a : Option (List ℕ)) (r v : ℕ) → count ≤ most_input → Keeps l0 l1 → WritesLast b a r v [] input_line → RanFrom view found x count l0 l1 b a r v how.Input
-  ran-input x count l0 l1 b a r v le k w = ([], Consumes-kept l0 l0 l1 [] (Consumes-none l0) k, omega (arith, le), λ files told s f. wrote-input files s x.refused count l1 b a r v w)
+  pub ran-input : (x : Kept R) (count : ℕ) (l0 l1 b a : Option (List ℕ)) (r v : ℕ) → count ≤ INPUT_MAX → Keeps l0 l1 → WritesLast b a r v [] input_line → RanFrom view found x count l0 l1 b a r v how.Input
+  ran-input x count l0 l1 b a r v le k w = ([], Consumes-kept l0 l0 l1 [] (Consumes-nil l0) k, omega (arith, le), λ files told s f. wrote-input files s x.refused count l1 b a r v w)
 
   -- the input has ended
-  pub ran-closed : (x : Kept R) (count : ℕ) (l0 l1 b a : Option (List ℕ)) (r v : ℕ) (e : End) → count ≤ most_input → Consumes l0 l1 [] → IsAtEnd l1 → IsClosing e
+  pub ran-closed : (x : Kept R) (count : ℕ) (l0 l1 b a : Option (List ℕ)) (r v : ℕ) (e : End) → count ≤ INPUT_MAX → Consumes l0 l1 [] → IsAtEnd l1 → IsClosing e
       → ((files : FileTable) → found ≡ Some files → (s : Seen) → Follows view x s → Closes files s x.refused b a r v e) → RanFrom view found x count l0 l1 b a r v e
   ran-closed x count l0 l1 b a r v e le took end own c = ([], took, took-closed count e own le, λ files told s f. wrote-closed files s x.refused count l1 b a r v e end (c files told s f))
 
   -- too much has come
-  pub ran-too-long : (x : Kept R) (count : ℕ) (bytes : List ℕ) (l0 l1 b a : Option (List ℕ)) (r v : ℕ) → count ≤ most_input → Consumes l0 l1 bytes → most_input < count + length bytes → length bytes ≤ most_piece
+  pub ran-too-long : (x : Kept R) (count : ℕ) (bytes : List ℕ) (l0 l1 b a : Option (List ℕ)) (r v : ℕ) → count ≤ INPUT_MAX → Consumes l0 l1 bytes → INPUT_MAX < count + length bytes → length bytes ≤ PIECE_MAX
       → WritesLast b a r v [] too_long_line → RanFrom view found x count l0 l1 b a r v how.TooLong
   ran-too-long x count bytes l0 l1 b a r v le took past piece w = (bytes, took, past, λ files told s f. wrote-too-long files s x.refused count bytes l1 b a r v le piece w)
 
   -- the session was stopped
-  pub ran-stopped : (old new : Kept R) (count : ℕ) (bytes : List ℕ) (l0 l1 b m a : Option (List ℕ)) (r t v : ℕ) (stop : Stop) → count + length bytes ≤ most_input → r ≤ t → t ≤ v
+  pub ran-stopped : (old new : Kept R) (count : ℕ) (bytes : List ℕ) (l0 l1 b m a : Option (List ℕ)) (r t v : ℕ) (stop : Stop) → count + length bytes ≤ INPUT_MAX → r ≤ t → t ≤ v
       → Consumes l0 l1 bytes → ((files : FileTable) → found ≡ Some files → (s : Seen) → Follows view old s → Fed view files s bytes old new b m (Err stop)) → WroteLast m a t v stop → (stop ≡ Full → Rose r t)
       → RanFrom view found old count l0 l1 b a r v (status_of stop)
   ran-stopped old new count bytes l0 l1 b m a r t v stop le rt tv took g w full =
@@ -220,14 +221,14 @@ module _ {R : Type 0} (view : R → Tree) (found : Option FileTable) where
 
   -- no turn yet
   pub turned-none : (k : Kept R) (l b : Option (List ℕ)) → Turned view found k k 0 0 l l b b
-  turned-none k l b = ([], Consumes-none l, refl, λ files told s f. goes-none files view s k b f)
+  turned-none k l b = ([], Consumes-nil l, refl, λ files told s f. goes-none files view s k b f)
 
   -- one turn more
   pub turned-more : (old mid new : Kept R) (count now later : ℕ) (l0 l1 l2 b m a : Option (List ℕ)) → Turned view found old mid count now l0 l1 b m → Turned view found mid new now later l1 l2 m a
       → Turned view found old new count later l0 l2 b a
   turned-more old mid new count now later l0 l1 l2 b m a x y = (
     x.0 ++ y.0,
-    Consumes-then l0 l1 l2 x.0 y.0 x.1 y.1,
+    Consumes-trans l0 l1 l2 x.0 y.0 x.1 y.1,
     omega (arith, x.2, y.2, length-append x.0 y.0),
     λ files told s f. (let g = x.3 files told s f in goes-then files view s x.0 y.0 old mid new b m a g (y.3 files told (after_play files s x.0) g.0)),
   )
@@ -237,7 +238,7 @@ module _ {R : Type 0} (view : R → Tree) (found : Option FileTable) where
       → RanFrom view found old 0 l0 l2 b a q v e
   turned-ran old mid now l0 l1 l2 b m a q r v e le x w = (
     x.0 ++ w.0,
-    Consumes-then l0 l1 l2 x.0 w.0 x.1 w.1,
+    Consumes-trans l0 l1 l2 x.0 w.0 x.1 w.1,
     took-then 0 x.0 w.0 e (subst (λ n. Took n w.0 e) x.2 w.2),
     λ files told s f.
         (let g = x.3 files told s f in

@@ -9,7 +9,7 @@ use Rattle.cp_model.specs.Place.{in_target}
 use Rattle.cp_model.specs.Subtrees.{is_there}
 use Rattle.cp_model.specs.Tree.{Tree}
 use Rattle.cp_model.specs.Past.{Aged}
-use Rattle.cp_model.specs.Lookups.{there-mapped}
+use Rattle.cp_model.proofs.Lookups.{there-mapped}
 use Rattle.cp_model.specs.History.{State}
 use Rattle.cp_model.specs.Answers.{answer_to, has_place, at_place}
 use Rattle.cp_model.specs.declared.answer.Answer.{Answer}

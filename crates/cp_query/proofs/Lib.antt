@@ -1,3 +1,5 @@
 mod Answering
 mod Steps
 mod Asking
+pub mod Followed
+pub mod Telling

@@ -7,7 +7,7 @@ ghost use Rattle.cp_record.specs.Packed.{Holds, is_copy};
 use crate::pack::push_record;
 use crate::unpack::record_at;
 use cp_model::{RecOp, RecordList};
-use cp_path::{Loc, Path};
+use cp_path::{Loc, Path, LABELS_MAX};
 use std::alloc::{AllocError, Global};
 
 /// Records of T, one after another, in about as many bytes as their labels have.
@@ -36,8 +36,8 @@ impl PackedRecords {
         below: &Path,
         source: Option<&Loc>,
     ) -> Result<(), AllocError>
-        requires place { length base.now + length below.now ≤ 64 }
-        requires source { IfSome source (λ q. length q.now.path + length below.now ≤ 64) }
+        requires place { length base.now + length below.now ≤ LABELS_MAX }
+        requires source { IfSome source (λ q. length q.now.path + length below.now ≤ LABELS_MAX) }
         requires source_of_copy { is_some source ≡ is_copy op }
         ensures ok { (rs : List Record) → Holds self.old rs → OnOk result (Holds self.new (rs ++ record_below tid op base.now below.now (option_map (λ q. q.now) source.entry) ∷ [])) }
         ensures err { (rs : List Record) → Holds self.old rs → OnErr result (Holds self.new rs) }
