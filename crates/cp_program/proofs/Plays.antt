@@ -11,7 +11,7 @@ use Rattle.std.proofs.lemmas.List.{take-append-le, length-append, take_more, tak
 use Rattle.std.specs.Io.KnownBytes.{Appends}
 use Rattle.cp_outside.specs.FileReads.{FileTable}
 use Rattle.cp_outside.specs.Sinks.{TakesPart}
-use Rattle.cp_outside.proofs.KnownBytes.{Appends-none, Appends-then}
+use Rattle.std.proofs.KnownBytes.{Appends-nil, Appends-trans}
 use Rattle.cp_lang.specs.declared.cut.Cut.{Cut}
 use Rattle.cp_lang.specs.Cuts.{Scan, scan_byte, scanned, rest_of}
 use Rattle.cp_lang.proofs.Pieces.{scan-append, cuts-append}
@@ -57,7 +57,7 @@ told-append xs ys =
 -- a part of the second text, behind the first
 pub part-then : (b m a : Option (List ℕ)) (xs ys : List ℕ) → Appends b m xs → TakesPart m a ys → TakesPart b a (xs ++ ys)
 part-then b m a xs ys h t =
-    (length xs + t.0, omega (arith, length-append xs ys, t.1), subst (Appends b a) (sym (take-append-add xs ys t.0)) (Appends-then b m a xs (take t.0 ys) h t.2))
+    (length xs + t.0, omega (arith, length-append xs ys, t.1), subst (Appends b a) (sym (take-append-add xs ys t.0)) (Appends-trans b m a xs (take t.0 ys) h t.2))
 
 -- a part of a text is a part of a longer one
 pub part-more : (b a : Option (List ℕ)) (xs ys : List ℕ) → TakesPart b a xs → TakesPart b a (xs ++ ys)
@@ -65,7 +65,7 @@ part-more b a xs ys t = (t.0, omega (arith, length-append xs ys, t.1), subst (Ap
 
 -- nothing written behind a text
 pub nothing-more : (b m a : Option (List ℕ)) (xs : List ℕ) → Appends b m xs → Appends m a [] → Appends b a xs
-nothing-more b m a xs h k = subst (Appends b a) (append-nil xs) (Appends-then b m a xs [] h k)
+nothing-more b m a xs h k = subst (Appends b a) (append-nil xs) (Appends-trans b m a xs [] h k)
 
 -- the bytes up to one, that one, and the rest
 pub split_at : (xs : List ℕ) (i : ℕ) → i < length xs → xs ≡ take i xs ++ get_or xs i 0 ∷ drop (i + 1) xs
@@ -156,7 +156,7 @@ module _ (files : FileTable) where
   pub ran-silent : {R : Type 0} (view : R → Tree) (s : Seen) (cut : Cut) (old new : Kept R) (a : Option (List ℕ)) → Turned view (turn (setting files) s.session cut) new.database None → new.cutter ≡ held_of s.scan → new.refused ≡ old.refused
       → Goes view (cuts_play files s (cut ∷ [])) (after_cuts files s (cut ∷ [])) old new a a (Ok tt)
   unfolding replies_to session_after
-  ran-silent view s cut old new a t h f = rw (sym t.0) ((h, t.1), f ∙ or-false old.refused, Appends-none a)
+  ran-silent view s cut old new a t h f = rw (sym t.0) ((h, t.1), f ∙ or-false old.refused, Appends-nil a)
 
   -- the lines of a cut's reply were written
   pub ran-said : {R : Type 0} (view : R → Tree) (s : Seen) (cut : Cut) (r : Reply) (old mid new : Kept R) (b a : Option (List ℕ)) (result : Result ⊤ Stop)
@@ -178,7 +178,7 @@ module _ (files : FileTable) where
   -- no cut
   pub ran-none : {R : Type 0} (view : R → Tree) (s : Seen) (k : Kept R) (a : Option (List ℕ)) → Follows view k s → Goes view (cuts_play files s []) (after_cuts files s []) k k a a (Ok tt)
   unfolding replies_to session_after
-  ran-none view s k a h = (h, or-false k.refused, Appends-none a)
+  ran-none view s k a h = (h, or-false k.refused, Appends-nil a)
 
   -- ---- bytes
 
@@ -217,7 +217,7 @@ module _ (files : FileTable) where
   -- no byte is played at once
   pub goes-none : {R : Type 0} (view : R → Tree) (s : Seen) (k : Kept R) (a : Option (List ℕ)) → Follows view k s → Goes view (plays files s []) (after_play files s []) k k a a (Ok tt)
   unfolding plays after_play scanned replies_to session_after
-  goes-none view s k a h = (h, or-false k.refused, Appends-none a)
+  goes-none view s k a h = (h, or-false k.refused, Appends-nil a)
 
   -- bytes, and then others
   pub goes-then : {R : Type 0} (view : R → Tree) (s : Seen) (xs ys : List ℕ) (old mid new : Kept R) (b m a : Option (List ℕ)) → Goes view (plays files s xs) (after_play files s xs) old mid b m (Ok tt)
@@ -226,7 +226,7 @@ module _ (files : FileTable) where
       rw (plays-append s xs ys, after-append s xs ys) (
         h.0,
         h.1 ∙ ap (λ z. z || (plays files (after_play files s xs) ys).refused) g.1 ∙ or_assoc old.refused (plays files s xs).refused (plays files (after_play files s xs) ys).refused,
-        Appends-then b m a (plays files s xs).out (plays files (after_play files s xs) ys).out g.2 h.2,
+        Appends-trans b m a (plays files s xs).out (plays files (after_play files s xs) ys).out g.2 h.2,
       )
 
   -- a byte at which the session stops, whatever would come next

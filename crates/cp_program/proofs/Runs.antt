@@ -10,7 +10,7 @@ use Rattle.cp_outside.specs.Causes.{Rose}
 use Rattle.std.specs.declared.option.Option.TheVariants.{Some}
 use Rattle.cp_outside.specs.FileReads.{FileTable}
 use Rattle.cp_outside.specs.Sinks.{TakesPart}
-use Rattle.cp_outside.proofs.KnownBytes.{Appends-then, Consumes-then, Consumes-none, Consumes-kept}
+use Rattle.std.proofs.KnownBytes.{Appends-trans, Consumes-trans, Consumes-nil, Consumes-kept}
 use Rattle.cp_program.specs.Words.{input_line, file_line, memory_line, too_long_line}
 use Rattle.cp_program.specs.Job.{Ended}
 use Rattle.cp_program.specs.Play.{Seen, plays, after_play, closes, plays_all}
@@ -39,8 +39,8 @@ rose-on a b c r h = omega arith
 -- a last line behind what was written before
 pub last-behind : (b m a : Option (List ℕ)) (r s t : ℕ) (xs ys last : List ℕ) → r ≤ s → Appends b m xs → WritesLast m a s t ys last → WritesLast b a r t (xs ++ ys) last
 last-behind b m a r s t xs ys last le h w = elim w [
-  | inl whole ↦ inl (subst (Appends b a) (sym (append_assoc xs ys last)) (Appends-then b m a xs (ys ++ last) h whole))
-  | inr part ↦ inr (rose-later r s t le part.0, part.1, part.2, subst (Appends b a) (sym (append_assoc xs ys (take part.1 last))) (Appends-then b m a xs (ys ++ take part.1 last) h part.3))
+  | inl whole ↦ inl (subst (Appends b a) (sym (append_assoc xs ys last)) (Appends-trans b m a xs (ys ++ last) h whole))
+  | inr part ↦ inr (rose-later r s t le part.0, part.1, part.2, subst (Appends b a) (sym (append_assoc xs ys (take part.1 last))) (Appends-trans b m a xs (ys ++ take part.1 last) h part.3))
 ]
 
 module _ (files : FileTable) where
@@ -68,7 +68,7 @@ module _ (files : FileTable) where
 
   -- all that is written behind the bytes
   all-whole : (s : Seen) (xs ys : List ℕ) (b m a : Option (List ℕ)) → Appends b m (plays files s xs).out → Appends m a (plays_all files (after_play files s xs) ys).out → Appends b a (plays_all files s (xs ++ ys)).out
-  all-whole s xs ys b m a h t = rw (out-then s xs ys) (Appends-then b m a (plays files s xs).out (plays_all files (after_play files s xs) ys).out h t)
+  all-whole s xs ys b m a h t = rw (out-then s xs ys) (Appends-trans b m a (plays files s xs).out (plays_all files (after_play files s xs) ys).out h t)
 
   -- a last line behind the bytes
   played-last : (s : Seen) (xs ys last : List ℕ) (b m a : Option (List ℕ)) (q r v : ℕ) → q ≤ r → Appends b m (plays files s xs).out → WritesLast m a r v (plays files (after_play files s xs) ys).out last → WritesLast b a q v (plays files s (xs ++ ys)).out last
@@ -198,7 +198,7 @@ took-then count xs ys how.TooLong t = omega (arith, t, length-append xs ys)
 module _ {R : Type 0} (view : R → Tree) (found : Option FileTable) where
   -- the input failed
   pub ran-input : (x : Kept R) (count : ℕ) (l0 l1 b a : Option (List ℕ)) (r v : ℕ) → count ≤ INPUT_MAX → Keeps l0 l1 → WritesLast b a r v [] input_line → RanFrom view found x count l0 l1 b a r v how.Input
-  ran-input x count l0 l1 b a r v le k w = ([], Consumes-kept l0 l0 l1 [] (Consumes-none l0) k, omega (arith, le), λ files told s f. wrote-input files s x.refused count l1 b a r v w)
+  ran-input x count l0 l1 b a r v le k w = ([], Consumes-kept l0 l0 l1 [] (Consumes-nil l0) k, omega (arith, le), λ files told s f. wrote-input files s x.refused count l1 b a r v w)
 
   -- the input has ended
   pub ran-closed : (x : Kept R) (count : ℕ) (l0 l1 b a : Option (List ℕ)) (r v : ℕ) (e : End) → count ≤ INPUT_MAX → Consumes l0 l1 [] → IsAtEnd l1 → IsClosing e
@@ -221,14 +221,14 @@ module _ {R : Type 0} (view : R → Tree) (found : Option FileTable) where
 
   -- no turn yet
   pub turned-none : (k : Kept R) (l b : Option (List ℕ)) → Turned view found k k 0 0 l l b b
-  turned-none k l b = ([], Consumes-none l, refl, λ files told s f. goes-none files view s k b f)
+  turned-none k l b = ([], Consumes-nil l, refl, λ files told s f. goes-none files view s k b f)
 
   -- one turn more
   pub turned-more : (old mid new : Kept R) (count now later : ℕ) (l0 l1 l2 b m a : Option (List ℕ)) → Turned view found old mid count now l0 l1 b m → Turned view found mid new now later l1 l2 m a
       → Turned view found old new count later l0 l2 b a
   turned-more old mid new count now later l0 l1 l2 b m a x y = (
     x.0 ++ y.0,
-    Consumes-then l0 l1 l2 x.0 y.0 x.1 y.1,
+    Consumes-trans l0 l1 l2 x.0 y.0 x.1 y.1,
     omega (arith, x.2, y.2, length-append x.0 y.0),
     λ files told s f. (let g = x.3 files told s f in goes-then files view s x.0 y.0 old mid new b m a g (y.3 files told (after_play files s x.0) g.0)),
   )
@@ -238,7 +238,7 @@ module _ {R : Type 0} (view : R → Tree) (found : Option FileTable) where
       → RanFrom view found old 0 l0 l2 b a q v e
   turned-ran old mid now l0 l1 l2 b m a q r v e le x w = (
     x.0 ++ w.0,
-    Consumes-then l0 l1 l2 x.0 w.0 x.1 w.1,
+    Consumes-trans l0 l1 l2 x.0 w.0 x.1 w.1,
     took-then 0 x.0 w.0 e (subst (λ n. Took n w.0 e) x.2 w.2),
     λ files told s f.
         (let g = x.3 files told s f in

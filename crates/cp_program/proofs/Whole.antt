@@ -5,7 +5,7 @@ use Rattle.std.specs.Io.KnownBytes.{Consumes}
 use Rattle.std.specs.declared.option.Option.{Option}
 use Rattle.std.specs.declared.option.Option.TheVariants.{None, Some}
 use Rattle.cp_outside.specs.FileReads.{FileTable}
-use Rattle.cp_outside.proofs.KnownBytes.{Consumes-none}
+use Rattle.std.proofs.KnownBytes.{Consumes-nil}
 use Rattle.cp_model.specs.Tree.{Tree}
 use Rattle.cp_session.specs.Session.{Fetched, gives, withholds}
 use Rattle.cp_reply.specs.declared.reply.Why.{Why}
@@ -60,7 +60,7 @@ early files (withholds y) left b a r s Memory own w = (refl, inr w)
 
 -- a call that was stopped before it took a byte
 pub ran-early : (found : Option FileTable) (g : FileTable → Fetched) (l b a : Option (List ℕ)) (r s : ℕ) (stop : Stop) → IsOwn {T = ⊤} (Err stop) → WroteLast b a r s stop → RanAs found g l l b a r s (status_of stop)
-ran-early found g l b a r s stop own w = ([], Consumes-none l, took stop own, λ files told. early files (g files) l b a r s stop own w)
+ran-early found g l b a r s stop own w = ([], Consumes-nil l, took stop own, λ files told. early files (g files) l b a r s stop own w)
   where
     took : (x : Stop) → IsOwn {T = ⊤} (Err x) → Took 0 [] (status_of x)
     took Output o = absurd o
@@ -72,7 +72,7 @@ ran-early found g l b a r s stop own w = ([], Consumes-none l, took stop own, λ
 pub ran-refused : (found : Option FileTable) (g : FileTable → Fetched) (y : Why) (l b a : Option (List ℕ)) (r s : ℕ) (e : End) → ((files : FileTable) → found ≡ Some files → g files ≡ withholds y) → IsClosing e
     → WroteRefusal (refused_start y) b a r s e → RanAs found g l l b a r s e
 ran-refused found g y l b a r s e is own w =
-    ([], Consumes-none l, took-closed 0 e own (omega arith), λ files told. subst (λ z. WroteFrom files z [] l b a r s e) (sym (is files told)) (refl, w))
+    ([], Consumes-nil l, took-closed 0 e own (omega arith), λ files told. subst (λ z. WroteFrom files z [] l b a r s e) (sym (is files told)) (refl, w))
 
 -- a session on the tree that the files give
 pub ran-given : (found : Option FileTable) (g : FileTable → Fetched) (t : Tree) (l0 l1 b a : Option (List ℕ)) (r s : ℕ) (e : End) → ((files : FileTable) → found ≡ Some files → g files ≡ gives t)

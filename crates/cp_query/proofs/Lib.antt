@@ -1,3 +1,4 @@
+mod Answering
 mod Steps
 mod Asking
 pub mod Followed

@@ -9,6 +9,8 @@ use Rattle.cp_model.specs.Past.{tree_of}
 use Rattle.cp_model.specs.History.{Entry, State, IsLegal, replay}
 use Rattle.cp_model.specs.declared.kind.Kind.{Kind}
 use Rattle.cp_model.specs.declared.record.Record.{Record}
+use Rattle.cp_store.specs.declared.store.ProvStore as store
+use Rattle.cp_tree.specs.declared.rep.TreeRep as tree
 
 -- the kind, the last Tid, the rows and the tree are those to which a legal history leads
 pub record IsCommitted (k : Kind) (n : ℕ) (rs : List Record) (t : Tree) (s : State) : Type 0 where
@@ -19,6 +21,10 @@ pub record IsCommitted (k : Kind) (n : ℕ) (rs : List Record) (t : Tree) (s : S
   pub now : s.now ≡ n
   pub rows : s.rows ≡ rs
   pub tree : tree_of s.tree ≡ t
+
+-- the store and the tree are those of this state of a legal history
+abbrev pub IsStateOf : {P R : Type 0} → store.Ghosts P → tree.Ghosts R → P → R → State → Type 0
+IsStateOf p r store tree s = IsCommitted (p.kept_kind store) (p.last_tid store) (p.kept_rows store) (r.contents tree) s
 
 -- the place is in the tree of T
 abbrev pub is_in : Tree → Loc → Bool

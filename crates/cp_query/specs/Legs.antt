@@ -11,11 +11,17 @@ use Rattle.cp_model.specs.declared.effect.Effect.TheVariants.{Same as same, New 
 use Rattle.cp_model.specs.Rows.{Reading, left, gone}
 use Rattle.cp_model.specs.Leaps.{Readings, last}
 use Rattle.cp_model.specs.Answers.{traced, src_of, copy_tid}
+use Rattle.cp_model.specs.Records.{reads}
+use Rattle.cp_store.specs.declared.store.ProvStore.{Ghosts}
 use Rattle.cp_query.specs.Following.{back}
 use Rattle.cp_query.specs.declared.walk.Walk.{Walk}
 use Rattle.cp_query.specs.declared.walk.Leg.{Leg}
 use Rattle.cp_query.specs.declared.walk.Came.{Came}
 use Rattle.cp_query.specs.declared.walk.Came.TheVariants.{Back, End}
+
+-- what the steps of a store did to places, as its rows say
+abbrev pub effects_in : {P : Type 0} → Ghosts P → P → Effects
+effects_in g store = reads (g.kept_kind store) (g.kept_rows store)
 
 -- where data came from that step u copied from the place q
 abbrev pub came_with : ℕ → Loc → Came

@@ -1,30 +1,63 @@
-ghost use Rattle.std.specs.Prelude.{◌≡◌, ◌≤◌, ◌↔◌, true, false, IfOk, IsErrOf};
+ghost use Rattle.std.specs.Prelude.{◌≡◌, ◌↔◌, true, false, IfOk, IsErrOf};
 ghost use Rattle.std.specs.declared.option.Option.TheVariants.{None};
-ghost use Rattle.cp_outside.specs.Causes.{Rose};
 ghost use Rattle.cp_model.specs.History.{State};
 ghost use Rattle.cp_model.specs.Answers.{trace, src, hist};
-ghost use Rattle.cp_query.specs.Asked.{IsCommitted, is_in};
+ghost use Rattle.cp_store.specs.Calls.{Asks};
+ghost use Rattle.cp_query.specs.Answered.{is_answered, AnswersTo};
+ghost use Rattle.cp_query.specs.Asked.{IsStateOf, is_in};
+ghost use Rattle.cp_query.specs.Faults.{BlamesStore};
 ghost use Rattle.cp_query.specs.declared.fault.QueryFault.TheVariants.{NoPlace, Disk};
 
 use crate::fault::QueryFault;
 use crate::walk::Walk;
-use cp_model::{TidList, Trace};
+use cp_model::{Answer, Query, TidList, Trace};
 use cp_path::Loc;
 use cp_store::ProvStore;
 use cp_tree::TreeRep;
 use std::alloc::Global;
 
+/// Whether `answer` answers such a query. `mod`, `from`, `records` and `stats` it doesn't answer yet.
+pub fn is_answered(query: &Query) -> bool
+    ensures { result ≡ is_answered query.now }
+{
+    match query {
+        Query::Src(_) | Query::Hist(_) | Query::Trace(_) => true,
+        Query::Mod(_) | Query::From(_) | Query::Records(_) | Query::Stats => false,
+    }
+}
+
+/// Answers a query on the committed state that the store and the tree keep. A query of a place looks
+/// up a row for each place at which its data stood.
+pub fn answer<P: ProvStore, R: TreeRep>(
+    alloc: Global,
+    store: &mut P,
+    tree: &R,
+    query: &Query,
+) -> Result<Answer, QueryFault>
+    requires answered { is_answered query.now ≡ true }
+    ensures answer { (s : State) → IsStateOf P.ProvStore R.TreeRep store.old tree.now s
+        → AnswersTo s query.now result }
+    ensures asks { Asks P.ProvStore BlamesStore store.old store.new result }
+{
+    match query {
+        Query::Src(place) => Ok(Answer::Src(src(alloc, store, tree, place)?)),
+        Query::Hist(place) => Ok(Answer::Tids(hist(alloc, store, tree, place)?)),
+        Query::Trace(place) => Ok(Answer::Trace(trace(alloc, store, tree, place)?)),
+        Query::Mod(_) | Query::From(_) | Query::Records(_) | Query::Stats => unreachable!(),
+    }
+}
+
 /// A walk from the place, in this version.
-fn begin<R: TreeRep>(tree: &R, p: &Loc, high: u64) -> Result<Walk, QueryFault>
-    ensures walk { IfOk result (λ w. w ≡ record { at = p.now; high = high }) }
-    ensures inside { IfOk result (λ _. is_in (R.contents tree.now) p.now ≡ true) }
-    ensures place { (IsErrOf result NoPlace) ↔ (is_in (R.contents tree.now) p.now ≡ false) }
+fn begin<R: TreeRep>(tree: &R, place: &Loc, high: u64) -> Result<Walk, QueryFault>
+    ensures walk { IfOk result (λ w. w ≡ record { at = place.now; high = high }) }
+    ensures inside { IfOk result (λ _. is_in (R.contents tree.now) place.now ≡ true) }
+    ensures place { IsErrOf result NoPlace ↔ (is_in (R.contents tree.now) place.now ≡ false) }
     ensures calm { IsErrOf result Disk → ⊥ }
 {
-    if !p.db.is_target() || !tree.is_there(&p.path) {
+    if !place.db.is_target() || !tree.is_there(&place.path) {
         return Err(QueryFault::NoPlace);
     }
-    let at = p.clone()?;
+    let at = place.clone()?;
     Ok(Walk { at, high })
 }
 
@@ -33,18 +66,14 @@ pub fn trace<P: ProvStore, R: TreeRep>(
     alloc: Global,
     store: &mut P,
     tree: &R,
-    p: &Loc,
+    place: &Loc,
 ) -> Result<Trace, QueryFault>
-    ensures answer { (s : State) → IsCommitted (P.kept_kind store.old) (P.last_tid store.old) (P.kept_rows store.old) (R.contents tree.now) s
-        → IfOk result (λ a. a ≡ trace s.now s.tree p.now.path) }
-    ensures place { (IsErrOf result NoPlace) ↔ (is_in (R.contents tree.now) p.now ≡ false) }
-    ensures kind { P.kept_kind store.new ≡ P.kept_kind store.old }
-    ensures last { P.last_tid store.new ≡ P.last_tid store.old }
-    ensures rows { P.kept_rows store.new ≡ P.kept_rows store.old }
-    ensures later { P.faults store.old ≤ P.faults store.new }
-    ensures cause { IsErrOf result Disk → Rose (P.faults store.old) (P.faults store.new) }
+    ensures answer { (s : State) → IsStateOf P.ProvStore R.TreeRep store.old tree.now s
+        → IfOk result (λ a. a ≡ trace s.now s.tree place.now.path) }
+    ensures place { IsErrOf result NoPlace ↔ (is_in (R.contents tree.now) place.now ≡ false) }
+    ensures asks { Asks P.ProvStore BlamesStore store.old store.new result }
 {
-    let walk = begin(tree, p, store.upto())?;
+    let walk = begin(tree, place, store.upto())?;
     Ok(walk.trace(alloc, store)?)
 }
 
@@ -53,18 +82,14 @@ pub fn src<P: ProvStore, R: TreeRep>(
     alloc: Global,
     store: &mut P,
     tree: &R,
-    p: &Loc,
+    place: &Loc,
 ) -> Result<Option<u64>, QueryFault>
-    ensures answer { (s : State) → IsCommitted (P.kept_kind store.old) (P.last_tid store.old) (P.kept_rows store.old) (R.contents tree.now) s
-        → IfOk result (λ a. a ≡ src s.tree p.now.path) }
-    ensures place { (IsErrOf result NoPlace) ↔ (is_in (R.contents tree.now) p.now ≡ false) }
-    ensures kind { P.kept_kind store.new ≡ P.kept_kind store.old }
-    ensures last { P.last_tid store.new ≡ P.last_tid store.old }
-    ensures rows { P.kept_rows store.new ≡ P.kept_rows store.old }
-    ensures later { P.faults store.old ≤ P.faults store.new }
-    ensures cause { IsErrOf result Disk → Rose (P.faults store.old) (P.faults store.new) }
+    ensures answer { (s : State) → IsStateOf P.ProvStore R.TreeRep store.old tree.now s
+        → IfOk result (λ a. a ≡ src s.tree place.now.path) }
+    ensures place { IsErrOf result NoPlace ↔ (is_in (R.contents tree.now) place.now ≡ false) }
+    ensures asks { Asks P.ProvStore BlamesStore store.old store.new result }
 {
-    let walk = begin(tree, p, store.upto())?;
+    let walk = begin(tree, place, store.upto())?;
     Ok(walk.src(alloc, store)?)
 }
 
@@ -73,17 +98,13 @@ pub fn hist<P: ProvStore, R: TreeRep>(
     alloc: Global,
     store: &mut P,
     tree: &R,
-    p: &Loc,
+    place: &Loc,
 ) -> Result<TidList, QueryFault>
-    ensures answer { (s : State) → IsCommitted (P.kept_kind store.old) (P.last_tid store.old) (P.kept_rows store.old) (R.contents tree.now) s
-        → IfOk result (λ a. a ≡ hist s.tree p.now.path) }
-    ensures place { (IsErrOf result NoPlace) ↔ (is_in (R.contents tree.now) p.now ≡ false) }
-    ensures kind { P.kept_kind store.new ≡ P.kept_kind store.old }
-    ensures last { P.last_tid store.new ≡ P.last_tid store.old }
-    ensures rows { P.kept_rows store.new ≡ P.kept_rows store.old }
-    ensures later { P.faults store.old ≤ P.faults store.new }
-    ensures cause { IsErrOf result Disk → Rose (P.faults store.old) (P.faults store.new) }
+    ensures answer { (s : State) → IsStateOf P.ProvStore R.TreeRep store.old tree.now s
+        → IfOk result (λ a. a ≡ hist s.tree place.now.path) }
+    ensures place { IsErrOf result NoPlace ↔ (is_in (R.contents tree.now) place.now ≡ false) }
+    ensures asks { Asks P.ProvStore BlamesStore store.old store.new result }
 {
-    let walk = begin(tree, p, store.upto())?;
+    let walk = begin(tree, place, store.upto())?;
     Ok(walk.hist(alloc, store)?)
 }

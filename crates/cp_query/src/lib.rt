@@ -6,6 +6,6 @@ mod fault;
 mod stated;
 mod walk;
 
-pub use ask::{hist, src, trace};
+pub use ask::{answer, hist, is_answered, src, trace};
 pub use fault::QueryFault;
 pub use stated::laws;

@@ -1,11 +1,10 @@
 //! The walk from the newest change of a place back to where its data came from.
-ghost use Rattle.std.specs.Prelude.{◌≡◌, ◌≤◌, ◌<◌, true, reverse, IfSome, IfOk, IsErrOf};
-ghost use Rattle.cp_outside.specs.Causes.{Rose};
+ghost use Rattle.std.specs.Prelude.{◌≡◌, ◌<◌, true, reverse, IfSome, IfOk};
 ghost use Rattle.cp_model.specs.Place.{in_target};
-ghost use Rattle.cp_model.specs.Records.{reads};
-ghost use Rattle.cp_query.specs.Legs.{came_with, inserted_by, copied_by, leg_of, leg_by, leg, trace_from, src_from, hist_from};
+ghost use Rattle.cp_query.specs.Legs.{came_with, inserted_by, copied_by, leg_of, leg_by, leg, effects_in, trace_from, src_from, hist_from};
 ghost use Rattle.cp_store.specs.Changes.{seen};
-ghost use Rattle.cp_store.specs.declared.fault.StoreFault.TheVariants.{Disk};
+ghost use Rattle.cp_store.specs.Calls.{Asks};
+ghost use Rattle.cp_store.specs.Steps.{BlamesDisk};
 
 use cp_model::{Segment, SegmentList, TidList, Trace, TraceEnd};
 use cp_path::Loc;
@@ -98,12 +97,8 @@ impl Walk {
     /// The leg at this place. Costs one look-up.
     fn leg<P: ProvStore>(self, alloc: Global, store: &mut P) -> Result<Leg, StoreFault>
         requires { in_target self.at ≡ true }
-        ensures leg { IfOk result (λ l. l ≡ leg (reads (P.kept_kind store.old) (P.kept_rows store.old)) self) }
-        ensures kind { P.kept_kind store.new ≡ P.kept_kind store.old }
-        ensures last { P.last_tid store.new ≡ P.last_tid store.old }
-        ensures rows { P.kept_rows store.new ≡ P.kept_rows store.old }
-        ensures later { P.faults store.old ≤ P.faults store.new }
-        ensures cause { IsErrOf result Disk → Rose (P.faults store.old) (P.faults store.new) }
+        ensures leg { IfOk result (λ l. l ≡ leg (effects_in P.ProvStore store.old) self) }
+        ensures asks { Asks P.ProvStore BlamesDisk store.old store.new result }
     {
         let change = store.last_change(alloc, &self.at, self.high)?;
         Ok(self.leg_from(change))
@@ -112,12 +107,8 @@ impl Walk {
     /// The segments from here back, newest first. Costs a look-up for each.
     pub fn trace<P: ProvStore>(self, alloc: Global, store: &mut P) -> Result<Trace, StoreFault>
         requires { in_target self.at ≡ true }
-        ensures answer { IfOk result (λ a. a ≡ trace_from (reads (P.kept_kind store.old) (P.kept_rows store.old)) self) }
-        ensures kind { P.kept_kind store.new ≡ P.kept_kind store.old }
-        ensures last { P.last_tid store.new ≡ P.last_tid store.old }
-        ensures rows { P.kept_rows store.new ≡ P.kept_rows store.old }
-        ensures later { P.faults store.old ≤ P.faults store.new }
-        ensures cause { IsErrOf result Disk → Rose (P.faults store.old) (P.faults store.new) }
+        ensures answer { IfOk result (λ a. a ≡ trace_from (effects_in P.ProvStore store.old) self) }
+        ensures asks { Asks P.ProvStore BlamesDisk store.old store.new result }
     {
         let mut walk = self;
         let mut segments = Vec::new(alloc);
@@ -137,12 +128,8 @@ impl Walk {
     /// The step of the insertion at which the walk ends, if it does. Costs a look-up for each place passed.
     pub fn src<P: ProvStore>(self, alloc: Global, store: &mut P) -> Result<Option<u64>, StoreFault>
         requires { in_target self.at ≡ true }
-        ensures answer { IfOk result (λ a. a ≡ src_from (reads (P.kept_kind store.old) (P.kept_rows store.old)) self) }
-        ensures kind { P.kept_kind store.new ≡ P.kept_kind store.old }
-        ensures last { P.last_tid store.new ≡ P.last_tid store.old }
-        ensures rows { P.kept_rows store.new ≡ P.kept_rows store.old }
-        ensures later { P.faults store.old ≤ P.faults store.new }
-        ensures cause { IsErrOf result Disk → Rose (P.faults store.old) (P.faults store.new) }
+        ensures answer { IfOk result (λ a. a ≡ src_from (effects_in P.ProvStore store.old) self) }
+        ensures asks { Asks P.ProvStore BlamesDisk store.old store.new result }
     {
         let mut walk = self;
         loop {
@@ -158,12 +145,8 @@ impl Walk {
     /// The steps that copied the data, newest first. Costs a look-up for each place passed.
     fn copies<P: ProvStore>(self, alloc: Global, store: &mut P) -> Result<Vec<u64>, StoreFault>
         requires { in_target self.at ≡ true }
-        ensures answer { IfOk result (λ v. v.items ≡ hist_from (reads (P.kept_kind store.old) (P.kept_rows store.old)) self) }
-        ensures kind { P.kept_kind store.new ≡ P.kept_kind store.old }
-        ensures last { P.last_tid store.new ≡ P.last_tid store.old }
-        ensures rows { P.kept_rows store.new ≡ P.kept_rows store.old }
-        ensures later { P.faults store.old ≤ P.faults store.new }
-        ensures cause { IsErrOf result Disk → Rose (P.faults store.old) (P.faults store.new) }
+        ensures answer { IfOk result (λ v. v.items ≡ hist_from (effects_in P.ProvStore store.old) self) }
+        ensures asks { Asks P.ProvStore BlamesDisk store.old store.new result }
     {
         let mut walk = self;
         let mut tids = Vec::new(alloc);
@@ -182,12 +165,8 @@ impl Walk {
     /// The steps that copied the data, rising. Costs a look-up for each place passed.
     pub fn hist<P: ProvStore>(self, alloc: Global, store: &mut P) -> Result<TidList, StoreFault>
         requires { in_target self.at ≡ true }
-        ensures answer { IfOk result (λ v. v ≡ reverse (hist_from (reads (P.kept_kind store.old) (P.kept_rows store.old)) self)) }
-        ensures kind { P.kept_kind store.new ≡ P.kept_kind store.old }
-        ensures last { P.last_tid store.new ≡ P.last_tid store.old }
-        ensures rows { P.kept_rows store.new ≡ P.kept_rows store.old }
-        ensures later { P.faults store.old ≤ P.faults store.new }
-        ensures cause { IsErrOf result Disk → Rose (P.faults store.old) (P.faults store.new) }
+        ensures answer { IfOk result (λ v. v ≡ reverse (hist_from (effects_in P.ProvStore store.old) self)) }
+        ensures asks { Asks P.ProvStore BlamesDisk store.old store.new result }
     {
         let mut tids = self.copies(alloc, store)?;
         tids.reverse();

@@ -4,9 +4,9 @@ use Rattle.cp_query.proofs.Asking.{is_in-target, asked-hist, begun}
 use Rattle.cp_query.proofs.ask.hist.Goals as goal
 
 pub hist-requires : goal.hist-requires
-hist-requires g c = ap (λ w. in_target w.at) c.in_ok-walk.ensures.walk ∙ is_in-target (g.R.TreeRep.contents c.args.tree.now) c.args.p.now c.in_ok-walk.ensures.inside
+hist-requires g c = ap (λ w. in_target w.at) c.in_ok-walk.ensures.walk ∙ is_in-target (g.R.TreeRep.contents c.args.tree.now) c.args.place.now c.in_ok-walk.ensures.inside
 
 pub returns-clause-answer : goal.returns-clause-answer
 returns-clause-answer g c = λ s h.
     c.in_ok-hist.ensures.answer
-    ∙ asked-hist _ _ _ _ s h c.args.p.now c.in_ok-walk.ensures.inside c.in_ok-walk.walk (begun c.in_ok-walk.walk c.args.p.now c.upto.result _ c.in_ok-walk.ensures.walk c.upto.ensures)
+    ∙ asked-hist _ _ _ _ s h c.args.place.now c.in_ok-walk.ensures.inside c.in_ok-walk.walk (begun c.in_ok-walk.walk c.args.place.now c.upto.result _ c.in_ok-walk.ensures.walk c.upto.ensures)

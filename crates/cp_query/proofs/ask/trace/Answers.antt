@@ -4,9 +4,9 @@ use Rattle.cp_query.proofs.Asking.{is_in-target, asked-trace, begun}
 use Rattle.cp_query.proofs.ask.trace.Goals as goal
 
 pub trace-requires : goal.trace-requires
-trace-requires g c = ap (λ w. in_target w.at) c.in_ok-walk.ensures.walk ∙ is_in-target (g.R.TreeRep.contents c.args.tree.now) c.args.p.now c.in_ok-walk.ensures.inside
+trace-requires g c = ap (λ w. in_target w.at) c.in_ok-walk.ensures.walk ∙ is_in-target (g.R.TreeRep.contents c.args.tree.now) c.args.place.now c.in_ok-walk.ensures.inside
 
 pub returns-clause-answer : goal.returns-clause-answer
 returns-clause-answer g c = λ s h.
     c.in_ok-trace.ensures.answer
-    ∙ asked-trace _ _ _ _ s h c.args.p.now c.in_ok-walk.ensures.inside c.in_ok-walk.walk (begun c.in_ok-walk.walk c.args.p.now c.upto.result _ c.in_ok-walk.ensures.walk c.upto.ensures)
+    ∙ asked-trace _ _ _ _ s h c.args.place.now c.in_ok-walk.ensures.inside c.in_ok-walk.walk (begun c.in_ok-walk.walk c.args.place.now c.upto.result _ c.in_ok-walk.ensures.walk c.upto.ensures)

@@ -1,17 +1,14 @@
-use Rattle.std.proofs.Common.{◌≡◌, ◌≤◌, true}
+use Rattle.std.proofs.Common.{◌≡◌, true}
 use Rattle.cp_model.specs.Place.{in_target}
-use Rattle.cp_model.specs.Records.{reads}
-use Rattle.cp_query.specs.Legs.{src_from}
+use Rattle.cp_store.specs.Calls.{Asked}
+use Rattle.cp_query.specs.Legs.{effects_in, src_from}
 use Rattle.cp_query.proofs.walk.Walk.src.Given as goal
 
 abbrev pub invariant-loop-segment : goal.invariant-loop-segment
 invariant-loop-segment g l = record {
   here : in_target l.walk.at ≡ true;
-  answer : src_from (reads (g.P.ProvStore.kept_kind l.initial.store) (g.P.ProvStore.kept_rows l.initial.store)) l.walk ≡ src_from (reads (g.P.ProvStore.kept_kind l.initial.store) (g.P.ProvStore.kept_rows l.initial.store)) l.initial.walk;
-  kind : g.P.ProvStore.kept_kind l.store ≡ g.P.ProvStore.kept_kind l.initial.store;
-  upto : g.P.ProvStore.last_tid l.store ≡ g.P.ProvStore.last_tid l.initial.store;
-  rows : g.P.ProvStore.kept_rows l.store ≡ g.P.ProvStore.kept_rows l.initial.store;
-  later : g.P.ProvStore.faults l.initial.store ≤ g.P.ProvStore.faults l.store;
+  answer : src_from (effects_in g.P.ProvStore l.initial.store) l.walk ≡ src_from (effects_in g.P.ProvStore l.initial.store) l.initial.walk;
+  asked : Asked g.P.ProvStore l.initial.store l.store;
 }
 
 abbrev pub decreases-loop-segment : goal.decreases-loop-segment

@@ -1,0 +1,52 @@
+use Rattle.std.proofs.Common.{ap, subst, sym, refl, Ok}
+use Rattle.cp_model.specs.Answers.{answer_to, src, hist, trace}
+use Rattle.cp_model.specs.declared.answer.Answer.TheVariants as answer
+use Rattle.cp_model.specs.declared.query.Query.TheVariants as query
+use Rattle.cp_query.specs.Answered.{AnswersTo}
+use Rattle.cp_query.proofs.Answering.{answers-at, faults-at}
+use Rattle.cp_query.proofs.ask.answer.Goals as goal
+
+pub returns-in_ok-src-in-Src-clause-answer : goal.returns-in_ok-src-in-Src-clause-answer
+unfolding answer_to
+returns-in_ok-src-in-Src-clause-answer g c = λ s h.
+    let x = c.in_ok-src-in-Src.field-0 in
+    let place = c.in-Src.place in
+    subst (λ q. AnswersTo s q (Ok (answer.Src x))) (sym c.in-Src.is)
+    (answers-at h (query.Src place) place (answer.Src (src s.tree place.path)) refl x (answer.Src x) c.in_ok-src-in-Src.ensures.place (ap (λ y. answer.Src y) (c.in_ok-src-in-Src.ensures.answer s h)))
+
+pub returns-in_err-src-in-Src-clause-answer : goal.returns-in_err-src-in-Src-clause-answer
+unfolding answer_to
+returns-in_err-src-in-Src-clause-answer g c = λ s h.
+    let place = c.in-Src.place in
+    subst (λ q. AnswersTo s q c.from_residual.result) (sym c.in-Src.is)
+    (faults-at h (query.Src place) place (answer.Src (src s.tree place.path)) refl c.in_err-src-in-Src.field-0.0 c.from_residual.result c.in_err-src-in-Src.ensures.place c.from_residual.ensures.1)
+
+pub returns-in_ok-hist-in-Hist-clause-answer : goal.returns-in_ok-hist-in-Hist-clause-answer
+unfolding answer_to
+returns-in_ok-hist-in-Hist-clause-answer g c = λ s h.
+    let x = c.in_ok-hist-in-Hist.field-0 in
+    let place = c.in-Hist.place in
+    subst (λ q. AnswersTo s q (Ok (answer.Tids x))) (sym c.in-Hist.is)
+    (answers-at h (query.Hist place) place (answer.Tids (hist s.tree place.path)) refl x (answer.Tids x) c.in_ok-hist-in-Hist.ensures.place (ap (λ y. answer.Tids y) (c.in_ok-hist-in-Hist.ensures.answer s h)))
+
+pub returns-in_err-hist-in-Hist-clause-answer : goal.returns-in_err-hist-in-Hist-clause-answer
+unfolding answer_to
+returns-in_err-hist-in-Hist-clause-answer g c = λ s h.
+    let place = c.in-Hist.place in
+    subst (λ q. AnswersTo s q c.from_residual-in_err-hist-in-Hist.result) (sym c.in-Hist.is)
+    (faults-at h (query.Hist place) place (answer.Tids (hist s.tree place.path)) refl c.in_err-hist-in-Hist.field-0.0 c.from_residual-in_err-hist-in-Hist.result c.in_err-hist-in-Hist.ensures.place c.from_residual-in_err-hist-in-Hist.ensures.1)
+
+pub returns-in_ok-trace-in-Trace-clause-answer : goal.returns-in_ok-trace-in-Trace-clause-answer
+unfolding answer_to
+returns-in_ok-trace-in-Trace-clause-answer g c = λ s h.
+    let x = c.in_ok-trace-in-Trace.field-0 in
+    let place = c.in-Trace.place in
+    subst (λ q. AnswersTo s q (Ok (answer.Trace x))) (sym c.in-Trace.is)
+    (answers-at h (query.Trace place) place (answer.Trace (trace s.now s.tree place.path)) refl x (answer.Trace x) c.in_ok-trace-in-Trace.ensures.place (ap (λ y. answer.Trace y) (c.in_ok-trace-in-Trace.ensures.answer s h)))
+
+pub returns-in_err-trace-in-Trace-clause-answer : goal.returns-in_err-trace-in-Trace-clause-answer
+unfolding answer_to
+returns-in_err-trace-in-Trace-clause-answer g c = λ s h.
+    let place = c.in-Trace.place in
+    subst (λ q. AnswersTo s q c.from_residual-in_err-trace-in-Trace.result) (sym c.in-Trace.is)
+    (faults-at h (query.Trace place) place (answer.Trace (trace s.now s.tree place.path)) refl c.in_err-trace-in-Trace.field-0.0 c.from_residual-in_err-trace-in-Trace.result c.in_err-trace-in-Trace.ensures.place c.from_residual-in_err-trace-in-Trace.ensures.1)
