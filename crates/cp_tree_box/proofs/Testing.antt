@@ -10,10 +10,11 @@ use Rattle.std.specs.declared.option.Option.TheVariants.{None, Some}
 use Rattle.cp_model.specs.declared.row.Content.{Content}
 use Rattle.cp_model.specs.declared.row.Content.TheVariants.{Node, Leaf}
 use Rattle.cp_model.specs.Place.{Label, Path, path_eq, child, over_limit, at_target}
+use Rattle.cp_path.proofs.Same.{path_eq-same}
 use Rattle.cp_model.specs.Keyed as keyed
 use Rattle.cp_model.specs.Keyed.{look}
 use Rattle.cp_model.specs.Subtrees.{below, is_there, replaced}
-use Rattle.cp_model.specs.Tree.{Tree, IsTree, is_node, weight, text_bytes, last_bytes}
+use Rattle.cp_model.specs.Tree.{Tree, IsTree, is_node, weight, text_bytes, last_bytes, IsNumber, CanBeSpelled}
 use Rattle.cp_model.specs.History.{IsLiteral}
 use Rattle.cp_model.proofs.Lookups.{find-from_entries}
 use Rattle.cp_model.proofs.Sorted.{path_cmp-append, sorted-below}
@@ -34,17 +35,17 @@ below-root : (t : Tree) → below [] t ≡ keyed.entries t
 below-root t = sym (entries-sub t []) ∙ ap keyed.entries (sub-root t)
 
 -- it stays a tree
-pub leaf_fits : (t : Tree) (p : Path) (a : Label) (c : Content) → IsTree t → p ≡ [] → is_node (keyed.get t p) ≡ true → length a ≤ LABEL_MAX → text_bytes c ≡ 0 → keyed.len t < 1000000 → weight t < 33000000 → IsTree (replaced (child p a) (alone c) t)
-leaf_fits t p a c h e n s x l w =
+pub leaf_fits : (t : Tree) (p : Path) (a : Label) (c : Content) → IsTree t → p ≡ [] → is_node (keyed.get t p) ≡ true → length a ≤ LABEL_MAX → text_bytes c ≡ 0 → IsNumber c → keyed.len t < 1000000 → weight t < 33000000 → IsTree (replaced (child p a) (alone c) t)
+leaf_fits t p a c h e n s x whole l w =
     let node : keyed.get t p ≡ Some Node = node_is (keyed.get t p) n in
     let near : over_limit (at_target (child p a)) ≡ false = ap (λ z. over_limit (at_target (child z a))) e ∙ within-limit (a ∷ []) (omega arith) (omega (arith, s)) in
-    leaf-fits t p a c h node near (omega (arith, x)) (omega (arith, l)) (omega (arith, w, s, x))
+    leaf-fits t p a c h node near s (omega (arith, x)) whole (omega (arith, l)) (omega (arith, w, s, x))
 
 -- so it does with a subtree at a label below the root
 pub subtree_fits : (t : Tree) (p : Path) (u : Tree) (q : Path) (z : Reach) → z ≡ reach_at u q → IsTree t → IsTree u → is_there u q ≡ true → is_there t p ≡ true → keyed.len t + z.nodes ≤ 1000000 → weight t + z.inner ≤ 33000000 →
     z.depth ≤ 60 → z.size ≤ 700 → length p ≤ 1 → path_size p ≤ 256 → last_bytes p ≤ LABEL_MAX → IsTree (replaced p (below q u) t)
 subtree_fits t p u q z e h k i j n w d s few short last =
-    reach-fits t p (below q u) z e h (rows-below u q k i) (sorted-below q u) (under-there t p h.rooted j) (omega (arith, n)) (omega (arith, w, last)) (omega (arith, d, few)) (omega (arith, s, short))
+    reach-fits t p (below q u) z e h (rows-below u q k i) (sorted-below q u) (under-there t p h.rooted j) last (omega (arith, n)) (omega (arith, w, last)) (omega (arith, d, few)) (omega (arith, s, short))
 
 -- a node, below it a node, and below that a leaf, each at this label
 abbrev pub nested : Label → List (Path × Content)
@@ -55,13 +56,27 @@ bytes_in None = 0
 bytes_in (Some c) = text_bytes c
 
 -- that is the literal of a tree
-pub nested_literal : (a : Label) → IsLiteral (nested a)
-nested_literal a = record {
+pub nested_literal : (a : Label) → length a ≤ LABEL_MAX → IsLiteral (nested a)
+nested_literal a l = record {
   sorted = subst (λ o. T ((is_lt o && true) && true)) (sym (path_cmp-append (a ∷ []) [] (a ∷ []))) tt;
   rooted = record { root = ap is_some (find-from_entries (nested a) []); parents = λ p b i. find-from_entries (nested a) p ∙ parents p b (ap is_some (sym (find-from_entries (nested a) (child p b))) ∙ i) };
   texts = λ p c e. omega (arith, ap bytes_in e, short (path_eq p []) (path_eq p (a ∷ [])) (path_eq p (a ∷ a ∷ [])));
+  spelled = spelled;
 }
   where
+    spelled_by : (p q : Path) (c : Content) (rest : List (Path × Content)) → last_bytes q ≤ LABEL_MAX → IsNumber c → (d : Content) → ((d : Content) → look p rest ≡ Some d → CanBeSpelled p d) → look p ((q, c) ∷ rest) ≡ Some d → CanBeSpelled p d
+    spelled_by p q c rest n whole d more e =
+        elim (path_eq p q) as (λ b. path_eq p q ≡ b → cond b (Some c) (look p rest) ≡ Some d → CanBeSpelled p d) [
+          | true ↦ λ k e. (let same : c ≡ d = cc in record { label = omega (arith, n, ap last_bytes (path_eq-same p q k)); number = subst IsNumber same whole })
+          | false ↦ λ _ e. more d e
+        ] refl e
+
+    spelled : (p : Path) (c : Content) → look p (nested a) ≡ Some c → CanBeSpelled p c
+    spelled p c e =
+        spelled_by p [] Node ((a ∷ [], Node) ∷ (a ∷ a ∷ [], Leaf True) ∷ []) (omega arith) tt c (λ d.
+            spelled_by p (a ∷ []) Node ((a ∷ a ∷ [], Leaf True) ∷ []) l tt d (λ d.
+            spelled_by p (a ∷ a ∷ []) (Leaf True) [] l tt d (λ d e. absurd (cc)))) e
+
     short : (x y z : Bool) → bytes_in (cond x (Some Node) (cond y (Some Node) (cond z (Some (Leaf True)) None))) ≡ 0
     short true y z = refl
     short false true z = refl
@@ -88,6 +103,6 @@ pub nested_fits : (t : Tree) (p : Path) (a : Label) (es : List (Path × Content)
 unfolding reach_of
 nested_fits t p a es k h e n s l w =
     let node : keyed.get t [] ≡ Some Node = node_is (keyed.get t []) (sym (ap (λ z. is_node (keyed.get t z)) e) ∙ n) in
-    let rows = nested_literal a in
+    let rows = nested_literal a s in
     subst (λ z. IsTree (replaced (child z a) es t)) (sym e) (subst (λ y. IsTree (replaced (a ∷ []) y t)) (sym k)
-    (reach-fits t (a ∷ []) (nested a) (reach_of (nested a)) refl h (rows-literal (nested a) rows) rows.sorted (under-child t [] a node) (omega (arith, l)) (omega (arith, w, s)) (omega arith) (omega (arith, s))))
+    (reach-fits t (a ∷ []) (nested a) (reach_of (nested a)) refl h (rows-literal (nested a) rows) rows.sorted (under-child t [] a node) s (omega (arith, l)) (omega (arith, w, s)) (omega arith) (omega (arith, s))))

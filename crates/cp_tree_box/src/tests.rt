@@ -1,6 +1,6 @@
 ghost use Rattle.std.specs.Prelude.{◌≡◌, ◌≤◌, ◌+◌, [], ◌∷◌, length, IfOk, OnOk};
 ghost use Rattle.cp_model.specs.Keyed.{len};
-ghost use Rattle.cp_model.specs.Tree.{text_bytes, weight, last_bytes};
+ghost use Rattle.cp_model.specs.Tree.{text_bytes, weight, last_bytes, IsNumber};
 ghost use Rattle.cp_model.specs.Literals.{literal_rows, rows_under};
 ghost use Rattle.cp_model.specs.declared.row.Content.TheVariants.{Node, Leaf};
 ghost use Rattle.cp_path.specs.declared.value.Value.TheVariants.{True};
@@ -18,7 +18,8 @@ use std::test::Fail;
 type Line = (&'static [&'static str], Option<i128>);
 
 fn content(number: Option<i128>) -> Content
-    ensures { text_bytes result ≡ 0 }
+    ensures text { text_bytes result ≡ 0 }
+    ensures number { IsNumber result }
 {
     match number {
         Some(n) => match Whole::new(n) {
