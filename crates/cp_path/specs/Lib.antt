@@ -1,4 +1,5 @@
 pub mod Answers
+pub mod Refusals
 pub mod Text
 pub mod Place
 pub mod PathOrder
