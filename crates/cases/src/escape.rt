@@ -1,12 +1,13 @@
 //! Escapes in the lines of a text.
 //!
-//! `%<TEXT*N>` stands for the text N times, with the number of the time, from 0, in place of each `#`; `%<0A FF>` for the
-//! bytes of these hexadecimal numbers.
+//! `%<TEXT*N>` stands for the text N times, with a line feed in place of each `\n` and the number of the time, from 0, in
+//! place of each `#`; `%<0A FF>` for the bytes of these hexadecimal numbers.
 
 use std::alloc::{AllocError, Global};
 
-/// Adds the text so many times, with the number of the time in place of each `#`.
+/// Adds the text so many times, with a line feed for each `\n` and the number of the time for each `#`.
 fn add_times(alloc: Global, text: &mut Vec<u8>, piece: &str, times: u64) -> Result<(), AllocError> {
+    let piece = piece.replace(alloc, "\\n", "\n")?;
     for time in 0..times {
         for (place, part) in piece.split('#').enumerate() {
             if place > 0 {

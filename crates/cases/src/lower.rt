@@ -100,6 +100,7 @@ fn refusal(alloc: Global, fault: StmtFault) -> Result<String, AllocError> {
     let mut line = Vec::new(alloc);
     let of = Of::Statement;
     lines(alloc, &Reply::Refused { of, why }, &mut line)?;
+    line.pop();
     text_of(alloc, &line)
 }
 
@@ -154,14 +155,14 @@ fn text_of(alloc: Global, bytes: &[u8]) -> Result<String, AllocError> {
         .to_string(alloc)
 }
 
-/// What the call of this name gives for the rest of its line and its text; `None` where there is no such call.
+/// The lines that the call of this name gives for the rest of its line and its text; `None` where there is no such call.
 pub(crate) fn answer(
     alloc: Global,
     key: &str,
     rest: &str,
     text: &[u8],
 ) -> Result<Option<Vec<u8>>, AllocError> {
-    let line = match key {
+    let mut line = match key {
         "cuts" => return Ok(Some(cuts(alloc, text, number_of(rest) as usize)?)),
         "reply" => return replies::answer(alloc, rest, text),
         "statement" => statement(alloc, text)?,
@@ -174,5 +175,6 @@ pub(crate) fn answer(
         }
         _ => return Ok(None),
     };
+    line.push('\n')?;
     Ok(Some(line.as_bytes().to_vec(alloc)?))
 }

@@ -19,6 +19,7 @@
 //! |---|---|
 //! | `out` and a text | the whole output |
 //! | `starts` and a text | how the output begins |
+//! | `ends N` | the exit status, where all of the input was taken |
 //! | `status N`, `status one of N N ..` | the exit status |
 //! | `left N` | how many bytes of the input weren't taken |
 
@@ -135,6 +136,9 @@ impl<R: rt::Files> Stage<'_, R> {
             "out" if output == wanted => Ok(None),
             "starts" if output.starts_with(wanted) => Ok(None),
             "out" | "starts" => Ok(Some(difference(alloc, output, wanted)?)),
+            "ends" if outcome.left > 0 => {
+                Ok(Some(format!(in alloc; "{} bytes of the input left", outcome.left)?))
+            }
             key => {
                 let found = if key == "left" {
                     outcome.left
@@ -184,7 +188,7 @@ impl<R: rt::Files> Stage<'_, R> {
                 self.prepare(alloc, step)
             }
             "pieces" | "fail" => self.prepare(alloc, step),
-            "out" | "starts" | "status" | "left" => self.compare(alloc, step),
+            "out" | "starts" | "ends" | "status" | "left" => self.compare(alloc, step),
             _ => self.call_lower(alloc, step),
         }
     }

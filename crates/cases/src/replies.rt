@@ -12,8 +12,8 @@
 //! | `agrees RECORDS`, `number differs AT STORED EXPECTED` | |
 //! | `tree differs AT` | the place |
 //! | `differs AT` | the record that was stored, and the one expected, each a line, `none` where there is none |
-//! | `log` | commits `LOW HIGH CURATOR MOMENT OPERATIONS` |
-//! | `init refused`, `checkpoint refused` | |
+//! | `log` | commits `LOW HIGH MOMENT OPERATIONS by CURATOR` |
+//! | `refused init`, `refused commit`, `refused load` | |
 
 use crate::words::numbers_of;
 use cp_model::{
@@ -71,15 +71,10 @@ fn record_or_none(alloc: Global, line: Option<&str>) -> Result<Option<Record>, P
     }
 }
 
-/// The commit on a line, `LOW HIGH CURATOR MOMENT OPERATIONS`.
+/// The commit on a line, `LOW HIGH MOMENT OPERATIONS by CURATOR`.
 fn commit_of(alloc: Global, line: &str) -> Result<LogLine, PathFault> {
-    let mut curator = "";
-    for (place, word) in line.split(' ').enumerate() {
-        if place == 2 {
-            curator = word;
-        }
-    }
-    let numbers = numbers_of(alloc, line)?;
+    let (numbers, curator) = line.split_once(" by ").unwrap_or((line, ""));
+    let numbers = numbers_of(alloc, numbers)?;
     let [low, high, moment, operations] = numbers.as_slice() else {
         return Err(PathFault::BadValue);
     };
@@ -204,6 +199,17 @@ fn difference_of(alloc: Global, of: &str, at: u64, text: &str) -> Result<Reply, 
     }))
 }
 
+/// The refusals that no session over memory writes.
+fn refusal_of(of: &str) -> Option<Reply> {
+    let (of, why) = match of {
+        "init" => (Of::Init, Why::StoreExists),
+        "commit" => (Of::Commit, Why::TransactionTooLarge),
+        "load" => (Of::Load, Why::StoreTooLarge),
+        _ => return None,
+    };
+    Some(Reply::Refused { of, why })
+}
+
 /// The reply of these words and this text; `None` where they are none.
 fn reply_of(alloc: Global, words: &str, text: &str) -> Result<Option<Reply>, PathFault> {
     let numbers = numbers_of(alloc, words)?;
@@ -216,6 +222,7 @@ fn reply_of(alloc: Global, words: &str, text: &str) -> Result<Option<Reply>, Pat
     match word {
         "records" => Ok(Some(records_of(alloc, text, first_number)?)),
         "log" => Ok(Some(log_of(alloc, text)?)),
+        "refused" => Ok(refusal_of(second)),
         "from" | "mod" => {
             let word = if word == "mod" { word } else { second };
             answer_of_place(alloc, word, numbers.as_slice(), text)
