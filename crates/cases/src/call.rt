@@ -1,9 +1,10 @@
 //! Whole calls of the program, over files, an input and an output in memory, or over the real files.
 
 use crate::pieces::Pieces;
-use crate::words::{numbers_of, words_of};
-use cp_host::StdinSource;
-use cp_outside::{Files, MemSink};
+use crate::screen::Screen;
+use crate::words::{number_of, numbers_of, words_of};
+use cp_host::{StdinSource, StdoutSink};
+use cp_outside::{Files, MemSink, Source};
 use cp_program::run_cpdb;
 use std::alloc::{AllocError, Global};
 
@@ -18,6 +19,8 @@ pub(crate) struct Call {
     pub(crate) failing_files: Vec<u64>,
     pub(crate) failing_reads: Vec<u64>,
     pub(crate) failing_writes: Vec<u64>,
+    /// How many bytes an output takes that takes them one by one; `None` for an output in memory.
+    pub(crate) room: Option<usize>,
 }
 
 /// What a call gave.
@@ -44,7 +47,15 @@ impl Call {
             failing_files: Vec::new(alloc),
             failing_reads: Vec::new(alloc),
             failing_writes: Vec::new(alloc),
+            room: None,
         })
+    }
+
+    /// A call with no words at all, not even the program's name.
+    pub(crate) fn bare(alloc: Global) -> Result<Call, AllocError> {
+        let mut call = Call::new(alloc, "")?;
+        call.words.clear();
+        Ok(call)
     }
 
     /// Notes what fails, and says whether the line is understood.
@@ -68,6 +79,33 @@ impl Call {
         Ok(())
     }
 
+    /// Notes how many bytes the output takes.
+    pub(crate) fn note_room(&mut self, line: &str) {
+        self.room = Some(number_of(line) as usize);
+    }
+
+    /// Makes the call over this input, and gives the status and the output.
+    fn make_over<F: Files, I: Source>(
+        &self,
+        alloc: Global,
+        files: &mut F,
+        input: &mut I,
+    ) -> Result<(u8, Vec<u8>), AllocError> {
+        let words = self.words.as_slice();
+        if let Some(room) = self.room {
+            let mut screen = Screen {
+                took: Vec::new(alloc),
+                room,
+            };
+            let mut output = StdoutSink::new(&mut screen);
+            let status = run_cpdb(alloc, words, files, input, &mut output);
+            return Ok((status.code, screen.took));
+        }
+        let mut output = MemSink::with_faults(alloc, &self.failing_writes)?;
+        let status = run_cpdb(alloc, words, files, input, &mut output);
+        Ok((status.code, output.bytes().to_vec(alloc)?))
+    }
+
     /// Makes the call.
     pub(crate) fn make<F: Files>(
         &self,
@@ -81,11 +119,10 @@ impl Call {
             reads: 0,
         };
         let mut input = StdinSource::new(&mut pieces);
-        let mut output = MemSink::with_faults(alloc, &self.failing_writes)?;
-        let status = run_cpdb(alloc, self.words.as_slice(), files, &mut input, &mut output);
+        let (status, output) = self.make_over(alloc, files, &mut input)?;
         Ok(Outcome {
-            status: status.code,
-            output: output.bytes().to_vec(alloc)?,
+            status,
+            output,
             left: pieces.left.len() as u64,
         })
     }

@@ -12,6 +12,7 @@ mod lower;
 mod pieces;
 mod play;
 mod replies;
+mod screen;
 mod sheet;
 mod words;
 

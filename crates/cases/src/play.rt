@@ -7,8 +7,10 @@
 //! | `file NAME` and a text | a file that is there |
 //! | `words W W ..` | a call begins: its words after the program's name, those that are empty or have spaces in quotation marks |
 //! | `in` and a text | its input; where no call has begun, one begins with the words `scratch n` |
+//! | `bare` | a call begins with no words, not even the program's name |
 //! | `pieces N N ..` | the sizes that the reads of the input give, over and over |
 //! | `fail file N ..`, `fail input N ..`, `fail output N ..` | the reads of files, reads of the input and writes that fail, from 1 |
+//! | `room N` | the output takes a byte a write, and none after N bytes |
 //!
 //! A call of a layer below: `place`, `label`, `name`, `value`, `text` with a word, `order` with places, `statement`, `offset`,
 //! `cuts SIZE` with a text, and `reply WORDS` as `replies` says.
@@ -115,6 +117,7 @@ impl<R: rt::Files> Stage<'_, R> {
         match step.key.as_str() {
             "in" => call.input = step.text.as_slice().to_vec(alloc)?,
             "pieces" => call.note_pieces(alloc, step.rest.as_str())?,
+            "room" => call.note_room(step.rest.as_str()),
             _ => {
                 if !call.note_failures(alloc, step.rest.as_str())? {
                     return Ok(Some("what fails?".to_string(alloc)?));
@@ -183,11 +186,16 @@ impl<R: rt::Files> Stage<'_, R> {
                 self.call = Some(Call::new(alloc, step.rest.as_str())?);
                 Ok(None)
             }
+            "bare" => {
+                self.settle(alloc)?;
+                self.call = Some(Call::bare(alloc)?);
+                Ok(None)
+            }
             "in" => {
                 self.begin_scratch(alloc)?;
                 self.prepare(alloc, step)
             }
-            "pieces" | "fail" => self.prepare(alloc, step),
+            "pieces" | "room" | "fail" => self.prepare(alloc, step),
             "out" | "starts" | "ends" | "status" | "left" => self.compare(alloc, step),
             _ => self.call_lower(alloc, step),
         }
