@@ -26,7 +26,7 @@ use Rattle.std.specs.Str.{is_utf8}
 use Rattle.csv.specs.Reading.{records, default_config, strip_bom}
 use Rattle.cp_model.proofs.Lookups.{find-from_entries}
 use Rattle.cp_csv.specs.CsvTrees.{Fields, is_long_label, is_long_text, repeated_column, with_fields, with_row, tree_fault, field_fault, row_label, header_fault, rows_tree, records_tree, csv_tree}
-use Rattle.cp_path.specs.Refusals.{unless}
+use Rattle.cp_model.specs.Cases.{unless}
 use Rattle.cp_csv.specs.Steps.{IsEmptyRow, IsShallow, fields_weight}
 use Rattle.cp_csv.specs.declared.fault.CsvFault.{CsvFault}
 use Rattle.cp_csv.specs.declared.fault.CsvFault.TheVariants.{NoHeader, NotUtf8, LabelTooLong, RepeatedHeader, NoColumn, Ragged, TextTooLong, RepeatedKey, TooMany, TooBig, Memory}

@@ -7,7 +7,7 @@ use Rattle.std.specs.Str.{is_utf8}
 use Rattle.std.specs.declared.option.Option.{Option}
 use Rattle.std.specs.declared.option.Option.TheVariants.{None, Some}
 use Rattle.csv.specs.Reading.{records, default_config, strip_bom}
-use Rattle.cp_path.specs.Refusals.{unless}
+use Rattle.cp_model.specs.Cases.{unless}
 use Rattle.cp_path.specs.declared.value.Value.TheVariants.{Text}
 use Rattle.cp_model.specs.declared.row.Content.TheVariants.{Node, Leaf}
 use Rattle.cp_model.specs.Place.{Label, label_eq, option_map, or_else}

@@ -25,7 +25,7 @@ use Rattle.cp_tree.proofs.Fits.{within-limit}
 use Rattle.cp_json.specs.declared.fault.JsonFault.{JsonFault}
 use Rattle.cp_json.specs.declared.fault.JsonFault.TheVariants.{NotWhole}
 use Rattle.cp_json.specs.Places.{content_of, places_below, value_places, bytes_of, place_weight}
-use Rattle.cp_path.specs.Refusals.{first_case, unless}
+use Rattle.cp_model.specs.Cases.{first_case, unless}
 use Rattle.cp_json.specs.JsonTrees.{any_above, refusals, first_fraction, entry_of, value_reading, without_mark, tree_of_places, tree_of_reading, json_tree}
 use Rattle.cp_json.specs.Growing.{or_node, with_leaf, CanPut, AreNear, grown_tree, CanGrow}
 use Rattle.cp_json.specs.Ordered.{IsOrdered}

@@ -10,7 +10,7 @@ use Rattle.std.specs.Ordering.{is_lt}
 use Rattle.std.specs.Str.{is_utf8}
 use Rattle.serde_json.specs.Data.{Data}
 use Rattle.serde_json.specs.Read.{read}
-use Rattle.cp_path.specs.Refusals.{first_case, unless}
+use Rattle.cp_model.specs.Cases.{first_case, unless}
 use Rattle.cp_path.specs.Text.{text_eq}
 use Rattle.cp_model.specs.declared.row.Content.{Content}
 use Rattle.cp_model.specs.Place.{Path, path_cmp, size}

@@ -3,7 +3,7 @@ ghost use Rattle.std.specs.Result.{result_map_both};
 ghost use Rattle.std.specs.List.{list_all};
 ghost use Rattle.serde_json.specs.View.{view};
 ghost use Rattle.cp_path.specs.Answers.{Answers};
-ghost use Rattle.cp_path.specs.Refusals.{first_case};
+ghost use Rattle.cp_model.specs.Cases.{first_case};
 ghost use Rattle.cp_path.specs.Place.{over_limit};
 ghost use Rattle.cp_model.specs.Place.{Path};
 ghost use Rattle.cp_model.specs.Subtrees.{is_there};

@@ -1,5 +1,4 @@
 pub mod Answers
-pub mod Refusals
 pub mod Text
 pub mod Place
 pub mod PathOrder
