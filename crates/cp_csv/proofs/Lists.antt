@@ -12,7 +12,7 @@ use Rattle.std.specs.Cmp.Lexicographic.{texts_ties, nat_list_eq_equiv}
 use Rattle.cp_path.specs.Text.{text_cmp}
 use Rattle.cp_csv.specs.declared.fault.CsvFault.TheVariants.{LabelTooLong, RepeatedHeader, NoColumn, TextTooLong}
 use Rattle.cp_csv.specs.CsvTrees.{header_fault, field_fault, Fields, is_long_label, is_long_text, repeated, field_under, has_key}
-use Rattle.cp_path.specs.Same.{text_eq-same}
+use Rattle.cp_path.proofs.Same.{text_eq-same}
 use Rattle.cp_csv.specs.Steps.{column_of}
 
 -- the field at a place is the first of those that are left

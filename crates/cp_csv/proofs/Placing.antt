@@ -1,28 +1,30 @@
 -- A row put into a tree: its places are new, and what they add is counted.
+use Rattle.cp_model.specs.declared.limits.TheConstants.{NODES_MAX, WEIGHT_MAX}
+use Rattle.cp_path.specs.declared.limits.TheConstants.{LABELS_MAX, LABEL_MAX, LOC_MAX, NAME_MAX, TEXT_MAX}
 use Rattle.std.proofs.Common.{◌≡◌, ℕ, ◌+◌, ◌<◌, ◌≤◌, Bool, true, false, cond, ◌&&◌, ◌||◌, List, [], ◌∷◌, length, Option, Some, None, if◌then◌else◌, is_some, refl, sym, ap, subst, ◌∙◌, arith, nat_lt, length-append, ◌==◌, not, Result, Err, ◌⊎◌, inl, inr}
-use Rattle.cp_model.specs.Accepted.{none_is}
+use Rattle.cp_model.proofs.Accepted.{none_is}
 use Rattle.std.proofs.lemmas.Bool.Decides.{nat_tests}
 use Rattle.std.proofs.lemmas.List.Sums.{sum_by-append}
-use Rattle.std.specs.List.{list_any}
+use Rattle.std.specs.List.{list_any, list_all}
 use Rattle.cp_path.specs.Text.{text_eq}
 use Rattle.cp_path.specs.declared.value.Value.TheVariants.{Text}
 use Rattle.cp_model.specs.declared.row.Content.{Content}
 use Rattle.cp_model.specs.declared.row.Content.TheVariants.{Node, Leaf}
-use Rattle.cp_model.specs.Place.{Label, Path, label_eq, path_eq, path_eq_equiv, path_eq-same, child, over_limit}
+use Rattle.cp_model.specs.Place.{Label, Path, label_eq, path_eq, child, over_limit, size}
+use Rattle.cp_path.proofs.Same.{path_eq-same}
+use Rattle.cp_path.specs.PathOrder.{path_eq_equiv}
+use Rattle.cp_model.proofs.KeyedLemmas.{get-insert}
 use Rattle.cp_model.specs.Keyed as keyed
 use Rattle.cp_model.specs.Keyed.{look}
 use Rattle.cp_model.specs.Subtrees.{is_there, replaced}
-use Rattle.cp_model.specs.Tree.{Tree, IsTree, IsRooted, weight, text_bytes, most_nodes, most_weight, most_text}
-use Rattle.cp_model.specs.Sums.{len_insert_new, weight_insert_new}
-use Rattle.cp_tree.specs.Rows.{alone, path_size}
-use Rattle.cp_tree.specs.Fits.{within-limit}
-use Rattle.cp_tree.specs.Leaves.{nothing-below, leaf-insert, leaf-fits}
-use Rattle.std.specs.List.{list_all}
+use Rattle.cp_model.specs.Tree.{Tree, IsTree, IsRooted, weight, text_bytes}
+use Rattle.cp_model.proofs.SumsLemmas.{len_insert_new, weight_insert_new}
+use Rattle.cp_tree.specs.Rows.{alone, path_size, single}
+use Rattle.cp_tree.proofs.Fits.{within-limit}
+use Rattle.cp_tree.proofs.Leaves.{nothing-below, leaf-insert, leaf-fits}
 use Rattle.std.specs.Str.{is_utf8}
 use Rattle.csv.specs.Reading.{records, default_config, strip_bom}
-use Rattle.cp_model.specs.Lookups.{find-from_entries}
-use Rattle.cp_model.specs.Place.{size}
-use Rattle.cp_tree.specs.Rows.{single}
+use Rattle.cp_model.proofs.Lookups.{find-from_entries}
 use Rattle.cp_csv.specs.CsvTrees.{Fields, Reads, is_long_label, is_long_text, repeated, with_fields, with_row, tree_fault, field_fault, row_label, header_fault, rows_tree, records_tree, unless, csv_tree}
 use Rattle.cp_csv.specs.Steps.{IsBare, IsShallow, fields_weight}
 use Rattle.cp_csv.specs.declared.fault.CsvFault.{CsvFault}
@@ -32,8 +34,8 @@ use Rattle.cp_csv.proofs.Lists.{none_pass}
 -- ---- a leaf
 
 -- a leaf below the root, or below a child of it, leaves a tree where there is room
-pub leaf_fits : (t : Tree) (p : Path) (a : Label) (c : Content) → IsTree t → keyed.get t p ≡ Some Node → length p ≤ 1 → path_size p ≤ 256 → length a ≤ 255 → text_bytes c ≤ most_text →
-    keyed.len t + 1 ≤ most_nodes → weight t + 16 + length a + text_bytes c ≤ most_weight → IsTree (replaced (child p a) (alone c) t)
+pub leaf_fits : (t : Tree) (p : Path) (a : Label) (c : Content) → IsTree t → keyed.get t p ≡ Some Node → length p ≤ 1 → path_size p ≤ 256 → length a ≤ LABEL_MAX → text_bytes c ≤ TEXT_MAX →
+    keyed.len t + 1 ≤ NODES_MAX → weight t + 16 + length a + text_bytes c ≤ WEIGHT_MAX → IsTree (replaced (child p a) (alone c) t)
 leaf_fits t p a c h n deep large s x l w =
     leaf-fits t p a c h n (within-limit (child p a) (omega (arith, deep, length-append p (a ∷ []))) (omega (arith, large, s, sum_by-append (λ (a : Label). length a + 1) p (a ∷ [])))) x l w
 
@@ -63,10 +65,10 @@ module _ (t : Tree) (row : Label) (h : Label) (hs : List Label) (bare : IsBare t
     apart = parts.1;
     free = λ g n.
         let both = none_pass (label_eq g) h bare.before n in
-        ap is_some (keyed.get-insert t (row ∷ h ∷ []) c (row ∷ g ∷ [])
+        ap is_some (get-insert t (row ∷ h ∷ []) c (row ∷ g ∷ [])
         ∙ ap (λ b. cond b (Some c) (keyed.get t (row ∷ g ∷ []))) (and_no (text_eq row row) (text_eq g h && true) (ap (λ b. b && true) both.0)))
         ∙ bare.free g both.1;
-    node = keyed.get-insert t (row ∷ h ∷ []) c (row ∷ []) ∙ ap (λ b. cond b (Some c) (keyed.get t (row ∷ []))) (and_no (text_eq row row) false refl) ∙ bare.node;
+    node = get-insert t (row ∷ h ∷ []) c (row ∷ []) ∙ ap (λ b. cond b (Some c) (keyed.get t (row ∷ []))) (and_no (text_eq row row) false refl) ∙ bare.node;
   }
 
 -- each field is one more place
@@ -111,8 +113,8 @@ new_bare t row hs h n apart = record {
   column = 1;
   apart = apart;
   free = λ g _.
-      ap is_some (keyed.get-insert t (row ∷ []) Node (row ∷ g ∷ []) ∙ ap (λ b. cond b (Some Node) (keyed.get t (row ∷ g ∷ []))) (and_no (text_eq row row) false refl) ∙ nothing-below t (row ∷ []) (g ∷ []) h n);
-  node = keyed.get-insert t (row ∷ []) Node (row ∷ []) ∙ ap (λ b. cond b (Some Node) (keyed.get t (row ∷ []))) (path_eq_equiv.refl (row ∷ []));
+      ap is_some (get-insert t (row ∷ []) Node (row ∷ g ∷ []) ∙ ap (λ b. cond b (Some Node) (keyed.get t (row ∷ g ∷ []))) (and_no (text_eq row row) false refl) ∙ nothing-below t (row ∷ []) (g ∷ []) h n);
+  node = get-insert t (row ∷ []) Node (row ∷ []) ∙ ap (λ b. cond b (Some Node) (keyed.get t (row ∷ []))) (path_eq_equiv.refl (row ∷ []));
 }
 
 -- ---- the row
@@ -127,31 +129,31 @@ module _ (t : Tree) (row : Label) (hs : List Label) (fs : Fields) (h : IsRooted 
   abbrev there_no : is_there t (row ∷ []) ≡ false
   there_no = ap is_some n
 
-  pub is_many : (k : ℕ) → most_nodes < keyed.len t + 1 + length hs → tree_fault row hs k fs t ≡ Some TooMany
+  pub is_many : (k : ℕ) → NODES_MAX < keyed.len t + 1 + length hs → tree_fault row hs k fs t ≡ Some TooMany
   is_many k l =
-      let big : nat_lt most_nodes (keyed.len (with_row row hs fs t)) ≡ true = (let e = count_row in grind (arith, nat_tests)) in
+      let big : nat_lt NODES_MAX (keyed.len (with_row row hs fs t)) ≡ true = (let e = count_row in grind (arith, nat_tests)) in
       rw (there_no, big) refl
 
-  pub is_big : (k : ℕ) → keyed.len t + 1 + length hs ≤ most_nodes → most_weight < weight t + 16 + length row + fields_weight hs fs → tree_fault row hs k fs t ≡ Some TooBig
+  pub is_big : (k : ℕ) → keyed.len t + 1 + length hs ≤ NODES_MAX → WEIGHT_MAX < weight t + 16 + length row + fields_weight hs fs → tree_fault row hs k fs t ≡ Some TooBig
   is_big k l w =
-      let few : nat_lt most_nodes (keyed.len (with_row row hs fs t)) ≡ false = (let e = count_row in grind (arith, nat_tests)) in
-      let big : nat_lt most_weight (weight (with_row row hs fs t)) ≡ true = (let e = weigh_row in grind (arith, nat_tests)) in
+      let few : nat_lt NODES_MAX (keyed.len (with_row row hs fs t)) ≡ false = (let e = count_row in grind (arith, nat_tests)) in
+      let big : nat_lt WEIGHT_MAX (weight (with_row row hs fs t)) ≡ true = (let e = weigh_row in grind (arith, nat_tests)) in
       rw (there_no, few, big) refl
 
-  pub is_fit : (k : ℕ) → keyed.len t + 1 + length hs ≤ most_nodes → weight t + 16 + length row + fields_weight hs fs ≤ most_weight → tree_fault row hs k fs t ≡ None
+  pub is_fit : (k : ℕ) → keyed.len t + 1 + length hs ≤ NODES_MAX → weight t + 16 + length row + fields_weight hs fs ≤ WEIGHT_MAX → tree_fault row hs k fs t ≡ None
   is_fit k l w =
-      let few : nat_lt most_nodes (keyed.len (with_row row hs fs t)) ≡ false = (let e = count_row in grind (arith, nat_tests)) in
-      let light : nat_lt most_weight (weight (with_row row hs fs t)) ≡ false = (let e = weigh_row in grind (arith, nat_tests)) in
+      let few : nat_lt NODES_MAX (keyed.len (with_row row hs fs t)) ≡ false = (let e = count_row in grind (arith, nat_tests)) in
+      let light : nat_lt WEIGHT_MAX (weight (with_row row hs fs t)) ≡ false = (let e = weigh_row in grind (arith, nat_tests)) in
       rw (there_no, few, light) refl
 
 -- the root stays a node
 root_kept : (row : Label) (hs : List Label) (fs : Fields) (t : Tree) → keyed.get t [] ≡ Some Node → keyed.get (with_fields row hs fs t) [] ≡ Some Node
 root_kept row [] fs t r = r
 root_kept row (h ∷ hs) [] t r = r
-root_kept row (h ∷ hs) (f ∷ fs) t r = root_kept row hs fs (keyed.insert t (row ∷ h ∷ []) (Leaf (Text f))) (keyed.get-insert t (row ∷ h ∷ []) (Leaf (Text f)) [] ∙ r)
+root_kept row (h ∷ hs) (f ∷ fs) t r = root_kept row hs fs (keyed.insert t (row ∷ h ∷ []) (Leaf (Text f))) (get-insert t (row ∷ h ∷ []) (Leaf (Text f)) [] ∙ r)
 
 pub root_stays : (row : Label) (hs : List Label) (fs : Fields) (t : Tree) → keyed.get t [] ≡ Some Node → keyed.get (with_row row hs fs t) [] ≡ Some Node
-root_stays row hs fs t r = root_kept row hs fs (keyed.insert t (row ∷ []) Node) (keyed.get-insert t (row ∷ []) Node [] ∙ r)
+root_stays row hs fs t r = root_kept row hs fs (keyed.insert t (row ∷ []) Node) (get-insert t (row ∷ []) Node [] ∙ r)
 
 -- one more place with few short labels
 shallow_insert : (t : Tree) (k : Path) (c : Content) → IsShallow t → length k ≤ 2 → path_size k ≤ 512 → IsShallow (keyed.insert t k c)
@@ -159,15 +161,15 @@ shallow_insert t k c s deep large p i =
     elim (path_eq p k) as (λ b. path_eq p k ≡ b → is_some (cond b (Some c) (keyed.get t p)) ≡ true → (length p ≤ 2) × (path_size p ≤ 512)) [
       | true ↦ λ e _. (let same : p ≡ k = path_eq-same p k e in subst (λ q. (length q ≤ 2) × (path_size q ≤ 512)) (sym same) (deep, large))
       | false ↦ λ _ j. s p j
-    ] refl (sym (ap is_some (keyed.get-insert t k c p)) ∙ i)
+    ] refl (sym (ap is_some (get-insert t k c p)) ∙ i)
 
-pub text_so : (f : List ℕ) → is_long_text f ≡ false → length f ≤ 1048576
+pub text_so : (f : List ℕ) → is_long_text f ≡ false → length f ≤ TEXT_MAX
 text_so f e = grind (arith, nat_tests)
 
-pub short_so : (a : Label) → is_long_label a ≡ false → length a ≤ 255
+pub short_so : (a : Label) → is_long_label a ≡ false → length a ≤ LABEL_MAX
 short_so a e = grind (arith, nat_tests)
 
-shallow_fields : (row : Label) (hs : List Label) (fs : Fields) (t : Tree) → length row ≤ 255 → list_any is_long_label hs ≡ false → IsShallow t → IsShallow (with_fields row hs fs t)
+shallow_fields : (row : Label) (hs : List Label) (fs : Fields) (t : Tree) → length row ≤ LABEL_MAX → list_any is_long_label hs ≡ false → IsShallow t → IsShallow (with_fields row hs fs t)
 shallow_fields row [] fs t r l s = s
 shallow_fields row (h ∷ hs) [] t r l s = s
 shallow_fields row (h ∷ hs) (f ∷ fs) t r l s =
@@ -176,19 +178,19 @@ shallow_fields row (h ∷ hs) (f ∷ fs) t r l s =
     shallow_fields row hs fs (keyed.insert t (row ∷ h ∷ []) (Leaf (Text f))) r parts.1 (shallow_insert t (row ∷ h ∷ []) (Leaf (Text f)) s (omega arith) (omega (arith, r, short)))
 
 -- a row keeps the tree shallow
-pub shallow_row : (row : Label) (hs : List Label) (fs : Fields) (t : Tree) → length row ≤ 255 → list_any is_long_label hs ≡ false → IsShallow t → IsShallow (with_row row hs fs t)
+pub shallow_row : (row : Label) (hs : List Label) (fs : Fields) (t : Tree) → length row ≤ LABEL_MAX → list_any is_long_label hs ≡ false → IsShallow t → IsShallow (with_row row hs fs t)
 shallow_row row hs fs t r l s = shallow_fields row hs fs (keyed.insert t (row ∷ []) Node) r l (shallow_insert t (row ∷ []) Node s (omega arith) (omega (arith, r)))
 
 -- what is put wasn't there
 pub fit_free : (row : Label) (hs : List Label) (n : ℕ) (fs : Fields) (t : Tree) → tree_fault row hs n fs t ≡ None → keyed.get t (row ∷ []) ≡ None
 fit_free row hs n fs t e =
-    none_is (keyed.get t (row ∷ [])) (if_none (is_there t (row ∷ [])) (RepeatedKey n) (if nat_lt most_nodes (keyed.len (with_row row hs fs t)) then Some TooMany else if nat_lt most_weight (weight (with_row row hs fs t)) then Some TooBig else None) e).0
+    none_is (keyed.get t (row ∷ [])) (if_none (is_there t (row ∷ [])) (RepeatedKey n) (if nat_lt NODES_MAX (keyed.len (with_row row hs fs t)) then Some TooMany else if nat_lt WEIGHT_MAX (weight (with_row row hs fs t)) then Some TooBig else None) e).0
 
 either_none : {X : Type 0} (b : Bool) (x : X) (o : Option X) → (if b then Some x else o) ≡ None → o ≡ None
 either_none b x o e = (if_none b x o e).1
 
 -- and its label is short
-pub fit_short : (hs : List Label) (key : Option Label) (n : ℕ) (fs : Fields) → field_fault hs key n fs ≡ None → length (row_label hs key n fs) ≤ 255
+pub fit_short : (hs : List Label) (key : Option Label) (n : ℕ) (fs : Fields) → field_fault hs key n fs ≡ None → length (row_label hs key n fs) ≤ LABEL_MAX
 fit_short hs key n fs e =
     let last = if is_long_label (row_label hs key n fs) then Some LabelTooLong else None in
     let third = if list_any is_long_text fs then Some TextTooLong else last in
@@ -215,13 +217,13 @@ single_shallow [] i = (omega arith, omega arith)
 single_shallow (a ∷ p) i = absurd (let no : is_there (single Node) (a ∷ p) ≡ false = ap is_some (find-from_entries (alone Node) (a ∷ p)) in cc)
 
 -- a place of few short labels is within the limits of any database
-pub within : (t : Tree) (name : List ℕ) → IsShallow t → length name ≤ 32 → (p : Path) → is_there t p ≡ true → over_limit (record { db = name; path = p }) ≡ false
+pub within : (t : Tree) (name : List ℕ) → IsShallow t → length name ≤ NAME_MAX → (p : Path) → is_there t p ≡ true → over_limit (record { db = name; path = p }) ≡ false
 within t name s n p i =
     let near = s p i in
-    let few : nat_lt 64 (length p) ≡ false = (let a = near.0 in grind (arith, nat_tests)) in
-    let small : size (record { db = name; path = p }) ≤ 1024 = omega (arith, near.1, n) in
-    let light : nat_lt 1024 (size (record { db = name; path = p })) ≡ false = grind (arith, nat_tests) in
-    ap (λ b. b || nat_lt 1024 (size (record { db = name; path = p }))) few ∙ light
+    let few : nat_lt LABELS_MAX (length p) ≡ false = (let a = near.0 in grind (arith, nat_tests)) in
+    let small : size (record { db = name; path = p }) ≤ LOC_MAX = omega (arith, near.1, n) in
+    let light : nat_lt LOC_MAX (size (record { db = name; path = p })) ≡ false = grind (arith, nat_tests) in
+    ap (λ b. b || nat_lt LOC_MAX (size (record { db = name; path = p }))) few ∙ light
 
 -- ---- the whole
 

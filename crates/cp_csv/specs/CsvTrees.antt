@@ -1,4 +1,6 @@
 -- The tree that a CSV text is, or why it is none.
+use Rattle.cp_model.specs.declared.limits.TheConstants.{NODES_MAX, WEIGHT_MAX}
+use Rattle.cp_path.specs.declared.limits.TheConstants.{LABEL_MAX, TEXT_MAX}
 use Rattle.std.specs.Prelude.{◌≡◌, ⊤, ℕ, ◌+◌, ◌==◌, Bool, true, not, List, [], ◌∷◌, length, nat_lt, decimal, if◌then◌else◌, Result, Ok, Err}
 use Rattle.std.specs.List.{list_all, list_any}
 use Rattle.std.specs.Str.{is_utf8}
@@ -10,7 +12,7 @@ use Rattle.cp_model.specs.declared.row.Content.TheVariants.{Node, Leaf}
 use Rattle.cp_model.specs.Place.{Label, label_eq, option_map, or_else}
 use Rattle.cp_model.specs.Keyed.{insert, len}
 use Rattle.cp_model.specs.Subtrees.{is_there}
-use Rattle.cp_model.specs.Tree.{Tree, weight, most_nodes, most_weight, most_text}
+use Rattle.cp_model.specs.Tree.{Tree, weight}
 use Rattle.cp_tree.specs.Rows.{single}
 use Rattle.cp_csv.specs.declared.fault.CsvFault.{CsvFault}
 use Rattle.cp_csv.specs.declared.fault.CsvFault.TheVariants.{NoHeader, NotUtf8, LabelTooLong, RepeatedHeader, NoColumn, Ragged, TextTooLong, RepeatedKey, TooMany, TooBig, Memory}
@@ -21,11 +23,11 @@ Fields = List (List ℕ)
 
 -- more bytes than a label may have
 abbrev pub is_long_label : List ℕ → Bool
-is_long_label a = nat_lt 255 (length a)
+is_long_label a = nat_lt LABEL_MAX (length a)
 
 -- more bytes than a text value may have
 abbrev pub is_long_text : List ℕ → Bool
-is_long_text f = nat_lt most_text (length f)
+is_long_text f = nat_lt TEXT_MAX (length f)
 
 -- ---- the header
 
@@ -82,8 +84,8 @@ with_row row headers fields t = with_fields row headers fields (insert t (row �
 abbrev pub tree_fault : Label → List Label → ℕ → Fields → Tree → Option CsvFault
 tree_fault row headers n fields t =
     if is_there t (row ∷ []) then Some (RepeatedKey n)
-    else if nat_lt most_nodes (len (with_row row headers fields t)) then Some TooMany
-    else if nat_lt most_weight (weight (with_row row headers fields t)) then Some TooBig
+    else if nat_lt NODES_MAX (len (with_row row headers fields t)) then Some TooMany
+    else if nat_lt WEIGHT_MAX (weight (with_row row headers fields t)) then Some TooBig
     else None
 
 -- why the row n is refused, if it is

@@ -5,7 +5,7 @@ ghost use Rattle.csv.specs.Records.{fields_of};
 ghost use Rattle.cp_path.specs.declared.value.Value.TheVariants as value;
 ghost use Rattle.cp_model.specs.declared.row.Content.TheVariants.{Node, Leaf};
 ghost use Rattle.cp_model.specs.Keyed.{get, len};
-ghost use Rattle.cp_model.specs.Tree.{weight, most_nodes, most_weight};
+ghost use Rattle.cp_model.specs.Tree.{weight};
 ghost use Rattle.cp_csv.specs.CsvTrees.{is_long_label, is_long_text, with_fields, with_row, tree_fault};
 ghost use Rattle.cp_csv.specs.Steps.{IsBare, IsColumns, Tells, fields_weight};
 
@@ -13,7 +13,7 @@ use crate::columns::Columns;
 use crate::fault::CsvFault;
 use crate::row::Row;
 use cp_model::{Content, NODES_MAX, PLACE_WEIGHT, WEIGHT_MAX};
-use cp_path::{Path, Text, Value};
+use cp_path::{Path, Text, Value, LABEL_MAX};
 use cp_tree::TreeRep;
 use std::alloc::{AllocError, Global};
 
@@ -27,7 +27,7 @@ fn leaf_of(alloc: Global, text: &str) -> Result<Content, AllocError>
 
 /// What the fields of the row weigh below it.
 fn fields_weight(columns: &Columns, row: &Row) -> u64
-    requires few { length columns.now.labels.items < most_nodes }
+    requires few { length columns.now.labels.items < NODES_MAX }
     requires even { length (fields_of row.now.fields) ≡ length columns.now.labels.items }
     requires texts { list_any is_long_text (fields_of row.now.fields) ≡ false }
     ensures weight { result ≡ fields_weight columns.now.labels.items (fields_of row.now.fields) }
@@ -51,13 +51,13 @@ fn put_fields<R: TreeRep>(
     row: &Row,
     tree: &mut R,
 ) -> Result<(), AllocError>
-    requires short { length row.now.label ≤ 255 }
+    requires short { length row.now.label ≤ LABEL_MAX }
     requires headers { list_any is_long_label columns.now.labels.items ≡ false }
     requires bare { IsBare (R.contents tree.old) row.now.label columns.now.labels.items }
     requires even { length (fields_of row.now.fields) ≡ length columns.now.labels.items }
     requires texts { list_any is_long_text (fields_of row.now.fields) ≡ false }
-    requires few { len (R.contents tree.old) + length columns.now.labels.items ≤ most_nodes }
-    requires light { weight (R.contents tree.old) + fields_weight columns.now.labels.items (fields_of row.now.fields) ≤ most_weight }
+    requires few { len (R.contents tree.old) + length columns.now.labels.items ≤ NODES_MAX }
+    requires light { weight (R.contents tree.old) + fields_weight columns.now.labels.items (fields_of row.now.fields) ≤ WEIGHT_MAX }
     ensures put { OnOk result (R.contents tree.new ≡ with_fields row.now.label columns.now.labels.items (fields_of row.now.fields) (R.contents tree.old)) }
 {
     let place = Path::root(alloc).child(&row.label)?;

@@ -12,8 +12,9 @@ use Rattle.cp_model.specs.Subtrees.{below, replaced, without, is_there}
 use Rattle.cp_model.specs.Literals.{literal_rows}
 use Rattle.cp_model.specs.Tree.{Tree, Source, source, database, IsTree, refusal, changed, taken, reaches_over}
 use Rattle.cp_model.specs.History.{IsWritten}
-use Rattle.cp_model.specs.Accepted.{ins_accepted, copy_accepted}
-use Rattle.cp_model.specs.Kept.{AreTrees, tree-changed}
+use Rattle.cp_model.proofs.Accepted.{ins_accepted, copy_accepted}
+use Rattle.cp_model.specs.Laws.{AreTrees}
+use Rattle.cp_model.proofs.Kept.{tree-changed}
 use Rattle.cp_record.specs.Packed.{IsSmall}
 use Rattle.cp_engine.proofs.Limits.{literal-small}
 

@@ -1,4 +1,5 @@
 -- How deep places of a tree and of a literal lie.
+use Rattle.cp_path.specs.declared.limits.TheConstants.{LABELS_MAX}
 use Rattle.std.specs.Prelude.{ℕ, zero, suc, ◌+◌, ◌≤◌, ◌≡◌, Bool, true, false, cond, ◌||◌, List, [], ◌∷◌, ◌++◌, length, map, max, is_some, refl}
 use Rattle.std.proofs.Common.{sym, ap, ◌∙◌, arith, ◌<◌, get_or, drop, length-append}
 use Rattle.std.specs.List.{list_any}
@@ -7,17 +8,18 @@ use Rattle.cp_path.specs.declared.loc.Loc.{Loc}
 use Rattle.cp_model.specs.declared.row.Content.{Content}
 use Rattle.cp_model.specs.declared.row.Row.{Row}
 use Rattle.cp_model.specs.declared.literal.LitEdge.{LitEdge}
-use Rattle.cp_model.specs.Place.{Path, at_target, child, below_place, over_limit, path_eq, path_eq_equiv}
+use Rattle.cp_model.specs.Place.{Path, at_target, child, below_place, over_limit, path_eq}
+use Rattle.cp_path.specs.PathOrder.{path_eq_equiv}
 use Rattle.cp_model.specs.Keyed.{look}
-use Rattle.cp_model.specs.Lookups.{find-below}
+use Rattle.cp_model.proofs.Lookups.{find-below}
 use Rattle.cp_model.specs.Subtrees.{below, is_there}
 use Rattle.cp_model.specs.Literals.{literal_rows, rows_under, edge_rows}
 use Rattle.cp_model.specs.Tree.{Tree, IsTree, reaches_over}
-use Rattle.cp_model.specs.Accepted.{at_most}
-use Rattle.cp_tree.specs.Edges.{deepest-literal}
+use Rattle.cp_model.proofs.Accepted.{at_most}
+use Rattle.cp_tree.proofs.Edges.{deepest-literal}
 use Rattle.cp_tree.specs.Rows.{greatest, deepest, row_of}
-use Rattle.cp_tree.specs.Counted.{greatest-append}
-use Rattle.cp_engine.specs.RowsAlone.{root-below}
+use Rattle.cp_tree.proofs.Counted.{greatest-append}
+use Rattle.cp_engine.proofs.RowsAloneLemmas.{root-below}
 use Rattle.cp_engine.proofs.Limits.{over-reached}
 
 no_left : (a b : Bool) → (a || b) ≡ false → a ≡ false
@@ -25,9 +27,9 @@ no_left true b e = absurd (cc)
 no_left false b e = refl
 
 -- where entries reach over no limit, they lie no deeper than places may
-pub deepest-within : (p : Loc) (es : List (Path × Content)) → is_some (look [] es) ≡ true → reaches_over p es ≡ false → length p.path + deepest es ≤ 64
+pub deepest-within : (p : Loc) (es : List (Path × Content)) → is_some (look [] es) ≡ true → reaches_over p es ≡ false → length p.path + deepest es ≤ LABELS_MAX
 deepest-within p [] i n = absurd (cc)
-deepest-within p (e ∷ es) i n = at_most 64 _ (no_left _ _ (sym (over-reached p e es) ∙ n))
+deepest-within p (e ∷ es) i n = at_most LABELS_MAX _ (no_left _ _ (sym (over-reached p e es) ∙ n))
 
 -- what no key passes, no entry passes
 none-of : (f : Path → Bool) (es : List (Path × Content)) → ((s : Path) → is_some (look s es) ≡ true → f s ≡ false) → list_any (λ e. f e.0) es ≡ false
@@ -45,7 +47,7 @@ pub below-reaches : (t : Tree) (q : Path) → IsTree t → reaches_over (at_targ
 below-reaches t q h = none-of (λ s. over_limit (below_place (at_target q) s)) (below q t) (λ s i. h.places (q ++ s) (ap is_some (sym (find-below q s t)) ∙ i))
 
 -- and lies no deeper than places may
-pub below-within : (t : Tree) (q : Path) → IsTree t → is_there t q ≡ true → length q + deepest (below q t) ≤ 64
+pub below-within : (t : Tree) (q : Path) → IsTree t → is_there t q ≡ true → length q + deepest (below q t) ≤ LABELS_MAX
 below-within t q h i = deepest-within (at_target q) (below q t) (root-below t q i) (below-reaches t q h)
 
 -- rows lie as deep as their entries
@@ -71,11 +73,11 @@ edge-deepest e rest (suc i) (d ∷ ds) t = omega (arith, greatest-append (λ r. 
 
 -- the path of an edge is within the limit with what is below it
 pub edge-within : (k : ℕ) (at path : Path) (e : LitEdge) (rest : List LitEdge) (i : ℕ) (es : List LitEdge) (below : List (Path × Content)) → drop i es ≡ e ∷ rest → edge_rows es ≡ below →
-    path ≡ child at e.label → k + (length at + deepest below) ≤ 64 → k + (length path + deepest (literal_rows e.tree)) ≤ 64
+    path ≡ child at e.label → k + (length at + deepest below) ≤ LABELS_MAX → k + (length path + deepest (literal_rows e.tree)) ≤ LABELS_MAX
 edge-within k at path e rest i es below t b p h =
     let long : length path ≡ length at + 1 = ap length p ∙ length-append at (e.label ∷ []) in
     omega (arith, long, edge-deepest e rest i es t, ap deepest b)
 
 -- there is room for the label of an edge
-pub edge-room : (k : ℕ) (at : Path) (e : LitEdge) (rest : List LitEdge) (i : ℕ) (es : List LitEdge) (below : List (Path × Content)) → drop i es ≡ e ∷ rest → edge_rows es ≡ below → k + (length at + deepest below) ≤ 64 → length at < 64
+pub edge-room : (k : ℕ) (at : Path) (e : LitEdge) (rest : List LitEdge) (i : ℕ) (es : List LitEdge) (below : List (Path × Content)) → drop i es ≡ e ∷ rest → edge_rows es ≡ below → k + (length at + deepest below) ≤ LABELS_MAX → length at < LABELS_MAX
 edge-room k at e rest i es below t b h = omega (arith, edge-deepest e rest i es t, ap deepest b)

@@ -1,16 +1,18 @@
 -- What each call does to a transaction.
+use Rattle.cp_model.specs.declared.limits.TheConstants.{OPS_MAX}
 use Rattle.std.specs.Prelude.{ℕ, ◌+◌, ◌≤◌, ◌<◌, ◌≡◌, ◌^◌, List, [], ◌∷◌, ◌++◌, length}
 use Rattle.std.proofs.Common.{sym, ap, subst, ◌∙◌, arith, length-append}
 use Rattle.std.specs.declared.option.Option.TheVariants.{None}
 use Rattle.cp_model.specs.Tree.{Tree, Source, IsTree, refusal, changed}
-use Rattle.cp_model.specs.Kept.{AreTrees}
+use Rattle.cp_model.specs.Laws.{AreTrees}
 use Rattle.cp_model.specs.History.{IsWritten, with_tid}
 use Rattle.cp_model.specs.declared.op.Op.{Op}
 use Rattle.cp_record.specs.Packed.{Holds}
 use Rattle.cp_engine.specs.Passed.{Passed, passed, pass}
 use Rattle.cp_engine.specs.Held.{Appended}
-use Rattle.cp_engine.specs.RowsAlone.{op_rows, rows-alone}
-use Rattle.cp_engine.specs.Linked.{passed-snoc, pass-tree, accepted-snoc, written-snoc, passed-next, tree-passed}
+use Rattle.cp_engine.specs.RowsAlone.{op_rows}
+use Rattle.cp_engine.proofs.RowsAloneLemmas.{rows-alone}
+use Rattle.cp_engine.proofs.Linked.{passed-snoc, pass-tree, accepted-snoc, written-snoc, passed-next, tree-passed}
 use Rattle.cp_engine.specs.Transactions.{IsGoing}
 use Rattle.cp_engine.specs.declared.txn.Txn.{Txn}
 
@@ -26,7 +28,7 @@ module _ {R : Type 0} (view : R → Tree) (ss : List Source) where
   going-begun x t n h b o f e r k = record { start = h; first = b; few = omega arith; written = tt; accepted = tt; held = o; tid = f; tree = e; rows = r; failure = k }
 
   -- one operation more is held
-  pub going-more : (x y : Txn R) (t : Tree) (n tid : ℕ) (ops : List Op) (op : Op) → AreTrees ss → IsWritten op → length x.ops < 65535 → refusal ss (view x.tree) op ≡ None → tid ≡ x.first + length x.ops →
+  pub going-more : (x y : Txn R) (t : Tree) (n tid : ℕ) (ops : List Op) (op : Op) → AreTrees ss → IsWritten op → length x.ops < OPS_MAX → refusal ss (view x.tree) op ≡ None → tid ≡ x.first + length x.ops →
       y.ops ≡ x.ops ++ op ∷ [] → y.first ≡ x.first → view y.tree ≡ changed ss (view x.tree) op → Appended x.rows y.rows (with_tid tid (op_rows ss (view x.tree) op)) → y.failure ≡ x.failure →
       IsGoing view x ss t n ops → IsGoing view y ss t n (ops ++ op ∷ [])
   going-more x y t n tid ops op k w b a i o f e r l h =

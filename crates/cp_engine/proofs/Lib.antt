@@ -7,3 +7,7 @@ pub mod Recorded
 pub mod OpRows
 pub mod Going
 pub mod Loading
+pub mod Linked
+pub mod LoadedLemmas
+pub mod Rising
+pub mod RowsAloneLemmas

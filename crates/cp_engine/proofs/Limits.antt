@@ -1,4 +1,6 @@
 -- The tests of limits by what a subtree reaches.
+use Rattle.cp_model.specs.declared.limits.TheConstants.{NODES_MAX, WEIGHT_MAX}
+use Rattle.cp_path.specs.declared.limits.TheConstants.{LABELS_MAX, LOC_MAX}
 use Rattle.std.specs.Prelude.{ℕ, ◌+◌, ◌-◌, ◌≤◌, ◌≡◌, Bool, true, false, ◌||◌, List, [], ◌∷◌, length, max, min, nat_lt, sum_by, is_some, if◌then◌else◌, refl}
 use Rattle.std.proofs.Common.{sym, ap, ◌∙◌, arith, length-append, append_assoc, T}
 use Rattle.std.proofs.lemmas.Bool.Decides.{nat_tests}
@@ -19,16 +21,16 @@ use Rattle.cp_model.specs.Keyed.{look}
 use Rattle.cp_model.specs.Subtrees.{below, moved, replaced, is_there}
 use Rattle.cp_model.specs.Literals.{literal_rows, rows_under}
 use Rattle.cp_model.specs.History.{IsLiteral}
-use Rattle.cp_model.specs.Sorted.{sorted-below}
-use Rattle.cp_model.specs.Sums.{len-replaced, len-replaced_new, len-without, weight-without, sum_by-moved, last_bytes_child}
-use Rattle.cp_model.specs.Weights.{weight-moved, weight-put, weight-swapped}
-use Rattle.cp_model.specs.Accepted.{none_is}
-use Rattle.cp_model.specs.Kept.{closed-tree}
-use Rattle.cp_model.specs.Rooted.{rows-literal}
-use Rattle.cp_model.specs.Tree.{Tree, IsTree, first_case, limits_of, reaches_over, weight, weight_of, most_nodes, most_weight}
+use Rattle.cp_model.proofs.Sorted.{sorted-below}
+use Rattle.cp_model.proofs.SumsLemmas.{len-replaced, len-replaced_new, len-without, weight-without, sum_by-moved, last_bytes_child}
+use Rattle.cp_model.proofs.Weights.{weight-moved, weight-put, weight-swapped}
+use Rattle.cp_model.proofs.Accepted.{none_is}
+use Rattle.cp_model.proofs.Kept.{closed-tree}
+use Rattle.cp_model.proofs.Rooted.{rows-literal}
+use Rattle.cp_model.specs.Tree.{Tree, IsTree, first_case, limits_of, reaches_over, weight, weight_of}
 use Rattle.cp_tree.specs.Rows.{path_size, greatest, reach_of, reach_at}
 use Rattle.cp_tree.specs.declared.reach.Reach.{Reach}
-use Rattle.cp_engine.specs.RowsAlone.{root-below}
+use Rattle.cp_engine.proofs.RowsAloneLemmas.{root-below}
 use Rattle.cp_engine.specs.Reaching.{over_by, limit_passed, literal_reach}
 
 -- a sum with the greater of two is over where it is with one of them
@@ -45,15 +47,15 @@ or_mixed false false false d = refl
 -- of two reaches the greater numbers decide
 over-max : (p : Loc) (d s e r : ℕ) → (over_by p d s || over_by p e r) ≡ over_by p (max d e) (max s r)
 over-max p d s e r =
-    or_mixed (nat_lt 64 (length p.path + d)) (nat_lt 1024 (size p + s)) (nat_lt 64 (length p.path + e)) (nat_lt 1024 (size p + r))
-    ∙ ap (λ b. b || (nat_lt 1024 (size p + s) || nat_lt 1024 (size p + r))) (sym (lt-max 64 (length p.path) d e))
-    ∙ ap (λ b. nat_lt 64 (length p.path + max d e) || b) (sym (lt-max 1024 (size p) s r))
+    or_mixed (nat_lt LABELS_MAX (length p.path + d)) (nat_lt LOC_MAX (size p + s)) (nat_lt LABELS_MAX (length p.path + e)) (nat_lt LOC_MAX (size p + r))
+    ∙ ap (λ b. b || (nat_lt LOC_MAX (size p + s) || nat_lt LOC_MAX (size p + r))) (sym (lt-max LABELS_MAX (length p.path) d e))
+    ∙ ap (λ b. nat_lt LABELS_MAX (length p.path + max d e) || b) (sym (lt-max LOC_MAX (size p) s r))
 
 -- a place below p is over a limit by its labels and their size
 over-below : (p : Loc) (s : Path) → over_limit (below_place p s) ≡ over_by p (length s) (path_size s)
 over-below p s =
     let bytes : size (below_place p s) ≡ size p + path_size s = omega (arith, sum_by-append (λ a. length a + 1) p.path s) in
-    ap (λ n. nat_lt 64 n || nat_lt 1024 (size (below_place p s))) (length-append p.path s) ∙ ap (λ n. nat_lt 64 (length p.path + length s) || nat_lt 1024 n) bytes
+    ap (λ n. nat_lt LABELS_MAX n || nat_lt LOC_MAX (size (below_place p s))) (length-append p.path s) ∙ ap (λ n. nat_lt LABELS_MAX (length p.path + length s) || nat_lt LOC_MAX n) bytes
 
 or_false : (b : Bool) → (b || false) ≡ b
 or_false true = refl
@@ -79,12 +81,12 @@ capped-over k n m = grind (arith, nat_tests)
 
 over-capped : (p : Loc) (d s : ℕ) → over_by p (min d 65) (min s 1025) ≡ over_by p d s
 over-capped p d s =
-    ap (λ b. b || nat_lt 1024 (size p + min s 1025)) (capped-over 64 (length p.path) d) ∙ ap (λ b. nat_lt 64 (length p.path + d) || b) (capped-over 1024 (size p) s)
+    ap (λ b. b || nat_lt LOC_MAX (size p + min s 1025)) (capped-over LABELS_MAX (length p.path) d) ∙ ap (λ b. nat_lt LABELS_MAX (length p.path + d) || b) (capped-over LOC_MAX (size p) s)
 
 limit-capped : (n m w v : ℕ) → limit_passed (n + min m 1048577) (w + min v 33554433) ≡ limit_passed (n + m) (w + v)
 limit-capped n m w v =
-    ap (λ b. if b then Some TooMany else if nat_lt most_weight (w + min v 33554433) then Some TooBig else None) (capped-over 1048576 n m)
-    ∙ ap (λ b. if nat_lt most_nodes (n + m) then Some TooMany else if b then Some TooBig else None) (capped-over 33554432 w v)
+    ap (λ b. if b then Some TooMany else if nat_lt WEIGHT_MAX (w + min v 33554433) then Some TooBig else None) (capped-over NODES_MAX n m)
+    ∙ ap (λ b. if nat_lt NODES_MAX (n + m) then Some TooMany else if b then Some TooBig else None) (capped-over WEIGHT_MAX w v)
 
 -- rows at a child are rows below a label
 under_label : (p : Loc) (a : Label) (es : List (Path × Content)) → reaches_over (below_place p (a ∷ [])) es ≡ reaches_over p (rows_under a es)
@@ -181,7 +183,7 @@ copy-passed t u q p n w old new h i a b c d =
     ∙ sym (copy-limits t u q p h i)
 
 -- what is inserted weighs no more than a tree may
-pub literal-small : (t : Tree) (p : Loc) (a : Label) (l : Literal) → IsTree t → IsLiteral (literal_rows l) → is_there t (child p.path a) ≡ false → weight (replaced (child p.path a) (literal_rows l) t) ≤ most_weight → sum_by weight_of (literal_rows l) ≤ most_weight
+pub literal-small : (t : Tree) (p : Loc) (a : Label) (l : Literal) → IsTree t → IsLiteral (literal_rows l) → is_there t (child p.path a) ≡ false → weight (replaced (child p.path a) (literal_rows l) t) ≤ WEIGHT_MAX → sum_by weight_of (literal_rows l) ≤ WEIGHT_MAX
 literal-small t p a l h w n m =
     let rows = literal_rows l in
     omega (arith, m, (ins-numbers t p.path a l h w n).1, under_weight a rows w.sorted (rows-literal rows w).root)

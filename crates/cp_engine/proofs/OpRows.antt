@@ -1,15 +1,17 @@
 -- The records of each kind of operation.
+use Rattle.cp_path.specs.declared.limits.TheConstants.{LABELS_MAX}
 use Rattle.std.specs.Prelude.{ℕ, ◌+◌, ◌≤◌, ◌<◌, ◌≡◌, Bool, true, false, List, [], ◌∷◌, length, map, is_some, if◌then◌else◌, refl}
 use Rattle.std.proofs.Common.{sym, ap, subst, ◌∙◌, arith, length-append, Result, OnOk}
 use Rattle.std.specs.declared.option.Option.TheVariants.{None, Some}
 use Rattle.cp_path.specs.declared.loc.Loc.{Loc}
-use Rattle.cp_model.specs.Place.{Label, Path, child, below_place, place_eq, place_eq-same, place_eq-refl}
+use Rattle.cp_model.specs.Place.{Label, Path, child, below_place, place_eq}
+use Rattle.cp_path.proofs.Same.{place_eq-same, place_eq-refl}
 use Rattle.cp_model.specs.Keyed.{look}
 use Rattle.cp_model.specs.Subtrees.{below, is_there, moved}
 use Rattle.cp_model.specs.Literals.{literal_rows}
 use Rattle.cp_model.specs.History.{with_tid}
 use Rattle.cp_model.specs.Tree.{Tree, Source, database, taken, IsTree, refusal, reaches_over}
-use Rattle.cp_model.specs.Accepted.{ins_accepted}
+use Rattle.cp_model.proofs.Accepted.{ins_accepted}
 use Rattle.cp_model.specs.declared.row.Content.{Content}
 use Rattle.cp_model.specs.declared.row.Row.{Row}
 use Rattle.cp_model.specs.declared.literal.Literal.{Literal}
@@ -20,12 +22,11 @@ use Rattle.cp_model.specs.declared.record.RowMark.TheVariants as mark
 use Rattle.cp_model.specs.declared.record.RecOp.TheVariants as letter
 use Rattle.cp_record.specs.Bytes.{record_below}
 use Rattle.cp_record.specs.declared.packed.PackedRecords.{PackedRecords}
-use Rattle.cp_tree.specs.Rows.{row_of, greatest}
+use Rattle.cp_tree.specs.Rows.{row_of, greatest, deepest}
 use Rattle.cp_engine.specs.Held.{Appended}
 use Rattle.cp_engine.specs.RowsAlone.{behind, op_rows}
-use Rattle.cp_tree.specs.Rows.{deepest}
 use Rattle.cp_engine.proofs.Depths.{deepest-within, deepest-rows, below-within}
-use Rattle.cp_engine.specs.RowsAlone.{root-below}
+use Rattle.cp_engine.proofs.RowsAloneLemmas.{root-below}
 use Rattle.cp_engine.proofs.Recorded.{appended-none}
 
 made_rows : (tid : ℕ) (base : Path) (es : List (Path × Content)) → map (λ (e : Path × Content). record_below tid letter.I base e.0 None) (moved [] es) ≡ with_tid tid (behind base (λ _. mark.Made) es)
@@ -65,7 +66,7 @@ elsewhere_is ss t u q p e d =
 -- ---- insertions
 
 -- what is inserted lies within the limit of places
-pub ins-within : (ss : List Source) (t : Tree) (p : Loc) (a : Label) (l : Literal) → refusal ss t (Ins p a l) ≡ None → length (child p.path a) + deepest (literal_rows l) ≤ 64
+pub ins-within : (ss : List Source) (t : Tree) (p : Loc) (a : Label) (l : Literal) → refusal ss t (Ins p a l) ≡ None → length (child p.path a) + deepest (literal_rows l) ≤ LABELS_MAX
 ins-within ss t p a l n = deepest-within (below_place p (a ∷ [])) (literal_rows l) (root l) (ins_accepted ss t p a l n).places
   where
     root : (l : Literal) → is_some (look [] (literal_rows l)) ≡ true
@@ -73,11 +74,11 @@ ins-within ss t p a l n = deepest-within (below_place p (a ∷ [])) (literal_row
     root (literal.Node es) = refl
 
 -- there is room for one label
-pub child-room : (p : Path) (a : Label) (d : ℕ) → length (child p a) + d ≤ 64 → length p < 64
+pub child-room : (p : Path) (a : Label) (d : ℕ) → length (child p a) + d ≤ LABELS_MAX → length p < LABELS_MAX
 child-room p a d h = omega (arith, length-append p (a ∷ []))
 
 -- a path is as long as the child that it is
-pub made-within : (base root p : Path) (a : Label) (d : ℕ) → base ≡ child p a → root ≡ [] → length (child p a) + d ≤ 64 → length base + (length root + d) ≤ 64
+pub made-within : (base root p : Path) (a : Label) (d : ℕ) → base ≡ child p a → root ≡ [] → length (child p a) + d ≤ LABELS_MAX → length base + (length root + d) ≤ LABELS_MAX
 made-within base root p a d e r h = omega (arith, ap length e, ap length r)
 
 -- the records of what is inserted
@@ -94,7 +95,7 @@ ins-rows result tid ss t p a l op x y e h = subst (λ rs. OnOk result (Appended 
 -- ---- deletions
 
 -- the subtree that is gone lies within the limit of places
-pub rows-within : (t : Tree) (q base : Path) (list : List Row) → IsTree t → is_there t q ≡ true → base ≡ q → list ≡ map row_of (below base t) → length base + greatest (λ (r : Row). length r.path) list ≤ 64
+pub rows-within : (t : Tree) (q base : Path) (list : List Row) → IsTree t → is_there t q ≡ true → base ≡ q → list ≡ map row_of (below base t) → length base + greatest (λ (r : Row). length r.path) list ≤ LABELS_MAX
 rows-within t q base list h i e k =
     let deep : greatest (λ (r : Row). length r.path) list ≡ deepest (below base t) = ap (greatest (λ (r : Row). length r.path)) k ∙ deepest-rows (below base t) in
     let same : length base + deepest (below base t) ≡ length q + deepest (below q t) = ap (λ q. length q + deepest (below q t)) e in
@@ -110,7 +111,7 @@ del-added result tid ss t base p a list x y e k h =
 -- ---- copies
 
 -- what is copied lies within the limit of places where it comes to stand
-pub copy-within : (u : Tree) (q p : Loc) (list : List Row) → is_there u q.path ≡ true → reaches_over p (below q.path u) ≡ false → list ≡ map row_of (below q.path u) → length p.path + greatest (λ (r : Row). length r.path) list ≤ 64
+pub copy-within : (u : Tree) (q p : Loc) (list : List Row) → is_there u q.path ≡ true → reaches_over p (below q.path u) ≡ false → list ≡ map row_of (below q.path u) → length p.path + greatest (λ (r : Row). length r.path) list ≤ LABELS_MAX
 copy-within u q p list i n k = omega (arith, ap (greatest (λ (r : Row). length r.path)) k ∙ deepest-rows (below q.path u), deepest-within p (below q.path u) (root-below u q.path i) n)
 
 -- the records of what is copied

@@ -1,4 +1,5 @@
 -- What the walk over a literal adds up.
+use Rattle.cp_path.specs.declared.limits.TheConstants.{LABEL_MAX}
 use Rattle.std.specs.Prelude.{ℕ, ◌+◌, ◌≤◌, ◌≡◌, List, [], ◌∷◌, ◌++◌, length, max, min, sum_by, refl}
 use Rattle.std.proofs.Common.{drop, sym, ap, ◌∙◌, arith, length-append}
 use Rattle.std.proofs.Math.ListN.{drop_of_length-le}
@@ -13,7 +14,7 @@ use Rattle.cp_model.specs.Place.{Label, Path}
 use Rattle.cp_model.specs.Literals.{literal_rows, rows_under, edge_rows}
 use Rattle.cp_model.specs.Tree.{weight_of, text_bytes}
 use Rattle.cp_tree.specs.Rows.{path_size, greatest, reach_of}
-use Rattle.cp_tree.specs.Counted.{greatest-append}
+use Rattle.cp_tree.proofs.Counted.{greatest-append}
 use Rattle.cp_tree.specs.declared.reach.Reach.{Reach}
 use Rattle.cp_engine.specs.Reaching.{capped, joined, alone_at, literal_reach}
 
@@ -85,7 +86,7 @@ unfolding reach_of
 alone-leaf a v = same-reach _ _ (omega arith) (omega arith) (omega arith) (omega arith)
 
 -- a place alone
-pub reach-alone : (n m : ℕ) → n ≤ 255 → IsReach (n + 1) (alone_at n m)
+pub reach-alone : (n m : ℕ) → n ≤ LABEL_MAX → IsReach (n + 1) (alone_at n m)
 reach-alone n m h = record { nodes = omega arith; inner = omega arith; depth_least = omega arith; depth = omega arith; size_least = omega arith; size = omega arith }
 
 -- with more rows

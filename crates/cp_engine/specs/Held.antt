@@ -1,4 +1,5 @@
 -- The operations that a transaction holds, and what its records become.
+use Rattle.cp_model.specs.declared.limits.TheConstants.{OPS_MAX}
 use Rattle.std.specs.Prelude.{◌≤◌, List, ◌++◌, length}
 use Rattle.std.specs.List.{AllByRecursion}
 use Rattle.cp_model.specs.declared.op.Op.{Op}
@@ -8,7 +9,7 @@ use Rattle.cp_record.specs.declared.packed.PackedRecords.{PackedRecords}
 
 -- no more operations than a commit may have, each within the limit of weight
 pub record AreHeld (ops : List Op) : Type 0 where
-  pub few : length ops ≤ 65535
+  pub few : length ops ≤ OPS_MAX
   pub small : AllByRecursion IsSmall ops
 
 -- the records are these and some more

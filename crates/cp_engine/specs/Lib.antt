@@ -1,8 +1,6 @@
 pub mod Passed
 pub mod Reaching
 pub mod RowsAlone
-pub mod Linked
-pub mod Rising
 pub mod Held
 pub mod Loaded
 pub mod Transactions

@@ -1,25 +1,8 @@
 -- What is loaded.
-use Rattle.std.specs.Prelude.{◌≡◌, ℕ, true, false, cond, List, [], ◌∷◌, map}
-use Rattle.std.proofs.Common.{subst}
-use Rattle.std.specs.declared.option.Option.TheVariants.{Some}
-use Rattle.cp_model.specs.Place.{label_eq}
-use Rattle.cp_model.specs.Tree.{Tree, IsTree, Source, source}
-use Rattle.cp_model.specs.Kept.{AreTrees}
+use Rattle.std.specs.Prelude.{List, map}
+use Rattle.cp_model.specs.Tree.{Tree, Source}
 use Rattle.cp_engine.specs.declared.sources.Sources.{Sources}
 
 -- the sources in order of loading, each with its name and what its tree holds
 abbrev pub sources_in : {S : Type 0} → (S → Tree) → Sources S → List Source
 sources_in view x = map (λ e. record { name = e.0; tree = view e.1 }) x.trees.entries
-
-module _ {S : Type 0} (view : S → Tree) (trees : (s : S) → IsTree (view s)) where
-  tree_found : (es : List (List ℕ × S)) (n : List ℕ) (t : Tree) → source (map (λ e. record { name = e.0; tree = view e.1 }) es) n ≡ Some t → IsTree t
-  tree_found [] n t h = absurd (cc)
-  tree_found (e ∷ es) n t h =
-      elim (label_eq e.0 n) as (λ b. cond b (Some (view e.1)) (source (map (λ e. record { name = e.0; tree = view e.1 }) es) n) ≡ Some t → IsTree t) [
-        | true ↦ λ h. let d : view e.1 ≡ t = cc in subst IsTree d (trees e.1)
-        | false ↦ λ h. tree_found es n t h
-      ] h
-
-  -- where each loaded value is a tree, every source is
-  pub trees-loaded : (x : Sources S) → AreTrees (sources_in view x)
-  trees-loaded x = record { trees = tree_found x.trees.entries }

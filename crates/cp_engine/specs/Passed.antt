@@ -1,11 +1,12 @@
 -- Operations one by one, each a step of its own: the tree they lead to and the records that they leave.
+use Rattle.cp_model.specs.declared.limits.TheConstants.{OPS_MAX}
 use Rattle.std.specs.Prelude.{ℕ, ◌+◌, ◌≡◌, ◌==◌, List, [], ◌∷◌, ◌++◌, length, fold, if◌then◌else◌, ⊤}
 use Rattle.std.specs.declared.option.Option.{Option}
 use Rattle.std.specs.declared.option.Option.TheVariants.{None, Some}
 use Rattle.cp_model.specs.Tree.{Tree, Source, refusal, changed}
 use Rattle.cp_model.specs.Step.{opened, applied}
 use Rattle.cp_model.specs.Rows.{full_rows}
-use Rattle.cp_model.specs.History.{with_tid, most_ops}
+use Rattle.cp_model.specs.History.{with_tid}
 use Rattle.cp_model.specs.declared.op.Op.{Op}
 use Rattle.cp_model.specs.declared.record.Record.{Record}
 use Rattle.cp_model.specs.declared.refusal.Refusal.{Refusal}
@@ -31,7 +32,7 @@ passed ss t n ops = fold (pass ss) (record { tree = t; next = n; records = [] })
 
 -- the refusal of an operation behind those that are held, if there is one
 abbrev pub refusal_behind : List Source → Tree → ℕ → List Op → Op → Option Refusal
-refusal_behind ss t n ops op = if length ops == most_ops then Some TooManyOps else refusal ss (passed ss t n ops).tree op
+refusal_behind ss t n ops op = if length ops == OPS_MAX then Some TooManyOps else refusal ss (passed ss t n ops).tree op
 
 -- none of the operations is refused, each behind those before it
 abbrev pub AllAccepted : List Source → Tree → List Op → Type 0

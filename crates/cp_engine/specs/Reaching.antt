@@ -1,10 +1,12 @@
 -- What a literal reaches, in numbers that stop one past their limits.
+use Rattle.cp_model.specs.declared.limits.TheConstants.{NODES_MAX, WEIGHT_MAX}
+use Rattle.cp_path.specs.declared.limits.TheConstants.{LABELS_MAX, LOC_MAX}
 use Rattle.std.specs.Prelude.{ℕ, ◌+◌, Bool, not, ◌||◌, List, [], ◌∷◌, length, max, min, nat_lt}
 use Rattle.std.specs.declared.option.Option.{Option}
 use Rattle.cp_path.specs.declared.loc.Loc.{Loc}
 use Rattle.cp_model.specs.Place.{Label, Path, size}
 use Rattle.cp_model.specs.Subtrees.{below, is_there, replaced}
-use Rattle.cp_model.specs.Tree.{Tree, first_case, limits_of, reaches_over, most_nodes, most_weight}
+use Rattle.cp_model.specs.Tree.{Tree, first_case, limits_of, reaches_over}
 use Rattle.cp_model.specs.Literals.{literal_rows, rows_under}
 use Rattle.cp_model.specs.declared.literal.Literal.{Literal}
 use Rattle.cp_model.specs.declared.refusal.Refusal.{Refusal}
@@ -14,7 +16,7 @@ use Rattle.cp_tree.specs.declared.reach.Reach.{Reach}
 
 -- each number, or one past its limit where it is over that
 abbrev pub capped : Reach → Reach
-capped r = record { nodes = min r.nodes 1048577; inner = min r.inner 33554433; depth = min r.depth 65; size = min r.size 1025 }
+capped r = record { nodes = min r.nodes (NODES_MAX + 1); inner = min r.inner (WEIGHT_MAX + 1); depth = min r.depth (LABELS_MAX + 1); size = min r.size (LOC_MAX + 1) }
 
 -- with rows s one label further down, the label's size being k
 abbrev pub joined : ℕ → Reach → Reach → Reach
@@ -30,11 +32,11 @@ literal_reach a l = capped (reach_of (rows_under a (literal_rows l)))
 
 -- some place so many labels below p, or of so much more size, is over a limit
 abbrev pub over_by : Loc → ℕ → ℕ → Bool
-over_by p depth more = nat_lt 64 (length p.path + depth) || nat_lt 1024 (size p + more)
+over_by p depth more = nat_lt LABELS_MAX (length p.path + depth) || nat_lt LOC_MAX (size p + more)
 
 -- why a tree of so many nodes and so much weight is refused, if it is
 abbrev pub limit_passed : ℕ → ℕ → Option Refusal
-limit_passed nodes weight = first_case ((nat_lt most_nodes nodes, TooMany) ∷ (nat_lt most_weight weight, TooBig) ∷ [])
+limit_passed nodes weight = first_case ((nat_lt NODES_MAX nodes, TooMany) ∷ (nat_lt WEIGHT_MAX weight, TooBig) ∷ [])
 
 -- the cases of a copy of what u has at q onto a place of t that is there
 abbrev pub copied_cases : Tree → Path → Tree → Loc → List (Bool × Refusal)

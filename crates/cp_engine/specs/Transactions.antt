@@ -1,8 +1,9 @@
 -- A transaction: what it holds, and what each call does to it.
+use Rattle.cp_model.specs.declared.limits.TheConstants.{OPS_MAX}
 use Rattle.std.specs.Prelude.{ℕ, ◌+◌, ◌-◌, ◌≡◌, ◌≤◌, ◌<◌, ◌^◌, List, [], ◌∷◌, ◌++◌, length, Result, Ok, Err, ⊤}
 use Rattle.std.specs.declared.option.Option.TheVariants.{None, Some}
 use Rattle.cp_model.specs.Tree.{Tree, Source, IsTree}
-use Rattle.cp_model.specs.History.{AreWritten, most_ops}
+use Rattle.cp_model.specs.History.{AreWritten}
 use Rattle.cp_model.specs.declared.op.Op.{Op}
 use Rattle.cp_model.specs.declared.refusal.Cause.{Cause}
 use Rattle.cp_model.specs.declared.refusal.Cause.TheVariants.{Refused, Unread}
@@ -42,7 +43,7 @@ given_up (failed n c) = n - 1
 pub record IsGoing {R : Type 0} (view : R → Tree) (x : Txn R) (ss : List Source) (t : Tree) (n : ℕ) (ops : List Op) : Type 0 where
   pub start : IsTree t
   pub first : n ≤ 2 ^ 63
-  pub few : length ops ≤ most_ops
+  pub few : length ops ≤ OPS_MAX
   pub written : AreWritten ops
   pub accepted : AllAccepted ss t ops
   pub held : x.ops ≡ ops

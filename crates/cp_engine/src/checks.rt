@@ -10,7 +10,7 @@ ghost use Rattle.cp_engine.specs.Reaching.{joined, alone_at, literal_reach, over
 
 use crate::sources::Sources;
 use cp_model::{Literal, NODES_MAX, Op, PLACE_WEIGHT, Refusal, WEIGHT_MAX};
-use cp_path::{LABELS_MAX, LOC_MAX, Label, Loc, Value};
+use cp_path::{LABELS_MAX, LOC_MAX, Label, Loc, Value, LABEL_MAX};
 use cp_tree::{Reach, TreeRep};
 
 /// The first case that refuses the operation on this tree with these sources, if there is one. Takes no memory. Costs
@@ -171,8 +171,8 @@ fn reach_of_literal(label: &Label, literal: &Literal) -> Reach
 fn joined(label: &Label, all: Reach, below: Reach) -> Reach
     requires nodes { all.nodes + below.nodes < 2 ^ 32 }
     requires inner { all.inner + below.inner < 2 ^ 64 }
-    requires depth { below.depth ≤ 65 }
-    requires size { below.size ≤ 1025 }
+    requires depth { below.depth ≤ LABELS_MAX + 1 }
+    requires size { below.size ≤ LOC_MAX + 1 }
     ensures { result ≡ joined (length label.now + 1) all below }
 {
     let step = label.as_str().len() as u32 + 1;
@@ -188,7 +188,7 @@ fn joined(label: &Label, all: Reach, below: Reach) -> Reach
 fn reach_alone(label: &Label, text: u64) -> Reach
     requires { text < 2 ^ 63 }
     ensures alone { result ≡ alone_at (length label.now) text }
-    ensures short { length label.now ≤ 255 }
+    ensures short { length label.now ≤ LABEL_MAX }
 {
     let bytes = label.as_str().len() as u32;
     Reach {

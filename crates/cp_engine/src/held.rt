@@ -1,10 +1,7 @@
-use cp_model::{Op, OpList};
+use cp_model::{Op, OpList, ENTRY_MAX, OPS_MAX};
 use cp_record::op_length;
 use std::alloc::{AllocError, Global};
 use std::marker::Model;
-
-/// The most operations of a commit.
-const OPS_MAX: usize = 65_535;
 
 /// The Tid of the first operation of a transaction. The Tids of all that it may hold are below 2^64.
 #[derive(Drop)]
@@ -63,7 +60,6 @@ impl HeldOps {
     ghost use Rattle.cp_record.specs.Bytes as bytes;
     ghost use Rattle.cp_record.specs.Packed.{IsSmall};
     ghost use Rattle.cp_model.specs.declared.op.Op.{Op};
-    ghost use Rattle.cp_model.specs.History.{most_ops};
 
     pub(crate) fn new(alloc: Global) -> HeldOps
         ensures { result ≡ [] }
@@ -75,22 +71,22 @@ impl HeldOps {
 
     pub(crate) fn len(&self) -> u32
         ensures count { result ≡ length self.now }
-        ensures few { length self.now ≤ 65535 }
+        ensures few { length self.now ≤ OPS_MAX }
     {
         self.list.len() as u32
     }
 
     /// Whether it holds as many as a commit may have.
     pub(crate) fn is_full(&self) -> bool
-        ensures full { result ≡ length self.now == most_ops }
-        ensures few { length self.now ≤ 65535 }
+        ensures full { result ≡ length self.now == OPS_MAX }
+        ensures few { length self.now ≤ OPS_MAX }
     {
         self.list.len() == OPS_MAX
     }
 
     /// After an error the operations are as they were.
     pub(crate) fn push(&mut self, op: Op) -> Result<(), AllocError>
-        requires few { length self.old < 65535 }
+        requires few { length self.old < OPS_MAX }
         requires small { IsSmall op }
         ensures ok { OnOk result (self.new ≡ self.old ++ op ∷ []) }
         ensures err { OnErr result (self.new ≡ self.old) }
@@ -111,7 +107,7 @@ impl HeldOps {
     /// The bytes of the operations in a commit. Costs their places.
     pub(crate) fn bytes(&self) -> u64
         ensures sum { result ≡ sum_by bytes.op_length self.now }
-        ensures bound { sum_by bytes.op_length self.now ≤ 67108864 * 65535 }
+        ensures bound { sum_by bytes.op_length self.now ≤ ENTRY_MAX * OPS_MAX }
     {
         let mut total = 0;
         for op in &self.list {

@@ -17,7 +17,7 @@ ghost use Rattle.cp_model.specs.declared.record.RowMark.TheVariants as mark;
 
 use crate::sources::Sources;
 use cp_model::{LitList, Literal, Op, RowList};
-use cp_path::{Label, Loc, Path};
+use cp_path::{Label, Loc, Path, LABELS_MAX};
 use cp_record::{PackedRecords, RecOp};
 use cp_tree::TreeRep;
 use std::alloc::{AllocError, Global};
@@ -79,7 +79,7 @@ fn push_inserted(
     label: &Label,
     literal: &Literal,
 ) -> Result<(), AllocError>
-    requires shallow { length (child into.now.path label.now) + greatest (λ e. length e.0) (literal_rows literal.now) ≤ 64 }
+    requires shallow { length (child into.now.path label.now) + greatest (λ e. length e.0) (literal_rows literal.now) ≤ LABELS_MAX }
     ensures ok { OnOk result (Appended rows.old rows.new (with_tid tid (behind (child into.now.path label.now) (λ _. mark.Made) (literal_rows literal.now)))) }
     ensures err { OnErr result (Grown rows.old rows.new) }
 {
@@ -158,7 +158,7 @@ fn push_literal(
     at: Path,
     literal: &Literal,
 ) -> Result<(), AllocError>
-    requires shallow { length base.now + (length at + greatest (λ e. length e.0) (literal_rows literal.now)) ≤ 64 }
+    requires shallow { length base.now + (length at + greatest (λ e. length e.0) (literal_rows literal.now)) ≤ LABELS_MAX }
     ensures ok { OnOk result (Appended rows.old rows.new (map (λ e. record_below tid letter.I base.now e.0 None) (moved at (literal_rows literal.now)))) }
     ensures err { OnErr result (Grown rows.old rows.new) }
 {
@@ -178,7 +178,7 @@ fn push_edges(
     at: &Path,
     below: &LitList,
 ) -> Result<(), AllocError>
-    requires shallow { length base.now + (length at.now + greatest (λ e. length e.0) below.now) ≤ 64 }
+    requires shallow { length base.now + (length at.now + greatest (λ e. length e.0) below.now) ≤ LABELS_MAX }
     ensures ok { OnOk result (Appended rows.old rows.new (map (λ e. record_below tid letter.I base.now e.0 None) (moved at.now below.now))) }
     ensures err { OnErr result (Grown rows.old rows.new) }
 {
@@ -196,7 +196,7 @@ fn push_gone(
     base: &Path,
     list: &RowList,
 ) -> Result<(), AllocError>
-    requires shallow { length base.now + greatest (λ r. length r.path) list.now ≤ 64 }
+    requires shallow { length base.now + greatest (λ r. length r.path) list.now ≤ LABELS_MAX }
     ensures ok { OnOk result (Appended rows.old rows.new (map (λ r. record_below tid letter.D base.now r.path None) list.now)) }
     ensures err { OnErr result (Grown rows.old rows.new) }
 {
@@ -214,8 +214,8 @@ fn push_copies(
     list: &RowList,
     from: &Loc,
 ) -> Result<(), AllocError>
-    requires shallow { length base.now + greatest (λ r. length r.path) list.now ≤ 64 }
-    requires source { length from.now.path + greatest (λ r. length r.path) list.now ≤ 64 }
+    requires shallow { length base.now + greatest (λ r. length r.path) list.now ≤ LABELS_MAX }
+    requires source { length from.now.path + greatest (λ r. length r.path) list.now ≤ LABELS_MAX }
     ensures ok { OnOk result (Appended rows.old rows.new (map (λ r. record_below tid letter.C base.now r.path (Some from.now)) list.now)) }
     ensures err { OnErr result (Grown rows.old rows.new) }
 {

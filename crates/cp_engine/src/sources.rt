@@ -3,6 +3,7 @@ ghost use Rattle.std.specs.Option.{option_map};
 ghost use Rattle.cp_model.specs.Tree.{source};
 ghost use Rattle.cp_engine.specs.Loaded.{sources_in};
 
+use cp_model::SOURCES_MAX;
 use cp_path::Name;
 use cp_tree::TreeRep;
 use indexmap::IndexMap;
@@ -41,7 +42,7 @@ impl<S: TreeRep> Sources<S> {
     /// Loads a source behind the others. After an error the sources are as they were, and the tree is given up.
     pub fn add(&mut self, name: Name, tree: S) -> Result<(), AllocError>
         requires new { is_some (source (sources_in S.contents self.old) name) ≡ false }
-        requires few { length (sources_in S.contents self.old) < 32 }
+        requires few { length (sources_in S.contents self.old) < SOURCES_MAX }
         ensures added { OnOk result (sources_in S.contents self.new ≡ sources_in S.contents self.old ++ record { name = name; tree = S.contents tree } ∷ []) }
         ensures same { OnErr result (sources_in S.contents self.new ≡ sources_in S.contents self.old) }
     {

@@ -1,7 +1,7 @@
 ghost use Rattle.std.specs.Prelude.{◌≡◌, ◌==◌, ◌≤◌, ◌<◌, ◌+◌, ◌^◌, ℕ, List, [], ◌∷◌, ◌++◌, length, if◌then◌else◌, IfOk, OnOk, OnErr};
 ghost use Rattle.std.specs.declared.option.Option.TheVariants.{None, Some};
 ghost use Rattle.cp_model.specs.Tree.{Tree, Source, refusal};
-ghost use Rattle.cp_model.specs.History.{IsWritten, most_ops};
+ghost use Rattle.cp_model.specs.History.{IsWritten};
 ghost use Rattle.cp_model.specs.declared.op.Op.{Op};
 ghost use Rattle.cp_model.specs.declared.record.Record.{Record};
 ghost use Rattle.cp_model.specs.declared.refusal.Refusal.TheVariants.{TooManyOps};
@@ -19,7 +19,7 @@ use crate::held::{FirstTid, HeldOps};
 use crate::rows::push_op;
 use crate::sources::Sources;
 use crate::state::{Failure, TxnState};
-use cp_model::{Cause, Op, OpList, RecordList, Refusal};
+use cp_model::{Cause, Op, OpList, RecordList, Refusal, OPS_MAX};
 use cp_record::PackedRecords;
 use cp_tree::TreeRep;
 use std::alloc::{AllocError, Global};
@@ -85,8 +85,8 @@ impl<R: TreeRep> Txn<R> {
     /// The first case that refuses the operation behind the held ones, if there is one.
     fn refusal<S: TreeRep>(&self, op: &Op, sources: &Sources<S>) -> Option<Refusal>
         requires written { IsWritten op.now }
-        ensures case { result ≡ (if length self.now.ops == most_ops then Some TooManyOps else refusal (sources_in S.contents sources.now) (R.contents self.now.tree) op.now) }
-        ensures few { length self.now.ops ≤ 65535 }
+        ensures case { result ≡ (if length self.now.ops == OPS_MAX then Some TooManyOps else refusal (sources_in S.contents sources.now) (R.contents self.now.tree) op.now) }
+        ensures few { length self.now.ops ≤ OPS_MAX }
     {
         if self.ops.is_full() {
             return Some(Refusal::TooManyOps);
@@ -103,7 +103,7 @@ impl<R: TreeRep> Txn<R> {
         sources: &Sources<S>,
     ) -> Result<(), AllocError>
         requires written { IsWritten op.now }
-        requires few { length self.old.ops < 65535 }
+        requires few { length self.old.ops < OPS_MAX }
         requires accepted { refusal (sources_in S.contents sources.now) (R.contents self.old.tree) op.now ≡ None }
         ensures ok { (t : Tree) (n : ℕ) (ops : List Op) → IsGoing R.contents self.old (sources_in S.contents sources.now) t n ops → OnOk result (IsGoing R.contents self.new (sources_in S.contents sources.now) t n (ops ++ op.now ∷ [])) }
         ensures err { (t : Tree) (n : ℕ) (ops : List Op) → IsGoing R.contents self.old (sources_in S.contents sources.now) t n ops → OnErr result (IsGoing R.contents self.new (sources_in S.contents sources.now) t n ops) }

@@ -9,7 +9,8 @@ use Rattle.std.specs.declared.option.Option.TheVariants.{None, Some}
 use Rattle.std.specs.declared.cmp.Ordering.{Ordering}
 use Rattle.std.specs.declared.cmp.Ordering.TheVariants.{Less, Equal, Greater}
 use Rattle.std.specs.Ordering.{is_lt, is_eq}
-use Rattle.cp_model.specs.Place.{in_target, path_cmp, path_eq, path_ties, path_total, path_eq_equiv}
+use Rattle.cp_model.specs.Place.{in_target, path_cmp, path_eq}
+use Rattle.cp_path.specs.PathOrder.{path_ties, path_total, path_eq_equiv}
 use Rattle.cp_model.specs.Keyed.{look}
 use Rattle.cp_model.specs.Records.{rows_at}
 use Rattle.cp_model.specs.declared.record.Record.{Record}

@@ -9,12 +9,14 @@ use Rattle.std.proofs.lemmas.List.Folds.{list_all-append}
 use Rattle.std.proofs.lemmas.List.Sorted.{IsNonDecreasingBy-push, IsNonDecreasingBy-short}
 use Rattle.std.specs.declared.option.Option.{Option}
 use Rattle.std.specs.declared.option.Option.TheVariants.{None, Some}
-use Rattle.cp_model.specs.Place.{Path, path_cmp, path_eq, path_eq-same, or_else, option_map}
+use Rattle.cp_model.specs.Place.{Path, path_cmp, path_eq, or_else, option_map}
+use Rattle.cp_path.proofs.Same.{path_eq-same}
 use Rattle.std.specs.BTreeMap.{get, is_at}
 use Rattle.std.specs.Map.{lookup}
-use Rattle.cp_model.specs.Lookups.{or_none}
+use Rattle.cp_model.proofs.Lookups.{or_none}
 use Rattle.cp_model.specs.Keyed.{look}
-use Rattle.cp_model.specs.Records.{rows_at, rows_at-append}
+use Rattle.cp_model.specs.Records.{rows_at}
+use Rattle.cp_model.proofs.RecordsLemmas.{rows_at-append}
 use Rattle.cp_model.specs.declared.record.Record.{Record}
 use Rattle.cp_model.specs.declared.record.RowMark.{RowMark as Mark}
 use Rattle.cp_store.specs.Changes.{goes_before}

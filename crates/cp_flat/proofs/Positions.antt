@@ -10,7 +10,9 @@ use Rattle.std.specs.Result.{OnErr}
 use Rattle.std.specs.Option.{IsSome}
 use Rattle.std.specs.declared.option.Option.{Option}
 use Rattle.std.specs.declared.option.Option.TheVariants.{None, Some}
-use Rattle.cp_model.specs.Place.{Path, path_cmp, path_eq, path_ties, path_eq_equiv, path_eq-same}
+use Rattle.cp_model.specs.Place.{Path, path_cmp, path_eq}
+use Rattle.cp_path.proofs.Same.{path_eq-same}
+use Rattle.cp_path.specs.PathOrder.{path_ties, path_eq_equiv}
 use Rattle.cp_flat.specs.Index.{Steps, Index, among, position, noted}
 
 -- what holds anyhow holds where there is an error

@@ -1,7 +1,9 @@
 -- A value that nothing refuses can be made into a tree, which is the map of its places.
+use Rattle.cp_model.specs.declared.limits.TheConstants.{NODES_MAX, WEIGHT_MAX}
+use Rattle.cp_path.specs.declared.limits.TheConstants.{LABELS_MAX, LOC_MAX, NAME_MAX, TEXT_MAX}
 use Rattle.std.proofs.Common.{◌≡◌, ◌≤◌, ℕ, Bool, true, false, cond, ◌||◌, List, [], ◌∷◌, length, sum_by, nat_lt, is_some, Result, Ok, Err, refl, sym, ap, ◌∙◌, arith, subst}
 use Rattle.std.proofs.lemmas.Bool.{and_parts, or_parts}
-use Rattle.cp_model.specs.Accepted.{at_most}
+use Rattle.cp_model.proofs.Accepted.{at_most}
 use Rattle.std.proofs.lemmas.List.Sums.{sum_by-cons}
 use Rattle.std.specs.List.{list_all, filter_map}
 use Rattle.std.specs.Option.{option_map}
@@ -9,15 +11,17 @@ use Rattle.std.specs.declared.option.Option.{Option}
 use Rattle.std.specs.declared.option.Option.TheVariants.{None, Some}
 use Rattle.serde_json.specs.Data.{Data}
 use Rattle.cp_model.specs.declared.row.Content.{Content}
-use Rattle.cp_model.specs.Place.{Path, path_eq, path_eq-same, or_else, over_limit, size}
+use Rattle.cp_model.specs.Place.{Path, path_eq, or_else, over_limit, size}
+use Rattle.cp_path.proofs.Same.{path_eq-same}
+use Rattle.cp_model.proofs.KeyedLemmas.{same_map}
 use Rattle.cp_model.specs.Keyed as keyed
-use Rattle.cp_model.specs.Keyed.{look, Keyed}
+use Rattle.cp_model.specs.Keyed.{look}
 use Rattle.cp_model.specs.Subtrees.{is_there}
-use Rattle.cp_model.specs.Lookups.{find-from_entries}
-use Rattle.cp_model.specs.Tree.{Tree, IsTree, most_text, most_nodes, most_weight}
+use Rattle.cp_model.proofs.Lookups.{find-from_entries}
+use Rattle.cp_model.specs.Tree.{Tree, IsTree}
 use Rattle.cp_tree.specs.Rows.{single}
-use Rattle.cp_tree.specs.Leaves.{single-get, single-len, single-weight, single-tree}
-use Rattle.cp_tree.specs.Fits.{within-limit}
+use Rattle.cp_tree.proofs.Leaves.{single-get, single-len, single-weight, single-tree}
+use Rattle.cp_tree.proofs.Fits.{within-limit}
 use Rattle.cp_json.specs.declared.fault.JsonFault.{JsonFault}
 use Rattle.cp_json.specs.declared.fault.JsonFault.TheVariants.{NotJson, LabelTooLong, TooDeep, PathTooLong, TextTooLong, TooMany, TooBig, NotWhole, Memory}
 use Rattle.cp_json.specs.Places.{content_of, places_below, places, bytes_of, weighs}
@@ -39,10 +43,10 @@ cond_none false e r h = (refl, h)
 -- no limit is passed by these places
 pub record AreWithin (name : List ℕ) (es : List Entry) : Type 0 where
   pub low : AreLow es
-  pub near : any_above 1024 (λ e. size (record { db = name; path = e.0 })) es ≡ false
-  pub texts : any_above most_text (λ e. bytes_of e.1) es ≡ false
-  pub nodes : length es ≤ most_nodes
-  pub weight : sum_by weighs es ≤ most_weight
+  pub near : any_above LOC_MAX (λ e. size (record { db = name; path = e.0 })) es ≡ false
+  pub texts : any_above TEXT_MAX (λ e. bytes_of e.1) es ≡ false
+  pub nodes : length es ≤ NODES_MAX
+  pub weight : sum_by weighs es ≤ WEIGHT_MAX
 
 within : (name : List ℕ) (es : List Entry) → first_that (refusals name es) ≡ None → AreWithin name es
 within name es h =
@@ -56,48 +60,48 @@ within name es h =
       low = record { short = a.0; few = b.0 };
       near = c.0;
       texts = d.0;
-      nodes = at_most most_nodes (length es) f.0;
-      weight = at_most most_weight (sum_by weighs es) g.0;
+      nodes = at_most NODES_MAX (length es) f.0;
+      weight = at_most WEIGHT_MAX (sum_by weighs es) g.0;
     }
 
 holds : (c : Option Content) → is_some c ≡ true → c ≡ Some (or_node c)
 holds None h = absurd (cc)
 holds (Some c) h = refl
 
-small : (name : List ℕ) (es : List Entry) → 1 ≤ length name → any_above 64 (λ e. length e.0) es ≡ false → any_above 1024 (λ e. size (record { db = name; path = e.0 })) es ≡ false →
-    any_above most_text (λ e. bytes_of e.1) es ≡ false → list_all (λ e. is_some e.1) es ≡ true → AllSmall es
+small : (name : List ℕ) (es : List Entry) → 1 ≤ length name → any_above LABELS_MAX (λ e. length e.0) es ≡ false → any_above LOC_MAX (λ e. size (record { db = name; path = e.0 })) es ≡ false →
+    any_above TEXT_MAX (λ e. bytes_of e.1) es ≡ false → list_all (λ e. is_some e.1) es ≡ true → AllSmall es
 small name [] n f s t w = tt
 small name (e ∷ es) n f s t w =
-    let a = or_parts (nat_lt 64 (length e.0)) (any_above 64 (λ e. length e.0) es) f in
-    let b = or_parts (nat_lt 1024 (size (record { db = name; path = e.0 }))) (any_above 1024 (λ e. size (record { db = name; path = e.0 })) es) s in
-    let c = or_parts (nat_lt most_text (bytes_of e.1)) (any_above most_text (λ e. bytes_of e.1) es) t in
+    let a = or_parts (nat_lt LABELS_MAX (length e.0)) (any_above LABELS_MAX (λ e. length e.0) es) f in
+    let b = or_parts (nat_lt LOC_MAX (size (record { db = name; path = e.0 }))) (any_above LOC_MAX (λ e. size (record { db = name; path = e.0 })) es) s in
+    let c = or_parts (nat_lt TEXT_MAX (bytes_of e.1)) (any_above TEXT_MAX (λ e. bytes_of e.1) es) t in
     let d = and_parts (is_some e.1) (list_all (λ e. is_some e.1) es) w in
     let is : e.1 ≡ Some (or_node e.1) = holds e.1 d.0 in (
       record {
         holds = is;
-        place = within-limit e.0 (at_most 64 (length e.0) a.0) (omega (arith, n, at_most 1024 (size (record { db = name; path = e.0 })) b.0));
-        text = omega (arith, at_most most_text (bytes_of e.1) c.0, ap bytes_of is);
+        place = within-limit e.0 (at_most LABELS_MAX (length e.0) a.0) (omega (arith, n, at_most LOC_MAX (size (record { db = name; path = e.0 })) b.0));
+        text = omega (arith, at_most TEXT_MAX (bytes_of e.1) c.0, ap bytes_of is);
       },
       small name es n a.1 b.1 c.1 d.1,
     )
 
 -- a place of the map lies within the limits
-near_held : (name : List ℕ) (es : List Entry) (p : Path) → any_above 64 (λ e. length e.0) es ≡ false → any_above 1024 (λ e. size (record { db = name; path = e.0 })) es ≡ false →
+near_held : (name : List ℕ) (es : List Entry) (p : Path) → any_above LABELS_MAX (λ e. length e.0) es ≡ false → any_above LOC_MAX (λ e. size (record { db = name; path = e.0 })) es ≡ false →
     is_some (look p (filter_map held es)) ≡ true → over_limit (record { db = name; path = p }) ≡ false
 near_held name [] p f s i = absurd (cc)
 near_held name ((q, None) ∷ es) p f s i =
-    near_held name es p (or_parts (nat_lt 64 (length q)) (any_above 64 (λ e. length e.0) es) f).1
-    (or_parts (nat_lt 1024 (size (record { db = name; path = q }))) (any_above 1024 (λ e. size (record { db = name; path = e.0 })) es) s).1 i
+    near_held name es p (or_parts (nat_lt LABELS_MAX (length q)) (any_above LABELS_MAX (λ e. length e.0) es) f).1
+    (or_parts (nat_lt LOC_MAX (size (record { db = name; path = q }))) (any_above LOC_MAX (λ e. size (record { db = name; path = e.0 })) es) s).1 i
 near_held name ((q, Some c) ∷ es) p f s i = by (near_held name es p a.1 b.1) (path_eq p q) refl i
   where
-    a : (nat_lt 64 (length q) ≡ false) × (any_above 64 (λ e. length e.0) es ≡ false)
-    a = or_parts (nat_lt 64 (length q)) (any_above 64 (λ e. length e.0) es) f
+    a : (nat_lt LABELS_MAX (length q) ≡ false) × (any_above LABELS_MAX (λ e. length e.0) es ≡ false)
+    a = or_parts (nat_lt LABELS_MAX (length q)) (any_above LABELS_MAX (λ e. length e.0) es) f
 
-    b : (nat_lt 1024 (size (record { db = name; path = q })) ≡ false) × (any_above 1024 (λ e. size (record { db = name; path = e.0 })) es ≡ false)
-    b = or_parts (nat_lt 1024 (size (record { db = name; path = q }))) (any_above 1024 (λ e. size (record { db = name; path = e.0 })) es) s
+    b : (nat_lt LOC_MAX (size (record { db = name; path = q })) ≡ false) × (any_above LOC_MAX (λ e. size (record { db = name; path = e.0 })) es ≡ false)
+    b = or_parts (nat_lt LOC_MAX (size (record { db = name; path = q }))) (any_above LOC_MAX (λ e. size (record { db = name; path = e.0 })) es) s
 
     by : (is_some (look p (filter_map held es)) ≡ true → over_limit (record { db = name; path = p }) ≡ false) → (x : Bool) → path_eq p q ≡ x → is_some (cond x (Some c) (look p (filter_map held es))) ≡ true → over_limit (record { db = name; path = p }) ≡ false
-    by rest true e j = ap (λ (r : Path). over_limit (record { db = name; path = r })) (path_eq-same p q e) ∙ ap (λ x. x || nat_lt 1024 (size (record { db = name; path = q }))) a.0 ∙ b.0
+    by rest true e j = ap (λ (r : Path). over_limit (record { db = name; path = r })) (path_eq-same p q e) ∙ ap (λ x. x || nat_lt LOC_MAX (size (record { db = name; path = q }))) a.0 ∙ b.0
     by rest false e j = rest j
 
 module _ (name : List ℕ) (d : Data) (n : 1 ≤ length name) (o : IsOrdered d) (r : first_that (refusals name (places d)) ≡ None) (w : first_from None (places d) ≡ None) where
@@ -134,7 +138,7 @@ module _ (name : List ℕ) (d : Data) (n : 1 ≤ length name) (o : IsOrdered d) 
   -- and it is the map of the places
   pub grown_is : grown_whole d ≡ keyed.from_entries (filter_map held (places d))
   grown_is =
-      grown_below (single v) [] d ∙ put.1 ∙ keyed.same_map (inserted (single v) (places_below [] d)) (keyed.from_entries (filter_map held (places d))) (λ r.
+      grown_below (single v) [] d ∙ put.1 ∙ same_map (inserted (single v) (places_below [] d)) (keyed.from_entries (filter_map held (places d))) (λ r.
       get_inserted (single v) (places_below [] d) listed (and_parts _ _ (all_held (places d) w)).1 r
       ∙ ap (λ z. or_else z (look r (filter_map held (places_below [] d)))) (single-get v r)
       ∙ first (path_eq r []) r
@@ -201,9 +205,9 @@ name_some [] h = absurd (cc)
 name_some (b ∷ name) h = omega arith
 
 -- the refusal by the survey is the one by the listing
-pub refusal_is : (name : List ℕ) (d : Data) (s : Survey) (o : Option JsonFault) → length name ≤ 32 → s ≡ survey_of (length name) d → o ≡ first_that (passed s) → first_that (refusals name (places d)) ≡ o
+pub refusal_is : (name : List ℕ) (d : Data) (s : Survey) (o : Option JsonFault) → length name ≤ NAME_MAX → s ≡ survey_of (length name) d → o ≡ first_that (passed s) → first_that (refusals name (places d)) ≡ o
 refusal_is name d s o l e h = ap first_that (sym (ap passed e ∙ passed_is name d l)) ∙ sym h
 
 -- the survey says whether each place holds a value
-pub whole_is : (name : List ℕ) (d : Data) (s : Survey) → length name ≤ 32 → s ≡ survey_of (length name) d → s.whole ≡ list_all (λ e. is_some e.1) (places d)
+pub whole_is : (name : List ℕ) (d : Data) (s : Survey) → length name ≤ NAME_MAX → s ≡ survey_of (length name) d → s.whole ≡ list_all (λ e. is_some e.1) (places d)
 whole_is name d s l e = ap (λ (z : Survey). z.whole) e ∙ survey_whole name d l

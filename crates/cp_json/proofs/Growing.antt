@@ -1,4 +1,6 @@
 -- A tree that is grown place by place from the listing of a value's places.
+use Rattle.cp_model.specs.declared.limits.TheConstants.{NODES_MAX, WEIGHT_MAX}
+use Rattle.cp_path.specs.declared.limits.TheConstants.{TEXT_MAX}
 use Rattle.std.proofs.Common.{◌≡◌, ◌≤◌, ◌<◌, ◌+◌, ◌^◌, ℕ, Bool, true, false, cond, List, [], ◌∷◌, ◌++◌, length, sum_by, is_some, decimal, refl, sym, ap, ◌∙◌, arith, length-append, append_assoc, subst}
 use Rattle.std.specs.Prelude.{⊤}
 use Rattle.std.proofs.lemmas.List.Sums.{sum_by-cons}
@@ -13,14 +15,17 @@ use Rattle.serde_json.specs.Data.{Data, null, boolean, number, string, array, ob
 use Rattle.cp_path.specs.Text.{text_cmp}
 use Rattle.cp_model.specs.declared.row.Content.{Content}
 use Rattle.cp_model.specs.declared.row.Content.TheVariants.{Node}
-use Rattle.cp_model.specs.Place.{Label, Path, child, label_eq, path_eq, path_eq-same, path_eq_equiv, text_eq-same, strip, or_else, at_target, over_limit}
+use Rattle.cp_model.specs.Place.{Label, Path, child, label_eq, path_eq, strip, or_else, at_target, over_limit}
+use Rattle.cp_path.proofs.Same.{path_eq-same, text_eq-same}
+use Rattle.cp_path.specs.PathOrder.{path_eq_equiv}
+use Rattle.cp_model.proofs.KeyedLemmas.{get-insert}
 use Rattle.cp_model.specs.Keyed as keyed
-use Rattle.cp_model.specs.Keyed.{look, Keyed}
-use Rattle.cp_model.specs.Strips.{strip_is, strip-append, strip-itself, append-nil, snoc-same}
-use Rattle.cp_model.specs.Lookups.{path_eq-append, path_eq-sym, rest_is, or_none}
-use Rattle.cp_model.specs.Tree.{Tree, IsTree, weight, weight_of, text_bytes, last_bytes, most_text, most_nodes, most_weight}
-use Rattle.cp_model.specs.Sums.{last_bytes_child, len_insert_new, weight_insert_new}
-use Rattle.cp_tree.specs.Leaves.{leaf-insert, leaf-fits}
+use Rattle.cp_model.specs.Keyed.{look}
+use Rattle.cp_model.proofs.Strips.{strip_is, strip-append, strip-itself, append-nil, snoc-same}
+use Rattle.cp_model.proofs.Lookups.{path_eq-append, path_eq-sym, rest_is, or_none}
+use Rattle.cp_model.specs.Tree.{Tree, IsTree, weight, weight_of, text_bytes, last_bytes}
+use Rattle.cp_model.proofs.SumsLemmas.{last_bytes_child, len_insert_new, weight_insert_new}
+use Rattle.cp_tree.proofs.Leaves.{leaf-insert, leaf-fits}
 use Rattle.cp_json.specs.Places.{content_of, places_below, item_places, member_places, bytes_of, weighs}
 use Rattle.cp_json.specs.JsonTrees.{held}
 use Rattle.cp_json.specs.Walks.{or_node, with_leaf, grown, items_grown, members_grown, CanPut, CanGrow, ItemsGrow, MembersGrow, AllAbove, IsOrdered, ItemsOrdered, MembersOrdered}
@@ -75,10 +80,10 @@ inserted_append t [] fs = refl
 inserted_append t (e ∷ es) fs = inserted_append (keyed.insert t e.0 (or_node e.1)) es fs
 
 inserted_here : (t : Tree) (q : Path) (v : Content) → keyed.get (keyed.insert t q v) q ≡ Some v
-inserted_here t q v = keyed.get-insert t q v q ∙ ap (λ x. cond x (Some v) (keyed.get t q)) (path_eq_equiv.refl q)
+inserted_here t q v = get-insert t q v q ∙ ap (λ x. cond x (Some v) (keyed.get t q)) (path_eq_equiv.refl q)
 
 inserted_else : (t : Tree) (q : Path) (v : Content) (r : Path) → path_eq r q ≡ false → keyed.get (keyed.insert t q v) r ≡ keyed.get t r
-inserted_else t q v r h = keyed.get-insert t q v r ∙ ap (λ x. cond x (Some v) (keyed.get t r)) h
+inserted_else t q v r h = get-insert t q v r ∙ ap (λ x. cond x (Some v) (keyed.get t r)) h
 
 under_fresh : (t : Tree) (q : Path) (v : Content) (b : Label) (s : Path) → ((z : Path) → keyed.get t (q ++ z) ≡ None) → keyed.get (keyed.insert t q v) (child q b ++ s) ≡ None
 under_fresh t q v b s f = ap (keyed.get (keyed.insert t q v)) (append_assoc q (b ∷ []) s) ∙ inserted_else t q v (q ++ b ∷ s) (longer q b s) ∙ f (b ∷ s)
@@ -196,7 +201,7 @@ mutual
 pub record IsSmall (e : Entry) : Type 0 where
   pub holds : e.1 ≡ Some (or_node e.1)
   pub place : over_limit (at_target e.0) ≡ false
-  pub text : text_bytes (or_node e.1) ≤ most_text
+  pub text : text_bytes (or_node e.1) ≤ TEXT_MAX
 
 abbrev pub AllSmall : List Entry → Type 0
 AllSmall [] = ⊤
@@ -213,13 +218,13 @@ abbrev pub leaves : Tree → List Entry → Tree
 leaves t [] = t
 leaves t (e ∷ es) = leaves (with_leaf t e.0 e.1) es
 
-leaf_tree : (t : Tree) (e : Entry) → IsTree t → IsNew t e → IsSmall e → keyed.len t + 1 ≤ most_nodes → weight t + weighs e ≤ most_weight → IsTree (with_leaf t e.0 e.1)
+leaf_tree : (t : Tree) (e : Entry) → IsTree t → IsNew t e → IsSmall e → keyed.len t + 1 ≤ NODES_MAX → weight t + weighs e ≤ WEIGHT_MAX → IsTree (with_leaf t e.0 e.1)
 leaf_tree t e h x s n w =
     let near : over_limit (at_target (child x.above x.label)) ≡ false = ap (λ q. over_limit (at_target q)) (sym x.is) ∙ s.place in
     subst (λ q. IsTree (with_leaf t q e.1)) (sym x.is) (leaf-fits t x.above x.label (or_node e.1) h x.node near s.text n (omega (arith, w, ap last_bytes x.is, last_bytes_child x.above x.label, ap bytes_of s.holds)))
 
 -- each can be added as a leaf, and adding them is putting them in
-pub all_put : (t : Tree) (es : List Entry) → IsTree t → IsListing t es → AllSmall es → keyed.len t + length es ≤ most_nodes → weight t + sum_by weighs es ≤ most_weight → AllPut t es × (leaves t es ≡ inserted t es)
+pub all_put : (t : Tree) (es : List Entry) → IsTree t → IsListing t es → AllSmall es → keyed.len t + length es ≤ NODES_MAX → weight t + sum_by weighs es ≤ WEIGHT_MAX → AllPut t es × (leaves t es ≡ inserted t es)
 all_put t [] h x s n w = (tt, refl)
 all_put t (e ∷ es) h x s n w =
     let u = with_leaf t e.0 e.1 in
@@ -309,7 +314,7 @@ get_inserted t [] x s r = sym (or_none (keyed.get t r))
 get_inserted t ((q, None) ∷ es) x s r = absurd (cc)
 get_inserted t ((q, Some c) ∷ es) x s r =
     get_inserted (keyed.insert t q c) es x.1 s r
-    ∙ ap (λ o. or_else o rest) (keyed.get-insert t q c r)
+    ∙ ap (λ o. or_else o rest) (get-insert t q c r)
     ∙ step (path_eq r q) refl
   where
     rest : Option Content

@@ -1,7 +1,8 @@
 -- The walk that looks for the earliest place without a value.
+use Rattle.cp_path.specs.declared.limits.TheConstants.{LABELS_MAX, LABEL_MAX}
 use Rattle.std.proofs.Common.{◌≡◌, ◌+◌, ℕ, true, false, List, [], ◌∷◌, ◌++◌, length, nat_lt, is_some, decimal, refl, sym, ap, ◌∙◌, arith, length-append, subst}
 use Rattle.std.proofs.lemmas.Bool.{and_parts, or_parts}
-use Rattle.cp_model.specs.Accepted.{at_most}
+use Rattle.cp_model.proofs.Accepted.{at_most}
 use Rattle.std.proofs.lemmas.List.Folds.{list_any-append}
 use Rattle.std.specs.List.{list_all}
 use Rattle.std.specs.declared.option.Option.{Option}
@@ -10,7 +11,7 @@ use Rattle.serde_json.specs.Data.{Data, null, boolean, number, string, array, ob
 use Rattle.cp_model.specs.declared.row.Content.{Content}
 use Rattle.cp_model.specs.Place.{Label, Path, child}
 use Rattle.cp_model.specs.Tree.{last_bytes}
-use Rattle.cp_model.specs.Sums.{last_bytes_child}
+use Rattle.cp_model.proofs.SumsLemmas.{last_bytes_child}
 use Rattle.cp_json.specs.Places.{content_of, places_below, item_places, member_places, places}
 use Rattle.cp_json.specs.JsonTrees.{any_above, first_from, with_place}
 use Rattle.cp_json.specs.Walks.{IsNear, AreNear, ItemsNear, MembersNear, below_first, items_first, members_first}
@@ -84,20 +85,20 @@ all_held ((q, None) ∷ es) h = absurd (let s = found_stays es q in let n = ap i
 
 -- no label is too long and no place too deep
 pub record AreLow (es : List Entry) : Type 0 where
-  pub short : any_above 255 (λ e. last_bytes e.0) es ≡ false
-  pub few : any_above 64 (λ e. length e.0) es ≡ false
+  pub short : any_above LABEL_MAX (λ e. last_bytes e.0) es ≡ false
+  pub few : any_above LABELS_MAX (λ e. length e.0) es ≡ false
 
-low_parts : (e : Entry) (es fs : List Entry) → AreLow (e ∷ (es ++ fs)) → (nat_lt 255 (last_bytes e.0) ≡ false) × (nat_lt 64 (length e.0) ≡ false) × AreLow es × AreLow fs
+low_parts : (e : Entry) (es fs : List Entry) → AreLow (e ∷ (es ++ fs)) → (nat_lt LABEL_MAX (last_bytes e.0) ≡ false) × (nat_lt LABELS_MAX (length e.0) ≡ false) × AreLow es × AreLow fs
 low_parts e es fs h =
-    let a = or_parts (nat_lt 255 (last_bytes e.0)) (any_above 255 (λ e. last_bytes e.0) (es ++ fs)) h.short in
-    let b = or_parts (nat_lt 64 (length e.0)) (any_above 64 (λ e. length e.0) (es ++ fs)) h.few in
-    let c = or_parts _ _ (sym (list_any-append (λ (e : Entry). nat_lt 255 (last_bytes e.0)) es fs) ∙ a.1) in
-    let d = or_parts _ _ (sym (list_any-append (λ (e : Entry). nat_lt 64 (length e.0)) es fs) ∙ b.1) in
+    let a = or_parts (nat_lt LABEL_MAX (last_bytes e.0)) (any_above LABEL_MAX (λ e. last_bytes e.0) (es ++ fs)) h.short in
+    let b = or_parts (nat_lt LABELS_MAX (length e.0)) (any_above LABELS_MAX (λ e. length e.0) (es ++ fs)) h.few in
+    let c = or_parts _ _ (sym (list_any-append (λ (e : Entry). nat_lt LABEL_MAX (last_bytes e.0)) es fs) ∙ a.1) in
+    let d = or_parts _ _ (sym (list_any-append (λ (e : Entry). nat_lt LABELS_MAX (length e.0)) es fs) ∙ b.1) in
     (a.0, b.0, record { short = c.0; few = d.0 }, record { short = c.1; few = d.1 })
 
-near : (p : Path) (a : Label) → nat_lt 255 (last_bytes (child p a)) ≡ false → nat_lt 64 (length (child p a)) ≡ false → IsNear p a
+near : (p : Path) (a : Label) → nat_lt LABEL_MAX (last_bytes (child p a)) ≡ false → nat_lt LABELS_MAX (length (child p a)) ≡ false → IsNear p a
 near p a s f =
-    (omega (arith, at_most 64 (length (child p a)) f, length-append p (a ∷ [])), omega (arith, at_most 255 (last_bytes (child p a)) s, last_bytes_child p a))
+    (omega (arith, at_most LABELS_MAX (length (child p a)) f, length-append p (a ∷ [])), omega (arith, at_most LABEL_MAX (last_bytes (child p a)) s, last_bytes_child p a))
 
 mutual
   near_below : (p : Path) (d : Data) → AreLow (places_below p d) → AreNear p d

@@ -1,4 +1,6 @@
 -- What the survey counts is what is said of the listing of the places.
+use Rattle.cp_model.specs.declared.limits.TheConstants.{NODES_MAX, WEIGHT_MAX}
+use Rattle.cp_path.specs.declared.limits.TheConstants.{LABELS_MAX, LABEL_MAX, LOC_MAX, NAME_MAX, TEXT_MAX}
 use Rattle.std.proofs.Common.{◌≡◌, ◌≤◌, ◌<◌, ◌+◌, ◌-◌, ◌^◌, ℕ, Bool, true, false, ◌||◌, ◌&&◌, List, [], ◌∷◌, ◌++◌, length, min, max, sum_by, nat_lt, is_some, decimal, refl, sym, ap, ◌∙◌, arith, length-append}
 use Rattle.std.proofs.Math.Bool.{or_assoc}
 use Rattle.std.proofs.lemmas.List.Sums.{sum_by-cons, sum_by-append}
@@ -8,8 +10,8 @@ use Rattle.std.specs.declared.option.Option.{Option}
 use Rattle.serde_json.specs.Data.{Data, null, boolean, number, string, array, object, Items, no_items, item, Members, no_members, member}
 use Rattle.cp_model.specs.declared.row.Content.{Content}
 use Rattle.cp_model.specs.Place.{Label, Path, child}
-use Rattle.cp_model.specs.Tree.{last_bytes, most_text, most_nodes, most_weight}
-use Rattle.cp_model.specs.Sums.{last_bytes_child, sum_by-one}
+use Rattle.cp_model.specs.Tree.{last_bytes}
+use Rattle.cp_model.proofs.SumsLemmas.{last_bytes_child, sum_by-one}
 use Rattle.cp_tree.specs.Rows.{path_size}
 use Rattle.cp_json.specs.Places.{content_of, places_below, item_places, member_places, places, bytes_of, weighs}
 use Rattle.cp_json.specs.JsonTrees.{any_above, refusals}
@@ -166,24 +168,24 @@ from_none : (t m k : ℕ) → m ≡ k → min (0 + m) t ≡ min k t
 from_none t m k e = omega (arith, e)
 
 -- the refusals by the survey are those by the listing
-pub passed_is : (name : List ℕ) (d : Data) → length name ≤ 32 → passed (survey_of (length name) d) ≡ refusals name (places d)
+pub passed_is : (name : List ℕ) (d : Data) → length name ≤ NAME_MAX → passed (survey_of (length name) d) ≡ refusals name (places d)
 passed_is name d h =
     let n = length name in
     let es = places d in
     let s : Survey = noted_all n es none_seen in
-    let a : nat_lt 255 s.last ≡ any_above 255 (λ e. last_bytes e.0) es = any_is n 255 (λ s. s.last) (λ e. last_bytes e.0) (λ e s. lt_max 255 s.last (last_bytes e.0)) es none_seen in
-    let b : nat_lt 64 s.depth ≡ any_above 64 (λ e. length e.0) es =
-    any_is n 64 (λ s. s.depth) (λ e. length e.0) (λ e s. lt_max 64 s.depth (min (length e.0) top) ∙ ap (λ x. nat_lt 64 s.depth || x) (lt_capped 64 (length e.0) top (omega arith))) es none_seen in
-    let c : nat_lt 1024 s.size ≡ any_above 1024 (λ e. n + path_size e.0) es =
-    any_is n 1024 (λ s. s.size) (λ e. n + path_size e.0) (λ e s. lt_max 1024 s.size (min (n + path_size e.0) top) ∙ ap (λ x. nat_lt 1024 s.size || x) (lt_capped 1024 (n + path_size e.0) top (omega arith))) es none_seen in
-    let f : nat_lt most_text s.text ≡ any_above most_text (λ e. bytes_of e.1) es = any_is n most_text (λ s. s.text) (λ e. bytes_of e.1) (λ e s. lt_max most_text s.text (bytes_of e.1)) es none_seen in
-    let g : nat_lt most_nodes s.places ≡ nat_lt most_nodes (length es) =
-    ap (nat_lt most_nodes) (sum_is n (λ s. s.places) (λ _. 1) (λ e s. refl) es none_seen (omega arith) ∙ from_none top (sum_by (λ _. 1) es) (length es) (sum_by-one es)) ∙ lt_capped most_nodes (length es) top (omega arith) in
-    let w : nat_lt most_weight s.weight ≡ nat_lt most_weight (sum_by weighs es) =
-    ap (nat_lt most_weight) (sum_is n (λ s. s.weight) weighs (λ e s. weighed top s.weight (last_bytes e.0) (bytes_of e.1)) es none_seen (omega arith) ∙ from_none top (sum_by weighs es) (sum_by weighs es) refl) ∙ lt_capped most_weight (sum_by weighs es) top (omega arith) in
+    let a : nat_lt LABEL_MAX s.last ≡ any_above LABEL_MAX (λ e. last_bytes e.0) es = any_is n LABEL_MAX (λ s. s.last) (λ e. last_bytes e.0) (λ e s. lt_max LABEL_MAX s.last (last_bytes e.0)) es none_seen in
+    let b : nat_lt LABELS_MAX s.depth ≡ any_above LABELS_MAX (λ e. length e.0) es =
+    any_is n LABELS_MAX (λ s. s.depth) (λ e. length e.0) (λ e s. lt_max LABELS_MAX s.depth (min (length e.0) top) ∙ ap (λ x. nat_lt LABELS_MAX s.depth || x) (lt_capped LABELS_MAX (length e.0) top (omega arith))) es none_seen in
+    let c : nat_lt LOC_MAX s.size ≡ any_above LOC_MAX (λ e. n + path_size e.0) es =
+    any_is n LOC_MAX (λ s. s.size) (λ e. n + path_size e.0) (λ e s. lt_max LOC_MAX s.size (min (n + path_size e.0) top) ∙ ap (λ x. nat_lt LOC_MAX s.size || x) (lt_capped LOC_MAX (n + path_size e.0) top (omega arith))) es none_seen in
+    let f : nat_lt TEXT_MAX s.text ≡ any_above TEXT_MAX (λ e. bytes_of e.1) es = any_is n TEXT_MAX (λ s. s.text) (λ e. bytes_of e.1) (λ e s. lt_max TEXT_MAX s.text (bytes_of e.1)) es none_seen in
+    let g : nat_lt NODES_MAX s.places ≡ nat_lt NODES_MAX (length es) =
+    ap (nat_lt NODES_MAX) (sum_is n (λ s. s.places) (λ _. 1) (λ e s. refl) es none_seen (omega arith) ∙ from_none top (sum_by (λ _. 1) es) (length es) (sum_by-one es)) ∙ lt_capped NODES_MAX (length es) top (omega arith) in
+    let w : nat_lt WEIGHT_MAX s.weight ≡ nat_lt WEIGHT_MAX (sum_by weighs es) =
+    ap (nat_lt WEIGHT_MAX) (sum_is n (λ s. s.weight) weighs (λ e s. weighed top s.weight (last_bytes e.0) (bytes_of e.1)) es none_seen (omega arith) ∙ from_none top (sum_by weighs es) (sum_by weighs es) refl) ∙ lt_capped WEIGHT_MAX (sum_by weighs es) top (omega arith) in
     ap passed (survey_is n d (omega (arith, h)))
     ∙ (λ i. (a i, LabelTooLong) ∷ (b i, TooDeep) ∷ (c i, PathTooLong) ∷ (f i, TextTooLong) ∷ (g i, TooMany) ∷ (w i, TooBig) ∷ [])
 
 -- and so is whether each place holds a value
-pub survey_whole : (name : List ℕ) (d : Data) → length name ≤ 32 → (survey_of (length name) d).whole ≡ list_all (λ e. is_some e.1) (places d)
+pub survey_whole : (name : List ℕ) (d : Data) → length name ≤ NAME_MAX → (survey_of (length name) d).whole ≡ list_all (λ e. is_some e.1) (places d)
 survey_whole name d h = ap (λ (s : Survey). s.whole) (survey_is (length name) d (omega (arith, h))) ∙ whole_is (length name) (places d) none_seen

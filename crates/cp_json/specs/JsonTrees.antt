@@ -1,4 +1,6 @@
 -- The tree of a JSON text, or why it is refused.
+use Rattle.cp_model.specs.declared.limits.TheConstants.{NODES_MAX, WEIGHT_MAX}
+use Rattle.cp_path.specs.declared.limits.TheConstants.{LABELS_MAX, LABEL_MAX, LOC_MAX, TEXT_MAX}
 use Rattle.std.specs.Prelude.{◌≡◌, ℕ, Bool, List, [], ◌∷◌, length, sum_by, nat_lt, take, drop, if◌then◌else◌, Result, Ok, Err, ⊤}
 use Rattle.std.specs.List.{list_any, filter_map}
 use Rattle.std.specs.declared.option.Option.{Option}
@@ -12,7 +14,7 @@ use Rattle.cp_path.specs.Text.{text_eq}
 use Rattle.cp_model.specs.declared.row.Content.{Content}
 use Rattle.cp_model.specs.Place.{Path, path_cmp, size}
 use Rattle.cp_model.specs.Keyed as keyed
-use Rattle.cp_model.specs.Tree.{Tree, last_bytes, most_nodes, most_weight, most_text}
+use Rattle.cp_model.specs.Tree.{Tree, last_bytes}
 use Rattle.cp_json.specs.Places.{places, bytes_of, weighs}
 use Rattle.cp_json.specs.declared.fault.JsonFault.{JsonFault}
 use Rattle.cp_json.specs.declared.fault.JsonFault.TheVariants.{NotJson, LabelTooLong, TooDeep, PathTooLong, TextTooLong, TooMany, TooBig, NotWhole, Memory}
@@ -43,12 +45,12 @@ any_above n f es = list_any (λ e. nat_lt n (f e)) es
 -- the refusals in order, each with whether it applies to the places of a text that is loaded under this name
 abbrev pub refusals : List ℕ → List (Path × Option Content) → List (Bool × JsonFault)
 refusals name es =
-    (any_above 255 (λ e. last_bytes e.0) es, LabelTooLong)
-    ∷ (any_above 64 (λ e. length e.0) es, TooDeep)
-    ∷ (any_above 1024 (λ e. size (record { db = name; path = e.0 })) es, PathTooLong)
-    ∷ (any_above most_text (λ e. bytes_of e.1) es, TextTooLong)
-    ∷ (nat_lt most_nodes (length es), TooMany)
-    ∷ (nat_lt most_weight (sum_by weighs es), TooBig)
+    (any_above LABEL_MAX (λ e. last_bytes e.0) es, LabelTooLong)
+    ∷ (any_above LABELS_MAX (λ e. length e.0) es, TooDeep)
+    ∷ (any_above LOC_MAX (λ e. size (record { db = name; path = e.0 })) es, PathTooLong)
+    ∷ (any_above TEXT_MAX (λ e. bytes_of e.1) es, TextTooLong)
+    ∷ (nat_lt NODES_MAX (length es), TooMany)
+    ∷ (nat_lt WEIGHT_MAX (sum_by weighs es), TooBig)
     ∷ []
 
 -- the first that applies

@@ -1,10 +1,12 @@
 -- What is counted of the places of a value, in machine numbers that stay at the greatest one.
+use Rattle.cp_model.specs.declared.limits.TheConstants.{NODES_MAX, WEIGHT_MAX}
+use Rattle.cp_path.specs.declared.limits.TheConstants.{LABELS_MAX, LABEL_MAX, LOC_MAX, TEXT_MAX}
 use Rattle.std.specs.Prelude.{ℕ, ◌+◌, ◌-◌, ◌^◌, ◌&&◌, Bool, true, List, [], ◌∷◌, length, min, max, is_some, nat_lt, decimal}
 use Rattle.std.specs.declared.option.Option.{Option}
 use Rattle.serde_json.specs.Data.{Data, null, boolean, number, string, array, object, Items, no_items, item, Members, no_members, member}
 use Rattle.cp_model.specs.declared.row.Content.{Content}
 use Rattle.cp_json.specs.Places.{content_of, bytes_of}
-use Rattle.cp_model.specs.Tree.{most_nodes, most_weight, most_text}
+
 use Rattle.cp_json.specs.declared.fault.JsonFault.{JsonFault}
 use Rattle.cp_json.specs.declared.fault.JsonFault.TheVariants.{LabelTooLong, TooDeep, PathTooLong, TextTooLong, TooMany, TooBig}
 use Rattle.cp_json.specs.declared.survey.Spot.{Spot}
@@ -63,10 +65,10 @@ survey_of n d = below_noted (root_spot n) d (noted (root_spot n) (content_of d) 
 -- the refusals in order, each with whether it applies
 abbrev pub passed : Survey → List (Bool × JsonFault)
 passed s =
-    (nat_lt 255 s.last, LabelTooLong)
-    ∷ (nat_lt 64 s.depth, TooDeep)
-    ∷ (nat_lt 1024 s.size, PathTooLong)
-    ∷ (nat_lt most_text s.text, TextTooLong)
-    ∷ (nat_lt most_nodes s.places, TooMany)
-    ∷ (nat_lt most_weight s.weight, TooBig)
+    (nat_lt LABEL_MAX s.last, LabelTooLong)
+    ∷ (nat_lt LABELS_MAX s.depth, TooDeep)
+    ∷ (nat_lt LOC_MAX s.size, PathTooLong)
+    ∷ (nat_lt TEXT_MAX s.text, TextTooLong)
+    ∷ (nat_lt NODES_MAX s.places, TooMany)
+    ∷ (nat_lt WEIGHT_MAX s.weight, TooBig)
     ∷ []

@@ -1,5 +1,6 @@
 -- Walks over the places of a value: the earliest that holds no value, and a tree grown place by place.
-use Rattle.std.specs.Prelude.{◌≡◌, ℕ, ◌+◌, ◌≤◌, false, List, [], length, decimal, ⊤}
+use Rattle.cp_path.specs.declared.limits.TheConstants.{LABELS_MAX, LABEL_MAX, TEXT_MAX}
+use Rattle.std.specs.Prelude.{◌-◌, ◌≡◌, ℕ, ◌+◌, ◌≤◌, false, List, [], length, decimal, ⊤}
 use Rattle.std.specs.declared.option.Option.{Option}
 use Rattle.std.specs.declared.option.Option.TheVariants.{Some}
 use Rattle.std.specs.Option.{unwrap_or}
@@ -11,14 +12,14 @@ use Rattle.cp_model.specs.declared.row.Content.TheVariants.{Node}
 use Rattle.cp_model.specs.Place.{Label, Path, child}
 use Rattle.cp_model.specs.Keyed as keyed
 use Rattle.cp_model.specs.Subtrees.{replaced, is_there}
-use Rattle.cp_model.specs.Tree.{Tree, IsTree, text_bytes, most_text}
+use Rattle.cp_model.specs.Tree.{Tree, IsTree, text_bytes}
 use Rattle.cp_tree.specs.Rows.{alone, single}
 use Rattle.cp_json.specs.Places.{content_of}
 use Rattle.cp_json.specs.JsonTrees.{with_place}
 
 -- the child's label and the depth of its place are within their limits
 abbrev pub IsNear : Path → Label → Type 0
-IsNear p a = (length p ≤ 63) × (length a ≤ 255)
+IsNear p a = (length p ≤ LABELS_MAX - 1) × (length a ≤ LABEL_MAX)
 
 -- so are all places below p, where the value stands
 abbrev mutual
@@ -120,7 +121,7 @@ grown_whole d = grown (single (or_node (content_of d))) [] d
 -- the tree of a value can be made so
 pub record IsFit (d : Data) : Type 0 where
   pub holds : content_of d ≡ Some (or_node (content_of d))
-  pub short : text_bytes (or_node (content_of d)) ≤ most_text
+  pub short : text_bytes (or_node (content_of d)) ≤ TEXT_MAX
   pub near : AreNear [] d
   pub room : CanGrow (single (or_node (content_of d))) [] d
 

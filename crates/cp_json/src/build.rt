@@ -1,7 +1,7 @@
 //! A tree grown from a value, place by place.
 ghost use Rattle.std.specs.Prelude.{◌≡◌, ◌≤◌, [], ◌∷◌, IfOk, OnOk, Some};
 ghost use Rattle.serde_json.specs.View.{view, items_view, members_view};
-ghost use Rattle.cp_model.specs.Tree.{text_bytes, most_text};
+ghost use Rattle.cp_model.specs.Tree.{text_bytes};
 ghost use Rattle.cp_model.specs.Place.{child};
 ghost use Rattle.cp_tree.specs.Rows.{single};
 ghost use Rattle.cp_json.specs.Places.{content_of};

@@ -6,8 +6,8 @@ use Rattle.std.proofs.lemmas.Str.{IsCharBoundary-start, IsCharBoundary-after_asc
 use Rattle.std.specs.Str.{IsUtf8, IsCharBoundary}
 use Rattle.cp_path.specs.Spelling.{is_trigger}
 use Rattle.cp_lang.specs.Spaces.{is_space}
-use Rattle.cp_lang.specs.Lexer.{run, closing, lexed, tokens_in}
-use Rattle.cp_lang.specs.LexerLaws.{tokens_at, token, spaces, first_lexed, later, lexed_fits, tokens_spaces, tokens_first, spaces_stop}
+use Rattle.cp_lang.specs.Lexer.{run, closing, lexed, tokens_in, tokens_at, spaces, first_lexed}
+use Rattle.cp_lang.proofs.LexerLaws.{token, later, lexed_fits, tokens_spaces, tokens_first, spaces_stop}
 
 space-ascii : (x : ℕ) → is_space x ≡ true → x < 128
 space-ascii x e = grind (arith, nat_tests)

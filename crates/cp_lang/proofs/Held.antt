@@ -3,9 +3,9 @@ use Rattle.std.proofs.Common.{◌≡◌, ℕ, ◌+◌, ◌<◌, List, [], ◌∷
 use Rattle.std.proofs.Math.Seq.{take-suc}
 use Rattle.cp_lang.specs.declared.cut.Cut.{Cut}
 use Rattle.cp_lang.specs.Cuts.{Scan, scan_byte, scanned}
-use Rattle.cp_lang.specs.Pieces.{scan-append, cuts-append}
+use Rattle.cp_lang.proofs.Pieces.{scan-append, cuts-append}
 use Rattle.cp_lang.specs.Held.{Held, held_of, byte_cuts, byte_held, Begins}
-use Rattle.cp_lang.specs.Bytewise.{byte_held-is, byte_cuts-is}
+use Rattle.cp_lang.proofs.Bytewise.{byte_held-is, byte_cuts-is}
 
 -- what the bytes `xs` bring, from what was kept and the cuts before them to what is kept and the cuts behind them
 abbrev pub IsFed : Held → List Cut → List ℕ → Held → List Cut → Type 0

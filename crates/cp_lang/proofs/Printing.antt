@@ -4,14 +4,14 @@ use Rattle.std.specs.Result.{is_ok}
 use Rattle.cp_path.specs.Spelling.{value_text}
 use Rattle.cp_path.specs.declared.value.Value.{Value}
 use Rattle.cp_model.specs.Literals.{literal_rows, edge_rows}
-use Rattle.cp_model.specs.Trees.{tree_at, most_levels}
+use Rattle.cp_model.specs.Trees.{tree_at, levels}
 use Rattle.cp_model.specs.declared.row.Content.TheVariants.{Node}
 use Rattle.cp_model.specs.declared.literal.LitEdge.{LitEdge}
 use Rattle.cp_model.specs.declared.literal.Literal.{Literal}
 use Rattle.cp_model.specs.declared.literal.Literal.TheVariants as literal
-use Rattle.cp_lang.specs.Layers.{Rows}
+use Rattle.cp_lang.specs.Printed.{Rows, AreWithin, IsOrdered, edge_text, edges_text, node_edges_text}
 use Rattle.cp_lang.specs.Printer.{AreShort, IsShortTree}
-use Rattle.cp_lang.specs.Printed.{AreWithin, IsOrdered, AreOrdered, edge_text, edges_text, node_edges_text, node_edges, node_text, leaf_text}
+use Rattle.cp_lang.proofs.PrintedLemmas.{AreOrdered, node_edges, node_text, leaf_text}
 
 -- the first edges, so many, are written; what follows is still to come, with this text before it
 abbrev pub IsWritten : List LitEdge → ℕ → List ℕ → List ℕ → List ℕ → Type 0
@@ -68,10 +68,10 @@ pub on_ok_bytes : {A E : Type 0} (r : Result A E) (bytes more same : List ℕ) (
 on_ok_bytes (Ok a) bytes more same P e f = f e
 on_ok_bytes (Err x) bytes more same P e f = tt
 
-short_within : (rows : Rows) → AreShort 63 rows → AreWithin most_levels rows
+short_within : (rows : Rows) → AreShort 63 rows → AreWithin levels rows
 short_within [] h = tt
 short_within (r ∷ rows) h = (omega (arith, h.0), short_within rows h.3)
 
 -- a literal that a statement spells is in order
-pub short_ordered : (t : Literal) → IsShortTree t → IsOrdered most_levels (literal_rows t)
+pub short_ordered : (t : Literal) → IsShortTree t → IsOrdered levels (literal_rows t)
 short_ordered t h = record { sorted = h.0.sorted; within = short_within (literal_rows t) h.1 }

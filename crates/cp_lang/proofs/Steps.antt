@@ -1,6 +1,5 @@
 -- What a parser's steps come to.
-use Rattle.std.proofs.Common.{◌≡◌, ◌⊎◌, inl, inr, ℕ, ◌+◌, List, [], ◌∷◌, Bool, true, false, if◌then◌else◌, codes, length, refl, ap, sym, ◌∙◌, arith, MatchOption, IfSome, Result, Ok, Err}
-use Rattle.std.proofs.Common.{◌++◌, ◌||◌, ◌==◌, cond, append_assoc, append-nil}
+use Rattle.std.proofs.Common.{◌≡◌, ◌⊎◌, inl, inr, ℕ, ◌+◌, List, [], ◌∷◌, Bool, true, false, if◌then◌else◌, codes, length, refl, ap, sym, ◌∙◌, arith, MatchOption, IfSome, Result, Ok, Err, ◌++◌, ◌||◌, ◌==◌, cond, append_assoc, append-nil}
 use Rattle.std.specs.Option.{IfNone, is_some}
 use Rattle.std.specs.Str.{bytes_eq, IsUtf8}
 use Rattle.std.specs.Str.Lossy.{utf8_valid_len}
@@ -24,8 +23,8 @@ use Rattle.cp_model.specs.declared.literal.Literal.{Literal}
 use Rattle.cp_model.specs.declared.literal.Literal.TheVariants as literal
 use Rattle.cp_model.specs.declared.op.Op.TheVariants.{Ins, Del, Copy}
 use Rattle.cp_lang.specs.Lexer as lexer
-use Rattle.cp_lang.specs.Lexer.{Shape, first_offset, tokens_of}
-use Rattle.cp_lang.specs.LexerLaws.{spaces, tokens_at, tokens_space, tokens_first}
+use Rattle.cp_lang.specs.Lexer.{Shape, first_offset, tokens_of, spaces, tokens_at}
+use Rattle.cp_lang.proofs.LexerLaws.{tokens_space, tokens_first}
 use Rattle.cp_lang.specs.Spaces.{is_space}
 use Rattle.cp_lang.specs.Tokenized.{token_of, shape_of}
 use Rattle.cp_lang.specs.Grammar.{Spot, Taken, takes, goes, cant, refused_or, by_reading, reading_of, bytes_reading, statement_reading, end_of, reads, Edges, Level, node, placed, close_node, at_open, at_close, at_colon, at_word, at_label, at_place, at_name, at_file, at_form, at_start, at_tree, at_first, at_edge_end, json_load, csv_load, query_of, Question, start, ins_open, ins_label, tree_colon, tree, first_edge, next_edge, edge_end, ins_close, ins_into, ins_place, del_label, del_from, del_place, copy_origin, copy_into, copy_place, load_name, load_form, json_file, csv_file, csv_by, csv_column, asked_place, show_place, ended, new_edge, has_edge, rows_of_edges}

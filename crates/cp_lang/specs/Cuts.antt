@@ -1,4 +1,5 @@
 -- How the input is cut into the texts of statements.
+use Rattle.cp_lang.specs.declared.limits.TheConstants.{STATEMENT_MAX}
 use Rattle.std.specs.Prelude.{ℕ, ◌==◌, List, [], ◌∷◌, ◌++◌, Bool, false, length, nat_lt, if◌then◌else◌}
 use Rattle.cp_lang.specs.Spaces.{is_blank}
 use Rattle.cp_lang.specs.declared.cut.Mode.{Mode}
@@ -27,13 +28,9 @@ pub record Scan : Type 0 where
 abbrev pub scan_start : Scan
 scan_start = record { text = []; mode = Outside }
 
--- the most bytes of a statement
-abbrev pub most_statement : ℕ
-most_statement = 1048576
-
 -- white space alone is no statement, however long; any other text is cut out, or too long
 abbrev pub cut_of : List ℕ → List Cut
-cut_of text = if is_blank text then [] else (if nat_lt most_statement (length text) then TooLong ∷ [] else Text text ∷ [])
+cut_of text = if is_blank text then [] else (if nat_lt STATEMENT_MAX (length text) then TooLong ∷ [] else Text text ∷ [])
 
 -- what bytes bring: the cuts that end in them, and where the scan stands then
 pub record Scanned : Type 0 where
@@ -57,7 +54,7 @@ scanned s (b ∷ bs) = scan_on (scan_byte s b) (λ t. scanned t bs)
 
 -- what is left at the end of the input
 abbrev pub rest_of : Scan → List Cut
-rest_of s = if is_blank s.text then [] else (if nat_lt most_statement (length s.text) then TooLong ∷ [] else Unfinished s.text ∷ [])
+rest_of s = if is_blank s.text then [] else (if nat_lt STATEMENT_MAX (length s.text) then TooLong ∷ [] else Unfinished s.text ∷ [])
 
 -- the cuts that end in these bytes
 abbrev pub cuts_in : List ℕ → List Cut

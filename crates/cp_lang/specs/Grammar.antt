@@ -1,4 +1,5 @@
 -- The grammar: what may stand at each position of a statement, and what statement the tokens are.
+use Rattle.cp_path.specs.declared.limits.TheConstants.{LABELS_MAX}
 use Rattle.std.specs.Prelude.{ℕ, ◌==◌, ◌||◌, List, [], ◌∷◌, ◌++◌, Bool, length, nat_le, codes, if◌then◌else◌, Result, Ok, Err}
 use Rattle.std.specs.List.{list_any}
 use Rattle.std.specs.Str.{bytes_eq}
@@ -48,10 +49,6 @@ node es = literal.Node (rows_of_edges es)
 -- an edge of this label is there
 abbrev pub has_edge : Label → Edges → Bool
 has_edge a es = list_any (λ e. text_eq a e.0) es
-
--- the most labels on a way
-abbrev pub most_labels : ℕ
-most_labels = 64
 
 -- ---- positions
 
@@ -188,7 +185,7 @@ close_node (l ∷ ls) = goes (placed l.label (node l.edges) ls)
 -- a label of the innermost node: not a second time, and not the 65th on its way
 abbrev pub new_edge : List Level → Label → Taken
 new_edge [] a = cant
-new_edge (l ∷ ls) a = if nat_le most_labels (length (l ∷ ls)) || has_edge a l.edges then cant else goes (tree_colon a (l ∷ ls))
+new_edge (l ∷ ls) a = if nat_le LABELS_MAX (length (l ∷ ls)) || has_edge a l.edges then cant else goes (tree_colon a (l ∷ ls))
 
 -- a value, or the opening brace of a node
 abbrev pub at_tree : Label → List Level → Shape → Taken

@@ -1,7 +1,8 @@
 -- What a cutter keeps of a scan: a text that is short enough, and of a longer one only whether it is white space alone.
+use Rattle.cp_lang.specs.declared.limits.TheConstants.{STATEMENT_MAX}
 use Rattle.std.specs.Prelude.{ℕ, ◌≡◌, List, [], ◌∷◌, ◌++◌, Bool, true, ◌&&◌, length, nat_lt, if◌then◌else◌}
 use Rattle.cp_lang.specs.Spaces.{is_space, is_blank}
-use Rattle.cp_lang.specs.Cuts.{ends, after, Scan, scan_start, most_statement}
+use Rattle.cp_lang.specs.Cuts.{ends, after, Scan, scan_start}
 use Rattle.cp_lang.specs.declared.cut.Mode.{Mode}
 use Rattle.cp_lang.specs.declared.cut.Cut.{Cut}
 use Rattle.cp_lang.specs.declared.cut.Cut.TheVariants.{Text, TooLong}
@@ -14,7 +15,7 @@ pub record Held : Type 0 where
   pub long : Bool
 
 abbrev pub is_long : List ℕ → Bool
-is_long text = nat_lt most_statement (length text)
+is_long text = nat_lt STATEMENT_MAX (length text)
 
 -- what is kept of a scan
 abbrev pub held_of : Scan → Held
@@ -29,9 +30,9 @@ held_of s = record {
 abbrev pub grown : Held → ℕ → Held
 grown h b = record {
   mode = after h.mode b;
-  text = if h.long then h.text else (if nat_lt (length h.text) most_statement then h.text ++ b ∷ [] else []);
+  text = if h.long then h.text else (if nat_lt (length h.text) STATEMENT_MAX then h.text ++ b ∷ [] else []);
   blank = h.blank && is_space b;
-  long = if h.long then h.long else (if nat_lt (length h.text) most_statement then h.long else true);
+  long = if h.long then h.long else (if nat_lt (length h.text) STATEMENT_MAX then h.long else true);
 }
 
 -- the cut that the kept text gives at its end

@@ -76,3 +76,17 @@ tokens_of text = pending text 0
 abbrev pub first_offset : ℕ → List Token → ℕ
 first_offset end [] = end
 first_offset end (t ∷ ts) = t.at
+
+-- the tokens of bytes that begin at this offset
+abbrev pub tokens_at : ℕ → List ℕ → List Token
+tokens_at at bs = tokens_in (length bs) at bs
+
+-- how many bytes of white space bytes begin with
+abbrev pub spaces : List ℕ → ℕ
+spaces [] = 0
+spaces (x ∷ xs) = if is_space x then spaces xs + 1 else 0
+
+-- the token that bytes begin with, where there are any
+abbrev pub first_lexed : List ℕ → Lexed
+first_lexed [] = record { shape = stray; size = 0 }
+first_lexed (x ∷ xs) = lexed x xs

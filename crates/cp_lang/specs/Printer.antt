@@ -1,5 +1,6 @@
 -- Statements as texts: one space between tokens, none behind `{` and none before `}` and `,`.
-use Rattle.std.specs.Prelude.{ℕ, ◌≡◌, ◌≤◌, ◌^◌, ◌<◌, List, [], ◌∷◌, ◌++◌, codes, decimal, length, ⊤, false, true}
+use Rattle.cp_path.specs.declared.limits.TheConstants.{LABELS_MAX, LABEL_MAX, LOC_MAX}
+use Rattle.std.specs.Prelude.{◌-◌, ℕ, ◌≡◌, ◌≤◌, ◌^◌, ◌<◌, List, [], ◌∷◌, ◌++◌, codes, decimal, length, ⊤, false, true}
 use Rattle.std.specs.declared.option.Option.TheVariants.{None, Some}
 use Rattle.json.specs.Print.{quoted}
 use Rattle.cp_path.specs.Text.{is_name, text_eq}
@@ -9,7 +10,7 @@ use Rattle.cp_path.specs.Spelling.{place_text, label_text}
 use Rattle.cp_path.specs.Whole.{IsWhole}
 use Rattle.cp_path.specs.declared.loc.Loc.{Loc}
 use Rattle.cp_path.specs.declared.value.Value.TheVariants as value
-use Rattle.cp_model.specs.Trees.{tree_at, most_levels}
+use Rattle.cp_model.specs.Trees.{tree_at, levels}
 use Rattle.cp_model.specs.Literals.{literal_rows}
 use Rattle.cp_model.specs.History.{IsLiteral}
 use Rattle.cp_model.specs.declared.row.Content.{Content}
@@ -28,7 +29,7 @@ use Rattle.cp_lang.specs.declared.stmt.Stmt.TheVariants as stmt
 
 -- a value, `{}`, or each label with its tree in braces, in the order of labels
 abbrev pub literal_text : Literal → List ℕ
-literal_text t = tree_at most_levels (literal_rows t)
+literal_text t = tree_at levels (literal_rows t)
 
 -- an operation
 abbrev pub op_text : Op → List ℕ
@@ -68,12 +69,12 @@ statement_text (stmt.Show q) = codes "show " ++ place_text q
 pub record IsPlace (q : Loc) : Type 0 where
   pub name : is_name q.db ≡ true
   pub short : any_long q.path ≡ false
-  pub few : length q.path ≤ 64
-  pub small : size q ≤ 1024
+  pub few : length q.path ≤ LABELS_MAX
+  pub small : size q ≤ LOC_MAX
 
 -- a label within its limit
 abbrev pub IsLabel : Label → Type 0
-IsLabel a = length a ≤ 255
+IsLabel a = length a ≤ LABEL_MAX
 
 -- a whole number within its range
 abbrev pub IsNumber : Content → Type 0
@@ -91,7 +92,7 @@ AreShort n (r ∷ rows) = (length r.0 ≤ n) × (any_long r.0 ≡ false) × IsNu
 
 -- a literal tree below one label: siblings rise, texts are within their limit, and no way has more than 64 labels in all
 abbrev pub IsShortTree : Literal → Type 0
-IsShortTree t = IsLiteral (literal_rows t) × AreShort 63 (literal_rows t)
+IsShortTree t = IsLiteral (literal_rows t) × AreShort (LABELS_MAX - 1) (literal_rows t)
 
 -- the parts of an operation are within their limits
 abbrev pub SpellsOp : Op → Type 0

@@ -3,14 +3,12 @@ ghost use Rattle.std.specs.Option.{option_to_list};
 ghost use Rattle.cp_lang.specs.Cuts.{Scan, scan_start, scanned, rest_of};
 ghost use Rattle.cp_lang.specs.Held.{held_of, held_cut, grown, byte_cuts, byte_held, Begins};
 
+use crate::limits::STATEMENT_MAX;
 use crate::cut::{Cut, Mode, after, ends, is_space};
 use cp_path::Bytes;
 use std::alloc::{AllocError, Global};
 use std::marker::Model;
 use std::mem;
-
-/// The most bytes of a statement's text.
-pub const STATEMENT_MAX: usize = 1_048_576;
 
 /// Cuts input that comes in pieces into the texts of statements. Keeps the bytes since the last statement's end,
 /// 1,048,576 at most: of a longer text it keeps only whether it is white space alone.

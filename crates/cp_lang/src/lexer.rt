@@ -1,6 +1,6 @@
 ghost use Rattle.std.specs.Prelude.{◌≡◌, ◌<◌, [], ◌∷◌, false, length, drop, slice_index, MatchOption};
 ghost use Rattle.cp_lang.specs.Lexer.{tokens_of, run, closing, mark};
-ghost use Rattle.cp_lang.specs.LexerLaws.{spaces, first_lexed};
+ghost use Rattle.cp_lang.specs.Lexer.{spaces, first_lexed};
 ghost use Rattle.cp_lang.specs.Tokenized.{token_of, shape_of};
 
 use crate::cut::is_space;
@@ -40,7 +40,7 @@ pub(crate) struct Lexer<'a> {
 impl<'a> Model for Lexer<'a> {
     ghost use Rattle.std.specs.Prelude.{List, ◌+◌, ◌^◌, ◌<◌, length};
     ghost use Rattle.cp_lang.specs.Lexer.{Token};
-    ghost use Rattle.cp_lang.specs.LexerLaws.{tokens_at};
+    ghost use Rattle.cp_lang.specs.Lexer.{tokens_at};
 
     ghost Value = { List Token };
 

@@ -5,6 +5,7 @@ mod cut;
 mod cutter;
 mod decimal;
 mod lexer;
+mod limits;
 mod literal;
 mod parser;
 mod printer;
@@ -13,7 +14,8 @@ mod stmt;
 mod verb;
 
 pub use cut::Cut;
-pub use cutter::{Cutter, STATEMENT_MAX};
+pub use cutter::Cutter;
+pub use limits::STATEMENT_MAX;
 pub use printer::print;
 pub use statement::{first_offset, parse, parse_bytes};
 pub use stmt::{Load, Stmt, StmtFault};

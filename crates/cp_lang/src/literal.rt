@@ -62,7 +62,7 @@ fn edge_label<'a>(
         → at_label (shape_of token.entry.shape) (new_edge (within b edges.now.entries ls)) ≡ goes (tree_colon a (within b edges.now.entries ls))) }
     ensures stops { IfErr result (λ e. (b : Label) (ls : List Level) → length ls + 1 ≡ depth
         → Fails token.entry.at (at_label (shape_of token.entry.shape) (new_edge (within b edges.now.entries ls))) e) }
-    ensures room { OnOk result (depth < 64) }
+    ensures room { OnOk result (depth < LABELS_MAX) }
 {
     let label = label_of(alloc, token)?;
     let is_full = depth >= LABELS_MAX;
@@ -109,7 +109,7 @@ impl<'a> Parser<'a> {
     /// The tree of a label that is the `depth`th on its way. Costs its bytes, and at a node the sorting of its edges.
     #[cycle(tree)]
     pub(crate) fn tree(&mut self, depth: usize) -> Result<Literal, StmtFault>
-        requires { depth ≤ 64 }
+        requires { depth ≤ LABELS_MAX }
         ensures reads { IfOk result (λ t. (a : Label) (ls : List Level) → length ls + 1 ≡ depth → reading self.old (tree a ls) ≡ reading self.new (placed a t ls)) }
         ensures stops { IfErr result (λ e. (a : Label) (ls : List Level) → length ls + 1 ≡ depth → Stops self.old (tree a ls) e) }
         ensures fewer { OnOk result (length self.new.lexer ≤ length self.old.lexer) }
@@ -124,7 +124,7 @@ impl<'a> Parser<'a> {
     /// The node whose opening brace was read.
     #[cycle(tree)]
     fn node(&mut self, depth: usize) -> Result<Literal, StmtFault>
-        requires { depth ≤ 64 }
+        requires { depth ≤ LABELS_MAX }
         ensures reads { IfOk result (λ t. (a : Label) (ls : List Level) → length ls + 1 ≡ depth → reading self.old (first_edge (within a [] ls)) ≡ reading self.new (placed a t ls)) }
         ensures stops { IfErr result (λ e. (a : Label) (ls : List Level) → length ls + 1 ≡ depth → Stops self.old (first_edge (within a [] ls)) e) }
         ensures fewer { OnOk result (length self.new.lexer ≤ length self.old.lexer) }
@@ -148,7 +148,7 @@ impl<'a> Parser<'a> {
         depth: usize,
         edges: &mut BTreeMap<Label, Literal>,
     ) -> Result<(), StmtFault>
-        requires { depth ≤ 64 }
+        requires { depth ≤ LABELS_MAX }
         ensures reads { OnOk result ((a : Label) (ls : List Level) → length ls + 1 ≡ depth → edge_reading self.old first.entry a edges.old.entries ls ≡ reading self.new (placed a (node edges.new.entries) ls)) }
         ensures stops { IfErr result (λ e. (a : Label) (ls : List Level) → length ls + 1 ≡ depth → (e ≡ StmtFault.Memory) ⊎ (edge_reading self.old first.entry a edges.old.entries ls ≡ Err e)) }
         ensures fewer { OnOk result (length self.new.lexer ≤ length self.old.lexer) }
@@ -169,7 +169,7 @@ impl<'a> Parser<'a> {
         depth: usize,
         edges: &mut BTreeMap<Label, Literal>,
     ) -> Result<(), StmtFault>
-        requires { depth ≤ 64 }
+        requires { depth ≤ LABELS_MAX }
         ensures reads { OnOk result ((a : Label) (ls : List Level) → length ls + 1 ≡ depth → edge_reading self.old token.entry a edges.old.entries ls ≡ reading self.new (edge_end (within a edges.new.entries ls))) }
         ensures stops { IfErr result (λ e. (a : Label) (ls : List Level) → length ls + 1 ≡ depth → (e ≡ StmtFault.Memory) ⊎ (edge_reading self.old token.entry a edges.old.entries ls ≡ Err e)) }
         ensures fewer { OnOk result (length self.new.lexer ≤ length self.old.lexer) }

@@ -209,7 +209,7 @@ fn push_statement(alloc: Global, out: &mut String, statement: &Stmt) -> Result<(
 
 /// The statement as a text, which reads as the statement: one space between tokens, none behind `{` and none before `}`
 /// and `,`. Costs the text's bytes.
-#[tactic(auto, using(crate::specs::PrinterLaws::printed_reads))]
+#[tactic(auto, using(crate::proofs::PrinterLaws::printed_reads))]
 pub fn print(alloc: Global, statement: &Stmt) -> Result<String, AllocError>
     requires { IsSpellable statement.now }
     ensures text { IfOk result (λ s. string_bytes s ≡ statement_text statement.now) }

@@ -433,7 +433,7 @@ fn bytes_are_read_as_utf8_first(rt: HostRuntime) -> Result<(), Fail> {
 }
 
 /// The statement that a text is, as the text that is printed of it.
-#[tactic(auto, using(crate::specs::Spellable::read_spellable))]
+#[tactic(auto, using(crate::proofs::Spellable::read_spellable))]
 fn printed(alloc: Global, text: &str) -> Result<String, StmtFault> {
     let statement = parse(alloc, text)?;
     Ok(print(alloc, &statement)?)

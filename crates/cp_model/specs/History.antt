@@ -1,4 +1,6 @@
 -- Histories: their replay, what makes one legal, and the log of their commits.
+use Rattle.cp_model.specs.declared.limits.TheConstants.{OPS_MAX, SOURCES_MAX}
+use Rattle.cp_path.specs.declared.limits.TheConstants.{TEXT_MAX}
 use Rattle.std.specs.Prelude.{ℕ, ◌+◌, ◌≤◌, ◌≡◌, true, false, List, [], ◌∷◌, ◌++◌, map, length, fold, is_some, ⊤}
 use Rattle.std.specs.declared.option.Option.{Option}
 use Rattle.std.specs.declared.option.Option.TheVariants.{None, Some}
@@ -9,7 +11,7 @@ use Rattle.cp_model.specs.Place.{Path, at_target, target, label_eq, over_limit, 
 use Rattle.cp_model.specs.Keyed as keyed
 use Rattle.cp_model.specs.Subtrees.{is_there}
 use Rattle.cp_model.specs.Literals.{literal_rows}
-use Rattle.cp_model.specs.Tree.{Tree, IsTree, IsRooted, Source, source, text_bytes, most_text}
+use Rattle.cp_model.specs.Tree.{Tree, IsTree, IsRooted, Source, source, text_bytes}
 use Rattle.cp_model.specs.Step.{Working, step, Outcome, done, refused, is_done}
 use Rattle.cp_model.specs.Past.{AgedTree, settle, tree_of, aged}
 use Rattle.cp_model.specs.Rows.{Mark, I, C, D, K, full_rows, reduced_rows, Effect, read_full, read_reduced}
@@ -21,7 +23,6 @@ use Rattle.cp_model.specs.declared.op.Op.TheVariants.{Ins, Del, Copy}
 use Rattle.cp_model.specs.declared.stamp.Stamp.{Stamp}
 use Rattle.cp_model.specs.declared.record.Record.{Record}
 use Rattle.cp_model.specs.declared.record.RecOp.TheVariants as op
-use Rattle.cp_model.specs.declared.answer.LogLine.{LogLine}
 
 -- a history begins with its start tree; sources are loaded, and transactions committed
 pub data Entry : Type 0 where
@@ -124,31 +125,13 @@ then_entry (Some s) (commit stamp ops) = Some (after_commit s ops)
 unfoldable pub replay : List Entry → Option State
 replay h = fold then_entry None h
 
--- ---- log
-
--- a commit of these operations, the last Tid before it being now
-abbrev pub log_line : Kind → ℕ → Stamp → List Op → LogLine
-log_line k now stamp ops =
-    record { low = now + 1; high = now + length (steps_of k ops); curator = stamp.curator; moment = stamp.moment; operations = length ops }
-
--- the commits of entries, from this kind and last Tid on
-abbrev pub log_from : Kind → ℕ → List Entry → List LogLine
-log_from k now [] = []
-log_from k now (start j t ∷ es) = log_from j 0 es
-log_from k now (load n t ∷ es) = log_from k now es
-log_from k now (commit stamp ops ∷ es) = log_line k now stamp ops ∷ log_from k (now + length (steps_of k ops)) es
-
--- each commit's first and last Tid, curator, moment and number of operations
-abbrev pub log : List Entry → List LogLine
-log h = log_from kind.N 0 h
-
 -- ---- legal histories
 
 -- rows that a literal may have: a tree, its places in order, its texts within their limit
 pub record IsLiteral (rows : List (Path × Content)) : Type 0 where
   pub sorted : T (is_sorted path_cmp rows)
   pub rooted : IsRooted (keyed.from_entries rows)
-  pub texts : (p : Path) (c : Content) → keyed.look p rows ≡ Some c → text_bytes c ≤ most_text
+  pub texts : (p : Path) (c : Content) → keyed.look p rows ≡ Some c → text_bytes c ≤ TEXT_MAX
 
 -- an operation that a statement can write
 abbrev pub IsWritten : Op → Type 0
@@ -161,14 +144,6 @@ abbrev pub AreWritten : List Op → Type 0
 AreWritten [] = ⊤
 AreWritten (o ∷ os) = IsWritten o × AreWritten os
 
--- the most sources of a history
-abbrev pub most_sources : ℕ
-most_sources = 32
-
--- the most operations of a commit
-abbrev pub most_ops : ℕ
-most_ops = 65535
-
 -- a tree that may be loaded under the name
 pub record IsSource (n : List ℕ) (t : Tree) : Type 0 where
   pub name : is_name n ≡ true
@@ -180,12 +155,12 @@ pub record IsSource (n : List ℕ) (t : Tree) : Type 0 where
 pub record CanLoad (s : State) (n : List ℕ) (t : Tree) : Type 0 where
   pub loadable : IsSource n t
   pub fresh : is_some (source s.sources n) ≡ false
-  pub few : length s.sources + 1 ≤ most_sources
+  pub few : length s.sources + 1 ≤ SOURCES_MAX
 
 -- the operations may be committed
 pub record CanCommit (s : State) (ops : List Op) : Type 0 where
   pub some : 1 ≤ length ops
-  pub few : length ops ≤ most_ops
+  pub few : length ops ≤ OPS_MAX
   pub written : AreWritten ops
   pub accepted : is_done (step (tree_of s.tree) s.sources ops) ≡ true
 

@@ -1,29 +1,63 @@
 -- The laws of trees, steps and histories that the crates above rest on, as statements.
-use Rattle.std.specs.Prelude.{ℕ, suc, ◌+◌, ◌≡◌, ◌&&◌, true, List, ◌++◌, length, sum_by}
-use Rattle.std.specs.List.{list_any}
+use Rattle.cp_model.specs.declared.limits.TheConstants.{SOURCES_MAX}
+use Rattle.std.specs.Prelude.{ℕ, suc, ◌+◌, ◌≡◌, ◌&&◌, true, List, ◌++◌, length, sum_by, ◌≤◌, false, map, ⊤}
+use Rattle.std.specs.List.{list_any, IsDistinct}
 use Rattle.std.specs.declared.option.Option.TheVariants.{None, Some}
 use Rattle.std.proofs.Common.{T}
 use Rattle.std.specs.FinMap.Entries.{is_sorted}
-use Rattle.cp_model.specs.Place.{Path, path_cmp, strip}
+use Rattle.cp_model.specs.Place.{Path, path_cmp, strip, label_eq, in_target, over_limit}
 use Rattle.cp_model.specs.Keyed as keyed
-use Rattle.cp_model.specs.Keyed.{Keyed, look}
+use Rattle.cp_model.specs.Keyed.{look}
 use Rattle.cp_model.specs.Subtrees.{below, moved, without, replaced, is_there}
 use Rattle.cp_model.specs.Closed.{Closed}
-use Rattle.cp_model.specs.Tree.{Tree, IsTree, Source, weight, weight_of, changed, refusal}
-use Rattle.cp_model.specs.Step.{Working, contents, applied, step, done}
+use Rattle.cp_model.specs.Tree.{Tree, IsTree, Source, weight, weight_of, changed, refusal, source}
+use Rattle.cp_model.specs.Step.{Working, contents, applied, step, done, Origin, new, was, Worked}
 use Rattle.cp_model.specs.Past.{AgedTree, tree_of, past_at, loses_child, is_child}
 use Rattle.cp_model.specs.Rows.{Effect, same, effect_at}
-use Rattle.cp_model.specs.History.{Entry, State, replay, IsLegal, IsWritten, AreWritten, read, rows_of}
-use Rattle.cp_model.specs.Lookups.{placed}
-use Rattle.cp_model.specs.Kept.{AreTrees}
-use Rattle.cp_model.specs.Histories.{AreSources, IsSound}
-use Rattle.cp_model.specs.Origins.{Every, Sound}
-use Rattle.cp_model.specs.Losses.{is_D}
+use Rattle.cp_model.specs.History.{Entry, State, replay, IsLegal, IsWritten, AreWritten, read, rows_of, IsSource}
+use Rattle.cp_model.specs.Records.{is_D, reads, loses}
 use Rattle.cp_model.specs.Leaps.{leaped}
-use Rattle.cp_model.specs.Records.{reads, loses}
 use Rattle.cp_model.specs.declared.kind.Kind.{Kind}
 use Rattle.cp_model.specs.declared.row.Content.{Content}
 use Rattle.cp_model.specs.declared.op.Op.{Op}
+use Rattle.std.specs.declared.option.Option.{Option}
+use Rattle.cp_path.specs.declared.loc.Loc.{Loc}
+
+-- every source is a tree
+pub record AreTrees (ss : List Source) : Type 0 where
+  pub trees : (n : List ℕ) (t : Tree) → source ss n ≡ Some t → IsTree t
+
+-- the sources of a state: each may be loaded under its name, they are not too many, and their names differ
+pub record AreSources (ss : List Source) : Type 0 where
+  pub each : (n : List ℕ) (t : Tree) → source ss n ≡ Some t → IsSource n t
+  pub few : length ss ≤ SOURCES_MAX
+  pub apart : IsDistinct label_eq (map (λ s. s.name) ss)
+
+-- a state whose tree is within every limit, and so are its sources
+pub record IsSound (s : State) : Type 0 where
+  pub tree : IsTree (tree_of s.tree)
+  pub sources : AreSources s.sources
+
+-- every place of the working tree has such an origin
+abbrev pub Every : (Origin → Type 0) → Working → Type 0
+Every P w = (p : Path) (x : Worked) → keyed.get w p ≡ Some x → P x.origin
+
+-- a place within the limits that the tree or the source has
+pub record IsOrigin (ss : List Source) (t : Tree) (q : Loc) : Type 0 where
+  pub fits : over_limit q ≡ false
+  pub in_tree : in_target q ≡ true → is_there t q.path ≡ true
+  pub in_source : in_target q ≡ false → (s : Tree) × (source ss q.db ≡ Some s) × (is_there s q.path ≡ true)
+
+-- new, or from a place that the tree or a source has
+abbrev pub Sound : List Source → Tree → Origin → Type 0
+Sound ss t new = ⊤
+Sound ss t (was q) = IsOrigin ss t q
+
+module _ {X : Type 0} where
+  -- f at what follows the prefix, or else o
+  abbrev pub placed : Option Path → (Path → Option X) → Option X → Option X
+  placed None f o = o
+  placed (Some s) f o = f s
 
 -- what a tree answers after a subtree was put in place or dropped; and trees that answer alike are the same
 pub record LookUps : Type 0 where

@@ -3,8 +3,7 @@ use Rattle.std.specs.Prelude.{[], ◌∷◌}
 use Rattle.std.specs.declared.option.Option.{Option}
 use Rattle.std.specs.declared.option.Option.TheVariants.{None, Some}
 pub use Rattle.std.specs.Option.{option_map, option_or as or_else}
-pub use Rattle.cp_path.specs.Place.{Label, Path, label_eq, path_eq, path_cmp, path_eq_equiv, path_total, path_ties, place_eq, target, at_target, in_target, child, below_place, child_place, strip, starts_with, size, over_limit, parent, last_label}
-pub use Rattle.cp_path.specs.Same.{path_same, text_eq-same, path_eq-same, place_eq-same, place_eq-refl, place_eq-iff}
+pub use Rattle.cp_path.specs.Place.{Label, Path, label_eq, path_eq, path_cmp, place_eq, target, at_target, in_target, child, below_place, child_place, strip, starts_with, size, over_limit, parent, last_label}
 
 -- the value, if there is one, with this path beside it
 abbrev pub with_rest : {X : Type 0} → Option X → Path → Option (X × Path)

@@ -1,4 +1,6 @@
 -- Trees, their limits, and when an operation on one is refused.
+use Rattle.cp_model.specs.declared.limits.TheConstants.{NODES_MAX, PLACE_WEIGHT, WEIGHT_MAX}
+use Rattle.cp_path.specs.declared.limits.TheConstants.{TEXT_MAX}
 use Rattle.std.specs.Prelude.{ℕ, ◌+◌, ◌≤◌, ◌≡◌, Bool, true, false, not, List, [], ◌∷◌, ◌++◌, length, sum_by, nat_lt, if◌then◌else◌}
 use Rattle.std.specs.List.{list_any}
 use Rattle.std.specs.declared.option.Option.{Option}
@@ -23,18 +25,6 @@ Tree = Keyed Content
 
 -- ---- limits
 
--- the most nodes of a tree, the root counted
-abbrev pub most_nodes : ℕ
-most_nodes = 1048576
-
--- the most weight of a tree
-abbrev pub most_weight : ℕ
-most_weight = 33554432
-
--- the most bytes of a text value
-abbrev pub most_text : ℕ
-most_text = 1048576
-
 -- the bytes of a text leaf
 abbrev pub text_bytes : Content → ℕ
 text_bytes Node = 0
@@ -52,7 +42,7 @@ last_bytes (a ∷ b ∷ p) = last_bytes (b ∷ p)
 
 -- the weight of one place
 abbrev pub weight_of : Path × Content → ℕ
-weight_of e = 16 + last_bytes e.0 + text_bytes e.1
+weight_of e = PLACE_WEIGHT + last_bytes e.0 + text_bytes e.1
 
 -- the sum, over every place, of 16, the bytes of its last label and those of its text
 unfoldable pub weight : Tree → ℕ
@@ -60,8 +50,8 @@ weight t = sum_by weight_of (keyed.entries t)
 
 -- within the limits of nodes and weight
 pub record IsWithin (t : Tree) : Type 0 where
-  pub nodes : keyed.len t ≤ most_nodes
-  pub weighs : weight t ≤ most_weight
+  pub nodes : keyed.len t ≤ NODES_MAX
+  pub weighs : weight t ≤ WEIGHT_MAX
 
 -- the root is there, and what is above a place is a node
 pub record IsRooted (t : Tree) : Type 0 where
@@ -73,7 +63,7 @@ pub record IsTree (t : Tree) : Type 0 where
   pub rooted : IsRooted t
   pub within : IsWithin t
   pub places : (p : Path) → is_there t p ≡ true → over_limit (at_target p) ≡ false
-  pub texts : (p : Path) (c : Content) → keyed.get t p ≡ Some c → text_bytes c ≤ most_text
+  pub texts : (p : Path) (c : Content) → keyed.get t p ≡ Some c → text_bytes c ≤ TEXT_MAX
 
 -- ---- sources
 
@@ -121,7 +111,7 @@ reaches_over p es = list_any (λ e. over_limit (below_place p e.0)) es
 
 -- the cases of a tree that is over a limit
 abbrev pub limits_of : Tree → List (Bool × Refusal)
-limits_of t = (nat_lt most_nodes (keyed.len t), TooMany) ∷ (nat_lt most_weight (weight t), TooBig) ∷ []
+limits_of t = (nat_lt NODES_MAX (keyed.len t), TooMany) ∷ (nat_lt WEIGHT_MAX (weight t), TooBig) ∷ []
 
 -- the cases of a destination that has to be a node of T
 abbrev pub at_node : Tree → Loc → List (Bool × Refusal)

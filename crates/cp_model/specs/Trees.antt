@@ -1,5 +1,6 @@
 -- A tree as one line of text.
-use Rattle.std.specs.Prelude.{ℕ, suc, zero, List, [], ◌∷◌, ◌++◌, codes, map, if◌then◌else◌}
+use Rattle.cp_path.specs.declared.limits.TheConstants.{LABELS_MAX}
+use Rattle.std.specs.Prelude.{◌+◌, ℕ, suc, zero, List, [], ◌∷◌, ◌++◌, codes, map, if◌then◌else◌}
 use Rattle.cp_path.specs.Place.{Label, Path, label_eq}
 use Rattle.cp_path.specs.Spelling.{label_text, value_text}
 use Rattle.cp_model.specs.declared.row.Row.{Row}
@@ -30,8 +31,8 @@ groups (([], c) ∷ rows) = groups rows
 groups ((a ∷ p, c) ∷ rows) = into_groups a (p, c) (groups rows)
 
 -- labels that a place has at most, and the root
-abbrev pub most_levels : ℕ
-most_levels = 65
+abbrev pub levels : ℕ
+levels = LABELS_MAX + 1
 
 -- a value, `{}`, or each label with its tree in braces; a tree of rows in order, of at most so many levels
 unfoldable pub tree_at : ℕ → List (Path × Content) → List ℕ
@@ -42,4 +43,4 @@ tree_at (suc n) ((p, Node) ∷ rows) = codes "{" ++ (between (codes ", ") (map (
 
 -- the tree of these rows
 abbrev pub tree_text : List Row → List ℕ
-tree_text rows = tree_at most_levels (map (λ r. (r.path, r.content)) rows)
+tree_text rows = tree_at levels (map (λ r. (r.path, r.content)) rows)

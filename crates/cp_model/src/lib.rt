@@ -20,7 +20,7 @@ pub use answer::{
     Answer, FromAnswer, LogLine, LogList, Segment, SegmentList, Stats, TidList, Trace, TraceEnd,
 };
 pub use kind::Kind;
-pub use limits::{NODES_MAX, PLACE_WEIGHT, WEIGHT_MAX};
+pub use limits::{ENTRY_MAX, NODES_MAX, OPS_MAX, PLACE_WEIGHT, SOURCES_MAX, WEIGHT_MAX};
 pub use literal::{LitEdge, LitList, Literal};
 pub use op::{Op, OpList};
 pub use origin::Origin;

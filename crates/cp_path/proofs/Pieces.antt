@@ -8,10 +8,10 @@ use Rattle.std.specs.Str.{encode_utf8_all}
 use Rattle.cp_path.specs.Place.{Label}
 use Rattle.cp_path.specs.Spelling.{escaped, raw_place, label_word, label_text}
 use Rattle.cp_path.specs.Reading.{LabelSpelled, PlaceSpelled, SpellsPlace}
-use Rattle.cp_path.specs.Placed.{word_place}
+use Rattle.cp_path.proofs.Placed.{word_place}
 use Rattle.cp_path.specs.Scan.{pieces, unescaped}
 use Rattle.cp_path.specs.declared.loc.Loc.{Loc}
-use Rattle.cp_path.specs.Pieces.{one_byte, pieces_of_label, pieces_of_place}
+use Rattle.cp_path.proofs.PiecesLemmas.{one_byte, pieces_of_label, pieces_of_place}
 
 -- a byte that is no part of an escape, and no slash
 abbrev IsPlain : ℕ → Type 0

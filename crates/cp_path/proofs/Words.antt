@@ -1,7 +1,8 @@
 -- What the reading of words rests on, at the calls' results.
+use Rattle.cp_path.specs.declared.limits.TheConstants.{LABELS_MAX, LABEL_MAX, LOC_MAX}
 use Rattle.std.proofs.Common.{◌≡◌, ℕ, List, ◌∷◌, true, false, ap, sym, ◌∙◌, subst, Option, Some, None, Result, Ok, Err, MatchResult, MatchOption, IfOk, IfErr, ◌≤◌, length}
 use Rattle.cp_path.specs.Scan.{Accepts, StopsAt, place_from}
-use Rattle.cp_path.specs.Reading.{LabelSpelled, PlaceSpelled, SpellsPlace, IsBadAt, IsOver, PlaceFault}
+use Rattle.cp_path.specs.Reading.{LabelSpelled, PlaceSpelled, SpellsPlace, IsBadAt, IsOver, PlaceFault, any_long}
 use Rattle.cp_path.specs.declared.loc.Loc.{Loc}
 use Rattle.cp_path.specs.declared.fault.PathFault.{PathFault}
 use Rattle.cp_path.specs.declared.fault.PathFault.TheVariants as fault
@@ -9,10 +10,9 @@ use Rattle.cp_path.specs.declared.scan.Part.TheVariants as part
 use Rattle.cp_path.specs.declared.scan.Spot.TheVariants as spot
 use Rattle.cp_path.specs.Place.{Label, size}
 use Rattle.cp_path.specs.Spelling.{label_text}
-use Rattle.cp_path.specs.Reading.{any_long}
 use Rattle.cp_path.specs.Words.{place_reading, place_within, label_reading}
-use Rattle.cp_path.specs.WordLaws.{place_reading_spelled, place_within_limits, label_reads_back}
-use Rattle.cp_path.specs.Accepted.{label_accepted, label_stopped, place_accepted, place_stopped}
+use Rattle.cp_path.proofs.WordLaws.{place_reading_spelled, place_within_limits, label_reads_back}
+use Rattle.cp_path.proofs.Accepted.{label_accepted, label_stopped, place_accepted, place_stopped}
 
 pub label_checked : (v w : List ℕ) (r : Result (Unit {0}) ℕ) → v ≡ w
     → MatchResult r (λ _. Accepts false (spot.Start part.Empty) v) (λ at. StopsAt false (spot.Start part.Empty) v at)
@@ -45,12 +45,12 @@ place_fault (Ok x) ps v w e h k = k
 place_fault (Err f) ps v w e h k = over_fault f h.0 w h.1 (subst (IsOver f) (ap place_from (e ∙ h.2)) k)
 
 pub place_made : (w : List ℕ) (ps v : List (List ℕ)) (r : Result Loc PathFault) → ps ≡ v → (q : Loc) × SpellsPlace w q × (v ≡ q.db ∷ q.path)
-    → IfOk r (λ q. (q ≡ place_from ps) × (size q ≤ 1024)) → IfOk r (λ q. (any_long q.path ≡ false) × (length q.path ≤ 64)) → IfOk r (λ q. place_reading w ≡ Ok q)
+    → IfOk r (λ q. (q ≡ place_from ps) × (size q ≤ LOC_MAX)) → IfOk r (λ q. (any_long q.path ≡ false) × (length q.path ≤ LABELS_MAX)) → IfOk r (λ q. place_reading w ≡ Ok q)
 place_made w ps v (Err f) e h k m = tt
 place_made w ps v (Ok p) e h k m =
     let same : p ≡ h.0 = k.0 ∙ ap place_from (e ∙ h.2) in
     place_reading_spelled w h.0 h.1 ∙ ap place_within (sym same) ∙ place_within_limits p m.0 m.1 k.1
 
-pub label_made : (w : List ℕ) (r : Result Label PathFault) → IfOk r (λ a. label_text a ≡ w) → IfOk r (λ a. length a ≤ 255) → IfOk r (λ a. label_reading w ≡ Ok a)
+pub label_made : (w : List ℕ) (r : Result Label PathFault) → IfOk r (λ a. label_text a ≡ w) → IfOk r (λ a. length a ≤ LABEL_MAX) → IfOk r (λ a. label_reading w ≡ Ok a)
 label_made w (Err f) h k = tt
 label_made w (Ok a) h k = subst (λ v. label_reading v ≡ Ok a) h (label_reads_back a k)

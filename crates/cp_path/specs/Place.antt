@@ -1,12 +1,11 @@
 -- Labels, paths and places: equality, order, prefixes, and how large a place is.
-use Rattle.std.specs.Prelude.{ℕ, ◌+◌, ◌≡◌, Bool, true, false, cond, ◌&&◌, ◌||◌, List, [], ◌∷◌, ◌++◌, length, sum_by, nat_lt, refl}
+use Rattle.cp_path.specs.declared.limits.TheConstants.{LABELS_MAX, LOC_MAX}
+use Rattle.std.specs.Prelude.{ℕ, ◌+◌, Bool, true, false, cond, ◌&&◌, ◌||◌, List, [], ◌∷◌, ◌++◌, length, sum_by, nat_lt}
 use Rattle.std.specs.declared.option.Option.{Option}
 use Rattle.std.specs.declared.option.Option.TheVariants.{None, Some}
 use Rattle.std.specs.Option.{option_map, unwrap_or}
 use Rattle.std.specs.declared.cmp.Ordering.{Ordering}
-use Rattle.std.specs.Ordering.{eq_by_cmp}
-use Rattle.std.specs.Cmp.{IsTotalOrder, IsEquivalence, IsPartialOrder, partial_order_from_agreeing_total}
-use Rattle.std.specs.Cmp.Lexicographic.{slice_cmp, pointwise, lists_equiv, lists_total, lists_ties, nat_list_eq_equiv, nat_list_cmp_total, texts_ties}
+use Rattle.std.specs.Cmp.Lexicographic.{slice_cmp, pointwise}
 use Rattle.cp_path.specs.Text.{text_eq, text_cmp}
 use Rattle.cp_path.specs.declared.loc.Loc.{Loc}
 
@@ -29,18 +28,6 @@ path_eq = pointwise text_eq
 -- label by label, and a path comes before those below it
 abbrev pub path_cmp : Path → Path → Ordering
 path_cmp = slice_cmp text_cmp
-
-pub path_eq_equiv : IsEquivalence path_eq
-path_eq_equiv = lists_equiv nat_list_eq_equiv
-
-pub path_total : IsTotalOrder path_cmp
-path_total = lists_total nat_list_cmp_total
-
-pub path_ties : (x y : Path) → path_eq x y ≡ eq_by_cmp path_cmp x y
-path_ties = lists_ties text_cmp texts_ties
-
-pub path_po : IsPartialOrder path_eq (λ x y. Some (path_cmp x y))
-path_po = partial_order_from_agreeing_total path_cmp path_total (λ x y. refl) path_ties
 
 -- the same place
 abbrev pub place_eq : Loc → Loc → Bool
@@ -92,7 +79,7 @@ size q = length q.db + sum_by (λ a. length a + 1) q.path
 
 -- more than 64 labels, or a size above 1,024
 abbrev pub over_limit : Loc → Bool
-over_limit q = nat_lt 64 (length q.path) || nat_lt 1024 (size q)
+over_limit q = nat_lt LABELS_MAX (length q.path) || nat_lt LOC_MAX (size q)
 
 -- the path without its last label
 abbrev pub parent : Path → Option Path

@@ -1,4 +1,5 @@
 -- What a word is read as: places, labels and values by their spellings, and how far a word goes before no spelling begins so.
+use Rattle.cp_path.specs.declared.limits.TheConstants.{LABELS_MAX, LABEL_MAX, LOC_MAX, TEXT_MAX}
 use Rattle.std.specs.Prelude.{ℕ, ℤ, Bool, true, false, nat_lt, ◌≡◌, ◌≤◌, ◌<◌, ◌++◌, take, List, codes, length, Some}
 use Rattle.serde_json.specs.Data.{string}
 use Rattle.serde_json.specs.Read.{read}
@@ -35,7 +36,7 @@ PlaceSpelled w = (q : Loc) × SpellsPlace w q
 -- why a word is read as no label: it is no spelling, or that of too long a label
 abbrev pub LabelFault : PathFault → List ℕ → Type 0
 LabelFault (fault.BadEscape at) w = IsBadAt LabelSpelled w at
-LabelFault fault.LabelTooLong w = (a : Label) × (w ≡ label_text a) × (255 < length a)
+LabelFault fault.LabelTooLong w = (a : Label) × (w ≡ label_text a) × (LABEL_MAX < length a)
 LabelFault fault.TooDeep w = ⊥
 LabelFault fault.PathTooLong w = ⊥
 LabelFault fault.BadValue w = ⊥
@@ -43,14 +44,14 @@ LabelFault fault.BadName w = ⊥
 LabelFault fault.Memory w = Unit {0}
 
 abbrev pub any_long : Path → Bool
-any_long path = list_any (λ a. nat_lt 255 (length a)) path
+any_long path = list_any (λ a. nat_lt LABEL_MAX (length a)) path
 
 -- why a place is over a limit: first a label, then the depth, then the size
 abbrev pub IsOver : PathFault → Loc → Type 0
 IsOver (fault.BadEscape at) q = ⊥
 IsOver fault.LabelTooLong q = any_long q.path ≡ true
-IsOver fault.TooDeep q = (any_long q.path ≡ false) × (64 < length q.path)
-IsOver fault.PathTooLong q = (any_long q.path ≡ false) × (length q.path ≤ 64) × (1024 < size q)
+IsOver fault.TooDeep q = (any_long q.path ≡ false) × (LABELS_MAX < length q.path)
+IsOver fault.PathTooLong q = (any_long q.path ≡ false) × (length q.path ≤ LABELS_MAX) × (LOC_MAX < size q)
 IsOver fault.BadValue q = ⊥
 IsOver fault.BadName q = ⊥
 IsOver fault.Memory q = Unit {0}
@@ -76,7 +77,7 @@ abbrev pub IsNoWhole : List ℕ → Type 0
 IsNoWhole w = (n : ℤ) → IsWhole n → ¬ (w ≡ whole_text n)
 
 abbrev pub SpellsText : List ℕ → List ℕ → Type 0
-SpellsText w t = (read w ≡ Some (string t)) × (length t ≤ 1048576)
+SpellsText w t = (read w ≡ Some (string t)) × (length t ≤ TEXT_MAX)
 
 abbrev pub IsNoString : List ℕ → Type 0
 IsNoString w = (t : List ℕ) → ¬ (read w ≡ Some (string t))

@@ -1,7 +1,7 @@
 -- The scan of a word, byte by byte.
-use Rattle.std.specs.Prelude.{ℕ, ◌+◌, ◌≡◌, ◌⊎◌, Bool, true, false, not, ◌&&◌, ◌||◌, ◌==◌, nat_le, nat_lt, List, [], ◌∷◌, ◌++◌, take, length, slice_get, if◌then◌else◌, Option, Some, None, option_map, option_and_then}
+use Rattle.cp_path.specs.declared.limits.TheConstants.{NAME_MAX}
+use Rattle.std.specs.Prelude.{ℕ, ◌+◌, ◌≡◌, ◌⊎◌, Bool, true, false, not, ◌&&◌, ◌||◌, ◌==◌, nat_le, nat_lt, List, [], ◌∷◌, ◌++◌, take, length, slice_get, if◌then◌else◌, Option, Some, None, option_map, option_and_then, slice_index_or, drop}
 use Rattle.cp_path.specs.Text.{is_letter, is_name_byte}
-use Rattle.std.specs.Prelude.{slice_index_or, drop}
 use Rattle.cp_path.specs.Spelling.{is_trigger}
 use Rattle.cp_path.specs.declared.loc.Loc.{Loc}
 use Rattle.cp_path.specs.declared.scan.Part.{Part}
@@ -38,7 +38,7 @@ label_step deep x = if x == 126 then Some part.Tilde else (if (x == 47) && not d
 -- one byte of the text; deep where a slash may begin the next label
 abbrev pub part_step : Bool → Part → ℕ → Option Part
 part_step deep part.Begin x = if is_letter x then Some (part.Name 1) else None
-part_step deep (part.Name n) x = if x == 47 then Some part.Label else (if nat_lt n 32 && is_name_byte x then Some (part.Name (n + 1)) else None)
+part_step deep (part.Name n) x = if x == 47 then Some part.Label else (if nat_lt n NAME_MAX && is_name_byte x then Some (part.Name (n + 1)) else None)
 part_step deep part.Empty x = label_step deep x
 part_step deep part.Label x = label_step deep x
 part_step deep part.Tilde x = if (x == 48) || (x == 49) then Some part.Label else None
@@ -105,10 +105,6 @@ accepts spot.Ended = true
 abbrev pub run : Bool → Spot → List ℕ → Option Spot
 run deep s [] = Some s
 run deep s (x ∷ w) = option_and_then (λ t. run deep t w) (step deep s x)
-
-abbrev pub part_run : Bool → Part → List ℕ → Option Part
-part_run deep p [] = Some p
-part_run deep p (x ∷ w) = option_and_then (λ q. part_run deep q w) (part_step deep p x)
 
 abbrev pub Accepts : Bool → Spot → List ℕ → Type 0
 Accepts deep s w = (t : Spot) × (run deep s w ≡ Some t) × (accepts t ≡ true)

@@ -1,4 +1,5 @@
 -- Texts as lists of bytes, and which of them are names.
+use Rattle.cp_path.specs.declared.limits.TheConstants.{NAME_MAX}
 use Rattle.std.specs.Prelude.{ℕ, Bool, List, length, nat_eq, nat_le, ◌==◌, ◌&&◌, ◌||◌, slice_index}
 use Rattle.std.specs.List.{list_all}
 use Rattle.std.specs.declared.cmp.Ordering.{Ordering}
@@ -27,4 +28,4 @@ is_name_byte x = is_letter x || is_digit x || (x == 95)
 
 -- a letter first, at most 32 letters, digits and underscores in all
 abbrev pub is_name : List ℕ → Bool
-is_name w = nat_le 1 (length w) && (nat_le (length w) 32 && (is_letter (slice_index w 0) && list_all is_name_byte w))
+is_name w = nat_le 1 (length w) && (nat_le (length w) NAME_MAX && (is_letter (slice_index w 0) && list_all is_name_byte w))

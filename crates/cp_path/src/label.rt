@@ -5,14 +5,12 @@ ghost use Rattle.std.specs.Cmp.Lexicographic.{nat_list_eq_equiv, nat_list_cmp_to
 ghost use Rattle.std.proofs.Common.{refl};
 ghost use Rattle.cp_path.specs.Text.{text_eq, text_cmp};
 
+use crate::limits::LABEL_MAX;
 use crate::fault::PathFault;
 use std::alloc::{AllocError, Global};
 use std::cmp::Ordering;
 use std::hash::{Hash, Hasher};
 use std::marker::Model;
-
-/// The most bytes of a label.
-pub const LABEL_MAX: usize = 255;
 
 /// The name of an edge: any text of at most 255 bytes, the empty one included.
 #[derive(Drop)]
@@ -21,21 +19,22 @@ pub struct Label {
 }
 
 impl Model for Label {
+    ghost use Rattle.cp_path.specs.declared.limits.TheConstants.{LABEL_MAX};
     ghost use Rattle.std.specs.Prelude.{ℕ, ◌≤◌, List, length, string_bytes};
 
     ghost Value = { List ℕ };
 
     ghost view = { λ a. string_bytes a.text };
 
-    ghost invariant = { λ a. length (string_bytes a.text) ≤ 255 };
+    ghost invariant = { λ a. length (string_bytes a.text) ≤ LABEL_MAX };
 }
 
 impl Label {
     /// The label with this text. Costs its bytes.
     pub fn new(alloc: Global, text: &str) -> Result<Label, PathFault>
         ensures value { IfOk result (λ a. a ≡ text.now) }
-        ensures short { IfOk result (λ a. length a ≤ 255) }
-        ensures long { (result ≡ Err PathFault.LabelTooLong) ↔ (255 < length text.now) }
+        ensures short { IfOk result (λ a. length a ≤ LABEL_MAX) }
+        ensures long { (result ≡ Err PathFault.LabelTooLong) ↔ (LABEL_MAX < length text.now) }
         ensures faults { IfErr result (λ e. (e ≡ PathFault.LabelTooLong) ⊎ (e ≡ PathFault.Memory)) }
     {
         if text.len() > LABEL_MAX {
@@ -46,7 +45,7 @@ impl Label {
 
     /// A label of its own with this text, which isn't too long. Costs its bytes.
     pub fn copy_of(alloc: Global, text: &str) -> Result<Label, AllocError>
-        requires short { length text.now ≤ 255 }
+        requires short { length text.now ≤ LABEL_MAX }
         ensures { IfOk result (λ a. a ≡ text.now) }
     {
         Ok(Label {
@@ -56,7 +55,7 @@ impl Label {
 
     pub fn as_str(&self) -> &str
         ensures text { result.now ≡ self.now }
-        ensures short { length self.now ≤ 255 }
+        ensures short { length self.now ≤ LABEL_MAX }
     {
         self.text.as_str()
     }

@@ -3,6 +3,7 @@
 
 mod fault;
 mod label;
+mod limits;
 mod loc;
 mod name;
 mod path;
@@ -18,12 +19,13 @@ mod whole;
 mod write;
 
 pub use fault::PathFault;
-pub use label::{LABEL_MAX, Label};
-pub use loc::{LOC_MAX, Loc};
-pub use name::{NAME_MAX, Name};
-pub use path::{LABELS_MAX, Path};
+pub use label::Label;
+pub use limits::{LABEL_MAX, LABELS_MAX, LOC_MAX, NAME_MAX, TEXT_MAX};
+pub use loc::Loc;
+pub use name::Name;
+pub use path::Path;
 pub use stated::laws;
-pub use text::{Bytes, TEXT_MAX, Text};
+pub use text::{Bytes, Text};
 pub use value::Value;
 pub use whole::Whole;
 pub use write::is_trigger;

@@ -7,14 +7,12 @@ ghost use Rattle.std.proofs.Common.{refl};
 ghost use Rattle.cp_path.specs.Text.{text_eq, text_cmp, is_letter, is_digit, is_name_byte, is_name};
 ghost use Rattle.cp_path.specs.declared.fault.PathFault.TheVariants as fault;
 
+use crate::limits::NAME_MAX;
 use crate::fault::PathFault;
 use std::alloc::{AllocError, Global};
 use std::cmp::Ordering;
 use std::hash::{Hash, Hasher};
 use std::marker::Model;
-
-/// The most characters of a name.
-pub const NAME_MAX: usize = 32;
 
 /// The name of a database: an ASCII letter, then at most 31 ASCII letters, digits or `_`. `T` is the curated one.
 #[derive(Drop)]
@@ -90,7 +88,7 @@ impl Name {
     pub fn as_str(&self) -> &str
         ensures text { result.now ≡ self.now }
         ensures name { is_name self.now ≡ true }
-        ensures short { length self.now ≤ 32 }
+        ensures short { length self.now ≤ NAME_MAX }
     {
         self.text.as_str()
     }

@@ -2,14 +2,12 @@ ghost use Rattle.std.specs.Prelude.{◌≡◌, ◌≤◌, ◌<◌, ◌+◌, ◌�
 ghost use Rattle.std.specs.declared.option.Option.TheVariants.{Some};
 ghost use Rattle.std.specs.Option.{option_to_list};
 
+use crate::limits::LABELS_MAX;
 use crate::fault::PathFault;
 use crate::label::Label;
 use std::alloc::{AllocError, Global};
 use std::cmp::Ordering;
 use std::marker::Model;
-
-/// The most labels of a path.
-pub const LABELS_MAX: usize = 64;
 
 /// The labels from a root down to a place, at most 64.
 #[derive(Drop)]
@@ -18,13 +16,14 @@ pub struct Path {
 }
 
 impl Model for Path {
+    ghost use Rattle.cp_path.specs.declared.limits.TheConstants.{LABELS_MAX};
     ghost use Rattle.std.specs.Prelude.{ℕ, ◌≤◌, List, length};
 
     ghost Value = { List (List ℕ) };
 
     ghost view = { λ a. a.labels.items };
 
-    ghost invariant = { λ a. length a.labels.items ≤ 64 };
+    ghost invariant = { λ a. length a.labels.items ≤ LABELS_MAX };
 }
 
 impl Path {
@@ -40,7 +39,7 @@ impl Path {
     /// The path of these labels. Costs their bytes.
     pub fn of(alloc: Global, labels: &[Label]) -> Result<Path, PathFault>
         ensures value { IfOk result (λ p. p ≡ labels.now) }
-        ensures deep { (result ≡ Err PathFault.TooDeep) ↔ (64 < length labels.now) }
+        ensures deep { (result ≡ Err PathFault.TooDeep) ↔ (LABELS_MAX < length labels.now) }
         ensures faults { IfErr result (λ e. (e ≡ PathFault.TooDeep) ⊎ (e ≡ PathFault.Memory)) }
     {
         if labels.len() > LABELS_MAX {
@@ -53,7 +52,7 @@ impl Path {
 
     pub fn labels(&self) -> &[Label]
         ensures labels { result.now ≡ self.now }
-        ensures few { length self.now ≤ 64 }
+        ensures few { length self.now ≤ LABELS_MAX }
     {
         self.labels.as_slice()
     }
@@ -62,7 +61,7 @@ impl Path {
     pub fn push(&mut self, a: Label) -> Result<(), PathFault>
         ensures ok { OnOk result (self.new ≡ self.old ++ a ∷ []) }
         ensures err { OnErr result (self.new ≡ self.old) }
-        ensures deep { (result ≡ Err PathFault.TooDeep) ↔ (length self.old ≡ 64) }
+        ensures deep { (result ≡ Err PathFault.TooDeep) ↔ (length self.old ≡ LABELS_MAX) }
         ensures faults { IfErr result (λ e. (e ≡ PathFault.TooDeep) ⊎ (e ≡ PathFault.Memory)) }
     {
         if self.labels.len() >= LABELS_MAX {
@@ -76,7 +75,7 @@ impl Path {
 
     /// The path one label further down. Costs its bytes.
     pub fn child(&self, a: &Label) -> Result<Path, AllocError>
-        requires room { length self.now < 64 }
+        requires room { length self.now < LABELS_MAX }
         ensures { IfOk result (λ p. p ≡ self.now ++ a.now ∷ []) }
     {
         let Path { mut labels } = self.clone()?;
@@ -87,7 +86,7 @@ impl Path {
     /// These labels, and below them those.
     #[tactic(auto, using(crate::proofs::Relating::none_more))]
     pub(crate) fn joined(&self, labels: &[Label]) -> Result<Path, AllocError>
-        requires { length self.now + length labels.now ≤ 64 }
+        requires { length self.now + length labels.now ≤ LABELS_MAX }
         ensures { IfOk result (λ p. p ≡ self.now ++ labels.now) }
     {
         let Path { labels: mut all } = self.clone()?;
@@ -117,7 +116,8 @@ impl Clone for Path {
 }
 
 impl PartialEq for Path {
-    ghost use Rattle.cp_path.specs.Place.{path_eq, path_eq_equiv};
+    ghost use Rattle.cp_path.specs.Place.{path_eq};
+    ghost use Rattle.cp_path.specs.PathOrder.{path_eq_equiv};
     ghost use Rattle.std.specs.Cmp.{partial_equiv_from_equiv};
 
     ghost eq = { path_eq };
@@ -130,13 +130,14 @@ impl PartialEq for Path {
 }
 
 impl Eq for Path {
-    ghost use Rattle.cp_path.specs.Place.{path_eq_equiv};
+    ghost use Rattle.cp_path.specs.PathOrder.{path_eq_equiv};
 
     ghost laws = { path_eq_equiv };
 }
 
 impl PartialOrd for Path {
-    ghost use Rattle.cp_path.specs.Place.{path_cmp, path_po};
+    ghost use Rattle.cp_path.specs.Place.{path_cmp};
+    ghost use Rattle.cp_path.specs.PathOrder.{path_po};
     ghost use Rattle.std.specs.declared.option.Option.TheVariants.{Some};
 
     ghost partial_cmp = { λ x y. Some (path_cmp x y) };
@@ -149,7 +150,8 @@ impl PartialOrd for Path {
 }
 
 impl Ord for Path {
-    ghost use Rattle.cp_path.specs.Place.{path_cmp, path_total, path_ties};
+    ghost use Rattle.cp_path.specs.Place.{path_cmp};
+    ghost use Rattle.cp_path.specs.PathOrder.{path_total, path_ties};
     ghost use Rattle.std.proofs.Common.{refl};
 
     ghost cmp = { path_cmp };

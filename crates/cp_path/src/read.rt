@@ -7,9 +7,10 @@ ghost use Rattle.cp_path.specs.declared.loc.Loc.{Loc};
 ghost use Rattle.cp_path.specs.Reading.{LabelSpelled, PlaceSpelled, SpellsPlace, IsBadAt, LabelFault, PlaceFault, any_long, IsOver};
 ghost use Rattle.cp_path.specs.Words.{place_reading, label_reading};
 
+use crate::limits::{LABELS_MAX, LABEL_MAX, LOC_MAX};
 use crate::fault::PathFault;
 use crate::label::Label;
-use crate::loc::{LOC_MAX, Loc};
+use crate::loc::Loc;
 use crate::name::Name;
 use crate::path::Path;
 use crate::read_value::read_string;
@@ -19,7 +20,7 @@ use crate::text::Text;
 use std::alloc::{AllocError, Global};
 
 /// The text that a word spells: what its quotation marks hold, or the word itself.
-#[tactic(auto, using(crate::specs::Accepted::quoted_word, crate::specs::Accepted::bare_text))]
+#[tactic(auto, using(crate::proofs::Accepted::quoted_word, crate::proofs::Accepted::bare_text))]
 fn text_of(alloc: Global, word: &str) -> Result<String, AllocError>
     ensures { IfOk result (λ s. (r : List ℕ) → word.now ≡ label_word r → string_bytes s ≡ r) }
 {
@@ -58,7 +59,7 @@ fn spelled_label(alloc: Global, word: &str) -> Result<Label, PathFault>
     requires { LabelSpelled word.now }
     ensures value { IfOk result (λ a. label_text a ≡ word.now) }
     ensures fault { IfErr result (λ e. LabelFault e word.now) }
-    ensures short { IfOk result (λ a. length a ≤ 255) }
+    ensures short { IfOk result (λ a. length a ≤ LABEL_MAX) }
 {
     let pieces = pieces_of(alloc, word)?;
     let piece: &Text = &pieces[0];
@@ -66,7 +67,7 @@ fn spelled_label(alloc: Global, word: &str) -> Result<Label, PathFault>
 }
 
 impl Label {
-    #[tactic(auto, using(crate::specs::WordLaws::label_fault_reading))]
+    #[tactic(auto, using(crate::proofs::WordLaws::label_fault_reading))]
     /// The label that a word spells where it stands alone. `BadEscape` has the length of the word's longest
     /// beginning that some label's spelling begins with. Costs the word's bytes.
     pub fn read(alloc: Global, word: &str) -> Result<Label, PathFault>
@@ -100,8 +101,8 @@ fn labels_of(alloc: Global, pieces: &[Text]) -> Result<Vec<Label>, PathFault>
 fn place_of(alloc: Global, pieces: &[Text]) -> Result<Loc, PathFault>
     requires some { 0 < length pieces.now }
     requires name { is_name (place_from pieces.now).db ≡ true }
-    ensures value { IfOk result (λ q. (q ≡ place_from pieces.now) × (size q ≤ 1024)) }
-    ensures within { IfOk result (λ q. (any_long q.path ≡ false) × (length q.path ≤ 64)) }
+    ensures value { IfOk result (λ q. (q ≡ place_from pieces.now) × (size q ≤ LOC_MAX)) }
+    ensures within { IfOk result (λ q. (any_long q.path ≡ false) × (length q.path ≤ LABELS_MAX)) }
     ensures fault { IfErr result (λ e. IsOver e (place_from pieces.now)) }
 {
     let labels = labels_of(alloc, &pieces[1..])?;
@@ -117,7 +118,7 @@ fn place_of(alloc: Global, pieces: &[Text]) -> Result<Loc, PathFault>
 
 fn spelled_place(alloc: Global, word: &str) -> Result<Loc, PathFault>
     requires { PlaceSpelled word.now }
-    ensures value { IfOk result (λ q. (place_text q ≡ word.now) × (size q ≤ 1024)) }
+    ensures value { IfOk result (λ q. (place_text q ≡ word.now) × (size q ≤ LOC_MAX)) }
     ensures fault { IfErr result (λ e. PlaceFault e word.now) }
     ensures reads { IfOk result (λ q. place_reading word.now ≡ Ok q) }
 {
@@ -126,11 +127,11 @@ fn spelled_place(alloc: Global, word: &str) -> Result<Loc, PathFault>
 }
 
 impl Loc {
-    #[tactic(auto, using(crate::specs::WordLaws::place_fault_reading))]
+    #[tactic(auto, using(crate::proofs::WordLaws::place_fault_reading))]
     /// The place that a word spells. `BadEscape` has the length of the word's longest beginning that some
     /// place's spelling begins with. Costs the word's bytes.
     pub fn read(alloc: Global, word: &str) -> Result<Loc, PathFault>
-        ensures value { IfOk result (λ q. (place_text q ≡ word.now) × (size q ≤ 1024)) }
+        ensures value { IfOk result (λ q. (place_text q ≡ word.now) × (size q ≤ LOC_MAX)) }
         ensures fault { IfErr result (λ e. PlaceFault e word.now) }
         ensures reads { IfOk result (λ q. place_reading word.now ≡ Ok q) }
         ensures refuses { IfErr result (λ e. (e ≡ PathFault.Memory) ⊎ (place_reading word.now ≡ Err e)) }

@@ -7,14 +7,15 @@ ghost use Rattle.cp_path.specs.Reading.{SpellsValue, IsNoWord, IsNoWhole, IsNoSt
 ghost use Rattle.cp_path.specs.Words.{string_reading, word_reading, whole_reading, text_reading, value_reading};
 ghost use Rattle.cp_path.specs.declared.value.Value.{Value};
 
+use crate::limits::TEXT_MAX;
 use crate::fault::PathFault;
-use crate::text::{TEXT_MAX, Text};
+use crate::text::Text;
 use crate::value::Value;
 use crate::whole::Whole;
 use serde_json::error::Category;
 use std::alloc::{AllocError, Global};
 
-#[tactic(auto, using(crate::specs::ValueLaws::word_reading_none))]
+#[tactic(auto, using(crate::proofs::ValueLaws::word_reading_none))]
 fn read_word(word: &str) -> Option<Value>
     ensures spells { MatchOption result (IsNoWord word.now) (λ v. SpellsValue word.now v) }
     ensures reads { result ≡ word_reading word.now }
@@ -40,7 +41,7 @@ fn parse_whole(word: &str) -> Option<Whole>
     }
 }
 
-#[tactic(auto, using(crate::specs::ValueLaws::whole_reading_none, crate::specs::ValueLaws::whole_reading_spelled))]
+#[tactic(auto, using(crate::proofs::ValueLaws::whole_reading_none, crate::proofs::ValueLaws::whole_reading_spelled))]
 /// A number is written in one way, so a word that reads as one is its spelling where it is written so.
 fn read_whole(alloc: Global, word: &str) -> Result<Option<Whole>, AllocError>
     ensures spells { IfOk result (λ o. MatchOption o (IsNoWhole word.now) (λ n. word.now ≡ whole_text n)) }
@@ -73,7 +74,7 @@ pub(crate) fn read_string(alloc: Global, word: &str) -> Result<Option<String>, A
     }
 }
 
-#[tactic(auto, using(crate::specs::ValueLaws::text_reading_none, crate::specs::ValueLaws::text_reading_spelled))]
+#[tactic(auto, using(crate::proofs::ValueLaws::text_reading_none, crate::proofs::ValueLaws::text_reading_spelled))]
 fn read_text(alloc: Global, word: &str) -> Result<Option<Text>, AllocError>
     ensures spells { IfOk result (λ o. MatchOption o (IsNoText word.now) (λ t. SpellsText word.now t)) }
     ensures reads { IfOk result (λ o. o ≡ text_reading word.now) }
@@ -85,7 +86,7 @@ fn read_text(alloc: Global, word: &str) -> Result<Option<Text>, AllocError>
 }
 
 impl Text {
-    #[tactic(auto, using(crate::specs::ValueLaws::string_reading_none, crate::specs::ValueLaws::string_reading_read))]
+    #[tactic(auto, using(crate::proofs::ValueLaws::string_reading_none, crate::proofs::ValueLaws::string_reading_read))]
     /// The text of the JSON string that the word is, of any length. Costs the word's bytes.
     pub fn read(alloc: Global, word: &str) -> Result<Option<Text>, AllocError>
         ensures { IfOk result (λ o. o ≡ string_reading word.now) }
@@ -98,7 +99,7 @@ impl Text {
 }
 
 impl Value {
-    #[tactic(auto, using(crate::specs::ValueLaws::value_reading_word, crate::specs::ValueLaws::value_reading_whole, crate::specs::ValueLaws::value_reading_text))]
+    #[tactic(auto, using(crate::proofs::ValueLaws::value_reading_word, crate::proofs::ValueLaws::value_reading_whole, crate::proofs::ValueLaws::value_reading_text))]
     /// The value that a word spells: a text by each of its JSON strings, any other value by its one spelling.
     /// Costs the word's bytes.
     pub fn read(alloc: Global, word: &str) -> Result<Value, PathFault>

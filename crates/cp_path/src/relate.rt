@@ -2,10 +2,10 @@ ghost use Rattle.std.specs.Prelude.{◌≡◌, ◌≤◌, ◌<◌, ◌↔◌, �
 ghost use Rattle.cp_path.specs.Place.{size, lies_below, parent_place, moved, below_place, strip};
 ghost use Rattle.std.specs.Option.{unwrap_or};
 
+use crate::limits::{LABELS_MAX, LOC_MAX};
 use crate::fault::PathFault;
 use crate::label::Label;
-use crate::loc::{LOC_MAX, Loc};
-use crate::path::LABELS_MAX;
+use crate::loc::Loc;
 use std::alloc::AllocError;
 
 impl Loc {
@@ -37,8 +37,8 @@ impl Loc {
     pub fn rebase(&self, old: &Loc, to: &Loc) -> Result<Loc, PathFault>
         requires { lies_below self.now old.now ≡ true }
         ensures value { IfOk result (λ q. q ≡ moved self.now old.now to.now) }
-        ensures deep { (result ≡ Err PathFault.TooDeep) ↔ (64 < length (moved self.now old.now to.now).path) }
-        ensures long { (result ≡ Err PathFault.PathTooLong) ↔ ((length (moved self.now old.now to.now).path ≤ 64) × (1024 < size (moved self.now old.now to.now))) }
+        ensures deep { (result ≡ Err PathFault.TooDeep) ↔ (LABELS_MAX < length (moved self.now old.now to.now).path) }
+        ensures long { (result ≡ Err PathFault.PathTooLong) ↔ ((length (moved self.now old.now to.now).path ≤ LABELS_MAX) × (LOC_MAX < size (moved self.now old.now to.now))) }
         ensures faults { IfErr result (λ e. (e ≡ PathFault.TooDeep) ⊎ (e ≡ PathFault.PathTooLong) ⊎ (e ≡ PathFault.Memory)) }
     {
         to.below(self.after(old))
@@ -57,8 +57,8 @@ impl Loc {
     #[tactic(auto, using(crate::proofs::Relating::size_below, std::proofs::lemmas::Grind::common_steps))]
     fn below(&self, labels: &[Label]) -> Result<Loc, PathFault>
         ensures value { IfOk result (λ q. q ≡ below_place self.now labels.now) }
-        ensures deep { (result ≡ Err PathFault.TooDeep) ↔ (64 < length (below_place self.now labels.now).path) }
-        ensures long { (result ≡ Err PathFault.PathTooLong) ↔ ((length (below_place self.now labels.now).path ≤ 64) × (1024 < size (below_place self.now labels.now))) }
+        ensures deep { (result ≡ Err PathFault.TooDeep) ↔ (LABELS_MAX < length (below_place self.now labels.now).path) }
+        ensures long { (result ≡ Err PathFault.PathTooLong) ↔ ((length (below_place self.now labels.now).path ≤ LABELS_MAX) × (LOC_MAX < size (below_place self.now labels.now))) }
         ensures faults { IfErr result (λ e. (e ≡ PathFault.TooDeep) ⊎ (e ≡ PathFault.PathTooLong) ⊎ (e ≡ PathFault.Memory)) }
     {
         if labels.len() > LABELS_MAX - self.path.labels().len() {
@@ -75,7 +75,7 @@ impl Loc {
 
 /// What these labels add to a place's size.
 fn bytes_of(labels: &[Label]) -> u32
-    requires { length labels.now ≤ 64 }
+    requires { length labels.now ≤ LABELS_MAX }
     ensures bytes { result ≡ sum_by (λ a. length a + 1) labels.now }
     ensures bound { result ≤ 16384 }
 {

@@ -2,7 +2,8 @@ ghost use Rattle.std.specs.Prelude.{◌≡◌, ◌&&◌, ◌||◌, ◌==◌, ◌
 ghost use Rattle.cp_path.specs.Text.{is_letter, is_name_byte};
 ghost use Rattle.cp_path.specs.Scan.{part_step, step, is_label, closes, accepts, ends_low, ends_high, bare, inside, escape_step, unicode_step, StopsAt, Accepts};
 
-use crate::name::{NAME_MAX, is_letter, is_name_byte};
+use crate::limits::NAME_MAX;
+use crate::name::{is_letter, is_name_byte};
 use crate::write::is_trigger;
 
 /// Where a scan stands in the text that a word spells.

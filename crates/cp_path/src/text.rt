@@ -6,9 +6,6 @@ ghost use Rattle.cp_path.specs.Text.{text_eq};
 use std::alloc::{AllocError, Global};
 use std::marker::Model;
 
-/// The most bytes of a text value.
-pub const TEXT_MAX: usize = 1_048_576;
-
 /// A text, seen as its UTF-8 bytes.
 #[derive(Drop)]
 pub struct Text {

@@ -10,7 +10,7 @@ use Rattle.cp_model.specs.Tree.{Tree, Source}
 use Rattle.cp_model.specs.Step.{step}
 use Rattle.cp_model.specs.Past.{tree_of}
 use Rattle.cp_model.specs.History.{State}
-use Rattle.cp_model.specs.Lookups.{there-mapped}
+use Rattle.cp_model.proofs.Lookups.{there-mapped}
 use Rattle.cp_model.specs.Answers.{answer_to, has_place, at_place, src, hist, trace}
 use Rattle.cp_model.specs.declared.kind.Kind.TheVariants as kind
 use Rattle.cp_model.specs.declared.answer.Answer.{Answer}
@@ -27,7 +27,7 @@ use Rattle.cp_reply.specs.declared.reply.Reply.{Reply}
 use Rattle.cp_reply.specs.declared.reply.Reply.TheVariants as reply
 use Rattle.cp_session.specs.Session.{Session, Opened, closed, going, failed, says, turn_of, row_of, shown, current_tree, outcome_tree, answered, no_place_of, replies, refuses}
 use Rattle.cp_engine.specs.Passed.{passed, AllAccepted}
-use Rattle.cp_engine.specs.Linked.{accepted-step}
+use Rattle.cp_engine.proofs.Linked.{accepted-step}
 use Rattle.cp_engine.specs.Transactions as txn
 use Rattle.cp_engine.specs.declared.txn.Txn.{Txn}
 use Rattle.cp_engine.specs.declared.state.TxnState.{TxnState}
@@ -35,7 +35,8 @@ use Rattle.cp_engine.specs.declared.state.TxnState.TheVariants as state
 use Rattle.cp_query.specs.Asked.{IsCommitted, is_in}
 use Rattle.cp_outside.specs.FileReads.{FileTable}
 use Rattle.cp_program.specs.Job.{setting}
-use Rattle.cp_program.specs.Databases.{Stands, Opens, Turned, shown_tree}
+use Rattle.cp_program.specs.Databases.{Stands, Opens, Turned}
+use Rattle.cp_program.specs.Databases.{shown_tree}
 use Rattle.cp_program.specs.declared.database.Database.{Database}
 use Rattle.cp_program.proofs.Standing.{turned-on}
 

@@ -1,12 +1,13 @@
 -- The end of a transaction.
+use Rattle.cp_model.specs.declared.limits.TheConstants.{SOURCES_MAX}
 use Rattle.std.specs.Prelude.{ℕ, List, ◌≡◌, ◌+◌, ◌-◌, ◌≤◌, ◌^◌, [], ◌∷◌, ◌++◌, length, fold, refl, Ok, Err}
 use Rattle.std.proofs.Common.{sym, ap, subst, ◌∙◌, arith}
 use Rattle.std.proofs.lemmas.List.{length-map}
 use Rattle.std.specs.declared.option.Option.TheVariants.{None, Some}
 use Rattle.cp_model.specs.Tree.{Tree, Source}
 use Rattle.cp_model.specs.Past.{tree_of}
-use Rattle.cp_model.specs.History.{commit, State, CanCommit, CanFollow, then_entry, most_sources, each_alone, steps_of, after_step, after_commit, one_commit_more}
-use Rattle.cp_model.specs.Histories.{replay-snoc, legal-snoc}
+use Rattle.cp_model.specs.History.{commit, State, CanCommit, CanFollow, then_entry, each_alone, steps_of, after_step, after_commit, one_commit_more}
+use Rattle.cp_model.proofs.Histories.{replay-snoc, legal-snoc}
 use Rattle.cp_model.specs.declared.refusal.Cause.{Cause}
 use Rattle.cp_lang.specs.declared.stmt.Stmt.TheVariants as stmt
 use Rattle.cp_reply.specs.declared.reply.Of.TheVariants as of
@@ -15,8 +16,8 @@ use Rattle.cp_reply.specs.declared.reply.Reply.TheVariants as reply
 use Rattle.cp_store.specs.Changes.{AreNext}
 use Rattle.cp_session.specs.Session.{Session, Opened, closed, going, failed, with_opened, says, turn_of, committing, given_up, stamp_of, after_moment, with_entry}
 use Rattle.cp_engine.specs.Passed.{passed}
-use Rattle.cp_engine.specs.Linked.{accepted-done, IsAt, passed-after, now-after}
-use Rattle.cp_engine.specs.Rising.{rising-passed}
+use Rattle.cp_engine.proofs.Linked.{accepted-done, IsAt, passed-after, now-after}
+use Rattle.cp_engine.proofs.Rising.{rising-passed}
 use Rattle.cp_engine.specs.Transactions as txn
 use Rattle.cp_engine.specs.declared.txn.Txn.{Txn}
 use Rattle.cp_engine.specs.declared.txn.Step.{Step}
@@ -89,7 +90,7 @@ module _ {R : Type 0} (view : R → Tree) (files : FileTable) (d m : Database R)
         legal = legal-snoc s.history (commit (stamp_of (setting files) s) k.ops) k.stands.legal (subst (λ r. CanFollow r (commit (stamp_of (setting files) s) k.ops)) (sym k.stands.replayed) can_commit);
         kind = at_end.kind;
         sources = ap (sources_in view) kept ∙ k.stands.sources ∙ sym at_end.sources;
-        bounded = subst (λ n. length n ≤ most_sources) (sym at_end.sources) k.stands.bounded;
+        bounded = subst (λ n. length n ≤ SOURCES_MAX) (sym at_end.sources) k.stands.bounded;
         tree = tree ∙ k.step.tree ∙ sym at_end.tree;
         rows = list ∙ ap (λ rs. rs ++ x.rows) k.stands.rows ∙ ap (λ rs. before.rows ++ rs) k.step.rows ∙ sym at_end.rows;
         upto = upto ∙ ap (λ i. i + x.tids) k.stands.upto ∙ ap (λ j. before.now + j) k.step.tids ∙ sym now;

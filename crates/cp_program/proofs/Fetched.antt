@@ -1,4 +1,5 @@
 -- What a source file gives, by how it was read.
+use Rattle.cp_program.specs.declared.limits.TheConstants.{FILE_MAX}
 use Rattle.std.specs.Prelude.{ℕ, ◌≡◌, ◌≤◌, ◌<◌, true, false, List, length, nat_lt, refl, Result, Ok, Err, if◌then◌else◌}
 use Rattle.std.proofs.Common.{sym, ap, subst, ◌∙◌, arith}
 use Rattle.std.proofs.lemmas.Bool.Decides.{nat_tests}
@@ -15,7 +16,7 @@ use Rattle.cp_csv.specs.declared.fault.CsvFault.TheVariants as csv
 use Rattle.cp_reply.specs.declared.reply.Why.{Why}
 use Rattle.cp_reply.specs.declared.reply.Why.TheVariants as why
 use Rattle.cp_session.specs.Session.{withholds}
-use Rattle.cp_program.specs.Fetching.{most_file, json_why, csv_why, json_given, csv_given, given, file_gives}
+use Rattle.cp_program.specs.Fetching.{json_why, csv_why, json_given, csv_given, given, file_gives}
 use Rattle.cp_program.specs.Fetched.{Gives}
 
 -- ---- texts
@@ -63,15 +64,15 @@ csv-withholds view r csv.Memory w h n i = absurd (n refl)
 -- ---- files
 
 -- a file within the limit gives what its text does
-pub whole-gives : (name : List ℕ) (form : Form) (file : Option (List ℕ)) (bytes : List ℕ) → file ≡ Some bytes → length bytes ≤ most_file → file_gives name form file ≡ given name form bytes
+pub whole-gives : (name : List ℕ) (form : Form) (file : Option (List ℕ)) (bytes : List ℕ) → file ≡ Some bytes → length bytes ≤ FILE_MAX → file_gives name form file ≡ given name form bytes
 whole-gives name form file bytes is short =
-    let within : nat_lt most_file (length bytes) ≡ false = grind (arith, nat_tests) in
+    let within : nat_lt FILE_MAX (length bytes) ≡ false = grind (arith, nat_tests) in
     ap (file_gives name form) is ∙ ap (λ b. if b then withholds why.FileTooLong else given name form bytes) within
 
 -- a longer one gives nothing
-pub long-gives : (name : List ℕ) (form : Form) (file : Option (List ℕ)) (bytes : List ℕ) → file ≡ Some bytes → most_file < length bytes → file_gives name form file ≡ withholds why.FileTooLong
+pub long-gives : (name : List ℕ) (form : Form) (file : Option (List ℕ)) (bytes : List ℕ) → file ≡ Some bytes → FILE_MAX < length bytes → file_gives name form file ≡ withholds why.FileTooLong
 long-gives name form file bytes is long =
-    let past : nat_lt most_file (length bytes) ≡ true = grind (arith, nat_tests) in
+    let past : nat_lt FILE_MAX (length bytes) ≡ true = grind (arith, nat_tests) in
     ap (file_gives name form) is ∙ ap (λ b. if b then withholds why.FileTooLong else given name form bytes) past
 
 -- nor does one that isn't there

@@ -1,6 +1,7 @@
 -- Sources: what is loaded, and what isn't.
+use Rattle.cp_model.specs.declared.limits.TheConstants.{SOURCES_MAX}
 use Rattle.std.specs.Prelude.{ℕ, ◌≡◌, ◌==◌, ◌+◌, ◌≤◌, ◌<◌, true, false, not, List, [], ◌∷◌, ◌++◌, length, is_some, refl, if◌then◌else◌}
-use Rattle.cp_model.specs.Accepted.{none_is}
+use Rattle.cp_model.proofs.Accepted.{none_is}
 use Rattle.std.proofs.Common.{sym, ap, subst, ◌∙◌, arith, length-append}
 use Rattle.std.specs.declared.option.Option.{Option}
 use Rattle.std.specs.declared.option.Option.TheVariants.{None, Some}
@@ -9,8 +10,8 @@ use Rattle.cp_path.specs.Text.{is_name}
 use Rattle.cp_model.specs.Place.{label_eq, target}
 use Rattle.cp_model.specs.Tree.{Tree, IsTree, Source, source}
 use Rattle.cp_model.specs.Past.{tree_of}
-use Rattle.cp_model.specs.History.{State, load, loaded, then_entry, most_sources, CanLoad, CanFollow}
-use Rattle.cp_model.specs.Histories.{replay-snoc, legal-snoc}
+use Rattle.cp_model.specs.History.{State, load, loaded, then_entry, CanLoad, CanFollow}
+use Rattle.cp_model.proofs.Histories.{replay-snoc, legal-snoc}
 use Rattle.cp_lang.specs.declared.stmt.Load.{Load}
 use Rattle.cp_lang.specs.declared.stmt.Stmt.TheVariants as stmt
 use Rattle.cp_reply.specs.declared.reply.Of.TheVariants as of
@@ -24,7 +25,8 @@ use Rattle.cp_engine.specs.declared.txn.Txn.{Txn}
 use Rattle.cp_program.specs.Fetching.{fetch}
 use Rattle.cp_program.specs.Fetched.{FitsUnder}
 use Rattle.cp_program.specs.Job.{setting}
-use Rattle.cp_program.specs.Databases.{Stands, Opens, Turned, Loads, held_in, why_not_loaded}
+use Rattle.cp_program.specs.Databases.{Stands, Opens, Turned, held_in}
+use Rattle.cp_program.specs.Databases.{Loads, why_not_loaded}
 use Rattle.cp_program.specs.declared.database.Database.{Database}
 use Rattle.cp_program.proofs.Standing.{turned-on}
 
@@ -67,16 +69,16 @@ module _ {R : Type 0} (view : R → Tree) (d : Database R) (s : Session) (z : St
   why-there e there = rw (is_shut e, ap (λ ss. is_some (source ss name)) (sym z.sources) ∙ there) refl
 
   -- where as many sources are there as may be
-  pub why-many : is_some d.transaction ≡ false → is_some (source (sources_in view d.sources) name) ≡ false → length (sources_in view d.sources) == most_sources ≡ true → Some why.TooManySources ≡ why_not_loaded t s.opened name
-  why-many e new many = rw (is_shut e, ap (λ ss. is_some (source ss name)) (sym z.sources) ∙ new, ap (λ ss. length ss == most_sources) (sym z.sources) ∙ many) refl
+  pub why-many : is_some d.transaction ≡ false → is_some (source (sources_in view d.sources) name) ≡ false → length (sources_in view d.sources) == SOURCES_MAX ≡ true → Some why.TooManySources ≡ why_not_loaded t s.opened name
+  why-many e new many = rw (is_shut e, ap (λ ss. is_some (source ss name)) (sym z.sources) ∙ new, ap (λ ss. length ss == SOURCES_MAX) (sym z.sources) ∙ many) refl
 
   -- else nothing is in the way
-  pub why-none : is_some d.transaction ≡ false → is_some (source (sources_in view d.sources) name) ≡ false → length (sources_in view d.sources) == most_sources ≡ false → None ≡ why_not_loaded t s.opened name
-  why-none e new many = rw (is_shut e, ap (λ ss. is_some (source ss name)) (sym z.sources) ∙ new, ap (λ ss. length ss == most_sources) (sym z.sources) ∙ many) refl
+  pub why-none : is_some d.transaction ≡ false → is_some (source (sources_in view d.sources) name) ≡ false → length (sources_in view d.sources) == SOURCES_MAX ≡ false → None ≡ why_not_loaded t s.opened name
+  why-none e new many = rw (is_shut e, ap (λ ss. is_some (source ss name)) (sym z.sources) ∙ new, ap (λ ss. length ss == SOURCES_MAX) (sym z.sources) ∙ many) refl
 
   -- there are no more sources than there may be
-  pub bounded-loaded : length (sources_in view d.sources) ≤ most_sources
-  bounded-loaded = subst (λ ss. length ss ≤ most_sources) (sym z.sources) z.bounded
+  pub bounded-loaded : length (sources_in view d.sources) ≤ SOURCES_MAX
+  bounded-loaded = subst (λ ss. length ss ≤ SOURCES_MAX) (sym z.sources) z.bounded
 
 -- ---- what is loaded
 
@@ -94,7 +96,7 @@ module _ {R : Type 0} (view : R → Tree) (d m : Database R) (s : Session) (z : 
       let can : CanLoad z.state name u = record {
         loadable = record { name = named; other = other; tree = tree; places = fits };
         fresh = ap (λ ss. is_some (source ss name)) (sym z.sources) ∙ new;
-        few = subst (λ n. n + 1 ≤ most_sources) (ap length z.sources) (omega (arith, few));
+        few = subst (λ n. n + 1 ≤ SOURCES_MAX) (ap length z.sources) (omega (arith, few));
       } in
       let bound = few in
       record {
@@ -122,21 +124,21 @@ loading-is : (c : Setting) (s : Session) (t : State) (l : Load) → loading c s 
 loading-is c s t l =
     elim (is_closed s.opened) as (λ b. (if not b then refused_load why.TransactionOpen s
     else if is_some (source t.sources l.name) then refused_load (why.SourceThere l.name) s
-    else if length t.sources == most_sources then refused_load why.TooManySources s
+    else if length t.sources == SOURCES_MAX then refused_load why.TooManySources s
     else fetched c s l.name (c.fetch l))
     ≡ loading_by c s l (if not b then Some why.TransactionOpen
     else if is_some (source t.sources l.name) then Some (why.SourceThere l.name)
-    else if length t.sources == most_sources then Some why.TooManySources
+    else if length t.sources == SOURCES_MAX then Some why.TooManySources
     else None)) [
       | false ↦ refl
       | true ↦ elim (is_some (source t.sources l.name)) as (λ b. (if b then refused_load (why.SourceThere l.name) s
-          else if length t.sources == most_sources then refused_load why.TooManySources s
+          else if length t.sources == SOURCES_MAX then refused_load why.TooManySources s
           else fetched c s l.name (c.fetch l))
           ≡ loading_by c s l (if b then Some (why.SourceThere l.name)
-          else if length t.sources == most_sources then Some why.TooManySources
+          else if length t.sources == SOURCES_MAX then Some why.TooManySources
           else None)) [
             | true ↦ refl
-            | false ↦ elim (length t.sources == most_sources) as (λ b. (if b then refused_load why.TooManySources s else fetched c s l.name (c.fetch l)) ≡ loading_by c s l (if b then Some why.TooManySources else None)) [ true ↦ refl | false ↦ refl ]
+            | false ↦ elim (length t.sources == SOURCES_MAX) as (λ b. (if b then refused_load why.TooManySources s else fetched c s l.name (c.fetch l)) ≡ loading_by c s l (if b then Some why.TooManySources else None)) [ true ↦ refl | false ↦ refl ]
           ]
     ]
 

@@ -1,11 +1,12 @@
 -- Operations and texts that can't be read, in the open transaction or in one that they begin.
+use Rattle.cp_model.specs.declared.limits.TheConstants.{OPS_MAX}
 use Rattle.std.specs.Prelude.{ℕ, ◌≡◌, ◌==◌, ◌+◌, ◌≤◌, List, [], ◌∷◌, ◌++◌, length, refl, Result, Ok, Err, ⊤, if◌then◌else◌}
 use Rattle.std.proofs.Common.{sym, ap, subst, ◌∙◌, arith, length-append}
 use Rattle.std.specs.declared.option.Option.TheVariants.{None, Some}
 use Rattle.cp_model.specs.Tree.{Tree, Source, refusal}
 use Rattle.cp_model.specs.Step.{step}
 use Rattle.cp_model.specs.Past.{tree_of}
-use Rattle.cp_model.specs.History.{State, most_ops}
+use Rattle.cp_model.specs.History.{State}
 use Rattle.cp_model.specs.declared.op.Op.{Op}
 use Rattle.cp_model.specs.declared.refusal.Refusal.{Refusal}
 use Rattle.cp_model.specs.declared.refusal.Refusal.TheVariants.{TooManyOps}
@@ -17,14 +18,15 @@ use Rattle.cp_reply.specs.declared.reply.Why.TheVariants as why
 use Rattle.cp_reply.specs.declared.reply.Reply.TheVariants as reply
 use Rattle.cp_session.specs.Session.{Session, Opened, closed, going, failed, with_opened, says, turn_of, refusal_on, refusal_after, decided, operated, why_refused, not_read, spoiled}
 use Rattle.cp_engine.specs.Passed.{passed, refusal_behind, AllAccepted}
-use Rattle.cp_engine.specs.Linked.{accepted-step}
+use Rattle.cp_engine.proofs.Linked.{accepted-step}
 use Rattle.cp_engine.specs.Transactions as txn
 use Rattle.cp_engine.specs.declared.txn.Txn.{Txn}
 use Rattle.cp_engine.specs.declared.fault.ApplyFault.{ApplyFault}
 use Rattle.cp_engine.specs.declared.fault.ApplyFault.TheVariants as denied
 use Rattle.cp_outside.specs.FileReads.{FileTable}
 use Rattle.cp_program.specs.Job.{setting}
-use Rattle.cp_program.specs.Databases.{Stands, Opens, Turned, held_in, progress_of}
+use Rattle.cp_program.specs.Databases.{Stands, Opens, Turned, held_in}
+use Rattle.cp_program.specs.Databases.{progress_of}
 use Rattle.cp_program.specs.declared.database.Database.{Database}
 use Rattle.cp_program.proofs.Standing.{stands-with, turned-on}
 
@@ -37,7 +39,7 @@ refusal_on_step t n ops op a =
 
 -- a session refuses what a transaction refuses
 pub refusal-is : (t : State) (n : ℕ) (ops : List Op) (op : Op) → AllAccepted t.sources (tree_of t.tree) ops → refusal_after t ops op ≡ refusal_behind t.sources (tree_of t.tree) n ops op
-refusal-is t n ops op a = ap (λ r. if length ops == most_ops then Some TooManyOps else r) (refusal_on_step t n ops op a)
+refusal-is t n ops op a = ap (λ r. if length ops == OPS_MAX then Some TooManyOps else r) (refusal_on_step t n ops op a)
 
 -- what an operation does with the loaded sources it does with the session's, which are the same
 pub with_sources : {R : Type 0} (view : R → Tree) (loaded ss : List Source) → loaded ≡ ss → (y : Txn R) (op : Op) (x : Txn R) (r : Result ⊤ ApplyFault)

@@ -11,16 +11,16 @@ use Rattle.std.proofs.lemmas.List.{take-append-le, length-append, take_more, tak
 use Rattle.std.specs.Io.KnownBytes.{Appends}
 use Rattle.cp_outside.specs.FileReads.{FileTable}
 use Rattle.cp_outside.specs.Sinks.{TakesPart}
-use Rattle.cp_outside.specs.KnownBytes.{Appends-none, Appends-then}
+use Rattle.cp_outside.proofs.KnownBytes.{Appends-none, Appends-then}
 use Rattle.cp_lang.specs.declared.cut.Cut.{Cut}
 use Rattle.cp_lang.specs.Cuts.{Scan, scan_byte, scanned, rest_of}
-use Rattle.cp_lang.specs.Pieces.{scan-append, cuts-append}
+use Rattle.cp_lang.proofs.Pieces.{scan-append, cuts-append}
 use Rattle.cp_lang.specs.Held.{Held, held_of, byte_cuts, byte_held}
-use Rattle.cp_lang.specs.Bytewise.{byte_cuts-is, byte_held-is}
+use Rattle.cp_lang.proofs.Bytewise.{byte_cuts-is, byte_held-is}
 use Rattle.cp_reply.specs.Lines.{lines}
 use Rattle.cp_reply.specs.declared.reply.Reply.{Reply}
 use Rattle.cp_session.specs.Session.{Session, turn, replies_to, session_after}
-use Rattle.cp_session.specs.Appended.{replies_to-append, session_after-append}
+use Rattle.cp_session.proofs.Appended.{replies_to-append, session_after-append}
 use Rattle.cp_program.specs.Job.{Ended, told, setting, is_refusal}
 use Rattle.cp_program.specs.Play.{Seen, plays, after_play, closes, plays_all}
 use Rattle.cp_model.specs.Tree.{Tree}

@@ -1,4 +1,5 @@
 -- A run is its first turns, and then the rest.
+use Rattle.cp_program.specs.declared.limits.TheConstants.{INPUT_MAX, PIECE_MAX}
 use Rattle.std.proofs.Common.{◌≡◌, ℕ, ◌+◌, ◌≤◌, ◌<◌, List, [], ◌++◌, take, length, Bool, Option, Err, inl, inr, refl, sym, ap, ◌∙◌, subst, append_assoc, append-nil, arith}
 use Rattle.std.proofs.Math.Bool.{or_assoc}
 use Rattle.std.specs.Prelude.{◌||◌}
@@ -9,8 +10,8 @@ use Rattle.cp_outside.specs.Causes.{Rose}
 use Rattle.std.specs.declared.option.Option.TheVariants.{Some}
 use Rattle.cp_outside.specs.FileReads.{FileTable}
 use Rattle.cp_outside.specs.Sinks.{TakesPart}
-use Rattle.cp_outside.specs.KnownBytes.{Appends-then, Consumes-then, Consumes-none, Consumes-kept}
-use Rattle.cp_program.specs.Words.{most_input, most_piece, input_line, file_line, memory_line, too_long_line}
+use Rattle.cp_outside.proofs.KnownBytes.{Appends-then, Consumes-then, Consumes-none, Consumes-kept}
+use Rattle.cp_program.specs.Words.{input_line, file_line, memory_line, too_long_line}
 use Rattle.cp_program.specs.Job.{Ended}
 use Rattle.cp_program.specs.Play.{Seen, plays, after_play, closes, plays_all}
 use Rattle.cp_program.specs.Story.{WritesLast, WroteRefusal, Took, IsCalm}
@@ -121,7 +122,7 @@ module _ (files : FileTable) where
   wrote-closed s f count left b a r v how.TooLong end c = absurd c
 
   -- too much has come
-  pub wrote-too-long : (s : Seen) (f : Bool) (count : ℕ) (bytes : List ℕ) (left b a : Option (List ℕ)) (r v : ℕ) → count ≤ most_input → length bytes ≤ most_piece → WritesLast b a r v [] too_long_line
+  pub wrote-too-long : (s : Seen) (f : Bool) (count : ℕ) (bytes : List ℕ) (left b a : Option (List ℕ)) (r v : ℕ) → count ≤ INPUT_MAX → length bytes ≤ PIECE_MAX → WritesLast b a r v [] too_long_line
       → WroteOn files s f count bytes left b a r v how.TooLong
   wrote-too-long s f count bytes left b a r v le piece w = (0, omega arith, omega arith, last-first b a r v s too_long_line w)
 
@@ -164,14 +165,14 @@ closes-stopped files s f old new b m a r t v Memory rt tv g w full = inr (last-a
 -- ---- bytes that are taken
 
 -- a call that was stopped took no more than it may
-pub took-stopped : (count : ℕ) (bytes : List ℕ) (stop : Stop) → count + length bytes ≤ most_input → Took count bytes (status_of stop)
+pub took-stopped : (count : ℕ) (bytes : List ℕ) (stop : Stop) → count + length bytes ≤ INPUT_MAX → Took count bytes (status_of stop)
 took-stopped count bytes Output le = le
 took-stopped count bytes Full le = le
 took-stopped count bytes File le = le
 took-stopped count bytes Memory le = le
 
 -- nor did one whose input has ended
-pub took-closed : (count : ℕ) (e : End) → IsClosing e → count ≤ most_input → Took count [] e
+pub took-closed : (count : ℕ) (e : End) → IsClosing e → count ≤ INPUT_MAX → Took count [] e
 took-closed count how.Done c le = omega (arith, le)
 took-closed count how.Refused c le = omega (arith, le)
 took-closed count how.Usage c le = absurd c
@@ -196,21 +197,21 @@ took-then count xs ys how.TooLong t = omega (arith, t, length-append xs ys)
 
 module _ {R : Type 0} (view : R → Tree) (found : Option FileTable) where
   -- the input failed
-  pub ran-input : (x : Kept R) (count : ℕ) (l0 l1 b a : Option (List ℕ)) (r v : ℕ) → count ≤ most_input → Keeps l0 l1 → WritesLast b a r v [] input_line → RanFrom view found x count l0 l1 b a r v how.Input
+  pub ran-input : (x : Kept R) (count : ℕ) (l0 l1 b a : Option (List ℕ)) (r v : ℕ) → count ≤ INPUT_MAX → Keeps l0 l1 → WritesLast b a r v [] input_line → RanFrom view found x count l0 l1 b a r v how.Input
   ran-input x count l0 l1 b a r v le k w = ([], Consumes-kept l0 l0 l1 [] (Consumes-none l0) k, omega (arith, le), λ files told s f. wrote-input files s x.refused count l1 b a r v w)
 
   -- the input has ended
-  pub ran-closed : (x : Kept R) (count : ℕ) (l0 l1 b a : Option (List ℕ)) (r v : ℕ) (e : End) → count ≤ most_input → Consumes l0 l1 [] → IsAtEnd l1 → IsClosing e
+  pub ran-closed : (x : Kept R) (count : ℕ) (l0 l1 b a : Option (List ℕ)) (r v : ℕ) (e : End) → count ≤ INPUT_MAX → Consumes l0 l1 [] → IsAtEnd l1 → IsClosing e
       → ((files : FileTable) → found ≡ Some files → (s : Seen) → Follows view x s → Closes files s x.refused b a r v e) → RanFrom view found x count l0 l1 b a r v e
   ran-closed x count l0 l1 b a r v e le took end own c = ([], took, took-closed count e own le, λ files told s f. wrote-closed files s x.refused count l1 b a r v e end (c files told s f))
 
   -- too much has come
-  pub ran-too-long : (x : Kept R) (count : ℕ) (bytes : List ℕ) (l0 l1 b a : Option (List ℕ)) (r v : ℕ) → count ≤ most_input → Consumes l0 l1 bytes → most_input < count + length bytes → length bytes ≤ most_piece
+  pub ran-too-long : (x : Kept R) (count : ℕ) (bytes : List ℕ) (l0 l1 b a : Option (List ℕ)) (r v : ℕ) → count ≤ INPUT_MAX → Consumes l0 l1 bytes → INPUT_MAX < count + length bytes → length bytes ≤ PIECE_MAX
       → WritesLast b a r v [] too_long_line → RanFrom view found x count l0 l1 b a r v how.TooLong
   ran-too-long x count bytes l0 l1 b a r v le took past piece w = (bytes, took, past, λ files told s f. wrote-too-long files s x.refused count bytes l1 b a r v le piece w)
 
   -- the session was stopped
-  pub ran-stopped : (old new : Kept R) (count : ℕ) (bytes : List ℕ) (l0 l1 b m a : Option (List ℕ)) (r t v : ℕ) (stop : Stop) → count + length bytes ≤ most_input → r ≤ t → t ≤ v
+  pub ran-stopped : (old new : Kept R) (count : ℕ) (bytes : List ℕ) (l0 l1 b m a : Option (List ℕ)) (r t v : ℕ) (stop : Stop) → count + length bytes ≤ INPUT_MAX → r ≤ t → t ≤ v
       → Consumes l0 l1 bytes → ((files : FileTable) → found ≡ Some files → (s : Seen) → Follows view old s → Fed view files s bytes old new b m (Err stop)) → WroteLast m a t v stop → (stop ≡ Full → Rose r t)
       → RanFrom view found old count l0 l1 b a r v (status_of stop)
   ran-stopped old new count bytes l0 l1 b m a r t v stop le rt tv took g w full =

@@ -6,8 +6,8 @@ use Rattle.std.specs.declared.option.Option.TheVariants.{None}
 use Rattle.cp_model.specs.Tree.{Tree, IsTree}
 use Rattle.cp_model.specs.Past.{tree_of}
 use Rattle.cp_model.specs.History.{begun, replay}
-use Rattle.cp_model.specs.Histories.{legal-tree}
-use Rattle.cp_model.specs.Contents.{tree_of-aged}
+use Rattle.cp_model.proofs.Histories.{legal-tree}
+use Rattle.cp_model.proofs.Contents.{tree_of-aged}
 use Rattle.cp_model.specs.declared.kind.Kind.TheVariants as kind
 use Rattle.cp_lang.specs.declared.stmt.Stmt.{Stmt}
 use Rattle.cp_reply.specs.declared.reply.Reply.{Reply}

@@ -5,7 +5,7 @@ use Rattle.std.specs.Io.KnownBytes.{Consumes}
 use Rattle.std.specs.declared.option.Option.{Option}
 use Rattle.std.specs.declared.option.Option.TheVariants.{None, Some}
 use Rattle.cp_outside.specs.FileReads.{FileTable}
-use Rattle.cp_outside.specs.KnownBytes.{Consumes-none}
+use Rattle.cp_outside.proofs.KnownBytes.{Consumes-none}
 use Rattle.cp_model.specs.Tree.{Tree}
 use Rattle.cp_session.specs.Session.{Fetched, gives, withholds}
 use Rattle.cp_reply.specs.declared.reply.Why.{Why}

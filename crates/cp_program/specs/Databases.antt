@@ -3,11 +3,12 @@ use Rattle.std.specs.Prelude.{ℕ, ◌≡◌, ◌+◌, ◌-◌, ◌≤◌, ◌^�
 use Rattle.std.specs.declared.option.Option.{Option}
 use Rattle.std.specs.declared.option.Option.TheVariants.{None, Some}
 use Rattle.cp_path.specs.declared.loc.Loc.{Loc}
+use Rattle.cp_model.specs.declared.limits.TheConstants.{SOURCES_MAX}
 use Rattle.cp_model.specs.Place.{in_target}
 use Rattle.cp_model.specs.Tree.{Tree, Source, source}
 use Rattle.cp_model.specs.Past.{tree_of}
 use Rattle.cp_model.specs.Keyed.{len}
-use Rattle.cp_model.specs.History.{State, IsLegal, replay, load, most_sources}
+use Rattle.cp_model.specs.History.{State, IsLegal, replay, load}
 use Rattle.cp_model.specs.declared.kind.Kind.TheVariants as kind
 use Rattle.cp_model.specs.declared.op.Op.{Op}
 use Rattle.cp_reply.specs.declared.reply.Why.{Why}
@@ -45,7 +46,7 @@ pub record Stands {R : Type 0} (view : R → Tree) (d : Database R) (s : Session
   pub legal : IsLegal s.history
   pub kind : state.kind ≡ kind.N
   pub sources : sources_in view d.sources ≡ state.sources
-  pub bounded : length state.sources ≤ most_sources
+  pub bounded : length state.sources ≤ SOURCES_MAX
   pub tree : view d.tree ≡ tree_of state.tree
   pub rows : d.store.list ≡ state.rows
   pub upto : d.store.upto ≡ state.now
@@ -92,7 +93,7 @@ abbrev pub why_not_loaded : State → Opened → List ℕ → Option Why
 why_not_loaded t o n =
     if not (is_closed o) then Some why.TransactionOpen
     else if is_some (source t.sources n) then Some (why.SourceThere n)
-    else if length t.sources == most_sources then Some why.TooManySources
+    else if length t.sources == SOURCES_MAX then Some why.TooManySources
     else None
 
 -- the tree is kept as a source under the name, and the reply says so

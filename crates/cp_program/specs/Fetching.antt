@@ -1,4 +1,5 @@
 -- What a source file gives: its tree, or the first of the refusals of its reading.
+use Rattle.cp_program.specs.declared.limits.TheConstants.{FILE_MAX}
 use Rattle.std.specs.Prelude.{ℕ, List, length, nat_lt, if◌then◌else◌, Result, Ok, Err}
 use Rattle.std.specs.declared.option.Option.{Option}
 use Rattle.std.specs.declared.option.Option.TheVariants.{None, Some}
@@ -16,10 +17,6 @@ use Rattle.cp_csv.specs.declared.fault.CsvFault.TheVariants as csv
 use Rattle.cp_reply.specs.declared.reply.Why.{Why}
 use Rattle.cp_reply.specs.declared.reply.Why.TheVariants as why
 use Rattle.cp_session.specs.Session.{Fetched, gives, withholds}
-
--- the most bytes of a source file
-abbrev pub most_file : ℕ
-most_file = 67108864
 
 -- why a JSON text that is loaded under the name gives no tree; want of memory is no refusal
 abbrev pub json_why : List ℕ → JsonFault → Why
@@ -65,7 +62,7 @@ given name (Csv key) bytes = csv_given (csv_tree bytes key)
 -- a file, which may be none, that is loaded under the name
 abbrev pub file_gives : List ℕ → Form → Option (List ℕ) → Fetched
 file_gives name form None = withholds why.NoFile
-file_gives name form (Some bytes) = if nat_lt most_file (length bytes) then withholds why.FileTooLong else given name form bytes
+file_gives name form (Some bytes) = if nat_lt FILE_MAX (length bytes) then withholds why.FileTooLong else given name form bytes
 
 -- what a load finds in these files
 abbrev pub fetch : FileTable → Load → Fetched

@@ -1,4 +1,5 @@
 -- What a call did to its input and its output, by how it ended.
+use Rattle.cp_program.specs.declared.limits.TheConstants.{INPUT_MAX, PIECE_MAX}
 use Rattle.std.specs.Prelude.{◌≡◌, ◌⊎◌, ℕ, ◌≤◌, ◌<◌, ◌+◌, List, [], ◌++◌, length, take, true, false, is_some, ⊤}
 use Rattle.std.specs.declared.option.Option.{Option}
 use Rattle.std.specs.declared.option.Option.TheVariants.{None, Some}
@@ -7,7 +8,7 @@ use Rattle.cp_outside.specs.Causes.{Rose}
 use Rattle.cp_outside.specs.FileReads.{FileTable}
 use Rattle.cp_outside.specs.Sinks.{TakesPart}
 use Rattle.cp_session.specs.Session.{Fetched, gives, withholds}
-use Rattle.cp_program.specs.Words.{Start, most_input, most_piece, usage_text, input_line, file_line, memory_line, too_long_line}
+use Rattle.cp_program.specs.Words.{Start, usage_text, input_line, file_line, memory_line, too_long_line}
 use Rattle.cp_program.specs.Job.{Ended, start_given, played, job, refused_start}
 use Rattle.cp_program.specs.Ends.{code_of}
 use Rattle.cp_program.specs.declared.end.End.{End}
@@ -20,14 +21,14 @@ WritesLast before after refusals_before refusals bytes last =
 
 -- How many bytes of the input were taken behind so many others: more than a call takes exactly at that end.
 abbrev pub Took : ℕ → List ℕ → End → Type 0
-Took count taken how.Done = count + length taken ≤ most_input
-Took count taken how.Refused = count + length taken ≤ most_input
+Took count taken how.Done = count + length taken ≤ INPUT_MAX
+Took count taken how.Refused = count + length taken ≤ INPUT_MAX
 Took count taken how.Usage = ⊥
-Took count taken how.Input = count + length taken ≤ most_input
-Took count taken how.File = count + length taken ≤ most_input
-Took count taken how.Output = count + length taken ≤ most_input
-Took count taken how.Memory = count + length taken ≤ most_input
-Took count taken how.TooLong = most_input < count + length taken
+Took count taken how.Input = count + length taken ≤ INPUT_MAX
+Took count taken how.File = count + length taken ≤ INPUT_MAX
+Took count taken how.Output = count + length taken ≤ INPUT_MAX
+Took count taken how.Memory = count + length taken ≤ INPUT_MAX
+Took count taken how.TooLong = INPUT_MAX < count + length taken
 
 -- What the output took, by how the call ended, where these bytes of the input were taken. `plays` gives what the
 -- statements that end in bytes write, and `plays_all` what a whole input's do.
@@ -48,7 +49,7 @@ Wrote plays plays_all count taken left before after r s how.Memory =
     (Rose r s × TakesPart before after (plays_all taken).out) ⊎ ((k : ℕ) × (k ≤ length taken) × WritesLast before after r s (plays (take k taken)).out memory_line)
 -- each statement that ends in all but the last piece was run
 Wrote plays plays_all count taken left before after r s how.TooLong =
-    (k : ℕ) × (count + k ≤ most_input) × (length taken ≤ k + most_piece) × WritesLast before after r s (plays (take k taken)).out too_long_line
+    (k : ℕ) × (count + k ≤ INPUT_MAX) × (length taken ≤ k + PIECE_MAX) × WritesLast before after r s (plays (take k taken)).out too_long_line
 
 -- What the output took where the start tree is refused by this line.
 abbrev pub WroteRefusal : List ℕ → Option (List ℕ) → Option (List ℕ) → ℕ → ℕ → End → Type 0
@@ -105,7 +106,7 @@ Whole files (withholds w) left before after status = TellsRefusal (refused_start
 -- At most so many bytes are there to come.
 abbrev pub IsShort : Option (List ℕ) → Type 0
 IsShort None = ⊥
-IsShort (Some all) = length all ≤ most_input
+IsShort (Some all) = length all ≤ INPUT_MAX
 
 -- The ends of a run in which nothing failed.
 abbrev pub IsAnswer : End → Type 0

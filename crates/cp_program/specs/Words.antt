@@ -45,10 +45,3 @@ memory_line = codes "error: memory\n"
 abbrev pub too_long_line : List ℕ
 too_long_line = codes "error: input too long\n"
 
--- the most bytes that a call takes, and the most that a read asks for
-abbrev pub most_input : ℕ
-most_input = 68719476736
-
--- the most bytes that a read asks for
-abbrev pub most_piece : ℕ
-most_piece = 65536

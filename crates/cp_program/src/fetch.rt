@@ -10,6 +10,7 @@ ghost use Rattle.cp_program.specs.Fetching.{file_gives, given, json_why, csv_why
 ghost use Rattle.cp_program.specs.Fetched.{Gives, FitsUnder};
 ghost use Rattle.cp_program.specs.Turns.{BlamesFiles};
 
+use crate::limits::FILE_MAX;
 use crate::stop::Stop;
 use cp_csv::{CsvFault, tree_of_csv};
 use cp_json::{JsonFault, tree_of_json};
@@ -19,9 +20,6 @@ use cp_path::{Label, Loc, Name};
 use cp_reply::Why;
 use cp_tree::TreeRep;
 use std::alloc::{AllocError, Global};
-
-/// The most bytes of a source file.
-const FILE_MAX: u64 = 67_108_864;
 
 /// Why a JSON text that is loaded under the name gives no tree.
 fn why_of_json(name: &Name, fault: JsonFault) -> Result<Why, AllocError>

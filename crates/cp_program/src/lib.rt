@@ -5,6 +5,7 @@
 mod database;
 mod end;
 mod fetch;
+mod limits;
 mod run;
 mod session;
 mod stop;

@@ -5,7 +5,7 @@ ghost use Rattle.std.specs.Io.KnownBytes.{IsAtEnd};
 ghost use Rattle.cp_outside.specs.Causes.{Rose};
 ghost use Rattle.cp_outside.specs.FileReads.{FileTable};
 ghost use Rattle.cp_reply.specs.Lines.{lines};
-ghost use Rattle.cp_program.specs.Words.{is_scratch, is_file_name, start_of, most_input, most_piece, memory_line, file_line};
+ghost use Rattle.cp_program.specs.Words.{is_scratch, is_file_name, start_of, memory_line, file_line};
 ghost use Rattle.cp_program.specs.Job.{start_given, refused_start};
 ghost use Rattle.cp_session.specs.Session.{gives};
 ghost use Rattle.cp_program.specs.Fetched.{Gives};
@@ -15,6 +15,7 @@ ghost use Rattle.cp_program.specs.Ends.{code_of};
 ghost use Rattle.cp_program.specs.Story.{WritesLast, WroteRefusal, IsCalm, HasCauses, RanAs, Ran, Called, counts};
 ghost use Rattle.cp_program.specs.Turns.{Follows, FollowsOne, WroteLast, Closes, RanFrom, Turned, Written, Blames, BlamesFiles, IsOwn, IsClosing, status_of, status_or_done};
 
+use crate::limits::{INPUT_MAX, PIECE_MAX};
 use crate::end::{End, Status};
 use crate::fetch::fetch;
 use crate::session::Session;
@@ -28,12 +29,6 @@ use cp_reply::{Of, Reply, Why, lines};
 use cp_tree::TreeRep;
 use cp_tree_box::BoxTree;
 use std::alloc::{AllocError, Global};
-
-/// The most bytes of input that a call takes.
-const MOST_INPUT: u64 = 68_719_476_736;
-
-/// The most bytes that a read asks for.
-const MOST_PIECE: usize = 65_536;
 
 const USAGE: &[u8] =
     b"usage: cpdb scratch KIND [JSON]\nusage: cpdb init STORE KIND [JSON]\nusage: cpdb run STORE [CURATOR]\nusage: cpdb commit STORE FILE [CURATOR]\nusage: cpdb load STORE NAME json FILE\nusage: cpdb load STORE NAME csv FILE [COLUMN]\nusage: cpdb query STORE STATEMENT\nusage: cpdb verify STORE\nusage: cpdb checkpoint STORE\nusage: cpdb gen SEED COUNT KIND\nusage: cpdb log STORE\n";
@@ -144,7 +139,7 @@ fn closing<R: TreeRep, F: Files, O: Sink>(
     output: &mut O,
 ) -> End
     requires stands { FollowsOne R.contents session.old }
-    requires room { session.old.database.runs ≤ most_input }
+    requires room { session.old.database.runs ≤ INPUT_MAX }
     ensures went { (t : FileTable) → F.found files.old ≡ Some t → (s : Seen) → Follows R.contents session.old s
         → Closes t s session.old.refused (O.contents output.old) (O.contents output.new) (O.refusals output.old) (O.refusals output.new) result }
     ensures own { IsClosing result }
@@ -175,10 +170,10 @@ fn turn<R: TreeRep, F: Files, I: Source, O: Sink>(
 ) -> Result<u64, End>
     requires stands { FollowsOne R.contents session.old }
     requires few { session.old.database.runs ≤ before }
-    requires taken { before ≤ most_input }
+    requires taken { before ≤ INPUT_MAX }
     requires room { 0 < length piece.old }
-    requires bounded { length piece.old ≤ most_piece }
-    ensures goes_on { IfOk result (λ n. (before < n) × (n ≤ most_input) × (session.new.database.runs ≤ n) × FollowsOne R.contents session.new
+    requires bounded { length piece.old ≤ PIECE_MAX }
+    ensures goes_on { IfOk result (λ n. (before < n) × (n ≤ INPUT_MAX) × (session.new.database.runs ≤ n) × FollowsOne R.contents session.new
         × Turned R.contents (F.found files.old) session.old session.new before n (I.left input.old) (I.left input.new) (O.contents output.old) (O.contents output.new)) }
     ensures ends { IfErr result (λ end. RanFrom R.contents (F.found files.old) session.old before (I.left input.old) (I.left input.new) (O.contents output.old) (O.contents output.new) (O.refusals output.old) (O.refusals output.new) end) }
     ensures same { F.found files.new ≡ F.found files.old }
@@ -193,7 +188,7 @@ fn turn<R: TreeRep, F: Files, I: Source, O: Sink>(
         return Err(closing(session, files, output));
     }
     let now = before + count as u64;
-    if now > MOST_INPUT {
+    if now > INPUT_MAX {
         last_line(output, b"error: input too long\n");
         return Err(End::TooLong);
     }
@@ -214,7 +209,7 @@ fn turns<R: TreeRep, F: Files, I: Source, O: Sink>(
     requires stands { FollowsOne R.contents session.old }
     requires few { session.old.database.runs ≡ 0 }
     requires room { 0 < length piece.old }
-    requires bounded { length piece.old ≤ most_piece }
+    requires bounded { length piece.old ≤ PIECE_MAX }
     ensures ran { RanFrom R.contents (F.found files.old) session.old 0 (I.left input.old) (I.left input.new) (O.contents output.old) (O.contents output.new) (O.refusals output.old) (O.refusals output.new) result }
     ensures causes { HasCauses (counts (I.faults input.old) (F.faults files.old) (O.faults output.old)) (counts (I.faults input.new) (F.faults files.new) (O.faults output.new)) result }
 {
@@ -247,7 +242,7 @@ fn session_on<R: TreeRep, F: Files, I: Source, O: Sink>(
     output: &mut O,
 ) -> End
     requires room { 0 < length piece.old }
-    requires bounded { length piece.old ≤ most_piece }
+    requires bounded { length piece.old ≤ PIECE_MAX }
     ensures ran { RanAs (F.found files.old) (λ t. gives (R.contents tree)) (I.left input.old) (I.left input.new) (O.contents output.old) (O.contents output.new) (O.refusals output.old) (O.refusals output.new) result }
     ensures causes { HasCauses (counts (I.faults input.old) (F.faults files.old) (O.faults output.old)) (counts (I.faults input.new) (F.faults files.new) (O.faults output.new)) result }
 {
@@ -326,7 +321,7 @@ fn session<R: TreeRep, F: Files, I: Source, O: Sink>(
     output: &mut O,
 ) -> End
     requires room { 0 < length piece.old }
-    requires bounded { length piece.old ≤ most_piece }
+    requires bounded { length piece.old ≤ PIECE_MAX }
     ensures ran { RanAs (F.found files.old) (λ t. start_given t (asked start.entry)) (I.left input.old) (I.left input.new) (O.contents output.old) (O.contents output.new) (O.refusals output.old) (O.refusals output.new) result }
     ensures causes { HasCauses (counts (I.faults input.old) (F.faults files.old) (O.faults output.old)) (counts (I.faults input.new) (F.faults files.new) (O.faults output.new)) result }
 {
@@ -348,7 +343,7 @@ fn scratch<R: TreeRep, F: Files, I: Source, O: Sink>(
     ensures ran { RanAs (F.found files.old) (λ t. start_given t (asked start.entry)) (I.left input.old) (I.left input.new) (O.contents output.old) (O.contents output.new) (O.refusals output.old) (O.refusals output.new) result }
     ensures causes { HasCauses (counts (I.faults input.old) (F.faults files.old) (O.faults output.old)) (counts (I.faults input.new) (F.faults files.new) (O.faults output.new)) result }
 {
-    match vec![in alloc; 0u8; MOST_PIECE] {
+    match vec![in alloc; 0u8; PIECE_MAX] {
         Ok(mut piece) => session::<R, F, I, O>(alloc, start, &mut piece, files, input, output),
         Err(_) => out_of_memory(output),
     }

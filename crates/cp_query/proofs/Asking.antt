@@ -6,7 +6,7 @@ use Rattle.cp_model.specs.Place.{in_target}
 use Rattle.cp_model.specs.Subtrees.{is_there}
 use Rattle.cp_model.specs.Tree.{Tree}
 use Rattle.cp_model.specs.Past.{Aged}
-use Rattle.cp_model.specs.Lookups.{there-mapped}
+use Rattle.cp_model.proofs.Lookups.{there-mapped}
 use Rattle.cp_model.specs.History.{State}
 use Rattle.cp_model.specs.Leaps.{last}
 use Rattle.cp_model.specs.Records.{reads}
@@ -17,7 +17,7 @@ use Rattle.cp_query.specs.declared.walk.Walk.{Walk}
 use Rattle.cp_query.specs.Asked.{IsCommitted, is_in}
 use Rattle.cp_query.specs.Following.{back}
 use Rattle.cp_query.specs.Laws.{Tells}
-use Rattle.cp_query.specs.Telling.{tells-pasts}
+use Rattle.cp_query.proofs.Telling.{tells-pasts}
 use Rattle.cp_query.specs.Legs.{trace_from, src_from, hist_from}
 
 and_second : (a b : Bool) → (a && b) ≡ true → b ≡ true

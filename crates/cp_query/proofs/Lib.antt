@@ -1,2 +1,4 @@
 mod Steps
 mod Asking
+pub mod Followed
+pub mod Telling

@@ -13,10 +13,12 @@ use Rattle.cp_model.specs.declared.answer.Segment.{Segment}
 use Rattle.cp_model.specs.declared.answer.Trace.{Trace}
 use Rattle.cp_model.specs.declared.answer.TraceEnd.{TraceEnd}
 use Rattle.cp_model.specs.declared.answer.TraceEnd.TheVariants as end
-use Rattle.cp_model.specs.Place.{Path, in_target, at_target, target, text_eq-same}
+use Rattle.cp_model.specs.Place.{Path, in_target, at_target, target}
+use Rattle.cp_path.proofs.Same.{text_eq-same}
 use Rattle.cp_model.specs.Past.{copied}
 use Rattle.cp_model.specs.Rows.{Effect, same, made, from, gone}
-use Rattle.cp_model.specs.Leaps.{Effects, last, Says, last-says}
+use Rattle.cp_model.specs.Leaps.{Effects, last}
+use Rattle.cp_model.proofs.LeapsLemmas.{Says, last-says}
 use Rattle.cp_model.specs.Records.{reads}
 use Rattle.cp_model.specs.Answers.{segment, after_segment, alone, traced, src_of, copy_tid}
 use Rattle.cp_store.specs.declared.change.Change.{Change}
@@ -26,7 +28,7 @@ use Rattle.cp_query.specs.declared.walk.Leg.{Leg}
 use Rattle.cp_query.specs.declared.walk.Came.{Came}
 use Rattle.cp_query.specs.declared.walk.Came.TheVariants.{Back, End}
 use Rattle.cp_query.specs.Following.{change_then, back}
-use Rattle.cp_query.specs.Followed.{back-step, src-more}
+use Rattle.cp_query.proofs.Followed.{back-step, src-more}
 use Rattle.cp_query.specs.Legs.{inserted_by, copied_by, leg_with, leg_by, leg, trace_from, src_from, hist_from}
 
 -- ---- a look-up

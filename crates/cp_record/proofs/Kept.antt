@@ -7,6 +7,7 @@ use Rattle.std.specs.List.{flat_map, AllByRecursion, slice_get}
 use Rattle.std.specs.Option.{option_map}
 use Rattle.std.specs.Int.{to_be_bytes, w64}
 use Rattle.cp_path.specs.Encoding.{counted, path_bytes, place_bytes}
+use Rattle.cp_path.specs.declared.limits.TheConstants.{LABELS_MAX}
 use Rattle.cp_path.specs.Place.{Path, Label, target}
 use Rattle.cp_path.specs.declared.loc.Loc.{Loc}
 use Rattle.cp_model.specs.declared.record.Record.{Record}
@@ -97,7 +98,7 @@ pub all_more : {X : Type 0} (P : X → Type 0) (xs : List X) (k : ℕ) (d : X) �
 all_more P xs k d le h p = let n : suc k ≡ k + 1 = omega arith in subst (λ m. AllByRecursion P (take m xs)) n (all_suc P xs k d le h p)
 
 -- a path that is the front of another has room for one label more
-pub front_few : (p path : Path) (k : ℕ) → path ≡ take k p → k < length p → length p ≤ 64 → length path < 64
+pub front_few : (p path : Path) (k : ℕ) → path ≡ take k p → k < length p → length p ≤ LABELS_MAX → length path < LABELS_MAX
 front_few p path k e le few = let size : length path ≡ k = ap length e ∙ length-take-le k p (omega (arith, le)) in omega (arith, size, le, few)
 
 -- the record of a number stands behind those before it

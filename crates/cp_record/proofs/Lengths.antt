@@ -1,11 +1,12 @@
 -- The lengths of trees, and that they are at most their weights.
+use Rattle.cp_model.specs.declared.limits.TheConstants.{WEIGHT_MAX}
 use Rattle.std.proofs.Common.{◌≡◌, ℕ, zero, suc, ◌+◌, ◌<◌, ◌≤◌, List, [], ◌∷◌, ◌++◌, refl, sym, ap, ◌∙◌, length, length-append, drop, get_or, sum_by, arith}
 use Rattle.std.proofs.lemmas.List.{drop_more, length-map}
 use Rattle.std.proofs.lemmas.List.Sums.{sum_by-cons, sum_by-append}
 use Rattle.cp_path.specs.declared.value.Value.TheVariants.{Null, False, True, Whole, Text}
 use Rattle.cp_model.specs.Place.{Path, Label}
 use Rattle.cp_model.specs.Literals.{literal_rows, rows_under, edge_rows}
-use Rattle.cp_model.specs.Tree.{weight_of, most_weight}
+use Rattle.cp_model.specs.Tree.{weight_of}
 use Rattle.cp_model.specs.declared.row.Content.{Content}
 use Rattle.cp_model.specs.declared.row.Content.TheVariants.{Node, Leaf}
 use Rattle.cp_model.specs.declared.literal.Literal.{Literal}
@@ -41,13 +42,13 @@ rows_light [] = omega arith
 rows_light (e ∷ es) = omega (arith, rows_light es, row_light e.0 e.1, sum_by-cons weight_of e es, sum_by-cons row_length e es)
 
 -- what stands below a node weighs at most what the tree weighs
-pub node_weight : (t : Literal) (rows : List (Path × Content)) → t ≡ literal.Node rows → sum_by weight_of (literal_rows t) ≤ most_weight → sum_by weight_of rows ≤ most_weight
+pub node_weight : (t : Literal) (rows : List (Path × Content)) → t ≡ literal.Node rows → sum_by weight_of (literal_rows t) ≤ WEIGHT_MAX → sum_by weight_of rows ≤ WEIGHT_MAX
 node_weight t rows e h =
     let whole : sum_by weight_of (literal_rows t) ≡ sum_by weight_of (([], Node) ∷ rows) = ap (λ (x : Literal). sum_by weight_of (literal_rows x)) e in
     omega (arith, h, whole, sum_by-cons weight_of ([], Node) rows)
 
 -- what stands below a node takes at most what the tree weighs
-pub node_light : (t : Literal) (rows : List (Path × Content)) → t ≡ literal.Node rows → sum_by weight_of (literal_rows t) ≤ most_weight → tree_length rows ≤ most_weight
+pub node_light : (t : Literal) (rows : List (Path × Content)) → t ≡ literal.Node rows → sum_by weight_of (literal_rows t) ≤ WEIGHT_MAX → tree_length rows ≤ WEIGHT_MAX
 node_light t rows e h =
     let whole : sum_by weight_of (literal_rows t) ≡ sum_by weight_of (([], Node) ∷ rows) = ap (λ (x : Literal). sum_by weight_of (literal_rows x)) e in
     omega (arith, h, whole, rows_light rows, sum_by-cons weight_of ([], Node) rows)
@@ -133,7 +134,7 @@ edges_some [] h = absurd (omega arith)
 edges_some (e ∷ es) h = omega (arith, next_count (e ∷ es) zero e h refl, some_rows e.tree)
 
 -- what is inserted takes at most its weight
-pub inserted_light : (t : Literal) → sum_by weight_of (literal_rows t) ≤ most_weight → inserted_length t ≤ most_weight
+pub inserted_light : (t : Literal) → sum_by weight_of (literal_rows t) ≤ WEIGHT_MAX → inserted_length t ≤ WEIGHT_MAX
 inserted_light (literal.Leaf v) h = omega (arith, h, row_light [] (Leaf v))
 inserted_light (literal.Node []) h = omega arith
 inserted_light (literal.Node (e ∷ es)) h = omega (arith, h, rows_light (([], Node) ∷ e ∷ es))

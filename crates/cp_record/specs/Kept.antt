@@ -4,6 +4,7 @@ use Rattle.std.specs.List.{AllByRecursion}
 use Rattle.std.specs.declared.option.Option.{Option}
 use Rattle.cp_record.specs.Bytes.{letter}
 use Rattle.cp_path.specs.Text.{is_name}
+use Rattle.cp_path.specs.declared.limits.TheConstants.{LABEL_MAX, LABELS_MAX}
 use Rattle.cp_path.specs.declared.loc.Loc.{Loc}
 use Rattle.cp_model.specs.Place.{Path, at_target}
 use Rattle.cp_model.specs.declared.record.Record.{Record}
@@ -20,7 +21,7 @@ is_copy op.K = false
 -- the bytes of a label
 pub record IsLabel (a : List ℕ) : Type 0 where
   pub text : IsUtf8 a
-  pub short : length a ≤ 255
+  pub short : length a ≤ LABEL_MAX
 
 -- the bytes of a name
 pub record IsName (a : List ℕ) : Type 0 where
@@ -30,7 +31,7 @@ pub record IsName (a : List ℕ) : Type 0 where
 -- no more labels than a path may have
 pub record IsPath (p : Path) : Type 0 where
   pub labels : AllByRecursion IsLabel p
-  pub few : length p ≤ 64
+  pub few : length p ≤ LABELS_MAX
 
 -- a name and a path
 pub record IsPlace (q : Loc) : Type 0 where

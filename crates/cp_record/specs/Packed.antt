@@ -1,4 +1,5 @@
 -- What packed records hold.
+use Rattle.cp_model.specs.declared.limits.TheConstants.{WEIGHT_MAX}
 use Rattle.std.specs.Prelude.{ℕ, ◌^◌, ◌≡◌, ◌≤◌, ◌<◌, ◌++◌, Bool, true, false, List, length, sum_by, is_some, ⊤}
 use Rattle.std.specs.List.{AllByRecursion}
 use Rattle.cp_model.specs.Place.{Path, at_target}
@@ -6,7 +7,7 @@ use Rattle.cp_model.specs.declared.row.Content.{Content}
 use Rattle.cp_model.specs.declared.literal.Literal.{Literal}
 use Rattle.cp_model.specs.declared.literal.Literal.TheVariants as literal
 use Rattle.cp_model.specs.Literals.{literal_rows}
-use Rattle.cp_model.specs.Tree.{weight_of, most_weight}
+use Rattle.cp_model.specs.Tree.{weight_of}
 use Rattle.cp_model.specs.declared.op.Op.{Op}
 use Rattle.cp_model.specs.declared.op.Op.TheVariants.{Ins, Del, Copy}
 use Rattle.cp_model.specs.declared.record.Record.{Record}
@@ -28,7 +29,7 @@ pub record Grew (old new : List ℕ) : Type 0 where
 
 -- an insertion whose tree is within the limit of weight
 abbrev pub IsSmall : Op → Type 0
-IsSmall (Ins p a l) = sum_by weight_of (literal_rows l) ≤ most_weight
+IsSmall (Ins p a l) = sum_by weight_of (literal_rows l) ≤ WEIGHT_MAX
 IsSmall (Del a p) = ⊤
 IsSmall (Copy q p) = ⊤
 

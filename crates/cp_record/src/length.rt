@@ -1,17 +1,17 @@
 ghost use Rattle.std.specs.Prelude.{◌≡◌, ◌≤◌, ◌+◌, [], length, sum_by};
 ghost use Rattle.cp_model.specs.Literals.{literal_rows};
-ghost use Rattle.cp_model.specs.Tree.{weight_of, most_weight};
+ghost use Rattle.cp_model.specs.Tree.{weight_of};
 ghost use Rattle.cp_model.specs.declared.row.Content.TheVariants.{Leaf};
 ghost use Rattle.cp_record.specs.Bytes.{op_length, path_length, place_length, content_length, tree_length, inserted_length};
 ghost use Rattle.cp_record.specs.Packed.{IsSmall, AreBelow, IsTreeOfRows};
 
-use cp_model::{LitList, Literal, Op};
-use cp_path::{Label, Loc, Path, Value};
+use cp_model::{LitList, Literal, Op, ENTRY_MAX, WEIGHT_MAX};
+use cp_path::{Label, Loc, Path, Value, LABEL_MAX};
 
 // A label behind its length.
 fn label_length(label: &Label) -> u64
     ensures length { result ≡ 1 + length label.now }
-    ensures bound { length label.now ≤ 255 }
+    ensures bound { length label.now ≤ LABEL_MAX }
 {
     1 + label.as_str().len() as u64
 }
@@ -36,7 +36,7 @@ fn place_length(place: &Loc) -> u64
 }
 
 fn value_length(value: &Value) -> u64
-    requires { weight_of ([], Leaf value.now) ≤ most_weight }
+    requires { weight_of ([], Leaf value.now) ≤ WEIGHT_MAX }
     ensures { result ≡ content_length (Leaf value.now) }
 {
     match value {
@@ -49,7 +49,7 @@ fn value_length(value: &Value) -> u64
 // The edges below a node, each with its tree.
 #[cycle(tree)]
 fn edges_length(list: &LitList) -> u64
-    requires weight { sum_by weight_of list.now ≤ most_weight }
+    requires weight { sum_by weight_of list.now ≤ WEIGHT_MAX }
     ensures length { result ≡ tree_length list.now }
     ensures below { AreBelow list.now }
 {
@@ -62,7 +62,7 @@ fn edges_length(list: &LitList) -> u64
 
 #[cycle(tree)]
 fn rows_length(tree: &Literal) -> u64
-    requires weight { sum_by weight_of (literal_rows tree.now) ≤ most_weight }
+    requires weight { sum_by weight_of (literal_rows tree.now) ≤ WEIGHT_MAX }
     ensures length { result ≡ tree_length (literal_rows tree.now) }
     ensures below { IsTreeOfRows tree.now }
 {
@@ -74,9 +74,9 @@ fn rows_length(tree: &Literal) -> u64
 
 // A content alone, or a tree.
 fn inserted_length(tree: &Literal) -> u64
-    requires { sum_by weight_of (literal_rows tree.now) ≤ most_weight }
+    requires { sum_by weight_of (literal_rows tree.now) ≤ WEIGHT_MAX }
     ensures length { result ≡ inserted_length tree.now }
-    ensures bound { inserted_length tree.now ≤ most_weight }
+    ensures bound { inserted_length tree.now ≤ WEIGHT_MAX }
 {
     match tree {
         Literal::Leaf(value) => value_length(value),
@@ -94,7 +94,7 @@ fn inserted_length(tree: &Literal) -> u64
 pub fn op_length(op: &Op) -> u64
     requires small { IsSmall op.now }
     ensures length { result ≡ op_length op.now }
-    ensures bound { op_length op.now ≤ 67108864 }
+    ensures bound { op_length op.now ≤ ENTRY_MAX }
 {
     match op {
         Op::Ins { into, label, tree } => {

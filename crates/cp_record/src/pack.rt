@@ -10,7 +10,7 @@ ghost use Rattle.cp_record.specs.Kept.{IsLabel, IsPath, IsPlace, IsKept, is_copy
 ghost use Rattle.cp_record.specs.Packed.{Grew};
 
 use cp_model::RecOp;
-use cp_path::{Label, Loc, Path};
+use cp_path::{Label, Loc, Path, LABELS_MAX, LABEL_MAX};
 use std::alloc::AllocError;
 
 /// The letter of a record in ASCII.
@@ -27,7 +27,7 @@ fn letter(op: RecOp) -> u8
 
 /// Writes bytes behind their number.
 fn push_counted(out: &mut Vec<u8>, bytes: &[u8]) -> Result<(), AllocError>
-    requires { length bytes.now ≤ 255 }
+    requires { length bytes.now ≤ LABEL_MAX }
     ensures ok { OnOk result (out.new.items ≡ out.old.items ++ counted bytes.now) }
     ensures err { Grew out.old.items out.new.items }
 {
@@ -50,7 +50,7 @@ fn push_labels(out: &mut Vec<u8>, labels: &[Label]) -> Result<(), AllocError>
 
 /// Writes the path `below` the path `base`.
 fn push_path(out: &mut Vec<u8>, base: &Path, below: &Path) -> Result<(), AllocError>
-    requires { length base.now + length below.now ≤ 64 }
+    requires { length base.now + length below.now ≤ LABELS_MAX }
     ensures ok { OnOk result (out.new.items ≡ out.old.items ++ path_bytes (base.now ++ below.now)) }
     ensures path { OnOk result (IsPath (base.now ++ below.now)) }
     ensures err { Grew out.old.items out.new.items }
@@ -64,7 +64,7 @@ fn push_path(out: &mut Vec<u8>, base: &Path, below: &Path) -> Result<(), AllocEr
 
 /// Writes the place `below` the place `source`.
 fn push_source(out: &mut Vec<u8>, source: &Loc, below: &Path) -> Result<(), AllocError>
-    requires { length source.now.path + length below.now ≤ 64 }
+    requires { length source.now.path + length below.now ≤ LABELS_MAX }
     ensures ok { OnOk result (out.new.items ≡ out.old.items ++ place_bytes (below_place source.now below.now)) }
     ensures place { OnOk result (IsPlace (below_place source.now below.now)) }
     ensures err { Grew out.old.items out.new.items }
@@ -84,8 +84,8 @@ pub(crate) fn push_record(
     below: &Path,
     source: Option<&Loc>,
 ) -> Result<(), AllocError>
-    requires place { length base.now + length below.now ≤ 64 }
-    requires source { IfSome source (λ q. length q.now.path + length below.now ≤ 64) }
+    requires place { length base.now + length below.now ≤ LABELS_MAX }
+    requires source { IfSome source (λ q. length q.now.path + length below.now ≤ LABELS_MAX) }
     requires source_of_copy { is_some source ≡ is_copy op }
     ensures ok { OnOk result (out.new.items ≡ out.old.items ++ record_bytes (record_below tid op base.now below.now (option_map (λ q. q.now) source.entry))) }
     ensures kept { OnOk result (IsKept (record_below tid op base.now below.now (option_map (λ q. q.now) source.entry))) }

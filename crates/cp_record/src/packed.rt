@@ -11,7 +11,7 @@ ghost use Rattle.cp_record.specs.Packed.{EndsAt};
 use crate::pack::push_record;
 use crate::unpack::{behind_record, mark_at, record_at, tid_at};
 use cp_model::{RecOp, Record, RecordList, RowMark};
-use cp_path::{Loc, Path};
+use cp_path::{LABELS_MAX, Loc, Path};
 use std::alloc::{AllocError, Global};
 use std::marker::Model;
 
@@ -53,8 +53,8 @@ impl PackedRecords {
         below: &Path,
         source: Option<&Loc>,
     ) -> Result<(), AllocError>
-        requires place { length base.now + length below.now ≤ 64 }
-        requires source { IfSome source (λ q. length q.now.path + length below.now ≤ 64) }
+        requires place { length base.now + length below.now ≤ LABELS_MAX }
+        requires source { IfSome source (λ q. length q.now.path + length below.now ≤ LABELS_MAX) }
         requires source_of_copy { is_some source ≡ is_copy op }
         ensures ok { OnOk result (self.new ≡ self.old ++ record_below tid op base.now below.now (option_map (λ q. q.now) source.entry) ∷ []) }
         ensures err { OnErr result (self.new ≡ self.old) }

@@ -14,7 +14,7 @@ ghost use Rattle.cp_record.specs.Bytes.{letter, source_bytes, record_bytes};
 ghost use Rattle.cp_record.specs.Kept.{Begins, IsLabel, IsName, IsPath, IsPathOf, IsPlace, IsSource, IsKept, IsLetter, IsAny};
 
 use cp_model::{RecOp, Record, RowMark};
-use cp_path::{Label, Loc, Name, Path, PathFault};
+use cp_path::{LABELS_MAX, Label, Loc, Name, Path, PathFault};
 use std::alloc::{AllocError, Global};
 
 /// The operation of a letter.
@@ -95,7 +95,7 @@ fn name_at(alloc: Global, bytes: &[u8]) -> Result<(Name, &[u8]), AllocError>
 
 /// Goes one label further down, where a path may.
 fn push(path: &mut Path, label: Label) -> Result<(), AllocError>
-    requires { length path.old < 64 }
+    requires { length path.old < LABELS_MAX }
     ensures { IfOk result (λ _. path.new ≡ path.old ++ label ∷ []) }
 {
     match path.push(label) {

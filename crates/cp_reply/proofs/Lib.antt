@@ -1,3 +1,4 @@
 mod Between
 mod Front
 mod Runs
+pub mod LinesLemmas

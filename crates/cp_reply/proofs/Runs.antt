@@ -1,4 +1,5 @@
 -- The groups of rows in order, found run by run.
+use Rattle.cp_path.specs.declared.limits.TheConstants.{LABELS_MAX}
 use Rattle.std.proofs.Common.{◌≡◌, ℕ, zero, suc, ◌+◌, ◌-◌, ◌≤◌, ◌<◌, Bool, true, false, not, List, [], ◌∷◌, ◌++◌, length, map, take, drop, get_or, codes, refl, ap, sym, ◌∙◌, subst, arith, add-one, append_assoc, append-nil, if◌then◌else◌}
 use Rattle.std.proofs.Math.Seq.{drop-cons}
 use Rattle.std.proofs.lemmas.List.{take-map, drop-map, length-drop}
@@ -10,12 +11,12 @@ use Rattle.std.specs.Result.{OnOk, is_ok}
 use Rattle.std.specs.Cmp.Lexicographic.{nat_list_eq_equiv}
 use Rattle.cp_path.specs.Place.{Label, Path, label_eq}
 use Rattle.cp_path.specs.Spelling.{label_text, value_text}
-use Rattle.cp_path.specs.Same.{text_eq-same}
+use Rattle.cp_path.proofs.Same.{text_eq-same}
 use Rattle.cp_path.specs.declared.value.Value.{Value}
 use Rattle.cp_model.specs.declared.row.Row.{Row}
 use Rattle.cp_model.specs.declared.row.Content.{Content}
 use Rattle.cp_model.specs.declared.row.Content.TheVariants.{Node, Leaf}
-use Rattle.cp_model.specs.Grouping.{joins}
+use Rattle.cp_model.proofs.Grouping.{joins}
 use Rattle.cp_model.specs.Trees.{Group, between, into_groups, groups, tree_at}
 use Rattle.cp_reply.specs.Runs.{seen, all_seen, leaves, run_length, edge, edges, IsNextRun}
 
@@ -155,7 +156,7 @@ pub edges_run : (d n : ℕ) (a : Label) (r : Row) (rows : List Row) (k : ℕ) �
 edges_run d n a r rows k e is =
     edges_some d n a r rows e ∙ ap (λ m. edge n a (all_seen (d + 1) (take m (r ∷ rows))) ∷ edges n (all_seen d (drop m (r ∷ rows)))) (sym (is ∙ own_run a d r rows e))
 
-pub next_is : (d : ℕ) (rows : List Row) (i : ℕ) (row : Row) (a : Label) (below run after : List Row) (k : ℕ) → i < length rows → row ≡ get_or rows i row → slice_get row.path d ≡ Some a → d < 64
+pub next_is : (d : ℕ) (rows : List Row) (i : ℕ) (row : Row) (a : Label) (below run after : List Row) (k : ℕ) → i < length rows → row ≡ get_or rows i row → slice_get row.path d ≡ Some a → d < LABELS_MAX
     → groups (all_seen d rows) ≡ groups (all_seen d (drop i rows)) → below ≡ drop i rows → k ≡ run_length a (all_seen d below) → run ≡ take k below → after ≡ drop k below
     → IsNextRun d rows a run after
 next_is d rows i row a below run after k within is label deep before cut length_is run_is after_is =
@@ -205,29 +206,29 @@ pub edges_end : (n d : ℕ) (rest : List Row) (s text whole : List ℕ) → grou
 edges_end n d rest s text whole none inv =
     sym (append-nil text) ∙ ap (λ gs. text ++ pending s (map (λ (g : Group). edge n g.label g.rows) gs)) (sym none) ∙ inv
 
-tree_node : (d n : ℕ) (p : Path) (rows : List (Path × Content)) → n ≡ suc (64 - d) → tree_at n ((p, Node) ∷ rows) ≡ codes "{" ++ (between (codes ", ") (edges (64 - d) rows) ++ codes "}")
+tree_node : (d n : ℕ) (p : Path) (rows : List (Path × Content)) → n ≡ suc (LABELS_MAX - d) → tree_at n ((p, Node) ∷ rows) ≡ codes "{" ++ (between (codes ", ") (edges (LABELS_MAX - d) rows) ++ codes "}")
 unfolding tree_at
 tree_node d n p rows e = ap (λ k. tree_at k ((p, Node) ∷ rows)) e
 
-tree_leaf : (d n : ℕ) (p : Path) (v : Value) (rows : List (Path × Content)) → n ≡ suc (64 - d) → tree_at n ((p, Leaf v) ∷ rows) ≡ value_text v
+tree_leaf : (d n : ℕ) (p : Path) (v : Value) (rows : List (Path × Content)) → n ≡ suc (LABELS_MAX - d) → tree_at n ((p, Leaf v) ∷ rows) ≡ value_text v
 unfolding tree_at
 tree_leaf d n p v rows e = ap (λ k. tree_at k ((p, Leaf v) ∷ rows)) e
 
-tree_none : (d n : ℕ) → n ≡ suc (64 - d) → tree_at n [] ≡ []
+tree_none : (d n : ℕ) → n ≡ suc (LABELS_MAX - d) → tree_at n [] ≡ []
 unfolding tree_at
 tree_none d n e = ap (λ k. tree_at k []) e
 
-pub no_rows : (d : ℕ) (rows : List Row) → d ≤ 64 → length rows ≡ 0 → tree_at (65 - d) (all_seen d rows) ≡ []
+pub no_rows : (d : ℕ) (rows : List Row) → d ≤ LABELS_MAX → length rows ≡ 0 → tree_at (65 - d) (all_seen d rows) ≡ []
 no_rows d [] within e = tree_none d (65 - d) (omega arith)
 no_rows d (r ∷ rows) within e = absurd (omega arith)
 
-pub leaf_row : (d : ℕ) (rows : List Row) (r : Row) (below : List Row) (v : Value) → d ≤ 64 → rows ≡ r ∷ below → r.content ≡ Leaf v → tree_at (65 - d) (all_seen d rows) ≡ value_text v
+pub leaf_row : (d : ℕ) (rows : List Row) (r : Row) (below : List Row) (v : Value) → d ≤ LABELS_MAX → rows ≡ r ∷ below → r.content ≡ Leaf v → tree_at (65 - d) (all_seen d rows) ≡ value_text v
 leaf_row d rows r below v within cut is =
     ap (λ xs. tree_at (65 - d) (all_seen d xs)) cut ∙ ap (λ c. tree_at (65 - d) ((drop d r.path, c) ∷ all_seen d below)) is
     ∙ tree_leaf d (65 - d) (drop d r.path) v (all_seen d below) (omega arith)
 
-pub node_row : (d : ℕ) (rows : List Row) (r : Row) (below : List Row) → d ≤ 64 → rows ≡ r ∷ below → r.content ≡ Node
-    → tree_at (65 - d) (all_seen d rows) ≡ codes "{" ++ (between (codes ", ") (edges (64 - d) (all_seen d below)) ++ codes "}")
+pub node_row : (d : ℕ) (rows : List Row) (r : Row) (below : List Row) → d ≤ LABELS_MAX → rows ≡ r ∷ below → r.content ≡ Node
+    → tree_at (65 - d) (all_seen d rows) ≡ codes "{" ++ (between (codes ", ") (edges (LABELS_MAX - d) (all_seen d below)) ++ codes "}")
 node_row d rows r below within cut is =
     ap (λ xs. tree_at (65 - d) (all_seen d xs)) cut ∙ ap (λ c. tree_at (65 - d) ((drop d r.path, c) ∷ all_seen d below)) is
     ∙ tree_node d (65 - d) (drop d r.path) (all_seen d below) (omega arith)

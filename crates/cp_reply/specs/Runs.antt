@@ -1,4 +1,5 @@
 -- The rows below a node, label by label, as a walk over a tree's rows in order finds them.
+use Rattle.cp_path.specs.declared.limits.TheConstants.{LABELS_MAX}
 use Rattle.std.specs.Prelude.{ℕ, ◌+◌, ◌≡◌, ◌<◌, List, [], ◌∷◌, ◌++◌, Bool, false, not, codes, map, length, drop, if◌then◌else◌}
 use Rattle.cp_path.specs.Place.{Label, Path, label_eq}
 use Rattle.cp_path.specs.Spelling.{label_text}
@@ -36,4 +37,4 @@ edges n rows = map (λ g. edge n g.label g.rows) (groups rows)
 pub record IsNextRun (depth : ℕ) (rows : List Row) (a : Label) (run after : List Row) : Type 0 where
   pub edges_are : (n : ℕ) → edges n (all_seen depth rows) ≡ edge n a (all_seen (depth + 1) run) ∷ edges n (all_seen depth after)
   pub fewer : length after < length rows
-  pub deep : depth < 64
+  pub deep : depth < LABELS_MAX

@@ -6,7 +6,7 @@ ghost use Rattle.cp_model.specs.Trees.{between, groups, tree_at, tree_text};
 ghost use Rattle.cp_reply.specs.Runs.{seen, all_seen, leaves, run_length, edge, edges, IsNextRun};
 
 use cp_model::{Content, Row};
-use cp_path::{Label, Value};
+use cp_path::{Label, Value, LABELS_MAX};
 use std::alloc::{AllocError, Global};
 
 /// The first rows below a node, which share their label there, and the rows after them.
@@ -20,7 +20,7 @@ struct Run<'a> {
 /// The row's label below the node that is this many labels down.
 fn label_at(row: &Row, depth: usize) -> Option<&Label>
     ensures value { option_copied result ≡ slice_get row.now.path depth }
-    ensures deep { IfSome result (λ _. depth < 64) }
+    ensures deep { IfSome result (λ _. depth < LABELS_MAX) }
 {
     row.path.labels().get(depth)
 }
@@ -96,8 +96,8 @@ fn push_edges(
     rows: &[Row],
     depth: usize,
 ) -> Result<(), AllocError>
-    requires { depth ≤ 64 }
-    ensures { OnOk result (string_bytes text.new ≡ string_bytes text.old ++ between (codes ", ") (edges (64 - depth) (all_seen depth rows.now))) }
+    requires { depth ≤ LABELS_MAX }
+    ensures { OnOk result (string_bytes text.new ≡ string_bytes text.old ++ between (codes ", ") (edges (LABELS_MAX - depth) (all_seen depth rows.now))) }
 {
     let mut rest = rows;
     let mut separator = "";
@@ -114,8 +114,8 @@ fn push_edges(
 /// Costs each row once for each level below the root.
 #[cycle(level)]
 fn push_tree(alloc: Global, text: &mut String, rows: &[Row], depth: usize) -> Result<(), AllocError>
-    requires { depth ≤ 64 }
-    ensures { OnOk result (string_bytes text.new ≡ string_bytes text.old ++ tree_at (65 - depth) (all_seen depth rows.now)) }
+    requires { depth ≤ LABELS_MAX }
+    ensures { OnOk result (string_bytes text.new ≡ string_bytes text.old ++ tree_at (LABELS_MAX + 1 - depth) (all_seen depth rows.now)) }
 {
     let Some((root, below)) = rows.split_first() else {
         return Ok(());

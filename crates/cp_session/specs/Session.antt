@@ -1,4 +1,5 @@
 -- A session: what each cut of the input replies, and the state that it leaves.
+use Rattle.cp_model.specs.declared.limits.TheConstants.{OPS_MAX, SOURCES_MAX}
 use Rattle.std.specs.Prelude.{ℕ, ◌+◌, ◌-◌, ◌==◌, List, [], ◌∷◌, ◌++◌, Bool, true, false, not, drop, length, map, is_some, if◌then◌else◌}
 use Rattle.std.specs.declared.option.Option.{Option}
 use Rattle.std.specs.declared.option.Option.TheVariants.{None, Some}
@@ -9,7 +10,7 @@ use Rattle.cp_model.specs.Subtrees.{below, is_there}
 use Rattle.cp_model.specs.Tree.{Tree, source, refusal}
 use Rattle.cp_model.specs.Step.{Outcome, done, refused, step, contents}
 use Rattle.cp_model.specs.Past.{tree_of}
-use Rattle.cp_model.specs.History.{Entry, start, load, commit, State, replay, steps_of, after_commit, most_ops, most_sources}
+use Rattle.cp_model.specs.History.{Entry, start, load, commit, State, replay, steps_of, after_commit}
 use Rattle.cp_model.specs.Answers.{answer_to}
 use Rattle.cp_model.specs.declared.op.Op.{Op}
 use Rattle.cp_model.specs.declared.op.Op.TheVariants.{Ins, Del, Copy}
@@ -100,12 +101,6 @@ with_entry s e = record { history = s.history ++ e ∷ []; opened = s.opened; mo
 
 -- ---- operations
 
--- the operations that are held
-abbrev pub held : Opened → List Op
-held closed = []
-held (going ops) = ops
-held (failed n c) = []
-
 -- the place and the label that a refusal names
 abbrev pub why_refused : Op → Refusal → Why
 why_refused (Ins p a l) refusal.NoPlace = why.NoPlace p
@@ -150,7 +145,7 @@ refusal_on s (refused n r) op = Some r
 -- the refusal of an operation behind those that are held, if there is one
 abbrev pub refusal_after : State → List Op → Op → Option Refusal
 refusal_after s ops op =
-    if length ops == most_ops then Some refusal.TooManyOps else refusal_on s (step (tree_of s.tree) s.sources ops) op
+    if length ops == OPS_MAX then Some refusal.TooManyOps else refusal_on s (step (tree_of s.tree) s.sources ops) op
 
 -- an operation that is refused fails the transaction, another is held
 abbrev pub decided : Session → List Op → Op → Option Refusal → Turn
@@ -238,7 +233,7 @@ abbrev pub loading : Setting → Session → State → Load → Turn
 loading c s t l =
     if not (is_closed s.opened) then refused_load why.TransactionOpen s
     else if is_some (source t.sources l.name) then refused_load (why.SourceThere l.name) s
-    else if length t.sources == most_sources then refused_load why.TooManySources s
+    else if length t.sources == SOURCES_MAX then refused_load why.TooManySources s
     else fetched c s l.name (c.fetch l)
 
 -- ---- show and queries

@@ -1,1 +1,14 @@
 pub mod Listed
+pub mod Alike
+pub mod BranchLemmas
+pub mod Built
+pub mod Counted
+pub mod Edges
+pub mod Fits
+pub mod GoodLemmas
+pub mod Leaves
+pub mod ListingLemmas
+pub mod Rising
+pub mod Steps
+pub mod Tallies
+pub mod Totals

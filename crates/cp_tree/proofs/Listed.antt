@@ -1,4 +1,5 @@
 -- The rows of literal trees, and how deep they lie.
+use Rattle.cp_path.specs.declared.limits.TheConstants.{LABELS_MAX}
 use Rattle.std.specs.Prelude.{◌≡◌, ℕ, ◌+◌, ◌≤◌, List, [], ◌∷◌, ◌++◌, length, map, max}
 use Rattle.std.proofs.Common.{append-nil, sym, ap, ◌∙◌, arith, append_assoc, length-append, drop, Result, Ok, Err, OnOk}
 use Rattle.std.proofs.lemmas.List.{map-append}
@@ -10,9 +11,9 @@ use Rattle.cp_model.specs.declared.literal.LitEdge.{LitEdge}
 use Rattle.cp_model.specs.Literals.{literal_rows, rows_under, edge_rows}
 use Rattle.cp_model.specs.Place.{Path, child}
 use Rattle.cp_model.specs.Subtrees.{moved}
-use Rattle.cp_tree.specs.Listing.{entries_in-rows, moved-append, moved-under, moved-first, moved-root}
-use Rattle.cp_tree.specs.Counted.{greatest-append}
-use Rattle.cp_tree.specs.Edges.{deepest-literal, edge-fewer}
+use Rattle.cp_tree.proofs.ListingLemmas.{entries_in-rows, moved-append, moved-under, moved-first, moved-root}
+use Rattle.cp_tree.proofs.Counted.{greatest-append}
+use Rattle.cp_tree.proofs.Edges.{deepest-literal, edge-fewer}
 use Rattle.cp_tree.specs.Rows.{row_of, entries_in, deepest}
 
 -- rows that are those of entries have these entries
@@ -85,7 +86,7 @@ rows-fewer e rest edges i below t b =
     omega (arith, all, edge-fewer e rest i edges t)
 
 -- an edge's tree lies no deeper than the rows of its siblings
-pub path-within : (at path : Path) (e : LitEdge) (rest tail : List LitEdge) → tail ≡ e ∷ rest → path ≡ child at e.label → length at + deepest (edge_rows tail) ≤ 64 → length path + deepest (literal_rows e.tree) ≤ 64
+pub path-within : (at path : Path) (e : LitEdge) (rest tail : List LitEdge) → tail ≡ e ∷ rest → path ≡ child at e.label → length at + deepest (edge_rows tail) ≤ LABELS_MAX → length path + deepest (literal_rows e.tree) ≤ LABELS_MAX
 path-within at path e rest tail t p h =
     let long : length path ≡ length at + 1 = ap length p ∙ length-append at (e.label ∷ []) in
     omega (arith, long, deepest-edge e rest tail t)

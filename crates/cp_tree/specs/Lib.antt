@@ -1,14 +1,3 @@
 pub mod Branch
 pub mod Good
-pub mod Totals
-pub mod Rising
-pub mod Steps
-pub mod Built
-pub mod Alike
 pub mod Rows
-pub mod Listing
-pub mod Counted
-pub mod Tallies
-pub mod Fits
-pub mod Leaves
-pub mod Edges

@@ -59,3 +59,7 @@ reach_of es = record { nodes = length es; inner = sum_by weight_of es; depth = g
 -- how far the subtree at p reaches
 abbrev pub reach_at : Tree → Path → Reach
 reach_at t p = reach_of (below p t)
+
+-- the tree of these rows
+abbrev pub made : List Row → Tree
+made rows = keyed.from_entries (entries_in rows)

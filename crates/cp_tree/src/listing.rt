@@ -6,7 +6,7 @@ ghost use Rattle.cp_model.specs.declared.row.Content.TheVariants.{Leaf};
 ghost use Rattle.cp_tree.specs.Rows.{entries_in, deepest};
 
 use cp_model::{Content, LitList, Literal, Row};
-use cp_path::{Path, Value};
+use cp_path::{Path, Value, LABELS_MAX};
 use std::alloc::{AllocError, Global};
 
 /// A leaf with this value. Costs its bytes.
@@ -19,7 +19,7 @@ fn leaf_of(value: &Value) -> Result<Content, AllocError>
 /// Adds the rows of the tree, its root being at `at`. Costs their paths.
 #[cycle(listing)]
 pub(crate) fn list_tree(at: Path, tree: &Literal, rows: &mut Vec<Row>) -> Result<(), AllocError>
-    requires shallow { length at + deepest (literal_rows tree.now) ≤ 64 }
+    requires shallow { length at + deepest (literal_rows tree.now) ≤ LABELS_MAX }
     ensures { OnOk result (entries_in rows.new.items ≡ entries_in rows.old.items ++ moved at (literal_rows tree.now)) }
 {
     match tree {
@@ -42,7 +42,7 @@ pub(crate) fn list_tree(at: Path, tree: &Literal, rows: &mut Vec<Row>) -> Result
 /// Adds the rows below a node at `at`. Costs their paths.
 #[cycle(listing)]
 fn list_edges(at: &Path, below: &LitList, rows: &mut Vec<Row>) -> Result<(), AllocError>
-    requires shallow { length at.now + deepest below.now ≤ 64 }
+    requires shallow { length at.now + deepest below.now ≤ LABELS_MAX }
     ensures { OnOk result (entries_in rows.new.items ≡ entries_in rows.old.items ++ moved at.now below.now) }
 {
     for edge in &below.items {

@@ -4,14 +4,14 @@ ghost use Rattle.std.specs.declared.option.Option.TheVariants.{None, Some};
 ghost use Rattle.cp_model.specs.Place.{child};
 ghost use Rattle.cp_model.specs.Keyed.{get, len};
 ghost use Rattle.cp_model.specs.Subtrees.{below, without, replaced, is_there};
-ghost use Rattle.cp_model.specs.Tree.{Tree, IsTree, is_node, weight, text_bytes, most_text};
+ghost use Rattle.cp_model.specs.Tree.{Tree, IsTree, is_node, weight, text_bytes};
 ghost use Rattle.cp_model.specs.History.{IsLiteral};
 ghost use Rattle.cp_model.specs.declared.row.Content.TheVariants.{Node};
 ghost use Rattle.cp_tree.specs.Rows.{row_of, entries_in, alone, single, labels_at, reach_at};
 
 use crate::reach::Reach;
 use cp_model::{Content, Row, RowList};
-use cp_path::{Label, Path};
+use cp_path::{Label, Path, TEXT_MAX};
 use std::alloc::{AllocError, Global};
 
 /// A tree within every limit, seen as a finite map from paths to contents.
@@ -23,7 +23,7 @@ pub trait TreeRep: Drop {
 
     /// The tree of a root alone.
     fn single(alloc: Global, content: &Content) -> Result<Self, AllocError>
-        requires text { text_bytes content.now ≤ most_text }
+        requires text { text_bytes content.now ≤ TEXT_MAX }
         ensures { IfOk result (λ t. contents t ≡ single content.now) };
 
     fn is_there(&self, p: &Path) -> bool

@@ -10,9 +10,9 @@ use Rattle.cp_model.specs.Keyed as keyed
 use Rattle.cp_model.specs.Subtrees.{replaced}
 use Rattle.cp_model.specs.Tree.{Tree}
 use Rattle.cp_model.specs.History.{IsLiteral}
-use Rattle.cp_model.specs.Lookups.{find-from_entries}
-use Rattle.cp_tree.specs.Rows.{entries_in, alone, single}
-use Rattle.cp_tree.specs.Built.{made, made-first, row_below, made-parent, made-more, made-all, entries-single}
+use Rattle.cp_model.proofs.Lookups.{find-from_entries}
+use Rattle.cp_tree.specs.Rows.{entries_in, alone, single, made}
+use Rattle.cp_tree.proofs.Built.{made-first, row_below, made-parent, made-more, made-all, entries-single}
 
 -- a leaf put at a row's place
 pub put_row : {E : Type 0} (r : Result (Unit {0}) E) (new root leaf : Tree) (path parent : Path) (a b : Label) (c d : Content) → path ≡ parent ++ a ∷ [] → b ≡ a → leaf ≡ single d → d ≡ c →

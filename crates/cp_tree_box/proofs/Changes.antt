@@ -1,19 +1,23 @@
 -- What a change of a tree does to what is counted of it.
+use Rattle.cp_path.specs.declared.limits.TheConstants.{LABELS_MAX, LOC_MAX}
 use Rattle.std.specs.Prelude.{◌≡◌, ℕ, ◌+◌, ◌≤◌, Bool, true, false, ◌||◌, List, [], ◌∷◌, ◌++◌, length, max, sum_by, is_some, nat_lt, replicate, slice_index, zero, suc}
 use Rattle.std.proofs.Common.{sym, ap, subst, ◌∙◌, arith, refl}
 use Rattle.std.proofs.lemmas.List.Sums.{sum_by-cons}
 use Rattle.std.proofs.lemmas.Bool.Decides.{nat_tests}
 use Rattle.cp_model.specs.declared.row.Content.{Content}
 use Rattle.cp_model.specs.Place.{Label, Path, at_target, over_limit, size}
+use Rattle.cp_model.proofs.KeyedLemmas.{get-entries}
 use Rattle.cp_model.specs.Keyed as keyed
 use Rattle.cp_model.specs.Keyed.{look}
 use Rattle.cp_model.specs.Subtrees.{is_there, below, without, replaced}
 use Rattle.cp_model.specs.Tree.{Tree, IsTree, weight, weight_of, last_bytes, text_bytes}
-use Rattle.cp_model.specs.Strips.{strip-append}
-use Rattle.cp_model.specs.Lookups.{get-replaced, placed}
-use Rattle.cp_model.specs.Sums.{total-replaced, total-without, sum_by-moved, sum_by-one}
-use Rattle.cp_model.specs.Sorted.{sorted-entries}
-use Rattle.cp_tree.specs.Branch.{sub, entries-sub}
+use Rattle.cp_model.proofs.Strips.{strip-append}
+use Rattle.cp_model.specs.Laws.{placed}
+use Rattle.cp_model.proofs.Lookups.{get-replaced}
+use Rattle.cp_model.proofs.SumsLemmas.{total-replaced, total-without, sum_by-moved, sum_by-one}
+use Rattle.cp_model.proofs.Sorted.{sorted-entries}
+use Rattle.cp_tree.specs.Branch.{sub}
+use Rattle.cp_tree.proofs.BranchLemmas.{entries-sub}
 use Rattle.cp_tree.specs.Rows.{greatest, path_size, reach_of}
 use Rattle.cp_tree.specs.declared.reach.Reach.{Reach}
 use Rattle.cp_tree_box.specs.declared.spot.Spot.{Spot}
@@ -44,14 +48,14 @@ spot_last s a (b ∷ p) = spot_last (child_spot s a) b p
 
 -- a place that isn't over a limit is within them
 pub near_place : (p : Path) → over_limit (at_target p) ≡ false → IsNear (spot_at root_spot p)
-near_place p h = by (nat_lt 64 (length p)) (nat_lt 1024 (size (at_target p))) refl refl h
+near_place p h = by (nat_lt LABELS_MAX (length p)) (nat_lt LOC_MAX (size (at_target p))) refl refl h
   where
-    by : (b d : Bool) → nat_lt 64 (length p) ≡ b → nat_lt 1024 (size (at_target p)) ≡ d → (b || d) ≡ false → IsNear (spot_at root_spot p)
+    by : (b d : Bool) → nat_lt LABELS_MAX (length p) ≡ b → nat_lt LOC_MAX (size (at_target p)) ≡ d → (b || d) ≡ false → IsNear (spot_at root_spot p)
     by true d e f h = absurd (cc)
     by false true e f h = absurd (cc)
     by false false e f h =
-        let few : length p ≤ 64 = grind (arith, nat_tests) in
-        let small : size (at_target p) ≤ 1024 = grind (arith, nat_tests) in
+        let few : length p ≤ LABELS_MAX = grind (arith, nat_tests) in
+        let small : size (at_target p) ≤ LOC_MAX = grind (arith, nat_tests) in
         (omega (arith, few, spot_depth root_spot p), omega (arith, small, spot_size root_spot p))
 
 -- what is above a place within the limits is within them
@@ -66,7 +70,7 @@ near_tree t h q i = near_place q (h.places q i)
 pub near_put : (t n : Tree) (p : Path) → IsTree (replaced p (keyed.entries n) t) → AreNear (spot_at root_spot p) n
 near_put t n p h q i =
     let there : is_there (replaced p (keyed.entries n) t) (p ++ q) ≡ true =
-    ap is_some (get-replaced p (keyed.entries n) t (p ++ q) ∙ ap (λ o. placed o (λ s. look s (keyed.entries n)) (keyed.get t (p ++ q))) (strip-append p q) ∙ sym (keyed.get-entries n q)) ∙ i in
+    ap is_some (get-replaced p (keyed.entries n) t (p ++ q) ∙ ap (λ o. placed o (λ s. look s (keyed.entries n)) (keyed.get t (p ++ q))) (strip-append p q) ∙ sym (get-entries n q)) ∙ i in
     subst IsNear (spot_append root_spot p q) (near_place (p ++ q) (h.places (p ++ q) there))
 
 -- ---- sums

@@ -14,21 +14,24 @@ use Rattle.cp_path.specs.Text.{text_cmp}
 use Rattle.cp_model.specs.declared.row.Content.{Content}
 use Rattle.cp_model.specs.declared.row.Row.{Row}
 use Rattle.cp_model.specs.Place.{Label, Path, child}
+use Rattle.cp_model.proofs.KeyedLemmas.{same_map}
 use Rattle.cp_model.specs.Keyed as keyed
 use Rattle.cp_model.specs.Subtrees.{moved}
 use Rattle.cp_model.specs.Tree.{Tree, IsRooted}
-use Rattle.cp_tree.specs.Branch.{label_total, branch, kid_rows, sub, get-sub, sub-root, under}
-use Rattle.cp_tree.specs.Good.{IsGood, rooted_found, sub_below, get_nothing}
+use Rattle.cp_tree.specs.Branch.{branch, kid_rows, sub, under, kids_len}
+use Rattle.cp_tree.proofs.BranchLemmas.{label_total, get-sub, sub-root}
+use Rattle.cp_tree.specs.Good.{IsGood}
+use Rattle.cp_tree.proofs.GoodLemmas.{rooted_found, sub_below, get_nothing}
 use Rattle.cp_tree.specs.Rows.{row_of}
-use Rattle.cp_tree.specs.Rising.{put_end}
-use Rattle.cp_tree.specs.Listing.{moved-append, moved-under, moved-branch}
-use Rattle.cp_tree.specs.Totals.{kids_len, len-branch}
+use Rattle.cp_tree.proofs.Rising.{put_end}
+use Rattle.cp_tree.proofs.ListingLemmas.{moved-append, moved-under, moved-branch}
+use Rattle.cp_tree.proofs.Totals.{len-branch}
 use Rattle.cp_tree_box.proofs.Maps.{looked, insert-put}
 
 -- nothing behind a list
 -- a subtree of a subtree
 pub sub-child : (m n : Tree) (p : Path) (a : Label) → n ≡ sub m p → sub n (a ∷ []) ≡ sub m (child p a)
-sub-child m n p a e = keyed.same_map (sub n (a ∷ [])) (sub m (child p a)) (λ q.
+sub-child m n p a e = same_map (sub n (a ∷ [])) (sub m (child p a)) (λ q.
     get-sub n (a ∷ []) q ∙ ap (λ z. keyed.get z (a ∷ q)) e ∙ get-sub m p (a ∷ q) ∙ ap (keyed.get m) (sym (append_assoc p (a ∷ []) q)) ∙ sym (get-sub m (child p a) q))
 
 -- the child of a node that was found at p in m

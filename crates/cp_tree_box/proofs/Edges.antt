@@ -8,17 +8,20 @@ use Rattle.cp_path.specs.Text.{text_cmp}
 use Rattle.cp_model.specs.declared.row.Content.{Content}
 use Rattle.cp_model.specs.declared.row.Content.TheVariants.{Node}
 use Rattle.cp_model.specs.Place.{Label, Path, child}
+use Rattle.cp_model.proofs.KeyedLemmas.{get-entries, same_map}
 use Rattle.cp_model.specs.Keyed as keyed
 use Rattle.cp_model.specs.Subtrees.{without, replaced, is_there}
-use Rattle.cp_model.specs.Lookups.{get-replaced}
+use Rattle.cp_model.proofs.Lookups.{get-replaced}
 use Rattle.cp_model.specs.Tree.{Tree, IsRooted}
-use Rattle.cp_tree.specs.Branch.{branch, sub, sub-root}
-use Rattle.cp_tree.specs.Good.{IsGood, IsNow, rooted-branch, changed_here, changed_below, dropped_here, dropped_below, get_below, get_nothing, sub_below}
+use Rattle.cp_tree.specs.Branch.{branch, sub}
+use Rattle.cp_tree.proofs.BranchLemmas.{sub-root}
+use Rattle.cp_tree.specs.Good.{IsGood}
+use Rattle.cp_tree.proofs.GoodLemmas.{IsNow, rooted-branch, changed_here, changed_below, dropped_here, dropped_below, get_below, get_nothing, sub_below}
 use Rattle.cp_tree_box.proofs.Maps.{looked, insert-put, remove-without, written, rewritten}
 
 -- what is put at the root is the whole
 pub replaced-root : (n m : Tree) → replaced [] (keyed.entries n) m ≡ n
-replaced-root n m = keyed.same_map (replaced [] (keyed.entries n) m) n (λ r. get-replaced [] (keyed.entries n) m r ∙ sym (keyed.get-entries n r))
+replaced-root n m = same_map (replaced [] (keyed.entries n) m) n (λ r. get-replaced [] (keyed.entries n) m r ∙ sym (get-entries n r))
 
 -- after a call that may fail: the tree t, or m as before
 pub record Stepped {E : Type 0} (r : Result (Unit {0}) E) (x : Content) (fs : List (Label × Tree)) (m t : Tree) : Type 0 where

@@ -9,11 +9,11 @@ use Rattle.std.specs.Ordering.{eq_by_cmp, is_eq, is_lt, match_ordering}
 use Rattle.std.specs.FinMap.Entries.{find, put, by_order, where_key, is_sorted, below_all}
 use Rattle.std.specs.Map.{lookup, set_value, remove_entry}
 use Rattle.std.specs.BTreeMap.{is_at, insert_entry}
-use Rattle.cp_tree.specs.Rising.{less_is}
+use Rattle.cp_tree.proofs.Rising.{less_is}
 use Rattle.cp_path.specs.Text.{text_cmp}
 use Rattle.cp_model.specs.Place.{Label}
-use Rattle.cp_model.specs.Sorted.{parts_of}
-use Rattle.cp_tree.specs.Branch.{label_total, label_same}
+use Rattle.cp_model.proofs.Sorted.{parts_of}
+use Rattle.cp_tree.proofs.BranchLemmas.{label_total, label_same}
 
 same_order : {A : Type 0} (o : Ordering) (a b c d : A) → c ≡ d → match_ordering o a b c ≡ by_order o a b d
 same_order Less a b c d e = refl

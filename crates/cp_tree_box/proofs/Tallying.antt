@@ -13,11 +13,13 @@ use Rattle.cp_model.specs.Place.{Label, Path}
 use Rattle.cp_model.specs.Keyed as keyed
 use Rattle.cp_model.specs.Subtrees.{is_there}
 use Rattle.cp_model.specs.Tree.{Tree}
-use Rattle.cp_tree.specs.Branch.{branch, under, kid_rows, get-branch_root, entries-branch}
-use Rattle.cp_tree.specs.Good.{IsGood, rooted_found, get_below}
+use Rattle.cp_tree.specs.Branch.{branch, under, kid_rows}
+use Rattle.cp_tree.proofs.BranchLemmas.{get-branch_root, entries-branch}
+use Rattle.cp_tree.specs.Good.{IsGood}
+use Rattle.cp_tree.proofs.GoodLemmas.{rooted_found, get_below}
 use Rattle.cp_tree.specs.Rows.{greatest}
-use Rattle.cp_tree.specs.Counted.{greatest-append}
-use Rattle.cp_tree.specs.Totals.{kids_total, total-branch, len-branch, len-find}
+use Rattle.cp_tree.proofs.Counted.{greatest-append}
+use Rattle.cp_tree.proofs.Totals.{kids_total, total-branch, len-branch, len-find}
 use Rattle.cp_tree_box.specs.declared.spot.Spot.{Spot}
 use Rattle.cp_tree_box.specs.Tallies.{child_spot, IsNear, AreNear, Gauge, one, row_counts, tree_counts}
 use Rattle.cp_tree_box.proofs.Maps.{looked}

@@ -1,4 +1,5 @@
 -- A leaf, a subtree and a nested tree added below a root, where there is room.
+use Rattle.cp_path.specs.declared.limits.TheConstants.{LABEL_MAX}
 use Rattle.std.specs.Prelude.{◌≡◌, ℕ, Bool, ◌+◌, ◌≤◌, ◌<◌, true, false, cond, ◌&&◌, List, [], ◌∷◌, length, is_some}
 use Rattle.std.proofs.Common.{sym, ap, subst, ◌∙◌, T, arith, refl}
 use Rattle.std.specs.Ordering.{is_lt}
@@ -14,14 +15,14 @@ use Rattle.cp_model.specs.Keyed.{look}
 use Rattle.cp_model.specs.Subtrees.{below, is_there, replaced}
 use Rattle.cp_model.specs.Tree.{Tree, IsTree, is_node, weight, text_bytes, last_bytes}
 use Rattle.cp_model.specs.History.{IsLiteral}
-use Rattle.cp_model.specs.Lookups.{find-from_entries}
-use Rattle.cp_model.specs.Sorted.{path_cmp-append, sorted-below}
-use Rattle.cp_model.specs.Rooted.{rows-below, rows-literal, under-child, under-there}
+use Rattle.cp_model.proofs.Lookups.{find-from_entries}
+use Rattle.cp_model.proofs.Sorted.{path_cmp-append, sorted-below}
+use Rattle.cp_model.proofs.Rooted.{rows-below, rows-literal, under-child, under-there}
 use Rattle.cp_tree.specs.Rows.{alone, path_size, reach_of, reach_at}
 use Rattle.cp_tree.specs.declared.reach.Reach.{Reach}
-use Rattle.cp_tree.specs.Branch.{entries-sub, sub-root}
-use Rattle.cp_tree.specs.Fits.{reach-fits, within-limit}
-use Rattle.cp_tree.specs.Leaves.{leaf-fits}
+use Rattle.cp_tree.proofs.BranchLemmas.{entries-sub, sub-root}
+use Rattle.cp_tree.proofs.Fits.{reach-fits, within-limit}
+use Rattle.cp_tree.proofs.Leaves.{leaf-fits}
 
 node_is : (o : Option Content) → is_node o ≡ true → o ≡ Some Node
 node_is (Some Node) e = refl
@@ -33,7 +34,7 @@ below-root : (t : Tree) → below [] t ≡ keyed.entries t
 below-root t = sym (entries-sub t []) ∙ ap keyed.entries (sub-root t)
 
 -- it stays a tree
-pub leaf_fits : (t : Tree) (p : Path) (a : Label) (c : Content) → IsTree t → p ≡ [] → is_node (keyed.get t p) ≡ true → length a ≤ 255 → text_bytes c ≡ 0 → keyed.len t < 1000000 → weight t < 33000000 → IsTree (replaced (child p a) (alone c) t)
+pub leaf_fits : (t : Tree) (p : Path) (a : Label) (c : Content) → IsTree t → p ≡ [] → is_node (keyed.get t p) ≡ true → length a ≤ LABEL_MAX → text_bytes c ≡ 0 → keyed.len t < 1000000 → weight t < 33000000 → IsTree (replaced (child p a) (alone c) t)
 leaf_fits t p a c h e n s x l w =
     let node : keyed.get t p ≡ Some Node = node_is (keyed.get t p) n in
     let near : over_limit (at_target (child p a)) ≡ false = ap (λ z. over_limit (at_target (child z a))) e ∙ within-limit (a ∷ []) (omega arith) (omega (arith, s)) in
@@ -41,7 +42,7 @@ leaf_fits t p a c h e n s x l w =
 
 -- so it does with a subtree at a label below the root
 pub subtree_fits : (t : Tree) (p : Path) (u : Tree) (q : Path) (z : Reach) → z ≡ reach_at u q → IsTree t → IsTree u → is_there u q ≡ true → is_there t p ≡ true → keyed.len t + z.nodes ≤ 1000000 → weight t + z.inner ≤ 33000000 →
-    z.depth ≤ 60 → z.size ≤ 700 → length p ≤ 1 → path_size p ≤ 256 → last_bytes p ≤ 255 → IsTree (replaced p (below q u) t)
+    z.depth ≤ 60 → z.size ≤ 700 → length p ≤ 1 → path_size p ≤ 256 → last_bytes p ≤ LABEL_MAX → IsTree (replaced p (below q u) t)
 subtree_fits t p u q z e h k i j n w d s few short last =
     reach-fits t p (below q u) z e h (rows-below u q k i) (sorted-below q u) (under-there t p h.rooted j) (omega (arith, n)) (omega (arith, w, last)) (omega (arith, d, few)) (omega (arith, s, short))
 
@@ -83,7 +84,7 @@ nested_literal a = record {
     parents (x ∷ y ∷ z ∷ p) b i = absurd (more (text_eq x a) (text_eq y a) i)
 
 -- a tree stays one with it
-pub nested_fits : (t : Tree) (p : Path) (a : Label) (es : List (Path × Content)) → es ≡ nested a → IsTree t → p ≡ [] → is_node (keyed.get t p) ≡ true → length a ≤ 255 → keyed.len t < 1000000 → weight t < 33000000 → IsTree (replaced (child p a) es t)
+pub nested_fits : (t : Tree) (p : Path) (a : Label) (es : List (Path × Content)) → es ≡ nested a → IsTree t → p ≡ [] → is_node (keyed.get t p) ≡ true → length a ≤ LABEL_MAX → keyed.len t < 1000000 → weight t < 33000000 → IsTree (replaced (child p a) es t)
 unfolding reach_of
 nested_fits t p a es k h e n s l w =
     let node : keyed.get t [] ≡ Some Node = node_is (keyed.get t []) (sym (ap (λ z. is_node (keyed.get t z)) e) ∙ n) in

@@ -1,4 +1,6 @@
 -- What a tree kept whole, with the numbers kept of it, answers and becomes.
+use Rattle.cp_model.specs.declared.limits.TheConstants.{NODES_MAX, WEIGHT_MAX}
+use Rattle.cp_path.specs.declared.limits.TheConstants.{TEXT_MAX}
 use Rattle.std.specs.Prelude.{◌≡◌, ℕ, ◌+◌, ◌≤◌, ◌<◌, ◌⊎◌, true, false, cond, ◌==◌, List, [], ◌∷◌, ◌++◌, map, length, sum_by, is_some, slice_index, IfSome, IfNone, Result, Ok, Err, OnOk}
 use Rattle.std.proofs.Common.{sym, ap, subst, ◌∙◌, arith, refl}
 use Rattle.std.proofs.lemmas.List.Sums.{sum_by-cons}
@@ -9,21 +11,24 @@ use denote.Ref.{Bor}
 use Rattle.cp_model.specs.declared.row.Content.{Content}
 use Rattle.cp_model.specs.declared.row.Row.{Row}
 use Rattle.cp_model.specs.Place.{Label, Path, child}
+use Rattle.cp_model.proofs.KeyedLemmas.{get-entries, same_map}
 use Rattle.cp_model.specs.Keyed as keyed
 use Rattle.cp_model.specs.Keyed.{look}
 use Rattle.cp_model.specs.Subtrees.{is_there, below, moved, without, replaced}
-use Rattle.cp_model.specs.Tree.{Tree, IsRooted, IsTree, weight, most_text, text_bytes}
-use Rattle.cp_model.specs.Strips.{append-nil, strip-append}
-use Rattle.cp_model.specs.Lookups.{get-replaced, placed}
-use Rattle.cp_model.specs.Sums.{below-none, sum_by-one}
-use Rattle.cp_model.specs.Kept.{closed-tree}
-use Rattle.cp_tree.specs.Branch.{sub, get-sub, sub-root, entries-sub}
-use Rattle.cp_tree.specs.Leaves.{single-tree}
-use Rattle.cp_tree.specs.Built.{made, made-entries, entries-single}
+use Rattle.cp_model.specs.Tree.{Tree, IsRooted, IsTree, weight, text_bytes}
+use Rattle.cp_model.proofs.Strips.{append-nil, strip-append}
+use Rattle.cp_model.specs.Laws.{placed}
+use Rattle.cp_model.proofs.Lookups.{get-replaced}
+use Rattle.cp_model.proofs.SumsLemmas.{below-none, sum_by-one}
+use Rattle.cp_model.proofs.Kept.{closed-tree}
+use Rattle.cp_tree.specs.Branch.{sub}
+use Rattle.cp_tree.proofs.BranchLemmas.{get-sub, sub-root, entries-sub}
+use Rattle.cp_tree.proofs.Leaves.{single-tree}
+use Rattle.cp_tree.specs.Rows.{made, row_of, entries_in, alone, single, one_label, labels_at, path_size, greatest, reach_of}
+use Rattle.cp_tree.proofs.Built.{made-entries, entries-single}
 use Rattle.cp_model.specs.History.{IsLiteral}
-use Rattle.cp_tree.specs.Counted.{is_one, counted, greatest_is}
-use Rattle.cp_tree.specs.Listing.{moved-root}
-use Rattle.cp_tree.specs.Rows.{row_of, entries_in, alone, single, one_label, labels_at, path_size, greatest, reach_of}
+use Rattle.cp_tree.proofs.Counted.{is_one, counted, greatest_is}
+use Rattle.cp_tree.proofs.ListingLemmas.{moved-root}
 use Rattle.cp_tree.specs.declared.reach.Reach.{Reach}
 use Rattle.cp_tree_box.specs.declared.spot.Spot.{Spot}
 use Rattle.cp_tree_box.specs.declared.tally.Tally.{Tally}
@@ -98,10 +103,10 @@ weighs_less s (e ∷ es) = omega (arith, sum_by-cons (row_counts weighs root_spo
 
 module _ (m : Tree) (t : IsTree m) where
   -- the numbers of a tree are small
-  pub few_places : tree_counts places root_spot m ≤ 1048576
+  pub few_places : tree_counts places root_spot m ≤ NODES_MAX
   few_places = omega (arith, counts_places m, t.within.nodes)
 
-  pub few_weight : tree_counts weighs root_spot m ≤ 33554432
+  pub few_weight : tree_counts weighs root_spot m ≤ WEIGHT_MAX
   few_weight = omega (arith, counts_weight m, t.within.weighs)
 
   -- and so are those of its subtrees
@@ -130,7 +135,7 @@ no_more f [] h = omega arith
 no_more f (e ∷ es) h = omega (arith, sum_by-cons f e es, h e, no_more f es h)
 
 -- every number of a tree is small
-pub small_counts : (m : Tree) → IsTree m → (j : Gauge) → tree_counts j root_spot m ≤ 33554432
+pub small_counts : (m : Tree) → IsTree m → (j : Gauge) → tree_counts j root_spot m ≤ WEIGHT_MAX
 small_counts m t places = omega (arith, few_places m t)
 small_counts m t weighs = few_weight m t
 small_counts m t (deep k) = omega (arith, no_more (row_counts (deep k) root_spot) (keyed.entries m) (λ e. at_most_one (spot_at root_spot e.0).depth k), sum_by-one (keyed.entries m), few_places m t)
@@ -138,8 +143,8 @@ small_counts m t (large k) = omega (arith, no_more (row_counts (large k) root_sp
 
 -- a subtree that was put is there
 pub sub-replaced : (m n : Tree) (p : Path) → sub (replaced p (keyed.entries n) m) p ≡ n
-sub-replaced m n p = keyed.same_map (sub (replaced p (keyed.entries n) m) p) n (λ q.
-    get-sub (replaced p (keyed.entries n) m) p q ∙ get-replaced p (keyed.entries n) m (p ++ q) ∙ ap (λ o. placed o (λ s. look s (keyed.entries n)) (keyed.get m (p ++ q))) (strip-append p q) ∙ sym (keyed.get-entries n q))
+sub-replaced m n p = same_map (sub (replaced p (keyed.entries n) m) p) n (λ q.
+    get-sub (replaced p (keyed.entries n) m) p q ∙ get-replaced p (keyed.entries n) m (p ++ q) ∙ ap (λ o. placed o (λ s. look s (keyed.entries n)) (keyed.get m (p ++ q))) (strip-append p q) ∙ sym (get-entries n q))
 
 -- what is put is there
 pub put_there : (m n : Tree) (p : Path) → IsRooted n → is_there (replaced p (keyed.entries n) m) p ≡ true
@@ -193,7 +198,7 @@ near_sub m n p t e q i =
 -- ---- a root alone
 
 -- the tree of a root alone, with what is kept of it
-module _ (c d : Content) (h : text_bytes c ≤ most_text) (same_content : d ≡ c) (m : Tree) (e : m ≡ single d) where
+module _ (c d : Content) (h : text_bytes c ≤ TEXT_MAX) (same_content : d ≡ c) (m : Tree) (e : m ≡ single d) where
   pub single_is : m ≡ single c
   single_is = e ∙ ap single same_content
 

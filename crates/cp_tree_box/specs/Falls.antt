@@ -6,7 +6,8 @@ use denote.Param.Weighed.{most}
 use Rattle.cp_model.specs.Place.{Label}
 use Rattle.cp_model.specs.Tree.{Tree}
 use Rattle.cp_model.specs.Keyed as keyed
-use Rattle.cp_tree.specs.Totals.{kids_len, len-branch}
+use Rattle.cp_tree.specs.Branch.{kids_len}
+use Rattle.cp_tree.proofs.Totals.{len-branch}
 use Rattle.cp_tree_box.specs.declared.node.BoxNode.TheInside.{Inside}
 use Rattle.cp_tree_box.specs.declared.node.BoxNode.TheDeep.{deep-BoxNode}
 use Rattle.cp_tree_box.specs.Nodes.{tree_of, IsGoodNode}

@@ -1,5 +1,6 @@
 -- What is counted of the places of a tree.
-use Rattle.std.specs.Prelude.{◌≡◌, ℕ, ◌+◌, ◌≤◌, true, cond, ◌==◌, [], ◌∷◌, length, max, slice_index}
+use Rattle.cp_path.specs.declared.limits.TheConstants.{LABELS_MAX, LOC_MAX}
+use Rattle.std.specs.Prelude.{◌-◌, ◌≡◌, ℕ, ◌+◌, ◌≤◌, true, cond, ◌==◌, [], ◌∷◌, length, max, slice_index}
 use Rattle.std.specs.Coded.{Coded-set, coded_ℕ}
 use Rattle.cp_model.specs.declared.row.Content.{Content}
 use Rattle.cp_model.specs.Place.{Label, Path}
@@ -27,7 +28,7 @@ spot_at s (a ∷ p) = spot_at (child_spot s a) p
 
 -- it is within the limits of places
 abbrev pub IsNear : Spot → Type 0
-IsNear s = (s.depth ≤ 64) × (s.size ≤ 1023)
+IsNear s = (s.depth ≤ LABELS_MAX) × (s.size ≤ LOC_MAX - 1)
 
 -- every place of the tree that lies there is
 abbrev pub AreNear : Spot → Tree → Type 0

@@ -5,7 +5,7 @@ ghost use Rattle.cp_model.specs.Keyed.{get};
 ghost use Rattle.cp_model.specs.Subtrees.{replaced};
 ghost use Rattle.cp_model.specs.History.{IsLiteral};
 ghost use Rattle.cp_model.specs.declared.row.Content.TheVariants.{Node};
-ghost use Rattle.cp_tree.specs.Built.{made};
+ghost use Rattle.cp_tree.specs.Rows.{made};
 ghost use Rattle.cp_tree.specs.Rows.{entries_in, alone};
 
 use crate::node::{BoxNode, copy_content};

@@ -6,7 +6,7 @@ use crate::node::BoxNode;
 use crate::spot::Spot;
 use crate::tally::Tally;
 use cp_model::{Content, PLACE_WEIGHT};
-use cp_path::{LABELS_MAX, Value};
+use cp_path::{LABELS_MAX, Value, LOC_MAX};
 use cp_tree::Reach;
 use std::alloc::{AllocError, Global};
 
@@ -25,7 +25,7 @@ pub(crate) fn text_bytes(content: &Content) -> u64
 
 /// The last index at which there is more than nothing. Costs the length.
 fn highest(counts: &[u32]) -> u32
-    requires { length counts.now ≤ 1024 }
+    requires { length counts.now ≤ LOC_MAX }
     ensures last { (k : ℕ) → result < k → slice_index counts.now k ≡ 0 }
     ensures some { (result ≡ 0) ⊎ (0 < slice_index counts.now result) }
 {
@@ -43,8 +43,8 @@ impl Tally {
     pub(crate) fn new(alloc: Global) -> Result<Tally, AllocError>
         ensures places { IfOk result (λ t. t.places ≡ 0) }
         ensures weight { IfOk result (λ t. t.weight ≡ 0) }
-        ensures depths { IfOk result (λ t. t.depths.items ≡ replicate 65 0) }
-        ensures sizes { IfOk result (λ t. t.sizes.items ≡ replicate 1024 0) }
+        ensures depths { IfOk result (λ t. t.depths.items ≡ replicate (LABELS_MAX + 1) 0) }
+        ensures sizes { IfOk result (λ t. t.sizes.items ≡ replicate LOC_MAX 0) }
     {
         Ok(Tally {
             places: 0,

@@ -5,7 +5,7 @@ ghost use Rattle.cp_model.specs.Keyed.{get, entries};
 ghost use Rattle.cp_model.specs.Subtrees.{is_there, replaced};
 ghost use Rattle.cp_model.specs.Tree.{IsRooted, IsTree};
 ghost use Rattle.cp_model.specs.declared.row.Content.TheVariants.{Node};
-ghost use Rattle.cp_tree.specs.Alike.{IsTree-prop};
+ghost use Rattle.cp_tree.proofs.Alike.{IsTree-prop};
 ghost use Rattle.cp_tree.specs.Branch.{sub};
 ghost use Rattle.cp_tree_box.specs.Tallies.{IsTallyOf, IsTallyOf-prop};
 

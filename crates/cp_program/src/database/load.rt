@@ -7,9 +7,11 @@ ghost use Rattle.cp_engine.specs.Loaded.{sources_in};
 ghost use Rattle.cp_session.specs.Session.{Session, says, turn_of};
 ghost use Rattle.cp_program.specs.Fetched.{FitsUnder};
 ghost use Rattle.cp_program.specs.Job.{setting};
-ghost use Rattle.cp_program.specs.Databases.{Stands, IsSession, Turned, Loads, why_not_loaded};
+ghost use Rattle.cp_program.specs.Databases.{Stands, IsSession, Turned};
+ghost use Rattle.cp_program.specs.Databases.{Loads, why_not_loaded};
 ghost use Rattle.cp_program.specs.Turns.{BlamesFiles, IsOwn};
 
+use cp_model::SOURCES_MAX;
 use crate::database::Database;
 use crate::database::refusal::refused_load;
 use crate::fetch::fetch;
@@ -20,9 +22,6 @@ use cp_path::Name;
 use cp_reply::{Reply, Why};
 use cp_tree::TreeRep;
 use std::alloc::{AllocError, Global};
-
-/// The most sources that are loaded.
-const SOURCES_MAX: usize = 32;
 
 impl<R: TreeRep> Database<R> {
     /// Keeps a tree as a source under a new name.

@@ -5,7 +5,8 @@ ghost use Rattle.cp_reply.specs.declared.reply.Why.{Why as WhyValue};
 ghost use Rattle.cp_outside.specs.FileReads.{FileTable};
 ghost use Rattle.cp_session.specs.Session.{Session, says, turn_of, not_read};
 ghost use Rattle.cp_program.specs.Job.{setting};
-ghost use Rattle.cp_program.specs.Databases.{Stands, IsSession, Turned, IsOpened};
+ghost use Rattle.cp_program.specs.Databases.{Stands, IsSession, Turned};
+ghost use Rattle.cp_program.specs.Databases.{IsOpened};
 
 use crate::database::Database;
 use crate::database::refusal::{refused, why_of};

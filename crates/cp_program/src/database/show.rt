@@ -4,7 +4,8 @@ ghost use Rattle.std.specs.declared.option.Option.TheVariants.{Some};
 ghost use Rattle.cp_outside.specs.FileReads.{FileTable};
 ghost use Rattle.cp_session.specs.Session.{Session, says, turn_of, current_tree};
 ghost use Rattle.cp_program.specs.Job.{setting};
-ghost use Rattle.cp_program.specs.Databases.{Stands, Turned, shown_tree};
+ghost use Rattle.cp_program.specs.Databases.{Stands, Turned};
+ghost use Rattle.cp_program.specs.Databases.{shown_tree};
 
 use crate::database::Database;
 use crate::database::refusal::refused;

@@ -1,6 +1,6 @@
 use Rattle.std.proofs.Common.{◌≡◌, ◌++◌, [], ◌∷◌, drop, sym, ap, ◌∙◌, append_assoc}
 use Rattle.csv.specs.Records.{field_at, fields_of}
-use Rattle.cp_model.specs.Strips.{append-nil}
+use Rattle.cp_model.proofs.Strips.{append-nil}
 use Rattle.cp_csv.specs.CsvTrees.{is_long_label}
 use Rattle.cp_csv.proofs.Lists.{some_at, none_at, none_pass_at}
 use Rattle.cp_csv.proofs.Placing.{short_so}

@@ -1,7 +1,8 @@
+use Rattle.cp_model.specs.declared.limits.TheConstants.{NODES_MAX, WEIGHT_MAX}
 use Rattle.std.proofs.Common.{◌≡◌, ◌+◌, ◌≤◌, drop, length}
 use Rattle.csv.specs.Records.{fields_of}
 use Rattle.cp_model.specs.Keyed.{len}
-use Rattle.cp_model.specs.Tree.{weight, most_nodes, most_weight}
+use Rattle.cp_model.specs.Tree.{weight}
 use Rattle.cp_csv.specs.CsvTrees.{with_fields}
 use Rattle.cp_csv.specs.Steps.{IsBare, fields_weight}
 use Rattle.cp_csv.proofs.place.put_fields.Given as goal
@@ -14,6 +15,6 @@ invariant-loop-label g l = record {
   at : l.texts.at ≡ l.label-index;
   bare : IsBare (g.R.TreeRep.contents l.tree) l.fn.row.label (drop l.label-index l.fn.columns.labels.items);
   goes : with_fields l.fn.row.label (drop l.label-index l.fn.columns.labels.items) (drop l.label-index (fields_of l.fn.row.fields)) (g.R.TreeRep.contents l.tree) ≡ with_fields l.fn.row.label l.fn.columns.labels.items (fields_of l.fn.row.fields) (g.R.TreeRep.contents l.fn.tree);
-  few : len (g.R.TreeRep.contents l.tree) + length (drop l.label-index l.fn.columns.labels.items) ≤ most_nodes;
-  light : weight (g.R.TreeRep.contents l.tree) + fields_weight (drop l.label-index l.fn.columns.labels.items) (drop l.label-index (fields_of l.fn.row.fields)) ≤ most_weight;
+  few : len (g.R.TreeRep.contents l.tree) + length (drop l.label-index l.fn.columns.labels.items) ≤ NODES_MAX;
+  light : weight (g.R.TreeRep.contents l.tree) + fields_weight (drop l.label-index l.fn.columns.labels.items) (drop l.label-index (fields_of l.fn.row.fields)) ≤ WEIGHT_MAX;
 }

@@ -4,13 +4,13 @@ use Rattle.cp_model.specs.declared.row.Content.TheVariants.{Node}
 use Rattle.cp_model.specs.Keyed as keyed
 use Rattle.cp_model.specs.Place.{child}
 use Rattle.cp_model.specs.Subtrees.{replaced, is_there}
-use Rattle.cp_model.specs.Sums.{len_insert_new, weight_insert_new}
+use Rattle.cp_model.proofs.SumsLemmas.{len_insert_new, weight_insert_new}
 use Rattle.cp_model.specs.Tree.{weight}
 use Rattle.cp_tree.specs.Rows.{alone}
 use Rattle.cp_csv.specs.CsvTrees.{with_fields}
 use Rattle.cp_csv.specs.Steps.{IsBare}
-use Rattle.cp_model.specs.Accepted.{none_is}
-use Rattle.cp_tree.specs.Leaves.{leaf-insert}
+use Rattle.cp_model.proofs.Accepted.{none_is}
+use Rattle.cp_tree.proofs.Leaves.{leaf-insert}
 use Rattle.cp_csv.proofs.Placing.{leaf_fits, new_bare, is_many, is_big, is_fit}
 use Rattle.cp_csv.proofs.place.put_row.Goals as goal
 

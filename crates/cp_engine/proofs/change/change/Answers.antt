@@ -1,8 +1,9 @@
 use Rattle.std.proofs.Common.{ap, subst, refl}
 use Rattle.std.specs.Prelude.{is_some}
 use Rattle.cp_model.specs.History.{IsWritten}
-use Rattle.cp_model.specs.Accepted.{ins_accepted, del_accepted}
-use Rattle.cp_engine.specs.Loaded.{sources_in, trees-loaded}
+use Rattle.cp_model.proofs.Accepted.{ins_accepted, del_accepted}
+use Rattle.cp_engine.specs.Loaded.{sources_in}
+use Rattle.cp_engine.proofs.LoadedLemmas.{trees-loaded}
 use Rattle.cp_engine.proofs.Changed.{accepts, ins-changed, del-changed, ins-tree, made}
 use Rattle.cp_engine.proofs.change.change.Goals as goal
 

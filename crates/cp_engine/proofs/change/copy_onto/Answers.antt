@@ -1,7 +1,8 @@
 use Rattle.std.proofs.Common.{◌≡◌}
 use Rattle.std.specs.declared.option.Option.TheVariants.{Some}
 use Rattle.cp_model.specs.Tree.{database}
-use Rattle.cp_engine.specs.Loaded.{sources_in, trees-loaded}
+use Rattle.cp_engine.specs.Loaded.{sources_in}
+use Rattle.cp_engine.proofs.LoadedLemmas.{trees-loaded}
 use Rattle.cp_engine.proofs.Changed.{copy-copied, copy-changed, named-inside, named-loaded, never-sourceless, then-is}
 use Rattle.cp_engine.proofs.change.copy_onto.Goals as goal
 

@@ -3,7 +3,7 @@ use Rattle.cp_model.specs.Literals.{edge_rows}
 use Rattle.cp_model.specs.declared.literal.Literal.TheVariants as literal
 use Rattle.cp_tree.specs.Rows.{reach_of}
 use Rattle.cp_engine.specs.Reaching.{joined, alone_at, literal_reach}
-use Rattle.cp_tree.specs.Edges.{drop-one}
+use Rattle.cp_tree.proofs.Edges.{drop-one}
 use Rattle.cp_engine.proofs.Reached.{IsReach, alone-leaf, reach-alone, reach-joined, joined-edge, joined-edges, joined-node}
 use Rattle.cp_engine.proofs.checks.+reach_of_literal.Goals as goal
 

@@ -5,7 +5,7 @@ use Rattle.cp_model.specs.Literals.{edge_rows}
 use Rattle.cp_model.specs.declared.row.Content.{Content}
 use Rattle.cp_model.specs.declared.record.RecOp.TheVariants as letter
 use Rattle.cp_record.specs.Bytes.{record_below}
-use Rattle.cp_tree.specs.Edges.{drop-one, edge-fewer}
+use Rattle.cp_tree.proofs.Edges.{drop-one, edge-fewer}
 use Rattle.cp_engine.proofs.Depths.{edge-within, edge-room}
 use Rattle.cp_engine.proofs.Recorded.{edges-none, appended-then, appended-is, edges-more, edges-all, leaf-added, node-added}
 use Rattle.cp_engine.proofs.rows.+inserting.Goals as goal

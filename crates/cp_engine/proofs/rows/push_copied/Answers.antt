@@ -1,7 +1,8 @@
 use Rattle.std.proofs.Common.{◌≡◌, true}
 use Rattle.std.specs.declared.option.Option.TheVariants.{Some}
 use Rattle.cp_model.specs.Tree.{database}
-use Rattle.cp_engine.specs.Loaded.{sources_in, trees-loaded}
+use Rattle.cp_engine.specs.Loaded.{sources_in}
+use Rattle.cp_engine.proofs.LoadedLemmas.{trees-loaded}
 use Rattle.cp_engine.proofs.Changed.{copy-copied, named-inside, named-loaded, never-sourceless}
 use Rattle.cp_engine.proofs.OpRows.{copy-itself, copy-added}
 use Rattle.cp_engine.proofs.rows.push_copied.Goals as goal

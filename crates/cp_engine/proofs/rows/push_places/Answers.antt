@@ -1,4 +1,4 @@
-use Rattle.cp_model.specs.Accepted.{del_accepted}
+use Rattle.cp_model.proofs.Accepted.{del_accepted}
 use Rattle.cp_engine.specs.Loaded.{sources_in}
 use Rattle.cp_engine.proofs.Changed.{accepts}
 use Rattle.cp_engine.proofs.OpRows.{ins-within, ins-rows, op-added}

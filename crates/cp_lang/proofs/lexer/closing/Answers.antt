@@ -1,7 +1,7 @@
 use Rattle.std.proofs.Common.{◌≡◌, ap, sym, ◌∙◌, drop, get_or, refl, ◌+◌, false, ◌==◌, arith}
 use Rattle.std.proofs.lemmas.Bool.Decides.{nat_tests}
 use Rattle.cp_lang.specs.Lexer.{closing}
-use Rattle.cp_lang.specs.LexerLaws.{later}
+use Rattle.cp_lang.proofs.LexerLaws.{later}
 use Rattle.cp_lang.proofs.Cutting.{escaped_step, plain_step}
 use Rattle.cp_lang.proofs.lexer.closing.Goals.{then-is_escaped, else-is_escaped+else-byte-eq34}
 use Rattle.cp_lang.proofs.lexer.closing.Goals as goal

@@ -1,5 +1,5 @@
 use Rattle.std.proofs.Common.{◌≡◌, ◌+◌, drop}
-use Rattle.cp_lang.specs.LexerLaws.{spaces}
+use Rattle.cp_lang.specs.Lexer.{spaces}
 use Rattle.cp_lang.proofs.lexer.spaces.Given as goal
 
 abbrev pub invariant-loop-at : goal.invariant-loop-at

@@ -1,7 +1,7 @@
 use Rattle.std.proofs.Common.{◌∙◌, inr, sym}
 use Rattle.std.proofs.lemmas.Result.{err_from_is_err_and}
 use Rattle.cp_lang.specs.Grammar.{start, statement_reading}
-use Rattle.cp_lang.specs.Spellable.{read_written}
+use Rattle.cp_lang.proofs.Spellable.{read_written}
 use Rattle.cp_lang.proofs.Steps.{past}
 use Rattle.cp_lang.proofs.statement.parse.Goals as goal
 

@@ -1,16 +1,16 @@
-use Rattle.cp_model.specs.Keyed as keyed
-use Rattle.cp_model.specs.Lookups.{get-replaced, get-without, find-below}
-use Rattle.cp_model.specs.Sums.{len-replaced, weight-replaced}
-use Rattle.cp_model.specs.Contents.{contents-applied}
-use Rattle.cp_model.specs.Kept.{tree-changed, tree-step, closed-step}
-use Rattle.cp_model.specs.Origins.{sound-step}
-use Rattle.cp_model.specs.Histories.{legal-tree}
-use Rattle.cp_model.specs.Effects.{working-step, read-rows_of, losses-rows_of}
-use Rattle.cp_model.specs.Pasts.{legal-pasts}
+use Rattle.cp_model.proofs.KeyedLemmas.{same_map}
+use Rattle.cp_model.proofs.Lookups.{get-replaced, get-without, find-below}
+use Rattle.cp_model.proofs.SumsLemmas.{len-replaced, weight-replaced}
+use Rattle.cp_model.proofs.Contents.{contents-applied}
+use Rattle.cp_model.proofs.Kept.{tree-changed, tree-step, closed-step}
+use Rattle.cp_model.proofs.Origins.{sound-step}
+use Rattle.cp_model.proofs.Histories.{legal-tree}
+use Rattle.cp_model.proofs.Effects.{working-step, read-rows_of, losses-rows_of}
+use Rattle.cp_model.proofs.Pasts.{legal-pasts}
 use Rattle.cp_model.proofs.stated.laws.Goals as goal
 
 pub returns-clause-lookups : goal.returns-clause-lookups
-returns-clause-lookups c = record { replaced_at = get-replaced; without_at = get-without; below_at = find-below; alike = keyed.same_map }
+returns-clause-lookups c = record { replaced_at = get-replaced; without_at = get-without; below_at = find-below; alike = same_map }
 
 pub returns-clause-counts : goal.returns-clause-counts
 returns-clause-counts c = record { nodes = len-replaced; weights = weight-replaced }

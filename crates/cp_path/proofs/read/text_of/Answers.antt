@@ -1,6 +1,6 @@
 use Rattle.std.proofs.Common.{ap, sym, ◌∙◌, get_or}
 use Rattle.cp_path.proofs.Words.{no_text}
-use Rattle.cp_path.specs.Accepted.{quoted_word}
+use Rattle.cp_path.proofs.Accepted.{quoted_word}
 use Rattle.cp_path.proofs.read.text_of.Goals as goal
 
 pub returns-in-None : goal.returns-in-None

@@ -1,6 +1,6 @@
 use Rattle.std.proofs.Common.{◌≡◌, rules, sym}
 use Rattle.cp_path.specs.Spelling.{whole_text}
-use Rattle.cp_path.specs.ValueLaws.{whole_reading_spelled}
+use Rattle.cp_path.proofs.ValueLaws.{whole_reading_spelled}
 use Rattle.cp_path.proofs.read_value.read_whole.Goals as goal
 
 pub returns-then-eq-clause-reads : goal.returns-then-eq-clause-reads

@@ -1,5 +1,5 @@
 use Rattle.std.proofs.Common.{sym, ◌∙◌}
-use Rattle.cp_path.specs.Runs.{scan_step}
+use Rattle.cp_path.proofs.Runs.{scan_step}
 use Rattle.cp_path.specs.declared.scan.Spot.TheVariants as spot
 use Rattle.cp_path.proofs.scan.scan.Goals as goal
 

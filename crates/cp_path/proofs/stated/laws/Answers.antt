@@ -1,6 +1,6 @@
-use Rattle.cp_path.specs.WordLaws.{place_reads_back, place_spelled_once, place_read, place_refused, place_shape, label_reads_back, label_spelled_once, label_read, label_refused, label_shape}
-use Rattle.cp_path.specs.ValueLaws.{value_reads_back, value_spelled_once, value_read, value_refused, value_shape, string_reads_back}
-use Rattle.cp_path.specs.Encoding.{none_begins_another}
+use Rattle.cp_path.proofs.WordLaws.{place_reads_back, place_spelled_once, place_read, place_refused, place_shape, label_reads_back, label_spelled_once, label_read, label_refused, label_shape}
+use Rattle.cp_path.proofs.ValueLaws.{value_reads_back, value_spelled_once, value_read, value_refused, value_shape, string_reads_back}
+use Rattle.cp_path.proofs.EncodingLemmas.{none_begins_another}
 use Rattle.cp_path.proofs.stated.laws.Goals as goal
 
 pub returns-clause-places : goal.returns-clause-places

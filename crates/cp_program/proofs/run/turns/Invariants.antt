@@ -1,14 +1,15 @@
+use Rattle.cp_program.specs.declared.limits.TheConstants.{INPUT_MAX}
 use Rattle.std.proofs.Common.{◌≡◌, ◌≤◌, ◌-◌}
-use Rattle.cp_program.specs.Words.{most_input}
+
 use Rattle.cp_program.specs.Turns.{FollowsOne, Turned}
 use Rattle.cp_program.proofs.run.turns.Given as goal
 
 abbrev pub decreases-loop-now : goal.decreases-loop-now
-decreases-loop-now g l = most_input - l.taken
+decreases-loop-now g l = INPUT_MAX - l.taken
 
 abbrev pub invariant-loop-now : goal.invariant-loop-now
 invariant-loop-now g l = record {
-  within : l.taken ≤ most_input;
+  within : l.taken ≤ INPUT_MAX;
   few : l.session.database.runs ≤ l.taken;
   stands : FollowsOne g.R.TreeRep.contents l.session;
   turned : Turned g.R.TreeRep.contents (g.F.Files.found l.initial.files) l.initial.session l.session 0 l.taken (g.I.Source.left l.initial.input) (g.I.Source.left l.input) (g.O.Sink.contents l.initial.output) (g.O.Sink.contents l.output);

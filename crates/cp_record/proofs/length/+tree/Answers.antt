@@ -1,5 +1,6 @@
+use Rattle.cp_model.specs.declared.limits.TheConstants.{WEIGHT_MAX}
 use Rattle.std.proofs.Common.{◌≡◌, ◌≤◌, length, sym, ap, ◌∙◌, subst, arith, sum_by}
-use Rattle.cp_model.specs.Tree.{weight_of, most_weight}
+use Rattle.cp_model.specs.Tree.{weight_of}
 use Rattle.cp_model.specs.Literals.{edge_rows}
 use Rattle.cp_record.specs.Packed.{AreBelow}
 use Rattle.cp_record.proofs.Lengths.{rows_light, node_light, node_weight, node_count, edges_below, next_count, next_length, next_weight}
@@ -9,7 +10,7 @@ pub edges_length-loop-edge-init : goal.edges_length-loop-edge-init
 edges_length-loop-edge-init t c =
     let edges = c.deref-edge-items.result.now in
     let same : c.args.list.now ≡ edge_rows edges = sym c.list.view_is ∙ ap edge_rows (sym c.deref-edge-items.ensures.value) in
-    let weight : sum_by weight_of (edge_rows edges) ≤ most_weight = subst (λ rows. sum_by weight_of rows ≤ most_weight) same c.requires.weight in
+    let weight : sum_by weight_of (edge_rows edges) ≤ WEIGHT_MAX = subst (λ rows. sum_by weight_of rows ≤ WEIGHT_MAX) same c.requires.weight in
     record { so_far = omega arith; weight = weight; small = omega (arith, rows_light (edge_rows edges), weight) }
 
 pub edges_length-rows_length-requires : goal.edges_length-rows_length-requires

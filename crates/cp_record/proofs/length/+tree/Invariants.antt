@@ -1,5 +1,6 @@
+use Rattle.cp_model.specs.declared.limits.TheConstants.{WEIGHT_MAX}
 use Rattle.std.proofs.Common.{◌≡◌, ◌+◌, ◌*◌, ◌≤◌, drop, length, sum_by}
-use Rattle.cp_model.specs.Tree.{weight_of, most_weight}
+use Rattle.cp_model.specs.Tree.{weight_of}
 use Rattle.cp_model.specs.Literals.{literal_rows, edge_rows}
 use Rattle.cp_record.specs.Bytes.{tree_length}
 use Rattle.cp_record.proofs.length.+tree.Given as goal
@@ -7,8 +8,8 @@ use Rattle.cp_record.proofs.length.+tree.Given as goal
 abbrev pub invariant-edges_length-loop-edge : goal.invariant-edges_length-loop-edge
 invariant-edges_length-loop-edge l = record {
   so_far : l.total + tree_length (edge_rows (drop l.edge-index l.edge-items)) ≡ tree_length (edge_rows l.edge-items);
-  weight : sum_by weight_of (edge_rows (drop l.edge-index l.edge-items)) ≤ most_weight;
-  small : tree_length (edge_rows l.edge-items) ≤ most_weight;
+  weight : sum_by weight_of (edge_rows (drop l.edge-index l.edge-items)) ≤ WEIGHT_MAX;
+  small : tree_length (edge_rows l.edge-items) ≤ WEIGHT_MAX;
 }
 
 -- a node has one row more than what stands below it

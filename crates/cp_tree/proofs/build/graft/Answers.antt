@@ -1,5 +1,5 @@
 use Rattle.std.proofs.Common.{◌∙◌}
-use Rattle.cp_tree.specs.Listing.{literal-below}
+use Rattle.cp_tree.proofs.ListingLemmas.{literal-below}
 use Rattle.cp_tree.proofs.Listed.{entries-listed}
 use Rattle.cp_tree.proofs.build.graft.Goals as goal
 

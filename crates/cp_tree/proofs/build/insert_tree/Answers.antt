@@ -1,5 +1,5 @@
 use Rattle.std.proofs.Common.{arith, length, ap}
-use Rattle.cp_tree.specs.Tallies.{deepest-fits}
+use Rattle.cp_tree.proofs.Tallies.{deepest-fits}
 use Rattle.cp_tree.proofs.Listed.{entries-root}
 use Rattle.cp_tree.proofs.build.insert_tree.Goals as goal
 

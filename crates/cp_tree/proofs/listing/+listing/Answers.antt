@@ -2,7 +2,7 @@ use Rattle.std.proofs.Common.{◌≡◌, ◌+◌, drop, arith, ap, ◌∙◌, re
 use Rattle.cp_model.specs.Literals.{edge_rows}
 use Rattle.cp_model.specs.declared.row.Content.TheVariants.{Leaf}
 use Rattle.cp_tree.specs.Rows.{entries_in}
-use Rattle.cp_tree.specs.Edges.{drop-one}
+use Rattle.cp_tree.proofs.Edges.{drop-one}
 use Rattle.cp_tree.proofs.Listed.{deepest-edge, rows-edge, rows-leaf, rows-end, path-within, rows-node, rows-fewer}
 use Rattle.cp_tree.proofs.listing.+listing.Goals as goal
 

@@ -1,5 +1,5 @@
 use Rattle.std.proofs.Common.{◌≡◌, ◌+◌, take}
-use Rattle.cp_tree.specs.Built.{made}
+use Rattle.cp_tree.specs.Rows.{made}
 use Rattle.cp_tree_box.proofs.build.build.Given as goal
 
 abbrev pub invariant-loop-row : goal.invariant-loop-row

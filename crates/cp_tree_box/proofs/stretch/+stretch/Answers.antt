@@ -7,7 +7,7 @@ use Rattle.std.specs.BTreeMap.{is_at}
 use Rattle.cp_path.specs.Text.{text_cmp}
 use Rattle.cp_tree.specs.Branch.{kid_rows}
 use Rattle.cp_tree.specs.Rows.{greatest}
-use Rattle.cp_tree.specs.Totals.{kids_total}
+use Rattle.cp_tree.proofs.Totals.{kids_total}
 use Rattle.cp_tree_box.specs.Tallies.{places, weighs, row_counts, row_depth, row_size}
 use Rattle.cp_tree_box.proofs.Tallying.{counts_root, near_kid, near_edge, counts_kid, fewer_kid, greatest_root, greatest_kid}
 use Rattle.cp_tree_box.proofs.stretch.+stretch.Goals as goal

@@ -1,7 +1,7 @@
 use Rattle.std.proofs.Common.{◌≡◌, ◌+◌, max}
 use Rattle.cp_tree.specs.Branch.{kid_rows}
 use Rattle.cp_tree.specs.Rows.{greatest}
-use Rattle.cp_tree.specs.Totals.{kids_total}
+use Rattle.cp_tree.proofs.Totals.{kids_total}
 use Rattle.cp_tree_box.specs.Tallies.{places, weighs, row_counts, row_depth, row_size}
 use Rattle.cp_tree_box.proofs.stretch.+stretch.Given as goal
 

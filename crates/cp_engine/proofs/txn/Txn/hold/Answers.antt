@@ -1,5 +1,6 @@
 use Rattle.std.proofs.Common.{◌+◌, ap, ◌∙◌, [], ◌∷◌, ◌++◌, refl}
-use Rattle.cp_engine.specs.Loaded.{sources_in, trees-loaded}
+use Rattle.cp_engine.specs.Loaded.{sources_in}
+use Rattle.cp_engine.proofs.LoadedLemmas.{trees-loaded}
 use Rattle.cp_engine.proofs.Changed.{op-small}
 use Rattle.cp_engine.proofs.Going.{going-more}
 use Rattle.cp_engine.proofs.txn.Txn.hold.Goals as goal

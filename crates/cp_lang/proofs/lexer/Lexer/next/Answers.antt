@@ -1,7 +1,8 @@
 use Rattle.std.proofs.Common.{◌≡◌, ◌<◌, sym, ◌∙◌, ap, subst, length, ◌∷◌, ◌+◌, ◌-◌, arith}
 use Rattle.std.proofs.lemmas.Bool.Decides.{nat_tests}
 use Rattle.std.specs.Str.{IsUtf8, IsCharBoundary}
-use Rattle.cp_lang.specs.LexerLaws.{spaces, token, tokens_at}
+use Rattle.cp_lang.specs.Lexer.{spaces, tokens_at}
+use Rattle.cp_lang.proofs.LexerLaws.{token}
 use Rattle.cp_lang.proofs.Cutting.{spaces_cut, tokens_none, tokens_empty, tokens_next}
 use Rattle.cp_lang.proofs.lexer.Lexer.next.Goals as goal
 

@@ -1,5 +1,5 @@
 use Rattle.std.proofs.Common.{inr}
-use Rattle.cp_path.specs.WordLaws.{label_bad_at}
+use Rattle.cp_path.proofs.WordLaws.{label_bad_at}
 use Rattle.cp_path.proofs.Words.{label_made}
 use Rattle.cp_path.proofs.label.Label.read.Goals as goal
 

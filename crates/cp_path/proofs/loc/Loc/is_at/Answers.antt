@@ -1,4 +1,4 @@
-use Rattle.cp_path.specs.Same.{place_eq-iff}
+use Rattle.cp_path.proofs.Same.{place_eq-iff}
 use Rattle.cp_path.proofs.loc.Loc.is_at.Goals as goal
 
 pub returns : goal.returns

@@ -1,5 +1,5 @@
 use Rattle.std.proofs.Common.{inr}
-use Rattle.cp_path.specs.WordLaws.{place_bad_at}
+use Rattle.cp_path.proofs.WordLaws.{place_bad_at}
 use Rattle.cp_path.proofs.loc.Loc.read.Goals as goal
 
 pub returns-in-Err-clause-refuses : goal.returns-in-Err-clause-refuses

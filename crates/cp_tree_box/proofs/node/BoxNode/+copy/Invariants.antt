@@ -1,6 +1,6 @@
 use Rattle.std.proofs.Common.{◌≡◌, ◌++◌, ◌+◌, ◌≤◌}
 use Rattle.cp_model.specs.Keyed.{len}
-use Rattle.cp_tree.specs.Totals.{kids_len}
+use Rattle.cp_tree.specs.Branch.{kids_len}
 use Rattle.cp_tree_box.proofs.node.BoxNode.+copy.Given as goal
 
 abbrev pub invariant-loop-a : goal.invariant-loop-a

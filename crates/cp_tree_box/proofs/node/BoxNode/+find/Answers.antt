@@ -1,6 +1,6 @@
 use Rattle.std.proofs.Common.{sym}
-use Rattle.cp_tree.specs.Branch.{sub-root}
-use Rattle.cp_tree.specs.Good.{get_below, get_nothing, sub_below}
+use Rattle.cp_tree.proofs.BranchLemmas.{sub-root}
+use Rattle.cp_tree.proofs.GoodLemmas.{get_below, get_nothing, sub_below}
 use Rattle.cp_tree_box.proofs.Maps.{looked, no_length}
 use Rattle.cp_tree_box.proofs.Edges.{rooted_view}
 use Rattle.cp_tree_box.proofs.node.BoxNode.+find.Goals as goal

@@ -1,6 +1,6 @@
 use Rattle.std.proofs.Common.{◌∙◌, sym, ap, arith}
 use Rattle.cp_model.specs.Place.{child}
-use Rattle.cp_tree.specs.Good.{rooted-branch}
+use Rattle.cp_tree.proofs.GoodLemmas.{rooted-branch}
 use Rattle.cp_tree_box.proofs.Maps.{no_length}
 use Rattle.cp_tree_box.proofs.Edges.{put_here, no_node, got_below, tried_below, whole_as}
 use Rattle.cp_tree_box.proofs.node.BoxNode.+insert.Goals as goal

@@ -1,9 +1,8 @@
 use Rattle.std.proofs.Common.{◌≡◌, ◌++◌, ◌+◌, ◌≤◌, map}
 use Rattle.cp_model.specs.Keyed.{len}
 use Rattle.cp_model.specs.Subtrees.{moved}
-use Rattle.cp_tree.specs.Branch.{kid_rows}
+use Rattle.cp_tree.specs.Branch.{kid_rows, kids_len}
 use Rattle.cp_tree.specs.Rows.{row_of}
-use Rattle.cp_tree.specs.Totals.{kids_len}
 use Rattle.cp_tree_box.proofs.node.BoxNode.+rows_into.Given as goal
 
 abbrev pub invariant-loop-a : goal.invariant-loop-a

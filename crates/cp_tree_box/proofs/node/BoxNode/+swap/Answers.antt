@@ -1,6 +1,6 @@
 use Rattle.std.proofs.Common.{◌∙◌, sym, arith}
-use Rattle.cp_tree.specs.Branch.{sub-root}
-use Rattle.cp_tree.specs.Good.{rooted-branch}
+use Rattle.cp_tree.proofs.BranchLemmas.{sub-root}
+use Rattle.cp_tree.proofs.GoodLemmas.{rooted-branch}
 use Rattle.cp_tree_box.proofs.Maps.{no_length}
 use Rattle.cp_tree_box.proofs.Edges.{replaced-root, not_there, there_below, had_below, put_below}
 use Rattle.cp_tree_box.proofs.node.BoxNode.+swap.Goals as goal

@@ -1,5 +1,5 @@
 use Rattle.std.proofs.Common.{refl}
-use Rattle.cp_tree.specs.Branch.{get-branch_root}
+use Rattle.cp_tree.proofs.BranchLemmas.{get-branch_root}
 use Rattle.cp_tree_box.proofs.node.BoxNode.is_node.Goals as goal
 
 pub returns-in-Node : goal.returns-in-Node

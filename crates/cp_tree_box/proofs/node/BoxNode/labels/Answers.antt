@@ -2,8 +2,8 @@ use Rattle.std.proofs.Common.{◌∙◌, sym, ap, [], ◌++◌, append-nil}
 use Rattle.std.specs.Map.{keys_of}
 use Rattle.std.specs.Map.Iter.{deref_pair}
 use Rattle.std.proofs.lemmas.Map.Iter.{rest_all}
-use Rattle.cp_tree.specs.Branch.{sub-root}
-use Rattle.cp_tree.specs.Listing.{labels-branch}
+use Rattle.cp_tree.proofs.BranchLemmas.{sub-root}
+use Rattle.cp_tree.proofs.ListingLemmas.{labels-branch}
 use Rattle.cp_tree_box.proofs.node.BoxNode.labels.Goals as goal
 
 pub returns : goal.returns

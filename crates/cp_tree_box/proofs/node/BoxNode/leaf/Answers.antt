@@ -1,7 +1,7 @@
 use Rattle.std.proofs.Common.{ap, sym, subst, []}
 use Rattle.cp_model.specs.Tree.{IsRooted}
 use Rattle.cp_tree.specs.Branch.{branch}
-use Rattle.cp_tree.specs.Good.{good_single, rooted-branch}
+use Rattle.cp_tree.proofs.GoodLemmas.{good_single, rooted-branch}
 use Rattle.cp_tree_box.proofs.node.BoxNode.leaf.Goals as goal
 
 pub returns-clause-alone : goal.returns-clause-alone

@@ -5,7 +5,7 @@ use Rattle.std.specs.Map.{lookup}
 use Rattle.std.specs.Map.Iter.{deref_pair}
 use Rattle.std.specs.BTreeMap.{is_at}
 use Rattle.cp_path.specs.Text.{text_cmp}
-use Rattle.cp_tree.specs.Totals.{kids_total}
+use Rattle.cp_tree.proofs.Totals.{kids_total}
 use Rattle.cp_tree_box.specs.Tallies.{row_counts}
 use Rattle.cp_tree_box.proofs.Tallying.{near_root, counts_root, near_kid, near_edge, counts_kid, fewer_kid}
 use Rattle.cp_tree_box.proofs.tally.Tally.+add.Goals as goal

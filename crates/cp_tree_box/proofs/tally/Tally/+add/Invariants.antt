@@ -1,5 +1,5 @@
 use Rattle.std.proofs.Common.{◌≡◌, ◌+◌}
-use Rattle.cp_tree.specs.Totals.{kids_total}
+use Rattle.cp_tree.proofs.Totals.{kids_total}
 use Rattle.cp_tree_box.specs.Tallies.{Gauge, row_counts, kept}
 use Rattle.cp_tree_box.proofs.tally.Tally.+add.Given as goal
 

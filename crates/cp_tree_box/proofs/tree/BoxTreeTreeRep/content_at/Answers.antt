@@ -1,6 +1,6 @@
 use Rattle.std.proofs.Common.{◌∙◌, ap, sym, Some, []}
 use Rattle.cp_model.specs.Keyed.{get}
-use Rattle.cp_tree.specs.Branch.{get-branch_root}
+use Rattle.cp_tree.proofs.BranchLemmas.{get-branch_root}
 use Rattle.cp_tree_box.proofs.Wrapping.{root_of}
 use Rattle.cp_tree_box.proofs.tree.BoxTreeTreeRep.content_at.Goals as goal
 

@@ -2,7 +2,7 @@ use Rattle.std.proofs.Common.{◌∙◌, ap, sym, subst}
 use Rattle.cp_model.specs.Place.{child}
 use Rattle.cp_model.specs.Subtrees.{without}
 use Rattle.cp_model.specs.Tree.{IsTree}
-use Rattle.cp_model.specs.Kept.{tree-without}
+use Rattle.cp_model.proofs.Kept.{tree-without}
 use Rattle.cp_tree.specs.Branch.{sub}
 use Rattle.cp_tree_box.specs.Tallies.{IsTallyOf}
 use Rattle.cp_tree_box.proofs.Wrapping.{spot_of, spot_child, near_above, near_child, near_cut, cut_there, cut}

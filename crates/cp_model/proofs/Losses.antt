@@ -1,0 +1,147 @@
+-- The rows that say gone at children of a place that stayed are the children that it lost.
+use Rattle.std.specs.Prelude.{◌≡◌, Bool, true, false, not, ◌&&◌, ◌||◌, List, [], ◌∷◌, ◌++◌, map, refl, is_some, if◌then◌else◌}
+use Rattle.std.proofs.Common.{sym, ap, ◌∙◌}
+use Rattle.std.specs.declared.option.Option.{Option}
+use Rattle.std.specs.declared.option.Option.TheVariants.{None, Some}
+use Rattle.std.specs.List.{cons_option, list_any}
+use Rattle.cp_model.specs.Place.{Path, Label, strip, or_else, option_map, with_rest, nearest, place_eq, at_target, parent}
+use Rattle.cp_model.specs.Keyed as keyed
+use Rattle.cp_model.specs.Subtrees.{is_there}
+use Rattle.cp_model.specs.Tree.{Tree}
+use Rattle.cp_model.specs.Step.{Working, Origin, new, was}
+use Rattle.cp_model.specs.Past.{AgedTree, tree_of, loses_child, is_child, one_label}
+use Rattle.cp_model.specs.Rows.{same, from, Mark, D, effect, effect_at, effect_eq, full_mark, reduced_mark, given, above, nearest_effect, is_same, full_here, reduced_here, parent_there, marked, all_paths, full_rows, reduced_rows}
+use Rattle.cp_model.proofs.Strips.{strip_is, nearest-snoc, nearest-here, further, parent-snoc}
+use Rattle.cp_model.proofs.Lookups.{there-mapped}
+use Rattle.cp_model.proofs.Reading.{there_effect}
+use Rattle.cp_model.proofs.Marks.{among-all_paths}
+use Rattle.cp_model.proofs.Passing.{any-alike, or_true, any_two, key_there, any_map, and_true, and_both, any_same}
+use Rattle.cp_model.specs.Records.{is_D}
+
+-- the test, if there is something to test
+abbrev pub holds_of : {A : Type 0} → (A → Bool) → Option A → Bool
+holds_of h None = false
+holds_of h (Some x) = h x
+
+any-marked : (g : Path → Mark → Bool) (f : Path → Option Mark) (qs : List Path) → list_any (λ r. g r.0 r.1) (marked f qs) ≡ list_any (λ q. holds_of (g q) (f q)) qs
+any-marked g f [] = refl
+any-marked g f (q ∷ qs) = one (f q) ∙ ap (λ b. holds_of (g q) (f q) || b) (any-marked g f qs)
+  where
+    one : (o : Option Mark) → list_any (λ r. g r.0 r.1) (cons_option (option_map (λ m. (q, m)) o) (marked f qs)) ≡ (holds_of (g q) o || list_any (λ r. g r.0 r.1) (marked f qs))
+    one None = refl
+    one (Some m) = refl
+
+-- what is a child of p is p and a label
+pub child_is : (p q : Path) → is_child p q ≡ true → (a : Label) × (q ≡ p ++ a ∷ [])
+child_is p q h =
+    elim (strip p q) as (λ o. strip p q ≡ o → one_label o ≡ true → (a : Label) × (q ≡ p ++ a ∷ [])) [
+      | None ↦ λ _ h. absurd (cc)
+      | Some s ↦ λ k h. one s k h
+    ] refl h
+  where
+    one : (s : Path) → strip p q ≡ Some s → one_label (Some s) ≡ true → (a : Label) × (q ≡ p ++ a ∷ [])
+    one [] k h = absurd (cc)
+    one (a ∷ []) k h = (a, strip_is p q (a ∷ []) k)
+    one (a ∷ b ∷ s) k h = absurd (cc)
+
+no_full_D : (p : Path) (o : Origin) → holds_of is_D (full_mark (effect p o)) ≡ false
+no_full_D p new = refl
+no_full_D p (was q) = elim (place_eq q (at_target p)) as (λ b. holds_of is_D (full_mark (if b then same else from q)) ≡ false) [ true ↦ refl | false ↦ refl ]
+
+-- what is above a lost child of a place that is the same is the same
+pub above_child : (w : Working) (p : Path) (a : Label) → effect_at w p ≡ Some same → keyed.get w (p ++ a ∷ []) ≡ None → above w (p ++ a ∷ []) ≡ same
+above_child w p a e n =
+    ap nearest_effect (nearest-snoc (effect_at w) p a ∙ ap (λ o. or_else (with_rest (option_map (λ x. effect (p ++ a ∷ []) x.origin) o) []) (further (a ∷ []) (nearest (effect_at w) p))) n
+    ∙ ap (λ o. further (a ∷ []) o) (nearest-here (effect_at w) p same e))
+
+holds_never : (o : Option Mark) → holds_of (λ m. false) o ≡ false
+holds_never None = refl
+holds_never (Some m) = refl
+
+-- whether q is a lost child of p, by its mark and by the trees
+pub lost_here : (a : Tree) (w : Working) (p q : Path) → effect_at w p ≡ Some same → holds_of (λ m. is_child p q && is_D m) (full_here a w q) ≡ (is_child p q && (is_there a q && not (is_there w q)))
+unfolding full_here
+lost_here a w p q e =
+    elim (is_child p q) as (λ b. is_child p q ≡ b → holds_of (λ m. b && is_D m) (full_here a w q) ≡ (b && (is_there a q && not (is_there w q)))) [
+      | false ↦ λ _. holds_never (full_here a w q)
+      | true ↦ λ h. elim (keyed.get w q) as (λ o. keyed.get w q ≡ o → holds_of is_D (elim (option_map (λ x. effect q x.origin) o) [ Some e ↦ full_mark e | None ↦ if is_there a q && is_same (above w q) then Some D else None ]) ≡ (is_there a q && not (is_some o))) [
+        | Some x ↦ λ _. no_full_D q x.origin ∙ elim (is_there a q) as (λ b. false ≡ (b && false)) [ true ↦ refl | false ↦ refl ]
+        | None ↦ λ n.
+            let l = child_is p q h in
+            let same_above : above w q ≡ same = ap (above w) l.1 ∙ above_child w p l.0 e (ap (keyed.get w) (sym l.1) ∙ n) in
+            ap (λ d. holds_of is_D (if is_there a q && is_same d then Some D else None)) same_above
+            ∙ elim (is_there a q) as (λ b. holds_of is_D (if b && true then Some D else None) ≡ (b && true)) [ true ↦ refl | false ↦ refl ]
+      ] refl
+    ] refl
+
+-- in kinds n and t a place that is the same lost a child where a child's row says that it is gone
+pub losses-full_rows : (a : Tree) (w : Working) (p : Path) → effect_at w p ≡ Some same → list_any (λ r. is_child p r.0 && is_D r.1) (full_rows a w) ≡ loses_child a w p
+unfolding loses_child
+losses-full_rows a w p e =
+    any-marked (λ q m. is_child p q && is_D m) (full_here a w) (all_paths a w)
+    ∙ any-alike _ h (λ q. lost_here a w p q e) (all_paths a w)
+    ∙ any_two h g (all_paths a w) (map (λ e. e.0) (keyed.entries a))
+    (λ q k. let s = and_true (is_child p q) _ k in let t = and_true (is_there a q) _ s.1 in (key_there a q ∙ t.0, and_both _ _ s.0 t.1))
+    (λ q i k. let s = and_true (is_child p q) _ k in let there : is_there a q ≡ true = sym (key_there a q) ∙ i in
+    (among-all_paths a w q ∙ ap (λ b. is_there w q || b) there ∙ or_true (is_there w q) true refl, and_both _ _ s.0 (and_both _ _ there s.1)))
+    ∙ any_map g (keyed.entries a)
+  where
+    h : Path → Bool
+    h q = is_child p q && (is_there a q && not (is_there w q))
+
+    g : Path → Bool
+    g q = is_child p q && not (is_there w q)
+
+no_reduced_D : (p : Path) (o : Origin) → is_D (reduced_mark (effect p o)) ≡ false
+no_reduced_D p new = refl
+no_reduced_D p (was q) = elim (place_eq q (at_target p)) as (λ b. is_D (reduced_mark (if b then same else from q)) ≡ false) [ true ↦ refl | false ↦ refl ]
+
+kept_or_not : (b : Bool) (m : Mark) → is_D m ≡ false → holds_of is_D (if b then None else Some m) ≡ false
+kept_or_not true m e = refl
+kept_or_not false m e = e
+
+lost_here_reduced : (a : Tree) (w : Working) (p q : Path) → effect_at w p ≡ Some same → holds_of (λ m. is_child p q && is_D m) (reduced_here a w q) ≡ (is_child p q && (is_there a q && not (is_there w q)))
+unfolding reduced_here
+lost_here_reduced a w p q e =
+    elim (is_child p q) as (λ b. is_child p q ≡ b → holds_of (λ m. b && is_D m) (reduced_here a w q) ≡ (b && (is_there a q && not (is_there w q)))) [
+      | false ↦ λ _. holds_never (reduced_here a w q)
+      | true ↦ λ h. elim (keyed.get w q) as (λ o. keyed.get w q ≡ o → holds_of is_D (elim (option_map (λ x. effect q x.origin) o) [ Some e ↦ if effect_eq e (given w q) then None else Some (reduced_mark e) | None ↦ if is_there a q && is_same (above w q) && parent_there w (parent q) then Some D else None ]) ≡ (is_there a q && not (is_some o))) [
+        | Some x ↦ λ _. kept_or_not (effect_eq (effect q x.origin) (given w q)) _ (no_reduced_D q x.origin) ∙ elim (is_there a q) as (λ b. false ≡ (b && false)) [ true ↦ refl | false ↦ refl ]
+        | None ↦ λ n.
+            let l = child_is p q h in
+            let same_above : above w q ≡ same = ap (above w) l.1 ∙ above_child w p l.0 e (ap (keyed.get w) (sym l.1) ∙ n) in
+            let up : parent_there w (parent q) ≡ true = ap (λ r. parent_there w (parent r)) l.1 ∙ ap (parent_there w) (parent-snoc p l.0) ∙ there_effect w p same e in
+            ap (λ d. holds_of is_D (if is_there a q && is_same d && parent_there w (parent q) then Some D else None)) same_above
+            ∙ ap (λ c. holds_of is_D (if is_there a q && true && c then Some D else None)) up
+            ∙ elim (is_there a q) as (λ b. holds_of is_D (if b && true && true then Some D else None) ≡ (b && true)) [ true ↦ refl | false ↦ refl ]
+      ] refl
+    ] refl
+
+-- in kinds h and ht a place that is the same lost a child where a child's row says that it is gone
+pub losses-reduced_rows : (a : Tree) (w : Working) (p : Path) → effect_at w p ≡ Some same → list_any (λ r. is_child p r.0 && is_D r.1) (reduced_rows a w) ≡ loses_child a w p
+unfolding loses_child
+losses-reduced_rows a w p e =
+    any-marked (λ q m. is_child p q && is_D m) (reduced_here a w) (all_paths a w)
+    ∙ any-alike _ h (λ q. lost_here_reduced a w p q e) (all_paths a w)
+    ∙ any_two h g (all_paths a w) (map (λ e. e.0) (keyed.entries a))
+    (λ q k. let s = and_true (is_child p q) _ k in let t = and_true (is_there a q) _ s.1 in (key_there a q ∙ t.0, and_both _ _ s.0 t.1))
+    (λ q i k. let s = and_true (is_child p q) _ k in let there : is_there a q ≡ true = sym (key_there a q) ∙ i in
+    (among-all_paths a w q ∙ ap (λ b. is_there w q || b) there ∙ or_true (is_there w q) true refl, and_both _ _ s.0 (and_both _ _ there s.1)))
+    ∙ any_map g (keyed.entries a)
+  where
+    h : Path → Bool
+    h q = is_child p q && (is_there a q && not (is_there w q))
+
+    g : Path → Bool
+    g q = is_child p q && not (is_there w q)
+
+-- a tree's aged places lose the children that its places lose
+pub loses-tree : (a : AgedTree) (w : Working) (p : Path) → loses_child (tree_of a) w p ≡ loses_child a w p
+unfolding loses_child
+loses-tree a w p =
+    sym (any_map g (keyed.entries (tree_of a)))
+    ∙ any_same g (map (λ e. e.0) (keyed.entries (tree_of a))) (map (λ e. e.0) (keyed.entries a)) (λ q i. key_there a q ∙ sym (there-mapped (λ _ x. x.content) a q) ∙ sym (key_there (tree_of a) q) ∙ i) (λ q i. key_there (tree_of a) q ∙ there-mapped (λ _ x. x.content) a q ∙ sym (key_there a q) ∙ i)
+    ∙ any_map g (keyed.entries a)
+  where
+    g : Path → Bool
+    g q = is_child p q && not (is_there w q)
