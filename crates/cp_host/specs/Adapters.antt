@@ -11,6 +11,10 @@ use Rattle.cp_host.specs.declared.files.HostFiles.{HostFiles}
 abbrev pub source_inner : {R : Type 0} → StdinSource R → R
 source_inner s = s.inner
 
+-- How many bytes the input has given.
+abbrev pub source_given : {R : Type 0} → StdinSource R → ℕ
+source_given s = s.given
+
 -- How often the input has failed.
 abbrev pub source_faults : {R : Type 0} → StdinSource R → ℕ
 source_faults s = s.faults
@@ -22,6 +26,10 @@ sink_inner s = s.inner
 -- How often the output has failed.
 abbrev pub sink_faults : {W : Type 0} → StdoutSink W → ℕ
 sink_faults s = s.faults
+
+-- How many files were asked for.
+abbrev pub files_reads : {R : Type 0} → HostFiles R → ℕ
+files_reads s = s.reads
 
 -- How often reading a file has failed.
 abbrev pub files_faults : {R : Type 0} → HostFiles R → ℕ

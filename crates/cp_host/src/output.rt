@@ -1,5 +1,8 @@
 //! Real output.
-ghost use Rattle.std.specs.Prelude.{◌≡◌};
+ghost use Rattle.std.specs.Prelude.{◌≡◌, ◌<◌, length, IfErr};
+ghost use Rattle.std.specs.Io.KnownBytes.{WriteAppends};
+ghost use Rattle.cp_outside.specs.Causes.{Accounts, AnyError, one_more};
+ghost use Rattle.cp_outside.specs.Sinks.{BlamesOutput, TakesSome};
 ghost use Rattle.cp_host.specs.Adapters.{sink_inner, sink_faults};
 
 use cp_outside::{Sink, SinkFault};
@@ -31,7 +34,18 @@ impl<W: Write> Sink for StdoutSink<W> {
 
     ghost refusals = { sink_faults };
 
-    fn write(&mut self, bytes: &[u8]) -> Result<usize, SinkFault> {
+    fn write(&mut self, bytes: &[u8]) -> Result<usize, SinkFault>
+        requires { 0 < length bytes.now }
+        ensures some { TakesSome result bytes.now }
+        ensures bytes { WriteAppends (W.contents (sink_inner self.old)) (W.contents (sink_inner self.new))
+            result bytes.now }
+        ensures cause { Accounts BlamesOutput (sink_faults self.old) (sink_faults self.new) result }
+        ensures refused { Accounts AnyError (sink_faults self.old) (sink_faults self.new) result }
+
+        // Each refusal is a failure, and is counted once.
+        ensures failed { IfErr result (λ e. (e ≡ SinkFault.Failed)
+            × (sink_faults self.new ≡ one_more (sink_faults self.old))) }
+    {
         match self.inner.write(bytes) {
             Ok(count) if 0 < count => Ok(count),
             _ => {

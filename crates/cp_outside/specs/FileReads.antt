@@ -1,11 +1,10 @@
--- What a read of a file gives, and when it may fail.
-use Rattle.std.specs.Prelude.{ℕ, ◌≡◌, ◌≤◌, ◌<◌, List, [], length, take, None, Some, Result, OnOk, IsErrOf}
+-- What a read of a file gives, and which of its errors blame the file.
+use Rattle.std.specs.Prelude.{ℕ, ◌≡◌, ◌≤◌, ◌<◌, List, [], length, take, None, Some, ⊤}
 use Rattle.std.specs.declared.option.Option.{Option}
 use Rattle.cp_outside.specs.declared.files.FileEnd.{FileEnd}
 use Rattle.cp_outside.specs.declared.files.FileEnd.TheVariants.{Whole, TooLong, Missing}
 use Rattle.cp_outside.specs.declared.files.FilesFault.{FilesFault}
-use Rattle.cp_outside.specs.declared.files.FilesFault.TheVariants.{Failed}
-use Rattle.cp_outside.specs.Causes.{Rose}
+use Rattle.cp_outside.specs.declared.files.FilesFault.TheVariants.{Failed, Memory}
 
 -- What each name names: the bytes of a file, or none where there is no such file.
 abbrev pub FileTable : Type 0
@@ -21,8 +20,7 @@ EndsAs file limit bytes Missing = (file ≡ None) × (bytes ≡ [])
 abbrev pub ReadsFile : Option FileTable → List ℕ → ℕ → List ℕ → FileEnd → Type 0
 ReadsFile files name limit bytes end = (file : Option (List ℕ)) × ((f : FileTable) → files ≡ Some f → f name ≡ file) × EndsAs file limit bytes end
 
--- The count of faults has not fallen, and it rose where the call answered `Failed`, and it stayed where the call gave no error.
-pub record HasFilesCause {T : Type 0} (before now : ℕ) (result : Result T FilesFault) : Type 0 where
-  pub later : before ≤ now
-  pub failed : IsErrOf result Failed → Rose before now
-  pub steady : OnOk result (now ≡ before)
+-- The file could not be read, and memory did not run out.
+abbrev pub BlamesFile : FilesFault → Type 0
+BlamesFile Failed = ⊤
+BlamesFile Memory = ⊥

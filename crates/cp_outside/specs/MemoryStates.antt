@@ -1,24 +1,25 @@
 -- What callers see of a source, a sink and files in memory.
-use Rattle.std.specs.Prelude.{ℕ, List, [], ◌∷◌, ◌++◌, drop, None, Some, if◌then◌else◌}
+use Rattle.std.specs.Prelude.{ℕ, List, [], ◌∷◌, ◌+◌, ◌++◌, drop, None, Some, if◌then◌else◌}
 use Rattle.cp_path.specs.Text.{text_eq}
 use Rattle.cp_outside.specs.Causes.{one_more}
 use Rattle.cp_outside.specs.FileReads.{FileTable}
 use Rattle.cp_outside.specs.declared.memory_files.MemFile.{MemFile}
 
--- The bytes that are left, the numbers of the reads that fail, how many reads there were, and how many of them failed.
+-- The bytes that are left, how many were given, the numbers of the reads that fail, how many reads there were, and how many of them failed.
 pub record SourceState : Type 0 where
   pub left : List ℕ
+  pub given : ℕ
   pub fails : List ℕ
   pub calls : ℕ
   pub faults : ℕ
 
 -- A source before its first read.
 abbrev pub new_source : List ℕ → List ℕ → SourceState
-new_source bytes fails = record { left = bytes; fails = fails; calls = 0; faults = 0 }
+new_source bytes fails = record { left = bytes; given = 0; fails = fails; calls = 0; faults = 0 }
 
 -- A source after a read that moved n bytes.
 abbrev pub after_read : SourceState → ℕ → SourceState
-after_read s n = record s { left = drop n s.left; calls = one_more s.calls }
+after_read s n = record s { left = drop n s.left; given = s.given + n; calls = one_more s.calls }
 
 -- A source after a read that failed.
 abbrev pub after_failed_read : SourceState → SourceState
@@ -64,7 +65,7 @@ pub record FilesState : Type 0 where
 abbrev pub new_files : List MemFile → List ℕ → FilesState
 new_files files fails = record { files = files; fails = fails; calls = 0; faults = 0 }
 
--- Files after a read that did not fail, be it for want of memory that it gave nothing.
+-- Files after a read that did not fail, also where it ran out of memory.
 abbrev pub after_file : FilesState → FilesState
 after_file s = record s { calls = one_more s.calls }
 

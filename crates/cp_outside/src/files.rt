@@ -1,7 +1,8 @@
 //! Files that are read whole.
 ghost use Rattle.std.specs.Prelude.{◌≡◌, ℕ, IfOk};
 ghost use Rattle.std.specs.declared.option.Option.{Option};
-ghost use Rattle.cp_outside.specs.FileReads.{FileTable, ReadsFile, HasFilesCause};
+ghost use Rattle.cp_outside.specs.Causes.{Accounts, one_more};
+ghost use Rattle.cp_outside.specs.FileReads.{FileTable, ReadsFile, BlamesFile};
 
 use std::alloc::{AllocError, AllocFailed};
 use thiserror::Error;
@@ -55,6 +56,9 @@ pub trait Files {
     /// What each name names, where the object tells.
     ghost found: { Self → Option FileTable };
 
+    /// How many files it was asked for, up to the end of a `u64`.
+    ghost reads: { Self → ℕ };
+
     /// How often it has failed, up to the end of a `u64`.
     ghost faults: { Self → ℕ };
 
@@ -67,7 +71,9 @@ pub trait Files {
         limit: u64,
         into: &mut Vec<u8>,
     ) -> Result<FileEnd, FilesFault>
-        ensures read { IfOk result (λ end. ReadsFile (found self.old) name.now limit into.new.items end) }
+        ensures read { IfOk result (λ end.
+            ReadsFile (found self.old) name.now limit into.new.items end) }
         ensures same { found self.new ≡ found self.old }
-        ensures cause { HasFilesCause (faults self.old) (faults self.new) result };
+        ensures counted { reads self.new ≡ one_more (reads self.old) }
+        ensures cause { Accounts BlamesFile (faults self.old) (faults self.new) result };
 }

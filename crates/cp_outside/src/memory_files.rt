@@ -1,8 +1,8 @@
 //! Files in memory.
 ghost use Rattle.std.specs.Prelude.{◌≡◌, [], ◌↔◌, length, Some, IfOk, OnOk, IsErrOf, Contains};
 ghost use Rattle.std.specs.Option.{option_map};
-ghost use Rattle.cp_outside.specs.FileReads.{EndsAs, ReadsFile, HasFilesCause};
-ghost use Rattle.cp_outside.specs.Causes.{one_more};
+ghost use Rattle.cp_outside.specs.FileReads.{EndsAs, ReadsFile, BlamesFile};
+ghost use Rattle.cp_outside.specs.Causes.{Accounts, one_more};
 ghost use Rattle.cp_outside.specs.MemoryStates.{named, new_files, after_file, after_failed_file};
 
 use crate::files::{FileEnd, Files, FilesFault};
@@ -122,6 +122,8 @@ fn find(
 impl Files for MemFiles {
     ghost found = { λ s. Some (named s.files) };
 
+    ghost reads = { λ s. s.calls };
+
     ghost faults = { λ s. s.faults };
 
     #[tactic(auto, using(crate::proofs::Named::told))]
@@ -131,13 +133,16 @@ impl Files for MemFiles {
         limit: u64,
         into: &mut Vec<u8>,
     ) -> Result<FileEnd, FilesFault>
-        ensures read { IfOk result (λ end. ReadsFile (Some (named self.old.files)) name.now limit into.new.items end) }
+        ensures read { IfOk result (λ end.
+            ReadsFile (Some (named self.old.files)) name.now limit into.new.items end) }
         ensures same { Some (named self.new.files) ≡ Some (named self.old.files) }
-        ensures cause { HasFilesCause self.old.faults self.new.faults result }
+        ensures counted { self.new.calls ≡ one_more self.old.calls }
+        ensures cause { Accounts BlamesFile self.old.faults self.new.faults result }
 
         // The reads that the list names fail, and the others give what the name names, where there
         // is memory.
-        ensures listed { IsErrOf result FilesFault.Failed ↔ Contains self.old.fails (one_more self.old.calls) }
+        ensures listed { IsErrOf result FilesFault.Failed
+            ↔ Contains self.old.fails (one_more self.old.calls) }
         ensures ends { IfOk result (EndsAs (named self.old.files name.now) limit into.new.items) }
         ensures done { OnOk result (self.new ≡ after_file self.old) }
         ensures failed { IsErrOf result FilesFault.Failed → self.new ≡ after_failed_file self.old }

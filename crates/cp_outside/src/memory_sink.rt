@@ -1,9 +1,9 @@
 //! A sink in memory.
 ghost use Rattle.std.specs.Prelude.{◌≡◌, [], ◌<◌, ◌↔◌, length, Some, IfOk, OnOk, IsErrOf, Contains};
 ghost use Rattle.std.specs.Io.KnownBytes.{WriteAppends};
-ghost use Rattle.cp_outside.specs.Causes.{HasCause, one_more};
+ghost use Rattle.cp_outside.specs.Causes.{Accounts, AnyError, one_more};
 ghost use Rattle.cp_outside.specs.MemoryStates.{new_sink, after_write, after_failed_write, after_refused_write};
-ghost use Rattle.cp_outside.specs.Sinks.{HasSinkCause, TakesSome};
+ghost use Rattle.cp_outside.specs.Sinks.{BlamesOutput, TakesSome};
 
 use crate::plan::Plan;
 use crate::sink::{Sink, SinkFault};
@@ -72,11 +72,12 @@ impl Sink for MemSink {
         requires { 0 < length bytes.now }
         ensures some { TakesSome result bytes.now }
         ensures bytes { WriteAppends (Some self.old.bytes) (Some self.new.bytes) result bytes.now }
-        ensures cause { HasSinkCause self.old.faults self.new.faults result }
-        ensures refused { HasCause self.old.refusals self.new.refusals result }
+        ensures cause { Accounts BlamesOutput self.old.faults self.new.faults result }
+        ensures refused { Accounts AnyError self.old.refusals self.new.refusals result }
 
         // The writes that the list names fail, and the others take all, where there is memory.
-        ensures listed { IsErrOf result SinkFault.Failed ↔ Contains self.old.fails (one_more self.old.calls) }
+        ensures listed { IsErrOf result SinkFault.Failed
+            ↔ Contains self.old.fails (one_more self.old.calls) }
         ensures count { IfOk result (λ n. n ≡ length bytes.now) }
         ensures taken { OnOk result (self.new ≡ after_write self.old bytes.now) }
         ensures failed { IsErrOf result SinkFault.Failed → self.new ≡ after_failed_write self.old }

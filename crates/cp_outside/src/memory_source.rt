@@ -2,7 +2,7 @@
 ghost use Rattle.std.specs.Prelude.{◌≡◌, [], ◌<◌, ◌↔◌, min, length, Some, IsErr, IfOk, OnErr, Contains};
 ghost use Rattle.std.specs.Io.{ReadsAtMost};
 ghost use Rattle.std.specs.Io.KnownBytes.{ReadConsumes};
-ghost use Rattle.cp_outside.specs.Causes.{HasCause, one_more};
+ghost use Rattle.cp_outside.specs.Causes.{Accounts, AnyError, CountsBytes, one_more};
 ghost use Rattle.cp_outside.specs.MemoryStates.{new_source, after_read, after_failed_read};
 
 use crate::fault::Failed;
@@ -28,6 +28,7 @@ impl Model for MemSource {
 
     ghost view = { λ s. record {
       left = drop s.at s.bytes.items;
+      given = s.at;
       fails = s.plan.fails.items;
       calls = s.plan.calls;
       faults = s.plan.faults;
@@ -60,13 +61,16 @@ impl MemSource {
 impl Source for MemSource {
     ghost left = { λ s. Some s.left };
 
+    ghost given = { λ s. s.given };
+
     ghost faults = { λ s. s.faults };
 
     fn read(&mut self, into: &mut [u8]) -> Result<usize, Failed>
         requires { 0 < length into.old }
         ensures bound { ReadsAtMost result into.new }
         ensures bytes { ReadConsumes (Some self.old.left) (Some self.new.left) result into.new }
-        ensures cause { HasCause self.old.faults self.new.faults result }
+        ensures counted { CountsBytes self.old.given self.new.given result }
+        ensures cause { Accounts AnyError self.old.faults self.new.faults result }
 
         // The reads that the list names fail, and the others move all that there is room for.
         ensures listed { IsErr result ↔ Contains self.old.fails (one_more self.old.calls) }

@@ -2,8 +2,8 @@
 ghost use Rattle.std.specs.Prelude.{◌<◌, ℕ, List, length, OnOk, OnErr};
 ghost use Rattle.std.specs.declared.option.Option.{Option};
 ghost use Rattle.std.specs.Io.KnownBytes.{WriteAppends, Appends};
-ghost use Rattle.cp_outside.specs.Causes.{HasCause};
-ghost use Rattle.cp_outside.specs.Sinks.{HasSinkCause, TakesSome, TakesPart};
+ghost use Rattle.cp_outside.specs.Causes.{Accounts, AnyError};
+ghost use Rattle.cp_outside.specs.Sinks.{BlamesOutput, TakesSome, TakesPart};
 
 use std::alloc::{AllocError, AllocFailed};
 use thiserror::Error;
@@ -58,17 +58,18 @@ pub trait Sink {
         requires { 0 < length bytes.now }
         ensures some { TakesSome result bytes.now }
         ensures bytes { WriteAppends (contents self.old) (contents self.new) result bytes.now }
-        ensures cause { HasSinkCause (faults self.old) (faults self.new) result }
-        ensures refused { HasCause (refusals self.old) (refusals self.new) result };
+        ensures cause { Accounts BlamesOutput (faults self.old) (faults self.new) result }
+        ensures refused { Accounts AnyError (refusals self.old) (refusals self.new) result };
 }
 
 /// Writes all of `bytes`, in as many writes as the sink wants, and gives up at the first that it
 /// refuses. After an error a front part of the bytes was taken, which may be none of them.
 pub fn write_all<O: Sink>(output: &mut O, bytes: &[u8]) -> Result<(), SinkFault>
     ensures all { OnOk result (Appends (O.contents output.old) (O.contents output.new) bytes.now) }
-    ensures part { OnErr result (TakesPart (O.contents output.old) (O.contents output.new) bytes.now) }
-    ensures cause { HasSinkCause (O.faults output.old) (O.faults output.new) result }
-    ensures refused { HasCause (O.refusals output.old) (O.refusals output.new) result }
+    ensures part { OnErr result
+        (TakesPart (O.contents output.old) (O.contents output.new) bytes.now) }
+    ensures cause { Accounts BlamesOutput (O.faults output.old) (O.faults output.new) result }
+    ensures refused { Accounts AnyError (O.refusals output.old) (O.refusals output.new) result }
 {
     let mut at = 0;
     while at < bytes.len() {

@@ -3,7 +3,7 @@ ghost use Rattle.std.specs.Prelude.{◌<◌, ℕ, List, length};
 ghost use Rattle.std.specs.declared.option.Option.{Option};
 ghost use Rattle.std.specs.Io.{ReadsAtMost};
 ghost use Rattle.std.specs.Io.KnownBytes.{ReadConsumes};
-ghost use Rattle.cp_outside.specs.Causes.{HasCause};
+ghost use Rattle.cp_outside.specs.Causes.{Accounts, AnyError, CountsBytes};
 
 use crate::fault::Failed;
 
@@ -11,6 +11,9 @@ use crate::fault::Failed;
 pub trait Source {
     /// The bytes that are left, where the object tells.
     ghost left: { Self → Option (List ℕ) };
+
+    /// How many bytes it has given.
+    ghost given: { Self → ℕ };
 
     /// How often it has failed, up to the end of a `u64`.
     ghost faults: { Self → ℕ };
@@ -24,5 +27,6 @@ pub trait Source {
         requires { 0 < length into.old }
         ensures bound { ReadsAtMost result into.new }
         ensures bytes { ReadConsumes (left self.old) (left self.new) result into.new }
-        ensures cause { HasCause (faults self.old) (faults self.new) result };
+        ensures counted { CountsBytes (given self.old) (given self.new) result }
+        ensures cause { Accounts AnyError (faults self.old) (faults self.new) result };
 }

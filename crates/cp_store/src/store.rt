@@ -1,10 +1,10 @@
 //! The trait of the stores.
-ghost use Rattle.std.specs.Prelude.{◌≡◌, ◌≤◌, ◌+◌, ◌<◌, ◌^◌, ◌++◌, ℕ, List, IfOk, OnOk, IsErrOf};
-ghost use Rattle.cp_outside.specs.Causes.{Rose};
+ghost use Rattle.std.specs.Prelude.{◌≡◌, ◌+◌, ◌<◌, ◌^◌, ◌++◌, ℕ, List, IfOk, OnOk};
+ghost use Rattle.cp_outside.specs.Causes.{Accounts};
 ghost use Rattle.cp_model.specs.declared.kind.Kind.{Kind};
 ghost use Rattle.cp_model.specs.declared.record.Record.{Record};
 ghost use Rattle.cp_store.specs.Changes.{seen, change_at, records_at, AreNext};
-ghost use Rattle.cp_store.specs.declared.fault.StoreFault.TheVariants.{Disk};
+ghost use Rattle.cp_store.specs.Steps.{BlamesDisk, StaysThrough};
 
 use crate::change::Change;
 use crate::fault::StoreFault;
@@ -14,7 +14,7 @@ use std::alloc::Global;
 
 /// The rows of all steps up to the last, in one of the four kinds.
 ///
-/// An answer leaves the rows as they are, also where it is an error.
+/// A question leaves the rows as they are, also where its answer is an error.
 pub trait ProvStore: Drop {
     ghost kept_kind: { Self → Kind };
 
@@ -33,29 +33,24 @@ pub trait ProvStore: Drop {
     fn upto(&self) -> u64
         ensures { result ≡ last_tid self.now };
 
-    /// The last step up to `t` that changed the place, and what it did to it. A copy from a place over a limit of places
-    /// counts as no change.
+    /// The last step up to `t` that changed the place, and what it did to it. A copy from a place
+    /// over a limit of places counts as no change.
     fn last_change(
         &mut self,
         alloc: Global,
         loc: &Loc,
         t: u64,
     ) -> Result<Option<Change>, StoreFault>
-        ensures found { IfOk result (λ c. seen c ≡ change_at (kept_kind self.old) (kept_rows self.old) t loc.now) }
-        ensures kind { kept_kind self.new ≡ kept_kind self.old }
-        ensures last { last_tid self.new ≡ last_tid self.old }
-        ensures rows { kept_rows self.new ≡ kept_rows self.old }
-        ensures later { faults self.old ≤ faults self.new }
-        ensures cause { IsErrOf result Disk → Rose (faults self.old) (faults self.new) };
+        ensures found { IfOk result (λ c.
+            seen c ≡ change_at (kept_kind self.old) (kept_rows self.old) t loc.now) }
+        ensures asks { StaysThrough kept_kind last_tid kept_rows faults BlamesDisk
+            self.old self.new result };
 
     /// The rows of one step, by place.
     fn rows_of(&mut self, alloc: Global, t: u64) -> Result<RecordList, StoreFault>
         ensures found { IfOk result (λ v. v ≡ records_at (kept_rows self.old) t) }
-        ensures kind { kept_kind self.new ≡ kept_kind self.old }
-        ensures last { last_tid self.new ≡ last_tid self.old }
-        ensures rows { kept_rows self.new ≡ kept_rows self.old }
-        ensures later { faults self.old ≤ faults self.new }
-        ensures cause { IsErrOf result Disk → Rose (faults self.old) (faults self.new) };
+        ensures asks { StaysThrough kept_kind last_tid kept_rows faults BlamesDisk
+            self.old self.new result };
 
     /// Keeps the rows of the next `tids` steps. After an error the store is given up.
     fn absorb(&mut self, alloc: Global, tids: u64, rows: &[Record]) -> Result<(), StoreFault>
@@ -64,6 +59,5 @@ pub trait ProvStore: Drop {
         ensures kind { OnOk result (kept_kind self.new ≡ kept_kind self.old) }
         ensures last { OnOk result (last_tid self.new ≡ last_tid self.old + tids) }
         ensures rows { OnOk result (kept_rows self.new ≡ kept_rows self.old ++ rows.now) }
-        ensures later { faults self.old ≤ faults self.new }
-        ensures cause { IsErrOf result Disk → Rose (faults self.old) (faults self.new) };
+        ensures account { Accounts BlamesDisk (faults self.old) (faults self.new) result };
 }

@@ -1,5 +1,5 @@
 use Rattle.std.proofs.Common.{arith, length-drop}
-use Rattle.cp_outside.proofs.KnownBytes.{Appends-more}
+use Rattle.cp_outside.proofs.WritesInTurn.{Appends-more}
 use Rattle.std.proofs.lemmas.List.{take_rest}
 use Rattle.cp_outside.proofs.sink.write_all.Goals as goal
 
