@@ -1,8 +1,8 @@
 -- The order of rows by Tid and place.
-use Rattle.std.proofs.Common.{ℕ, suc, zero, ◌+◌, ◌<◌, ◌≤◌, ◌≡◌, Bool, true, false, cond, refl, ap, ◌∙◌, arith, take, get_or}
+use Rattle.std.proofs.Common.{ℕ, suc, zero, ◌+◌, ◌<◌, ◌≤◌, ◌≡◌, Bool, true, false, refl, sym, ap, subst, ◌∙◌, arith, take, get_or}
 use Rattle.std.proofs.lemmas.Bool.{and_parts}
 use Rattle.std.specs.Prelude.{List, [], ◌∷◌, ◌++◌, length, nat_lt, ◌==◌, ◌&&◌, ◌||◌, if◌then◌else◌}
-use Rattle.std.specs.List.{list_all, cons_option}
+use Rattle.std.specs.List.{list_all, slice_get}
 use Rattle.std.proofs.lemmas.Bool.Decides.{nat_tests}
 use Rattle.std.proofs.lemmas.List.Folds.{list_all-append}
 use Rattle.std.specs.declared.option.Option.TheVariants.{None, Some}
@@ -11,11 +11,11 @@ use Rattle.std.specs.declared.cmp.Ordering.TheVariants.{Less, Equal, Greater}
 use Rattle.std.specs.Ordering.{is_lt, is_eq}
 use Rattle.cp_model.specs.Place.{in_target, path_cmp, path_eq}
 use Rattle.cp_path.specs.PathOrder.{path_ties, path_total, path_eq_equiv}
-use Rattle.cp_model.specs.Keyed.{look}
-use Rattle.cp_model.specs.Records.{rows_at}
+use Rattle.cp_path.proofs.Same.{path_eq-same}
+use Rattle.cp_model.specs.Place.{Path}
 use Rattle.cp_model.specs.declared.record.Record.{Record}
-use Rattle.cp_store.specs.Changes.{goes_before, rises, is_between, AreNext}
-use Rattle.cp_flat.specs.Index.{mark_of}
+use Rattle.cp_store.specs.Changes.{goes_before, rises, is_source, is_between, AreNext}
+use Rattle.cp_rows.specs.Rows.{AreOrdered}
 
 -- each holds, so both do
 pub and_of : (a b : Bool) → a ≡ true → b ≡ true → (a && b) ≡ true
@@ -107,28 +107,53 @@ next-le low high rs k d h le = bounded (get_or rs k d) (list_all-get_or (is_betw
     bounded : (s : Record) → is_between low high s ≡ true → s.tid ≤ high
     bounded s b = let l = upper (in_target s.loc) (nat_lt low s.tid) (nat_lt s.tid (high + 1)) b in grind (arith, nat_tests)
 
-apart_if : (o : Ordering) → is_lt o ≡ true → is_eq o ≡ false
-apart_if Less h = refl
-apart_if Equal h = absurd (cc)
-apart_if Greater h = absurd (cc)
+-- each row is of a place of T
+pub next-target : (low high : ℕ) (rs : List Record) (k : ℕ) (d : Record) → AreNext low high rs → k < length rs → in_target (get_or rs k d).loc ≡ true
+next-target low high rs k d h le = first (get_or rs k d) (list_all-get_or (is_between low high) rs k d le h.between)
+  where
+    first : (s : Record) → is_between low high s ≡ true → in_target s.loc ≡ true
+    first s b = (and_parts (in_target s.loc) (nat_lt low s.tid) (and_parts (in_target s.loc && nat_lt low s.tid) (nat_lt s.tid (high + 1)) b).0).0
 
-same_step : (a b : ℕ) (x : Bool) → (a == b) ≡ true → (nat_lt a b || (a == b && x)) ≡ true → x ≡ true
-same_step a b true e h = refl
-same_step a b false e h = absurd (grind (arith, nat_tests))
+-- each row has a source exactly where it is a copy
+pub next-source : (low high : ℕ) (rs : List Record) (k : ℕ) (d : Record) → AreNext low high rs → k < length rs → is_source (get_or rs k d).op (get_or rs k d).src ≡ true
+next-source low high rs k d h le = list_all-get_or (λ r. is_source r.op r.src) rs k d le h.sources
 
--- a row of the same step that goes before is of another place
-other_place : (r s : Record) → (r.tid == s.tid) ≡ true → goes_before r s ≡ true → path_eq s.loc.path r.loc.path ≡ false
-other_place r s e h =
-    path_eq_equiv.symm s.loc.path r.loc.path ∙ path_ties r.loc.path s.loc.path ∙ apart_if (path_cmp r.loc.path s.loc.path) (same_step r.tid s.tid _ e h)
+-- the order of one place's rows is that of their steps
+pub same_place : (p : Path) (r s : Record) → goes_before r s ≡ true → path_eq p r.loc.path ≡ true → path_eq p s.loc.path ≡ true → r.tid < s.tid
+same_place p r s h a b =
+    let one : r.loc.path ≡ s.loc.path = sym (path_eq-same p r.loc.path a) ∙ path_eq-same p s.loc.path b in
+    let not_less : is_lt (path_cmp r.loc.path s.loc.path) ≡ false = ap (λ q. is_lt (path_cmp q s.loc.path)) one ∙ equal_less (path_cmp s.loc.path s.loc.path) (sym (path_ties s.loc.path s.loc.path) ∙ path_eq_equiv.refl s.loc.path) in
+    by_tid r.tid s.tid (is_lt (path_cmp r.loc.path s.loc.path)) not_less h
+  where
+    equal_less : (o : Ordering) → is_eq o ≡ true → is_lt o ≡ false
+    equal_less Less e = absurd (cc)
+    equal_less Equal e = refl
+    equal_less Greater e = refl
 
--- the rows before one have none of its place and step
-pub fresh : (rs : List Record) (r : Record) → list_all (λ s. goes_before s r) rs ≡ true → look r.loc.path (rows_at rs r.tid) ≡ None
-unfolding rows_at
-fresh [] r h = refl
-fresh (s ∷ rs) r h =
-    let b = and_parts (goes_before s r) (list_all (λ s. goes_before s r) rs) h in
-    elim (s.tid == r.tid) as (λ c. (s.tid == r.tid) ≡ c → look r.loc.path (cons_option (if c then Some (s.loc.path, mark_of s) else None) (rows_at rs r.tid)) ≡ look r.loc.path (rows_at rs r.tid)) [
-      | true ↦ λ e. ap (λ d. cond d (Some (mark_of s)) (look r.loc.path (rows_at rs r.tid))) (other_place s r e b.0)
-      | false ↦ λ _. refl
-    ] refl
-    ∙ fresh rs r b.1
+    by_tid : (a b : ℕ) (x : Bool) → x ≡ false → (nat_lt a b || (a == b && x)) ≡ true → a < b
+    by_tid a b true e h = absurd (cc)
+    by_tid a b false e h = grind (arith, nat_tests)
+
+-- the element at a number passes
+pub found : {X : Type 0} (p : X → Bool) (xs : List X) (i : ℕ) (x : X) → slice_get xs i ≡ Some x → list_all p xs ≡ true → p x ≡ true
+found p [] i x e h = absurd (cc)
+found p (y ∷ xs) zero x e h = let same : y ≡ x = cc in ap p (sym same) ∙ (and_parts (p y) (list_all p xs) h).0
+found p (y ∷ xs) (suc i) x e h = found p xs i x e (and_parts (p y) (list_all p xs) h).1
+
+-- rows in order have the Tids in order
+pub order-le : (rs : List Record) (i j : ℕ) (r s : Record) → AreOrdered rs → i ≤ j → slice_get rs i ≡ Some r → slice_get rs j ≡ Some s → r.tid ≤ s.tid
+order-le [] i j r s o le a b = absurd (cc)
+order-le (x ∷ rs) zero zero r s o le a b = let same : r ≡ s = cc in let tids : r.tid ≡ s.tid = ap (λ q. q.tid) same in omega (arith, tids)
+order-le (x ∷ rs) zero (suc j) r s o le a b =
+    let first : x ≡ r = cc in
+    let here : slice_get rs j ≡ Some s = b in
+    before-le r s (subst (λ q. goes_before q s ≡ true) first (found (goes_before x) rs j s here o.0))
+order-le (x ∷ rs) (suc i) zero r s o le a b = absurd (omega (arith, le))
+order-le (x ∷ rs) (suc i) (suc j) r s o le a b = order-le rs i j r s o.1 (omega (arith, le)) a b
+
+-- one row more, which all others go before
+pub order-more : (rs : List Record) (r : Record) → AreOrdered rs → list_all (λ s. goes_before s r) rs ≡ true → AreOrdered (rs ++ r ∷ [])
+order-more [] r o h = (refl, tt)
+order-more (x ∷ rs) r o h =
+    let b = and_parts (goes_before x r) (list_all (λ s. goes_before s r) rs) h in
+    (list_all-append (goes_before x) rs (r ∷ []) ∙ and_of (list_all (goes_before x) rs) (goes_before x r && true) o.0 (and_of (goes_before x r) true b.0 refl), order-more rs r o.1 b.1)
