@@ -5,17 +5,22 @@
 
 use std::alloc::{AllocError, Global};
 
-/// Adds the text so many times, with a line feed for each `\n` and the number of the time for each `#`.
-fn add_times(alloc: Global, text: &mut Vec<u8>, piece: &str, times: u64) -> Result<(), AllocError> {
+/// Adds the piece so many times, with a line feed for each `\n` and the number of the time for each `#`.
+fn add_times(
+    alloc: Global,
+    text: &mut Vec<u8>,
+    piece: &str,
+    times: usize,
+) -> Result<(), AllocError> {
     let piece = piece.replace(alloc, "\\n", "\n")?;
+    if !piece.as_str().contains('#') {
+        let all = piece.as_str().repeat(alloc, times)?;
+        return text.extend_from_slice(all.as_bytes());
+    }
     for time in 0..times {
-        for (place, part) in piece.split('#').enumerate() {
-            if place > 0 {
-                let number = time.to_string(alloc)?;
-                text.extend_from_slice(number.as_bytes())?;
-            }
-            text.extend_from_slice(part.as_bytes())?;
-        }
+        let number = time.to_string(alloc)?;
+        let numbered = piece.as_str().replace(alloc, "#", number.as_str())?;
+        text.extend_from_slice(numbered.as_bytes())?;
     }
     Ok(())
 }
@@ -23,7 +28,7 @@ fn add_times(alloc: Global, text: &mut Vec<u8>, piece: &str, times: u64) -> Resu
 /// Adds what an escape stands for.
 fn add_escape(alloc: Global, text: &mut Vec<u8>, escape: &str) -> Result<(), AllocError> {
     if let Some((piece, times)) = escape.rsplit_once('*') {
-        return add_times(alloc, text, piece, times.parse::<u64>().unwrap_or(0));
+        return add_times(alloc, text, piece, times.parse::<usize>().unwrap_or(0));
     }
     for word in escape.split_whitespace() {
         if let Ok(byte) = u8::from_str_radix(word, 16) {
