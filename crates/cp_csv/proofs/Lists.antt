@@ -11,7 +11,7 @@ use Rattle.std.specs.Ordering.{is_eq}
 use Rattle.std.specs.Cmp.Lexicographic.{texts_ties, nat_list_eq_equiv}
 use Rattle.cp_path.specs.Text.{text_cmp}
 use Rattle.cp_csv.specs.declared.fault.CsvFault.TheVariants.{LabelTooLong, RepeatedHeader, NoColumn, TextTooLong}
-use Rattle.cp_csv.specs.CsvTrees.{header_fault, field_fault, Fields, is_long_label, is_long_text, repeated, field_under, has_key}
+use Rattle.cp_csv.specs.CsvTrees.{header_fault, field_fault, Fields, is_long_label, is_long_text, repeated_column, field_under, has_key}
 use Rattle.cp_path.proofs.Same.{text_eq-same}
 use Rattle.cp_csv.specs.Steps.{column_of}
 
@@ -127,8 +127,8 @@ pub seen_more : (q k : Label) (x y : Bool) → x ≡ y → cond (is_eq (text_cmp
 seen_more q k x y e = ap (λ b. cond b true x) (sym (texts_ties k q) ∙ nat_list_eq_equiv.symm k q) ∙ both_seen (label_eq q k) x y e
 
 -- the next header is a new one
-pub repeated_more : (before : List Label) (n : ℕ) (h : Label) (hs all : List Label) → all ≡ h ∷ hs → list_any (label_eq h) before ≡ false → repeated before n all ≡ repeated (h ∷ before) (n + 1) hs
-repeated_more before n h hs all e new = ap (repeated before n) e ∙ ap (λ b. if b then Some n else repeated (h ∷ before) (n + 1) hs) new
+pub repeated_more : (before : List Label) (n : ℕ) (h : Label) (hs all : List Label) → all ≡ h ∷ hs → list_any (label_eq h) before ≡ false → repeated_column before n all ≡ repeated_column (h ∷ before) (n + 1) hs
+repeated_more before n h hs all e new = ap (repeated_column before n) e ∙ ap (λ b. if b then Some n else repeated_column (h ∷ before) (n + 1) hs) new
 
 -- ---- why a header is refused
 
@@ -136,13 +136,13 @@ module _ (hs : List Label) (key : Option Label) (text : list_all is_utf8 hs ≡ 
   pub fault_long : list_any is_long_label hs ≡ true → header_fault hs key ≡ Some LabelTooLong
   fault_long l = rw (text, l) refl
 
-  pub fault_repeated : (n : ℕ) → list_any is_long_label hs ≡ false → repeated [] 1 hs ≡ Some n → header_fault hs key ≡ Some (RepeatedHeader n)
+  pub fault_repeated : (n : ℕ) → list_any is_long_label hs ≡ false → repeated_column [] 1 hs ≡ Some n → header_fault hs key ≡ Some (RepeatedHeader n)
   fault_repeated n l r = rw (text, l, r) refl
 
-  pub fault_missing : list_any is_long_label hs ≡ false → repeated [] 1 hs ≡ None → has_key key hs ≡ false → header_fault hs key ≡ Some NoColumn
+  pub fault_missing : list_any is_long_label hs ≡ false → repeated_column [] 1 hs ≡ None → has_key key hs ≡ false → header_fault hs key ≡ Some NoColumn
   fault_missing l r k = rw (text, l, r, k) refl
 
-  pub fault_none : list_any is_long_label hs ≡ false → repeated [] 1 hs ≡ None → has_key key hs ≡ true → header_fault hs key ≡ None
+  pub fault_none : list_any is_long_label hs ≡ false → repeated_column [] 1 hs ≡ None → has_key key hs ≡ true → header_fault hs key ≡ None
   fault_none l r k = rw (text, l, r, k) refl
 
 -- a row is refused for its texts

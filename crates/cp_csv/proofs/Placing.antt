@@ -25,8 +25,9 @@ use Rattle.cp_tree.proofs.Leaves.{nothing-below, leaf-insert, leaf-fits}
 use Rattle.std.specs.Str.{is_utf8}
 use Rattle.csv.specs.Reading.{records, default_config, strip_bom}
 use Rattle.cp_model.proofs.Lookups.{find-from_entries}
-use Rattle.cp_csv.specs.CsvTrees.{Fields, Reads, is_long_label, is_long_text, repeated, with_fields, with_row, tree_fault, field_fault, row_label, header_fault, rows_tree, records_tree, unless, csv_tree}
-use Rattle.cp_csv.specs.Steps.{IsBare, IsShallow, fields_weight}
+use Rattle.cp_csv.specs.CsvTrees.{Fields, is_long_label, is_long_text, repeated_column, with_fields, with_row, tree_fault, field_fault, row_label, header_fault, rows_tree, records_tree, csv_tree}
+use Rattle.cp_model.specs.Cases.{unless}
+use Rattle.cp_csv.specs.Steps.{IsEmptyRow, IsShallow, fields_weight}
 use Rattle.cp_csv.specs.declared.fault.CsvFault.{CsvFault}
 use Rattle.cp_csv.specs.declared.fault.CsvFault.TheVariants.{NoHeader, NotUtf8, LabelTooLong, RepeatedHeader, NoColumn, Ragged, TextTooLong, RepeatedKey, TooMany, TooBig, Memory}
 use Rattle.cp_csv.proofs.Lists.{none_pass}
@@ -49,16 +50,16 @@ if_none : {X : Type 0} (b : Bool) (x : X) (o : Option X) → (if b then Some x e
 if_none true x o e = absurd (cc)
 if_none false x o e = (refl, e)
 
-module _ (t : Tree) (row : Label) (h : Label) (hs : List Label) (bare : IsBare t row (h ∷ hs)) (c : Content) where
-  parts : (list_any (label_eq h) bare.before ≡ false) × (repeated (h ∷ bare.before) (bare.column + 1) hs ≡ None)
-  parts = if_none (list_any (label_eq h) bare.before) bare.column (repeated (h ∷ bare.before) (bare.column + 1) hs) bare.apart
+module _ (t : Tree) (row : Label) (h : Label) (hs : List Label) (bare : IsEmptyRow t row (h ∷ hs)) (c : Content) where
+  parts : (list_any (label_eq h) bare.before ≡ false) × (repeated_column (h ∷ bare.before) (bare.column + 1) hs ≡ None)
+  parts = if_none (list_any (label_eq h) bare.before) bare.column (repeated_column (h ∷ bare.before) (bare.column + 1) hs) bare.apart
 
   -- nothing is under the next header
   pub next_free : keyed.get t (row ∷ h ∷ []) ≡ None
   next_free = none_is (keyed.get t (row ∷ h ∷ [])) (bare.free h parts.0)
 
   -- and with a leaf there the others are still free
-  pub next_bare : IsBare (keyed.insert t (row ∷ h ∷ []) c) row hs
+  pub next_bare : IsEmptyRow (keyed.insert t (row ∷ h ∷ []) c) row hs
   next_bare = record {
     before = h ∷ bare.before;
     column = bare.column + 1;
@@ -72,7 +73,7 @@ module _ (t : Tree) (row : Label) (h : Label) (hs : List Label) (bare : IsBare t
   }
 
 -- each field is one more place
-pub count_fields : (row : Label) (hs : List Label) (fs : Fields) (t : Tree) → IsBare t row hs → length fs ≡ length hs → keyed.len (with_fields row hs fs t) ≡ keyed.len t + length hs
+pub count_fields : (row : Label) (hs : List Label) (fs : Fields) (t : Tree) → IsEmptyRow t row hs → length fs ≡ length hs → keyed.len (with_fields row hs fs t) ≡ keyed.len t + length hs
 count_fields row [] fs t b l = omega arith
 count_fields row (h ∷ hs) [] t b l = absurd (omega (arith, l))
 count_fields row (h ∷ hs) (f ∷ fs) t b l =
@@ -80,7 +81,7 @@ count_fields row (h ∷ hs) (f ∷ fs) t b l =
     omega (arith, more, len_insert_new t (row ∷ h ∷ []) (Leaf (Text f)) (next_free t row h hs b (Leaf (Text f))))
 
 -- and adds its weight
-pub weigh_fields : (row : Label) (hs : List Label) (fs : Fields) (t : Tree) → IsBare t row hs → length fs ≡ length hs → weight (with_fields row hs fs t) ≡ weight t + fields_weight hs fs
+pub weigh_fields : (row : Label) (hs : List Label) (fs : Fields) (t : Tree) → IsEmptyRow t row hs → length fs ≡ length hs → weight (with_fields row hs fs t) ≡ weight t + fields_weight hs fs
 weigh_fields row [] fs t b l = omega arith
 weigh_fields row (h ∷ hs) [] t b l = absurd (omega (arith, l))
 weigh_fields row (h ∷ hs) (f ∷ fs) t b l =
@@ -90,24 +91,24 @@ weigh_fields row (h ∷ hs) (f ∷ fs) t b l =
 -- what stands once the next field is put under its header
 pub record IsPut (t1 t : Tree) (row h : Label) (f : List ℕ) (hs : List Label) : Type 0 where
   pub same : t1 ≡ keyed.insert t (row ∷ h ∷ []) (Leaf (Text f))
-  pub bare : IsBare t1 row hs
+  pub bare : IsEmptyRow t1 row hs
   pub count : keyed.len t1 ≡ keyed.len t + 1
   pub weighs : weight t1 ≡ weight t + 16 + length h + length f
 
-pub next_put : (t1 t : Tree) (row h : Label) (f : List ℕ) (hs : List Label) → IsTree t → IsBare t row (h ∷ hs) → t1 ≡ replaced (row ∷ h ∷ []) (root_entries (Leaf (Text f))) t → IsPut t1 t row h f hs
+pub next_put : (t1 t : Tree) (row h : Label) (f : List ℕ) (hs : List Label) → IsTree t → IsEmptyRow t row (h ∷ hs) → t1 ≡ replaced (row ∷ h ∷ []) (root_entries (Leaf (Text f))) t → IsPut t1 t row h f hs
 next_put t1 t row h f hs tree bare e =
     let c : Content = Leaf (Text f) in
     let none = next_free t row h hs bare c in
     let same : t1 ≡ keyed.insert t (row ∷ h ∷ []) c = e ∙ leaf-insert t (row ∷ h ∷ []) c tree.rooted none in
     record {
       same = same;
-      bare = subst (λ z. IsBare z row hs) (sym same) (next_bare t row h hs bare c);
+      bare = subst (λ z. IsEmptyRow z row hs) (sym same) (next_bare t row h hs bare c);
       count = ap keyed.len same ∙ len_insert_new t (row ∷ h ∷ []) c none;
       weighs = ap weight same ∙ omega (arith, weight_insert_new t (row ∷ h ∷ []) c none);
     }
 
 -- a new row has no field yet
-pub new_bare : (t : Tree) (row : Label) (hs : List Label) → IsRooted t → keyed.get t (row ∷ []) ≡ None → repeated [] 1 hs ≡ None → IsBare (keyed.insert t (row ∷ []) Node) row hs
+pub new_bare : (t : Tree) (row : Label) (hs : List Label) → IsRooted t → keyed.get t (row ∷ []) ≡ None → repeated_column [] 1 hs ≡ None → IsEmptyRow (keyed.insert t (row ∷ []) Node) row hs
 new_bare t row hs h n apart = record {
   before = [];
   column = 1;
@@ -119,7 +120,7 @@ new_bare t row hs h n apart = record {
 
 -- ---- the row
 
-module _ (t : Tree) (row : Label) (hs : List Label) (fs : Fields) (h : IsRooted t) (n : keyed.get t (row ∷ []) ≡ None) (apart : repeated [] 1 hs ≡ None) (even : length fs ≡ length hs) where
+module _ (t : Tree) (row : Label) (hs : List Label) (fs : Fields) (h : IsRooted t) (n : keyed.get t (row ∷ []) ≡ None) (apart : repeated_column [] 1 hs ≡ None) (even : length fs ≡ length hs) where
   pub count_row : keyed.len (with_row row hs fs t) ≡ keyed.len t + 1 + length hs
   count_row = omega (arith, count_fields row hs fs (keyed.insert t (row ∷ []) Node) (new_bare t row hs h n apart) even, len_insert_new t (row ∷ []) Node n)
 
@@ -227,30 +228,6 @@ within t name s n p i =
 
 -- ---- the whole
 
--- an answer by its refusal
-pub refused : {R T : Type 0} (view : R → T) (e : CsvFault) (r : Result T CsvFault) → (e ≡ Memory) ⊎ (r ≡ Err e) → Reads view (Err e) r
-refused view NoHeader r (inl m) = absurd (cc)
-refused view NoHeader r (inr h) = h
-refused view (NotUtf8 n) r (inl m) = absurd (cc)
-refused view (NotUtf8 n) r (inr h) = h
-refused view LabelTooLong r (inl m) = absurd (cc)
-refused view LabelTooLong r (inr h) = h
-refused view (RepeatedHeader n) r (inl m) = absurd (cc)
-refused view (RepeatedHeader n) r (inr h) = h
-refused view NoColumn r (inl m) = absurd (cc)
-refused view NoColumn r (inr h) = h
-refused view (Ragged n) r (inl m) = absurd (cc)
-refused view (Ragged n) r (inr h) = h
-refused view TextTooLong r (inl m) = absurd (cc)
-refused view TextTooLong r (inr h) = h
-refused view (RepeatedKey n) r (inl m) = absurd (cc)
-refused view (RepeatedKey n) r (inr h) = h
-refused view TooMany r (inl m) = absurd (cc)
-refused view TooMany r (inr h) = h
-refused view TooBig r (inl m) = absurd (cc)
-refused view TooBig r (inr h) = h
-refused view Memory r h = tt
-
 -- a text without a record
 pub no_header : (bytes : List ℕ) (key : Option Label) → records default_config (strip_bom bytes) ≡ [] → csv_tree bytes key ≡ Err NoHeader
 unfolding csv_tree
@@ -267,12 +244,12 @@ module _ (bytes : List ℕ) (key : Option Label) (h : Fields) (rest : List Field
   unfolding csv_tree
   good_header is = ap (λ rs. records_tree rs key) e ∙ ap (λ o. unless o (rows_tree h key 1 rest (single Node))) is
 
--- a refusal of the header, or want of memory
+-- a refusal of the header, or out of memory
 pub header_told : (bytes : List ℕ) (key : Option Label) (h : Fields) (rest : List Fields) (f : CsvFault) → records default_config (strip_bom bytes) ≡ h ∷ rest → (f ≡ Memory) ⊎ (header_fault h key ≡ Some f) → (f ≡ Memory) ⊎ (csv_tree bytes key ≡ Err f)
 header_told bytes key h rest f e (inl m) = inl m
 header_told bytes key h rest f e (inr is) = inr (bad_header bytes key h rest e f is)
 
--- a refusal of a row, or want of memory
+-- a refusal of a row, or out of memory
 pub rows_told : (r s : Result Tree CsvFault) (f : CsvFault) → s ≡ r → (f ≡ Memory) ⊎ (r ≡ Err f) → (f ≡ Memory) ⊎ (s ≡ Err f)
 rows_told r s f e (inl m) = inl m
 rows_told r s f e (inr is) = inr (e ∙ is)

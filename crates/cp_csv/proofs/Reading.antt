@@ -13,7 +13,7 @@ use Rattle.csv.specs.declared.reader.Reader.{Reader}
 use Rattle.csv.specs.Reading.{Reached, ReadRecord, source_of, reader_config, reader_state}
 use Rattle.csv.proofs.ReadFacts.{rows-more, rows-end}
 use Rattle.std.specs.Borrow.{Bor}
-use Rattle.cp_csv.specs.Steps.{all_from, known}
+use Rattle.cp_csv.specs.Steps.{all_from, slice_bytes}
 
 -- at the end of a record the machine stands between records
 abbrev Rests : State × Action → Type 0
@@ -121,17 +121,17 @@ one_left s xs q r e =
     let l = next_leaves default_config s xs q r e in
     (l.0, first_of s xs ∙ ap (records_next (records_from default_config (length xs))) e ∙ ap (λ z. q.0 ∷ z) (enough default_config (length xs) (length q.2 + 1) q.1 q.2 l.0 l.1 (omega arith)))
 
-module _ (a b : Reader (Bor (List ℕ))) (f : List (List ℕ)) (y : List ℕ) (config : reader_config a ≡ default_config) (bytes : source_of known a ≡ Some y) where
+module _ (a b : Reader (Bor (List ℕ))) (f : List (List ℕ)) (y : List ℕ) (config : reader_config a ≡ default_config) (bytes : source_of slice_bytes a ≡ Some y) where
   -- a read that finds no record says that none is left
-  pub none_read : ReadRecord known a b false f → all_from (reader_state a) y ≡ []
-  none_read r = none_left (reader_state a) y (rows-end known a b f default_config y config bytes r)
+  pub none_read : ReadRecord slice_bytes a b false f → all_from (reader_state a) y ≡ []
+  none_read r = none_left (reader_state a) y (rows-end slice_bytes a b f default_config y config bytes r)
 
   -- a read that finds one gives the first of those that are left
-  pub one_read : ends_at_end (reader_state a) ≡ false → ReadRecord known a b true f →
-      (z : List ℕ) × (source_of known b ≡ Some z) × (ends_at_end (reader_state b) ≡ false) × (all_from (reader_state a) y ≡ f ∷ all_from (reader_state b) z)
+  pub one_read : ends_at_end (reader_state a) ≡ false → ReadRecord slice_bytes a b true f →
+      (z : List ℕ) × (source_of slice_bytes b ≡ Some z) × (ends_at_end (reader_state b) ≡ false) × (all_from (reader_state a) y ≡ f ∷ all_from (reader_state b) z)
   unfolding Reached
   one_read rests r =
-      let m = rows-more known a b f default_config (reader_state a) y y [] config bytes (refl, refl) r in
+      let m = rows-more slice_bytes a b f default_config (reader_state a) y y [] config bytes (refl, refl) r in
       let p = m.2.0 in
       let l = one_left (reader_state a) y p rests m.2.1 in
       let state : p.1 ≡ reader_state b = m.2.3.0 in

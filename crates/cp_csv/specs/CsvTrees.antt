@@ -1,12 +1,13 @@
 -- The tree that a CSV text is, or why it is none.
 use Rattle.cp_model.specs.declared.limits.TheConstants.{NODES_MAX, WEIGHT_MAX}
 use Rattle.cp_path.specs.declared.limits.TheConstants.{LABEL_MAX, TEXT_MAX}
-use Rattle.std.specs.Prelude.{◌≡◌, ⊤, ℕ, ◌+◌, ◌==◌, Bool, true, not, List, [], ◌∷◌, length, nat_lt, decimal, if◌then◌else◌, Result, Ok, Err}
+use Rattle.std.specs.Prelude.{ℕ, ◌+◌, ◌==◌, Bool, true, not, List, [], ◌∷◌, length, nat_lt, decimal, if◌then◌else◌, Result, Ok, Err}
 use Rattle.std.specs.List.{list_all, list_any}
 use Rattle.std.specs.Str.{is_utf8}
 use Rattle.std.specs.declared.option.Option.{Option}
 use Rattle.std.specs.declared.option.Option.TheVariants.{None, Some}
 use Rattle.csv.specs.Reading.{records, default_config, strip_bom}
+use Rattle.cp_model.specs.Cases.{unless}
 use Rattle.cp_path.specs.declared.value.Value.TheVariants.{Text}
 use Rattle.cp_model.specs.declared.row.Content.TheVariants.{Node, Leaf}
 use Rattle.cp_model.specs.Place.{Label, label_eq, option_map, or_else}
@@ -15,7 +16,7 @@ use Rattle.cp_model.specs.Subtrees.{is_there}
 use Rattle.cp_model.specs.Tree.{Tree, weight}
 use Rattle.cp_tree.specs.Rows.{single}
 use Rattle.cp_csv.specs.declared.fault.CsvFault.{CsvFault}
-use Rattle.cp_csv.specs.declared.fault.CsvFault.TheVariants.{NoHeader, NotUtf8, LabelTooLong, RepeatedHeader, NoColumn, Ragged, TextTooLong, RepeatedKey, TooMany, TooBig, Memory}
+use Rattle.cp_csv.specs.declared.fault.CsvFault.TheVariants.{NoHeader, NotUtf8, LabelTooLong, RepeatedHeader, NoColumn, Ragged, TextTooLong, RepeatedKey, TooMany, TooBig}
 
 -- a record is the bytes of each of its fields
 abbrev pub Fields : Type 0
@@ -32,9 +33,9 @@ is_long_text f = nat_lt TEXT_MAX (length f)
 -- ---- the header
 
 -- the first of these columns, counted on from n, whose header stood before
-abbrev pub repeated : List Label → ℕ → List Label → Option ℕ
-repeated before n [] = None
-repeated before n (h ∷ hs) = if list_any (label_eq h) before then Some n else repeated (h ∷ before) (n + 1) hs
+abbrev pub repeated_column : List Label → ℕ → List Label → Option ℕ
+repeated_column before n [] = None
+repeated_column before n (h ∷ hs) = if list_any (label_eq h) before then Some n else repeated_column (h ∷ before) (n + 1) hs
 
 -- the key, if there is one, is a header
 abbrev pub has_key : Option Label → List Label → Bool
@@ -46,7 +47,7 @@ abbrev pub header_fault : Fields → Option Label → Option CsvFault
 header_fault headers key =
     if not (list_all is_utf8 headers) then Some (NotUtf8 0)
     else if list_any is_long_label headers then Some LabelTooLong
-    else or_else (option_map RepeatedHeader (repeated [] 1 headers)) (if has_key key headers then None else Some NoColumn)
+    else or_else (option_map RepeatedHeader (repeated_column [] 1 headers)) (if has_key key headers then None else Some NoColumn)
 
 -- ---- a row
 
@@ -95,11 +96,6 @@ row_fault headers key n fields t =
 
 -- ---- the text
 
--- the refusal, or else what follows
-abbrev pub unless : Option CsvFault → Result Tree CsvFault → Result Tree CsvFault
-unless (Some e) r = Err e
-unless None r = r
-
 -- the rows, counted on from n, put into the tree one after the other
 abbrev pub rows_tree : List Label → Option Label → ℕ → List Fields → Tree → Result Tree CsvFault
 rows_tree headers key n [] t = Ok t
@@ -114,20 +110,3 @@ records_tree (h ∷ rows) key = unless (header_fault h key) (rows_tree h key 1 r
 -- the tree of a CSV text, its rows named by the key column, or else numbered from 1
 unfoldable pub csv_tree : List ℕ → Option Label → Result Tree CsvFault
 csv_tree bytes key = records_tree (records default_config (strip_bom bytes)) key
-
--- ---- answers
-
--- the answer is the one that is wanted, seen so, but for want of memory
-abbrev pub Reads : {R T : Type 0} → (R → T) → Result R CsvFault → Result T CsvFault → Type 0
-Reads view (Ok t) r = r ≡ Ok (view t)
-Reads view (Err NoHeader) r = r ≡ Err NoHeader
-Reads view (Err (NotUtf8 n)) r = r ≡ Err (NotUtf8 n)
-Reads view (Err LabelTooLong) r = r ≡ Err LabelTooLong
-Reads view (Err (RepeatedHeader n)) r = r ≡ Err (RepeatedHeader n)
-Reads view (Err NoColumn) r = r ≡ Err NoColumn
-Reads view (Err (Ragged n)) r = r ≡ Err (Ragged n)
-Reads view (Err TextTooLong) r = r ≡ Err TextTooLong
-Reads view (Err (RepeatedKey n)) r = r ≡ Err (RepeatedKey n)
-Reads view (Err TooMany) r = r ≡ Err TooMany
-Reads view (Err TooBig) r = r ≡ Err TooBig
-Reads view (Err Memory) r = ⊤

@@ -1,5 +1,7 @@
 -- Words on the steps by which a CSV text is read.
-use Rattle.std.specs.Prelude.{◌≡◌, ⊤, ℕ, suc, ◌+◌, ◌<◌, ◌≤◌, ◌⊎◌, true, false, List, [], ◌∷◌, length, if◌then◌else◌, Result, Ok, Err}
+use Rattle.cp_model.specs.declared.limits.TheConstants.{PLACE_WEIGHT}
+use Rattle.cp_path.specs.declared.limits.TheConstants.{LABEL_MAX}
+use Rattle.std.specs.Prelude.{◌≡◌, ⊤, ℕ, suc, ◌+◌, ◌*◌, ◌<◌, ◌≤◌, ◌⊎◌, true, false, List, [], ◌∷◌, length, if◌then◌else◌, Result, Ok, Err}
 use Rattle.std.specs.declared.option.Option.{Option}
 use Rattle.std.specs.declared.option.Option.TheVariants.{None, Some}
 use Rattle.std.specs.Borrow.{Bor}
@@ -19,7 +21,7 @@ use Rattle.cp_tree.specs.Rows.{path_size}
 use Rattle.cp_model.specs.Keyed as keyed
 use Rattle.cp_model.specs.declared.row.Content.TheVariants.{Node}
 use Rattle.std.specs.List.{list_any}
-use Rattle.cp_csv.specs.CsvTrees.{Fields, field_under, repeated, is_long_label}
+use Rattle.cp_csv.specs.CsvTrees.{Fields, field_under, repeated_column, is_long_label}
 use Rattle.cp_csv.specs.declared.fault.CsvFault.{CsvFault}
 use Rattle.cp_csv.specs.declared.fault.CsvFault.TheVariants.{Memory}
 
@@ -34,17 +36,17 @@ IsIoOrMemory (kind.Utf8 pos err) = ⊥
 IsIoOrMemory (kind.Serialize text) = ⊥
 IsIoOrMemory (kind.Deserialize pos err) = ⊥
 
--- the bytes of a slice are known
-abbrev pub known : Bor (List ℕ) → Option (List ℕ)
-known s = Some s.now
+-- the bytes of a slice, which are known
+abbrev pub slice_bytes : Bor (List ℕ) → Option (List ℕ)
+slice_bytes s = Some s.now
 
 -- all records of the bytes, from a state
 unfoldable pub all_from : State → List ℕ → List Fields
 all_from s xs = records_from default_config (length xs + 1) s xs
 
 -- the records that are left to be read
-abbrev pub left : ByteRecordsIntoIter (Bor (List ℕ)) → List Fields
-left it = all_from (reader_state (owned_rows_reader it)) (unwrap_or (source_of known (owned_rows_reader it)) [])
+abbrev pub records_left : ByteRecordsIntoIter (Bor (List ℕ)) → List Fields
+records_left it = all_from (reader_state (owned_rows_reader it)) (unwrap_or (source_of slice_bytes (owned_rows_reader it)) [])
 
 -- the next read gives the next record, and nothing was read of it
 pub record IsOpen (it : ByteRecordsIntoIter (Bor (List ℕ))) : Type 0 where
@@ -54,7 +56,7 @@ pub record IsOpen (it : ByteRecordsIntoIter (Bor (List ℕ))) : Type 0 where
   pub config : reader_config (owned_rows_reader it) ≡ default_config
   pub ready : Ready (owned_rows_reader it)
   pub between : ends_at_end (reader_state (owned_rows_reader it)) ≡ false
-  pub bytes : (y : List ℕ) × (source_of known (owned_rows_reader it) ≡ Some y)
+  pub bytes : (y : List ℕ) × (source_of slice_bytes (owned_rows_reader it) ≡ Some y)
 
 -- ---- refusals
 
@@ -76,32 +78,32 @@ key_of headers None = None
 key_of headers (Some i) = field_at headers i
 
 -- the field of that column is the one under its header
-abbrev pub IsKeyed : List Label → Option ℕ → Type 0
-IsKeyed headers None = ⊤
-IsKeyed headers (Some i) = (k : Label) × (field_at headers i ≡ Some k) × ((fs : Fields) → length fs ≡ length headers → field_at fs i ≡ Some (field_under k headers fs))
+abbrev pub IsKeyColumn : List Label → Option ℕ → Type 0
+IsKeyColumn headers None = ⊤
+IsKeyColumn headers (Some i) = (k : Label) × (field_at headers i ≡ Some k) × ((fs : Fields) → length fs ≡ length headers → field_at fs i ≡ Some (field_under k headers fs))
 
 -- the headers are short and differ, and one of them is the key, if there is one
 pub record IsColumns (headers : List Label) (place : Option ℕ) : Type 0 where
   pub short : list_any is_long_label headers ≡ false
-  pub apart : repeated [] 1 headers ≡ None
-  pub keyed : IsKeyed headers place
+  pub apart : repeated_column [] 1 headers ≡ None
+  pub keyed : IsKeyColumn headers place
 
 -- ---- places
 
 -- the row is a node, and nothing stands below it under these headers, which differ
-pub record IsBare (t : Tree) (row : Label) (headers : List Label) : Type 0 where
+pub record IsEmptyRow (t : Tree) (row : Label) (headers : List Label) : Type 0 where
   pub before : List Label
   pub column : ℕ
-  pub apart : repeated before column headers ≡ None
+  pub apart : repeated_column before column headers ≡ None
   pub free : (h : Label) → list_any (label_eq h) before ≡ false → is_there t (row ∷ h ∷ []) ≡ false
   pub node : keyed.get t (row ∷ []) ≡ Some Node
 
 -- every place has at most two labels
 abbrev pub IsShallow : Tree → Type 0
-IsShallow t = (p : Path) → is_there t p ≡ true → (length p ≤ 2) × (path_size p ≤ 512)
+IsShallow t = (p : Path) → is_there t p ≡ true → (length p ≤ 2) × (path_size p ≤ 2 * (LABEL_MAX + 1))
 
 -- what the fields weigh under their headers
 abbrev pub fields_weight : List Label → Fields → ℕ
 fields_weight [] fs = 0
 fields_weight (h ∷ hs) [] = 0
-fields_weight (h ∷ hs) (f ∷ fs) = 16 + length h + length f + fields_weight hs fs
+fields_weight (h ∷ hs) (f ∷ fs) = PLACE_WEIGHT + length h + length f + fields_weight hs fs

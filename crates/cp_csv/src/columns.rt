@@ -4,7 +4,7 @@ ghost use Rattle.std.specs.Str.{is_utf8};
 ghost use Rattle.std.specs.declared.option.Option.TheVariants.{None, Some};
 ghost use Rattle.csv.specs.Records.{fields_of};
 ghost use Rattle.cp_model.specs.Place.{label_eq, option_map};
-ghost use Rattle.cp_csv.specs.CsvTrees.{is_long_label, repeated, header_fault};
+ghost use Rattle.cp_csv.specs.CsvTrees.{is_long_label, repeated_column, header_fault};
 ghost use Rattle.cp_csv.specs.Steps.{column_of, key_of, IsColumns, Tells};
 
 use crate::fault::CsvFault;
@@ -56,7 +56,7 @@ fn labels_of(alloc: Global, fields: &StringRecord) -> Result<Vec<Label>, AllocEr
 
 /// The first column, counted from 1, whose header stood in an earlier one. Costs a search among the headers for each.
 fn repeated_column(alloc: Global, labels: &[Label]) -> Result<Option<u64>, AllocError>
-    ensures { IfOk result (λ n. n ≡ repeated [] 1 labels.now) }
+    ensures { IfOk result (λ n. n ≡ repeated_column [] 1 labels.now) }
 {
     let mut seen = BTreeSet::new(alloc);
     let mut column = 0;

@@ -10,6 +10,3 @@ mod row;
 
 pub use fault::CsvFault;
 pub use load::tree_of_csv;
-
-#[cfg(test)]
-mod tests;

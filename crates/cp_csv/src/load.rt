@@ -1,13 +1,14 @@
-ghost use Rattle.std.specs.Prelude.{◌≡◌, ◌<◌, ◌≤◌, ◌^◌, ◌⊎◌, [], false, true, Ok, Err, IfOk, IfErr, OnOk};
+ghost use Rattle.std.specs.Prelude.{◌≡◌, ◌<◌, [], false, true, IfOk, OnOk};
+ghost use Rattle.std.specs.Result.{result_map_both};
 ghost use Rattle.std.specs.declared.option.Option.TheVariants.{Some};
+ghost use Rattle.cp_path.specs.Answers.{Answers};
 ghost use Rattle.csv.specs.Records.{fields_of};
 ghost use Rattle.cp_model.specs.Keyed.{get, len};
 ghost use Rattle.cp_model.specs.Place.{Path, over_limit, option_map};
 ghost use Rattle.cp_model.specs.Subtrees.{is_there};
 ghost use Rattle.cp_model.specs.declared.row.Content.TheVariants.{Node};
-ghost use Rattle.cp_csv.specs.CsvTrees.{Reads, csv_tree, row_fault, row_label, rows_tree, with_row};
-ghost use Rattle.cp_csv.specs.Steps.{IsColumns, IsOpen, IsShallow, Tells, key_of, left};
-ghost use Rattle.cp_csv.specs.declared.fault.CsvFault.TheVariants.{Memory};
+ghost use Rattle.cp_csv.specs.CsvTrees.{csv_tree, row_fault, row_label, rows_tree, with_row};
+ghost use Rattle.cp_csv.specs.Steps.{IsColumns, IsOpen, IsShallow, Tells, key_of, records_left};
 
 use crate::columns::{Columns, columns_of};
 use crate::fault::CsvFault;
@@ -53,8 +54,9 @@ fn put_rows<R: TreeRep>(
     requires columns { IsColumns columns.now.labels.items columns.now.key }
     requires root { get (R.contents tree.old) [] ≡ Some Node }
     requires shallow { IsShallow (R.contents tree.old) }
-    ensures put { OnOk result (rows_tree columns.now.labels.items (key_of columns.now.labels.items columns.now.key) 1 (left records.old) (R.contents tree.old) ≡ Ok (R.contents tree.new)) }
-    ensures told { IfErr result (λ e. (e ≡ Memory) ⊎ (rows_tree columns.now.labels.items (key_of columns.now.labels.items columns.now.key) 1 (left records.old) (R.contents tree.old) ≡ Err e)) }
+    ensures answers { let key = key_of columns.now.labels.items columns.now.key in
+        let defined = rows_tree columns.now.labels.items key 1 (records_left records.old) (R.contents tree.old) in
+        Answers CsvFault.Memory defined (result_map_both (λ _. R.contents tree.new) (λ e. e) result) }
     ensures shallow { OnOk result (IsShallow (R.contents tree.new)) }
 {
     let mut number = 0;
@@ -66,17 +68,18 @@ fn put_rows<R: TreeRep>(
     Ok(())
 }
 
-/// The tree of a CSV text that is loaded under `name`, its rows named by the key column, or else numbered. The first
-/// record is the header, and each later one a row below the root, with its fields as texts under their headers.
-/// Costs the text's bytes, and for each field a search among the rows and among the headers. A text that can't be read
-/// for want of memory is refused with `Memory`, and so would be one whose reader fails, which a slice never does.
+/// Reads the tree of a CSV text that is loaded under `name`, its rows named by the key column, or else numbered. The
+/// first record is the header, and each later one a row below the root, with its fields as texts under their headers.
+/// A text that can't be read because memory runs out is refused with `Memory`, and so would be one whose reader fails,
+/// which a slice never does. Costs the text's bytes, and for each field a search among the rows and the headers.
 pub fn tree_of_csv<R: TreeRep>(
     alloc: Global,
     name: &Name,
     bytes: &[u8],
     key: Option<&Label>,
 ) -> Result<R, CsvFault>
-    ensures read { Reads R.contents result (csv_tree bytes.now (option_map (λ k. k.now) key.entry)) }
+    ensures answers { let defined = csv_tree bytes.now (option_map (λ k. k.now) key.entry) in
+        Answers CsvFault.Memory defined (result_map_both R.contents (λ e. e) result) }
     ensures places { IfOk result (λ t. (p : Path) → is_there (R.contents t) p ≡ true → over_limit (record { db = name.now; path = p }) ≡ false) }
 {
     let _short = name.as_str();

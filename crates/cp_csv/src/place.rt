@@ -7,13 +7,13 @@ ghost use Rattle.cp_model.specs.declared.row.Content.TheVariants.{Node, Leaf};
 ghost use Rattle.cp_model.specs.Keyed.{get, len};
 ghost use Rattle.cp_model.specs.Tree.{weight};
 ghost use Rattle.cp_csv.specs.CsvTrees.{is_long_label, is_long_text, with_fields, with_row, tree_fault};
-ghost use Rattle.cp_csv.specs.Steps.{IsBare, IsColumns, Tells, fields_weight};
+ghost use Rattle.cp_csv.specs.Steps.{IsEmptyRow, IsColumns, Tells, fields_weight};
 
 use crate::columns::Columns;
 use crate::fault::CsvFault;
 use crate::row::Row;
 use cp_model::{Content, NODES_MAX, PLACE_WEIGHT, WEIGHT_MAX};
-use cp_path::{Path, Text, Value, LABEL_MAX};
+use cp_path::{LABEL_MAX, Path, TEXT_MAX, Text, Value};
 use cp_tree::TreeRep;
 use std::alloc::{AllocError, Global};
 
@@ -31,7 +31,7 @@ fn fields_weight(columns: &Columns, row: &Row) -> u64
     requires even { length (fields_of row.now.fields) ≡ length columns.now.labels.items }
     requires texts { list_any is_long_text (fields_of row.now.fields) ≡ false }
     ensures weight { result ≡ fields_weight columns.now.labels.items (fields_of row.now.fields) }
-    ensures bound { result ≤ length columns.now.labels.items * 1048847 }
+    ensures bound { result ≤ length columns.now.labels.items * (PLACE_WEIGHT + LABEL_MAX + TEXT_MAX) }
 {
     let mut weight = 0;
     let mut texts = row.fields.iter();
@@ -53,7 +53,7 @@ fn put_fields<R: TreeRep>(
 ) -> Result<(), AllocError>
     requires short { length row.now.label ≤ LABEL_MAX }
     requires headers { list_any is_long_label columns.now.labels.items ≡ false }
-    requires bare { IsBare (R.contents tree.old) row.now.label columns.now.labels.items }
+    requires bare { IsEmptyRow (R.contents tree.old) row.now.label columns.now.labels.items }
     requires even { length (fields_of row.now.fields) ≡ length columns.now.labels.items }
     requires texts { list_any is_long_text (fields_of row.now.fields) ≡ false }
     requires few { len (R.contents tree.old) + length columns.now.labels.items ≤ NODES_MAX }

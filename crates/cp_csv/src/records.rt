@@ -1,7 +1,7 @@
 ghost use Rattle.std.specs.Prelude.{◌≡◌, [], ◌∷◌, IfOk, IfErr, IfSome, MatchOption};
 ghost use Rattle.csv.specs.Reading.{records, default_config, strip_bom, error_kind};
 ghost use Rattle.csv.specs.Records.{fields_of};
-ghost use Rattle.cp_csv.specs.Steps.{IsOpen, left, IsIoOrMemory};
+ghost use Rattle.cp_csv.specs.Steps.{IsOpen, records_left, IsIoOrMemory};
 ghost use Rattle.cp_csv.specs.declared.fault.CsvFault.TheVariants.{Memory};
 
 use crate::fault::CsvFault;
@@ -11,7 +11,7 @@ use std::alloc::Global;
 /// The records of a text, of any lengths, read one by one.
 pub(crate) fn records_of<'a>(alloc: Global, bytes: &'a [u8]) -> ByteRecordsIntoIter<&'a [u8]>
     ensures open { IsOpen result }
-    ensures all { left result ≡ records default_config (strip_bom bytes.now) }
+    ensures all { records_left result ≡ records default_config (strip_bom bytes.now) }
 {
     ReaderBuilder::new()
         .has_headers(false)
@@ -35,7 +35,7 @@ pub(crate) fn next_record(
     records: &mut ByteRecordsIntoIter<&[u8]>,
 ) -> Result<Option<ByteRecord>, CsvFault>
     requires open { IsOpen records.old }
-    ensures next { IfOk result (λ o. MatchOption o (left records.old ≡ []) (λ r. left records.old ≡ fields_of r ∷ left records.new)) }
+    ensures next { IfOk result (λ o. MatchOption o (records_left records.old ≡ []) (λ r. records_left records.old ≡ fields_of r ∷ records_left records.new)) }
     ensures open { IfOk result (λ o. IfSome o (λ r. IsOpen records.new)) }
     ensures memory { IfErr result (λ e. e ≡ Memory) }
 {

@@ -18,7 +18,7 @@ use Rattle.cp_model.specs.Rows.{full_rows}
 use Rattle.cp_model.specs.History.{record_of, with_tid}
 use Rattle.cp_model.proofs.Passing.{and_true, and_both, or_true}
 use Rattle.cp_model.proofs.Sorted.{parts_of}
-use Rattle.cp_store.specs.Changes.{goes_before, rises, is_between, AreNext}
+use Rattle.cp_store.specs.Changes.{goes_before, rises, is_source, is_between, AreNext}
 use Rattle.cp_engine.specs.Passed.{Passed, pass, passed}
 use Rattle.cp_engine.proofs.RowsAloneLemmas.{sorted-full_rows}
 
@@ -105,10 +105,23 @@ between_more low high r e =
     later : (n : ℕ) → nat_lt n (high + 1) ≡ true → nat_lt n (high + 1 + 1) ≡ true
     later n e = grind (arith, nat_tests)
 
+sources_all : (t : ℕ) (rows : List (Path × Mark)) → list_all (λ r. is_source r.op r.src) (with_tid t rows) ≡ true
+sources_all t [] = refl
+sources_all t (r ∷ rows) = and_both (is_source (record_of t r.0 r.1).op (record_of t r.0 r.1).src) _ (one r.1) (sources_all t rows)
+  where
+    one : (m : Mark) → is_source (record_of t r.0 m).op (record_of t r.0 m).src ≡ true
+    one I = refl
+    one (C q) = refl
+    one D = refl
+    one K = refl
+
 -- the rows of the next step come next
 pub next-step : (low high : ℕ) (rs : List Record) (rows : List (Path × Mark)) → low ≤ high → AreNext low high rs → T (is_sorted path_cmp rows) → AreNext low (high + 1) (rs ++ with_tid (high + 1) rows)
 next-step low high rs rows l h s = record {
   rise = rises-append (high + 1) rows rs (all-weaker (is_between low high) (λ r. nat_lt r.tid (high + 1)) (before_next low high) rs h.between) h.rise (rises-with_tid (high + 1) rows s);
+  sources =
+      list_all-append (λ r. is_source r.op r.src) rs (with_tid (high + 1) rows)
+      ∙ and_both (list_all (λ r. is_source r.op r.src) rs) (list_all (λ r. is_source r.op r.src) (with_tid (high + 1) rows)) h.sources (sources_all (high + 1) rows);
   between =
       list_all-append (is_between low (high + 1)) rs (with_tid (high + 1) rows)
       ∙ and_both (list_all (is_between low (high + 1)) rs) (list_all (is_between low (high + 1)) (with_tid (high + 1) rows)) (all-weaker (is_between low high) (is_between low (high + 1)) (between_more low high) rs h.between) (between_all low high rows l);
@@ -125,4 +138,4 @@ next_from ss x low high (op ∷ ops) e l h =
 -- the records of operations one by one are rows of T that rise, of the steps after m
 pub rising-passed : (ss : List Source) (t : Tree) (m : ℕ) (ops : List Op) → AreNext m (m + length ops) (passed ss t (m + 1) ops).records
 unfolding passed
-rising-passed ss t m ops = next_from ss (record { tree = t; next = m + 1; records = [] }) m m ops refl (omega arith) (record { rise = refl; between = refl })
+rising-passed ss t m ops = next_from ss (record { tree = t; next = m + 1; records = [] }) m m ops refl (omega arith) (record { rise = refl; sources = refl; between = refl })

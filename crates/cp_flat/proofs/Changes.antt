@@ -1,14 +1,11 @@
 -- The newest change of a place, from step to step.
 use Rattle.std.proofs.Common.{ℕ, suc, zero, ◌-◌, ◌<◌, ◌≤◌, ◌≡◌, true, false, refl, sym, ap, ◌∙◌, arith}
 use Rattle.std.specs.Prelude.{nat_lt, List, [], length, if◌then◌else◌}
-use Rattle.std.specs.List.{slice_get, slice_index_or}
 use Rattle.std.proofs.lemmas.Bool.Decides.{nat_tests}
-use Rattle.std.proofs.lemmas.Option.{slice_get-get_or}
-use Rattle.std.specs.Ordering.{nat_cmp}
-use Rattle.std.specs.BTreeMap.{get}
 use Rattle.std.specs.declared.option.Option.{Option}
 use Rattle.std.specs.declared.option.Option.TheVariants.{None, Some}
-use Rattle.cp_model.specs.Place.{Path, option_map}
+use Rattle.cp_model.specs.Place.{Path}
+use Rattle.cp_model.specs.declared.record.RowMark.{RowMark as Mark}
 use Rattle.cp_model.specs.declared.effect.Effect.TheVariants.{Same as same}
 use Rattle.cp_model.specs.Rows.{Reading, left, read_mark}
 use Rattle.cp_model.specs.Leaps.{Readings, tells_same, last}
@@ -16,7 +13,9 @@ use Rattle.cp_model.specs.declared.record.Record.{Record}
 use Rattle.cp_store.specs.Changes.{reading_of}
 use Rattle.cp_store.specs.declared.change.What.{What}
 use Rattle.cp_store.specs.declared.change.What.TheVariants.{New, From, Gone}
-use Rattle.cp_flat.specs.Index.{Steps, mark_of, mark_at, own, said, reading_if, IsNewest}
+use Rattle.cp_rows.specs.declared.index.Step.{Step}
+use Rattle.cp_rows.specs.Steps.{row_of, mark_at, IsNewest}
+use Rattle.cp_flat.specs.Changes.{own, said, reading_if}
 
 -- no step has Tid 0
 pub last-zero : (E : Readings) (p : Path) → last E 0 p ≡ None
@@ -55,33 +54,29 @@ unfolding last
 last-same E zero p z h = absurd (omega (arith, z))
 last-same E (suc u) p z h = ap (λ d. if tells_same d then last E u p else Some (suc u, d)) h ∙ ap (λ v. last E v p) (let g : u ≡ suc u - 1 = omega arith in g)
 
--- the element at an index is there
-pub got : {X : Type 0} (xs : List X) (i : ℕ) (x : X) → i < length xs → x ≡ slice_index_or xs i x → slice_get xs i ≡ Some x
-got xs i x h e = slice_get-get_or xs i x h ∙ ap Some (sym e)
-
-module _ (rs : List Record) (m : Steps) (t : ℕ) (p : Path) where
+module _ (rs : List Record) (m : List Step) (t : ℕ) (p : Path) where
   -- where no step has a position, nothing has changed
-  pub said_none : IsNewest (λ u. get nat_cmp m u) t None → last (said rs m) t p ≡ None
+  pub said_none : IsNewest m t None → last (said rs m) t p ≡ None
   unfolding IsNewest
   said_none h = last-over (said rs m) 0 t p (omega arith) (λ u a b. ap (λ o. own (mark_at rs o)) (h u b)) ∙ last-zero (said rs m) p
 
-  module _ (u i : ℕ) (h : IsNewest (λ u. get nat_cmp m u) t (Some (u, i))) where
+  module _ (s : Step) (h : IsNewest m t (Some s)) where
     -- the newest step is one up to t, and has the position
-    pub said_at : (u ≤ t) × (get nat_cmp m u ≡ Some i)
+    pub said_at : (s.tid ≤ t) × (row_of m s.tid ≡ Some s.row)
     unfolding IsNewest
     said_at = (h.0, h.1)
 
-    over : last (said rs m) t p ≡ last (said rs m) u p
+    over : last (said rs m) t p ≡ last (said rs m) s.tid p
     unfolding IsNewest
-    over = last-over (said rs m) u t p h.0 (λ v a b. ap (λ o. own (mark_at rs o)) (h.2 v a b))
+    over = last-over (said rs m) s.tid t p h.0 (λ v a b. ap (λ o. own (mark_at rs o)) (h.2 v a b))
 
     -- the newest is no step
-    pub said_zero : u ≡ 0 → last (said rs m) t p ≡ None
+    pub said_zero : s.tid ≡ 0 → last (said rs m) t p ≡ None
     said_zero z = over ∙ ap (λ v. last (said rs m) v p) z ∙ last-zero (said rs m) p
 
-    module _ (r : Record) (at : slice_get rs i ≡ Some r) (w : Option What) (is : reading_if w ≡ read_mark (mark_of r) []) (pos : 0 < u) where
-      says : said rs m u p ≡ reading_if w
-      says = ap (λ o. own (mark_at rs o)) said_at.1 ∙ ap (λ o. own (option_map mark_of o)) at ∙ sym is
+    module _ (x : Mark) (at : mark_at rs (Some s.row) ≡ Some x) (w : Option What) (is : reading_if w ≡ read_mark x []) (pos : 0 < s.tid) where
+      says : said rs m s.tid p ≡ reading_if w
+      says = ap (λ o. own (mark_at rs o)) said_at.1 ∙ ap own at ∙ sym is
 
       differs : (v : What) → tells_same (reading_of v) ≡ false
       differs New = refl
@@ -89,9 +84,9 @@ module _ (rs : List Record) (m : Steps) (t : ℕ) (p : Path) where
       differs Gone = refl
 
       -- what the newest row has done is the newest change
-      pub said_change : (v : What) → w ≡ Some v → last (said rs m) t p ≡ Some (u, reading_of v)
-      said_change v e = over ∙ last-change (said rs m) u p (reading_of v) pos (says ∙ ap reading_if e) (differs v)
+      pub said_change : (v : What) → w ≡ Some v → last (said rs m) t p ≡ Some (s.tid, reading_of v)
+      said_change v e = over ∙ last-change (said rs m) s.tid p (reading_of v) pos (says ∙ ap reading_if e) (differs v)
 
       -- where it has done nothing, the search goes on below
-      pub said_same : w ≡ None → last (said rs m) (u - 1) p ≡ last (said rs m) t p
-      said_same e = sym (over ∙ last-same (said rs m) u p pos (says ∙ ap reading_if e))
+      pub said_same : w ≡ None → last (said rs m) (s.tid - 1) p ≡ last (said rs m) t p
+      said_same e = sym (over ∙ last-same (said rs m) s.tid p pos (says ∙ ap reading_if e))

@@ -1,7 +1,2 @@
-mod Newest
 mod Changes
-mod Parts
-mod Positions
-mod Before
-mod Kept
 mod Found

@@ -1,7 +1,7 @@
 //! The stores that keep each row of a step.
 #![tactic(auto)]
 
-mod index;
+mod change;
 mod naive;
 
 pub use naive::NaiveStore;

@@ -1,33 +1,25 @@
-ghost use Rattle.std.specs.Prelude.{◌≡◌, ◌≤◌, ◌+◌, ◌<◌, ◌^◌, ◌++◌, ℕ, List, [], ◌∷◌, true, IfOk, OnOk, OnErr, IsErrOf};
-ghost use Rattle.std.specs.List.{list_all};
-ghost use Rattle.cp_store.specs.Changes.{goes_before};
-ghost use Rattle.cp_flat.specs.Stores.{Rows};
+ghost use Rattle.std.specs.Prelude.{◌≡◌, [], IfOk};
 
-use crate::index::{Index, newest_change, note, rows_of_step};
+use crate::change::newest_change;
 use cp_model::{Kind, Record, RecordList};
 use cp_path::Loc;
+use cp_rows::{Rows, key_of};
 use cp_store::{Change, ProvStore, StoreFault};
 use std::alloc::{AllocError, Global};
-use std::collections::BTreeMap;
 use std::marker::Model;
 
 /// Each operation is a step, and each place that it touched has a row.
 #[derive(Drop)]
 pub struct NaiveStore {
-    rows: Vec<Record>,
-    upto: u64,
-    index: Index,
+    rows: Rows,
 }
 
 impl Model for NaiveStore {
-    ghost use Rattle.cp_flat.specs.Stores.{Rows};
-    ghost use Rattle.cp_flat.specs.Index.{IsKept};
+    ghost use Rattle.cp_rows.specs.Rows.{Rows};
 
     ghost Value = { Rows };
 
-    ghost view = { λ s. record { list = s.rows.items; upto = s.upto } };
-
-    ghost invariant = { λ s. IsKept s.rows.items s.upto s.index };
+    ghost view = { λ s. s.rows };
 }
 
 impl NaiveStore {
@@ -37,25 +29,8 @@ impl NaiveStore {
         ensures upto { IfOk result (λ s. s.upto ≡ upto) }
     {
         Ok(NaiveStore {
-            rows: Vec::new(alloc),
-            upto,
-            index: BTreeMap::new(alloc),
+            rows: Rows::new(alloc, upto),
         })
-    }
-
-    /// Keeps a row after all others. Costs a logarithm of the rows, and the row's size.
-    fn keep(&mut self, alloc: Global, row: &Record) -> Result<(), AllocError>
-        requires last { row.now.tid ≤ self.old.upto }
-        requires after { list_all (λ r. goes_before r row.now) self.old.list ≡ true }
-        ensures rows { OnOk result (self.new.list ≡ self.old.list ++ row.now ∷ []) }
-        ensures upto { self.new.upto ≡ self.old.upto }
-    {
-        let position = self.rows.len();
-        self.rows.reserve(1)?;
-        let copy = row.clone()?;
-        note(&mut self.index, alloc, &row.loc.path, row.tid, position)?;
-        self.rows.push_reserved(copy);
-        Ok(())
     }
 }
 
@@ -75,39 +50,31 @@ impl ProvStore for NaiveStore {
     }
 
     fn upto(&self) -> u64 {
-        self.upto
+        self.rows.upto()
     }
 
-    /// Costs a logarithm of the places, and one of the place's steps for each step from the answer to `t` that changed
-    /// nothing there.
+    /// Costs the place's size, and a logarithm of the places and one of the place's steps for the answer and for each step
+    /// from there to `t` that changed nothing at the place.
     fn last_change(
         &mut self,
-        _alloc: Global,
+        alloc: Global,
         loc: &Loc,
         t: u64,
     ) -> Result<Option<Change>, StoreFault> {
         if !loc.db.is_target() {
             return Ok(None);
         }
-        let Some(steps) = self.index.get(&loc.path) else {
-            return Ok(None);
-        };
-        Ok(newest_change(self.rows.as_slice(), steps, t)?)
+        let key = key_of(alloc, &loc.path)?;
+        Ok(newest_change(&self.rows, alloc, key.as_slice(), t)?)
     }
 
     /// Costs a logarithm of the rows, and the answer's size.
     fn rows_of(&mut self, alloc: Global, t: u64) -> Result<RecordList, StoreFault> {
-        Ok(RecordList {
-            items: rows_of_step(self.rows.as_slice(), t).to_vec(alloc)?,
-        })
+        Ok(self.rows.rows_of(alloc, t)?)
     }
 
-    /// Costs a logarithm of all rows for each row taken.
+    /// Costs a logarithm of all places for each row taken, and its size.
     fn absorb(&mut self, alloc: Global, tids: u64, rows: &[Record]) -> Result<(), StoreFault> {
-        self.upto += tids;
-        for row in rows {
-            self.keep(alloc, row)?;
-        }
-        Ok(())
+        Ok(self.rows.keep(alloc, tids, rows)?)
     }
 }

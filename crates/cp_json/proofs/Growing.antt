@@ -26,12 +26,12 @@ use Rattle.cp_model.proofs.Lookups.{path_eq-append, path_eq-sym, rest_is, or_non
 use Rattle.cp_model.specs.Tree.{Tree, IsTree, weight, weight_of, text_bytes, last_bytes}
 use Rattle.cp_model.proofs.SumsLemmas.{last_bytes_child, len_insert_new, weight_insert_new}
 use Rattle.cp_tree.proofs.Leaves.{leaf-insert, leaf-fits}
-use Rattle.cp_json.specs.Places.{content_of, places_below, item_places, member_places, bytes_of, weighs}
-use Rattle.cp_json.specs.JsonTrees.{held}
-use Rattle.cp_json.specs.Walks.{or_node, with_leaf, grown, items_grown, members_grown, CanPut, CanGrow, ItemsGrow, MembersGrow, AllAbove, IsOrdered, ItemsOrdered, MembersOrdered}
-
-abbrev pub Entry : Type 0
-Entry = Path × Option Content
+use Rattle.cp_json.specs.Places.{content_of, places_below, item_places, member_places, bytes_of, place_weight}
+use Rattle.cp_json.specs.JsonTrees.{entry_of}
+use Rattle.cp_json.specs.Growing.{or_node, with_leaf, CanPut}
+use Rattle.cp_json.specs.Ordered.{AllAbove, IsOrdered, ItemsOrdered, MembersOrdered}
+use Rattle.cp_json.proofs.Walking.{Entry, stepped, AllNeeds}
+use Rattle.cp_json.proofs.Looking.{IsLow}
 
 -- ---- paths that lie elsewhere
 
@@ -71,11 +71,11 @@ less_apart k l lt = texts_ties k l ∙ ap is_eq lt
 
 -- ---- places put in one after another
 
-abbrev pub inserted : Tree → List Entry → Tree
-inserted t [] = t
-inserted t (e ∷ es) = inserted (keyed.insert t e.0 (or_node e.1)) es
+abbrev pub with_entries : Tree → List Entry → Tree
+with_entries t [] = t
+with_entries t (e ∷ es) = with_entries (keyed.insert t e.0 (or_node e.1)) es
 
-inserted_append : (t : Tree) (es fs : List Entry) → inserted t (es ++ fs) ≡ inserted (inserted t es) fs
+inserted_append : (t : Tree) (es fs : List Entry) → with_entries t (es ++ fs) ≡ with_entries (with_entries t es) fs
 inserted_append t [] fs = refl
 inserted_append t (e ∷ es) fs = inserted_append (keyed.insert t e.0 (or_node e.1)) es fs
 
@@ -89,7 +89,7 @@ under_fresh : (t : Tree) (q : Path) (v : Content) (b : Label) (s : Path) → ((z
 under_fresh t q v b s f = ap (keyed.get (keyed.insert t q v)) (append_assoc q (b ∷ []) s) ∙ inserted_else t q v (q ++ b ∷ s) (longer q b s) ∙ f (b ∷ s)
 
 mutual
-  out_below : (t : Tree) (q : Path) (d : Data) (r : Path) → strip q r ≡ None → keyed.get (inserted t (places_below q d)) r ≡ keyed.get t r
+  out_below : (t : Tree) (q : Path) (d : Data) (r : Path) → strip q r ≡ None → keyed.get (with_entries t (places_below q d)) r ≡ keyed.get t r
   out_below t q null r h = refl
   out_below t q (boolean b) r h = refl
   out_below t q (number n) r h = refl
@@ -97,31 +97,31 @@ mutual
   out_below t q (array ds) r h = out_items t q 0 ds r h
   out_below t q (object ms) r h = out_members t q ms r h
 
-  out_items : (t : Tree) (q : Path) (i : ℕ) (ds : Items) (r : Path) → strip q r ≡ None → keyed.get (inserted t (item_places q i ds)) r ≡ keyed.get t r
+  out_items : (t : Tree) (q : Path) (i : ℕ) (ds : Items) (r : Path) → strip q r ≡ None → keyed.get (with_entries t (item_places q i ds)) r ≡ keyed.get t r
   out_items t q i no_items r h = refl
   out_items t q i (item d ds) r h =
       let c = child q (decimal i) in
       let u = keyed.insert t c (or_node (content_of d)) in
       let o = strip_child q (decimal i) r h in
       ap (λ z. keyed.get z r) (inserted_append u (places_below c d) (item_places q (i + 1) ds))
-      ∙ out_items (inserted u (places_below c d)) q (i + 1) ds r h
+      ∙ out_items (with_entries u (places_below c d)) q (i + 1) ds r h
       ∙ out_below u c d r o
       ∙ inserted_else t c (or_node (content_of d)) r (path_no c r o)
 
-  out_members : (t : Tree) (q : Path) (ms : Members) (r : Path) → strip q r ≡ None → keyed.get (inserted t (member_places q ms)) r ≡ keyed.get t r
+  out_members : (t : Tree) (q : Path) (ms : Members) (r : Path) → strip q r ≡ None → keyed.get (with_entries t (member_places q ms)) r ≡ keyed.get t r
   out_members t q no_members r h = refl
   out_members t q (member k d ms) r h =
       let c = child q k in
       let u = keyed.insert t c (or_node (content_of d)) in
       let o = strip_child q k r h in
       ap (λ z. keyed.get z r) (inserted_append u (places_below c d) (member_places q ms))
-      ∙ out_members (inserted u (places_below c d)) q ms r h
+      ∙ out_members (with_entries u (places_below c d)) q ms r h
       ∙ out_below u c d r o
       ∙ inserted_else t c (or_node (content_of d)) r (path_no c r o)
 
 -- what lies elsewhere stays
-kept : (t : Tree) (q : Path) (d : Data) (r : Path) → strip q r ≡ None → keyed.get (inserted (keyed.insert t q (or_node (content_of d))) (places_below q d)) r ≡ keyed.get t r
-kept t q d r h = out_below (keyed.insert t q (or_node (content_of d))) q d r h ∙ inserted_else t q (or_node (content_of d)) r (path_no q r h)
+stands_still : (t : Tree) (q : Path) (d : Data) (r : Path) → strip q r ≡ None → keyed.get (with_entries (keyed.insert t q (or_node (content_of d))) (places_below q d)) r ≡ keyed.get t r
+stands_still t q d r h = out_below (keyed.insert t q (or_node (content_of d))) q d r h ∙ inserted_else t q (or_node (content_of d)) r (path_no q r h)
 
 -- ---- each place is new, and below a node
 
@@ -136,7 +136,7 @@ abbrev pub IsListing : Tree → List Entry → Type 0
 IsListing t [] = ⊤
 IsListing t (e ∷ es) = IsNew t e × IsListing (keyed.insert t e.0 (or_node e.1)) es
 
-listing_append : (t : Tree) (es fs : List Entry) → IsListing t es → IsListing (inserted t es) fs → IsListing t (es ++ fs)
+listing_append : (t : Tree) (es fs : List Entry) → IsListing t es → IsListing (with_entries t es) fs → IsListing t (es ++ fs)
 listing_append t [] fs h k = k
 listing_append t (e ∷ es) fs h k = (h.0, listing_append (keyed.insert t e.0 (or_node e.1)) es fs h.1 k)
 
@@ -176,8 +176,8 @@ mutual
         record { above = p; label = decimal i; is = refl; node = n; new = ap (keyed.get t) (sym (append-nil q)) ∙ fresh [] },
         listing_append u here rest
             (listing_below u q d o.0 (omega (arith, l, size)) (inserted_here t q v) (λ b s. under_fresh t q v b s fresh))
-            (listing_items (inserted u here) p (i + 1) ds o.1 (omega (arith, l, size)) (kept t q d p (strip_above p (decimal i)) ∙ n)
-            (λ j le lt s. kept t q d (child p (decimal j) ++ s) (strip_other p (decimal i) (decimal j) s (apart i j (omega (arith, le)) (omega (arith, l)) lt)) ∙ f j (omega (arith, le)) lt s)),
+            (listing_items (with_entries u here) p (i + 1) ds o.1 (omega (arith, l, size)) (stands_still t q d p (strip_above p (decimal i)) ∙ n)
+            (λ j le lt s. stands_still t q d (child p (decimal j) ++ s) (strip_other p (decimal i) (decimal j) s (apart i j (omega (arith, le)) (omega (arith, l)) lt)) ∙ f j (omega (arith, le)) lt s)),
       )
 
   listing_members : (t : Tree) (p : Path) (ms : Members) → MembersOrdered ms → length (member_places p ms) < 2 ^ 64 → keyed.get t p ≡ Some Node → AllFresh t p ms → IsListing t (member_places p ms)
@@ -192,13 +192,14 @@ mutual
         record { above = p; label = k; is = refl; node = n; new = ap (keyed.get t) (sym (append-nil q)) ∙ f.0 [] },
         listing_append u here rest
             (listing_below u q d o.1 (omega (arith, l, size)) (inserted_here t q v) (λ b s. under_fresh t q v b s f.0))
-            (listing_members (inserted u here) p ms o.2 (omega (arith, l, size)) (kept t q d p (strip_above p k) ∙ n)
-            (fresh_kept t (inserted u here) p k ms o.0 (λ m s e. kept t q d (child p m ++ s) (strip_other p k m s e)) f.1)),
+            (listing_members (with_entries u here) p ms o.2 (omega (arith, l, size)) (stands_still t q d p (strip_above p k) ∙ n)
+            (fresh_kept t (with_entries u here) p k ms o.0 (λ m s e. stands_still t q d (child p m ++ s) (strip_other p k m s e)) f.1)),
       )
 
 -- ---- leaves added to a tree within the limits
 
 pub record IsSmall (e : Entry) : Type 0 where
+  pub low : IsLow e
   pub holds : e.1 ≡ Some (or_node e.1)
   pub place : over_limit (at_target e.0) ≡ false
   pub text : text_bytes (or_node e.1) ≤ TEXT_MAX
@@ -207,118 +208,50 @@ abbrev pub AllSmall : List Entry → Type 0
 AllSmall [] = ⊤
 AllSmall (e ∷ es) = IsSmall e × AllSmall es
 
-abbrev pub CanPutAt : Tree → Entry → Type 0
-CanPutAt t e = (p : Path) (a : Label) → e.0 ≡ child p a → CanPut t p a e.1
-
-abbrev pub AllPut : Tree → List Entry → Type 0
-AllPut t [] = ⊤
-AllPut t (e ∷ es) = CanPutAt t e × AllPut (with_leaf t e.0 e.1) es
-
-abbrev pub leaves : Tree → List Entry → Tree
-leaves t [] = t
-leaves t (e ∷ es) = leaves (with_leaf t e.0 e.1) es
-
-leaf_tree : (t : Tree) (e : Entry) → IsTree t → IsNew t e → IsSmall e → keyed.len t + 1 ≤ NODES_MAX → weight t + weighs e ≤ WEIGHT_MAX → IsTree (with_leaf t e.0 e.1)
+leaf_tree : (t : Tree) (e : Entry) → IsTree t → IsNew t e → IsSmall e → keyed.len t + 1 ≤ NODES_MAX → weight t + place_weight e ≤ WEIGHT_MAX → IsTree (with_leaf e.0 e.1 t)
 leaf_tree t e h x s n w =
     let near : over_limit (at_target (child x.above x.label)) ≡ false = ap (λ q. over_limit (at_target q)) (sym x.is) ∙ s.place in
-    subst (λ q. IsTree (with_leaf t q e.1)) (sym x.is) (leaf-fits t x.above x.label (or_node e.1) h x.node near s.text n (omega (arith, w, ap last_bytes x.is, last_bytes_child x.above x.label, ap bytes_of s.holds)))
+    subst (λ q. IsTree (with_leaf q e.1 t)) (sym x.is) (leaf-fits t x.above x.label (or_node e.1) h x.node near s.text n (omega (arith, w, ap last_bytes x.is, last_bytes_child x.above x.label, ap bytes_of s.holds)))
 
 -- each can be added as a leaf, and adding them is putting them in
-pub all_put : (t : Tree) (es : List Entry) → IsTree t → IsListing t es → AllSmall es → keyed.len t + length es ≤ NODES_MAX → weight t + sum_by weighs es ≤ WEIGHT_MAX → AllPut t es × (leaves t es ≡ inserted t es)
+pub all_put : (t : Tree) (es : List Entry) → IsTree t → IsListing t es → AllSmall es → keyed.len t + length es ≤ NODES_MAX → weight t + sum_by place_weight es ≤ WEIGHT_MAX → AllNeeds with_leaf CanPut es t × (stepped with_leaf es t ≡ with_entries t es)
 all_put t [] h x s n w = (tt, refl)
 all_put t (e ∷ es) h x s n w =
-    let u = with_leaf t e.0 e.1 in
+    let u = with_leaf e.0 e.1 t in
     let m = keyed.insert t e.0 (or_node e.1) in
     let is : u ≡ m = leaf-insert t e.0 (or_node e.1) h.rooted x.0.new in
-    let cons = sum_by-cons weighs e es in
+    let cons = sum_by-cons place_weight e es in
     let tree : IsTree u = leaf_tree t e h x.0 s.0 (omega (arith, n)) (omega (arith, w, cons)) in
-    let weigh : weight_of (e.0, or_node e.1) ≡ weighs e = ap (λ b. 16 + last_bytes e.0 + b) (sym (ap bytes_of s.0.holds)) in
+    let weigh : weight_of (e.0, or_node e.1) ≡ place_weight e = ap (λ b. 16 + last_bytes e.0 + b) (sym (ap bytes_of s.0.holds)) in
     let rest = all_put u es tree (subst (λ z. IsListing z es) (sym is) x.1) s.1
     (omega (arith, n, ap keyed.len is, len_insert_new t e.0 (or_node e.1) x.0.new))
     (omega (arith, w, cons, weigh, ap weight is, weight_insert_new t e.0 (or_node e.1) x.0.new)) in (
       (
         λ p a k. record {
+          near = s.0.low.near p a k;
           holds = s.0.holds;
           node = ap (keyed.get t) (snoc-same p x.0.above a x.0.label (sym k ∙ x.0.is)) ∙ x.0.node;
           free = ap is_some (ap (keyed.get t) (sym k) ∙ x.0.new);
-          fits = subst (λ q. IsTree (with_leaf t q e.1)) k tree;
+          fits = subst (λ q. IsTree (with_leaf q e.1 t)) k tree;
         },
         rest.0,
       ),
-      rest.1 ∙ ap (λ z. inserted z es) is,
+      rest.1 ∙ ap (λ z. with_entries z es) is,
     )
-
--- ---- the walk that grows the tree
-
-leaves_append : (t : Tree) (es fs : List Entry) → leaves t (es ++ fs) ≡ leaves (leaves t es) fs
-leaves_append t [] fs = refl
-leaves_append t (e ∷ es) fs = leaves_append (with_leaf t e.0 e.1) es fs
-
-put_parts : (t : Tree) (es fs : List Entry) → AllPut t (es ++ fs) → AllPut t es × AllPut (leaves t es) fs
-put_parts t [] fs h = (tt, h)
-put_parts t (e ∷ es) fs h = let q = put_parts (with_leaf t e.0 e.1) es fs h.1 in ((h.0, q.0), q.1)
-
-mutual
-  pub grown_below : (t : Tree) (p : Path) (d : Data) → grown t p d ≡ leaves t (places_below p d)
-  grown_below t p null = refl
-  grown_below t p (boolean b) = refl
-  grown_below t p (number n) = refl
-  grown_below t p (string s) = refl
-  grown_below t p (array ds) = grown_items t p 0 ds
-  grown_below t p (object ms) = grown_members t p ms
-
-  grown_items : (t : Tree) (p : Path) (i : ℕ) (ds : Items) → items_grown t p i ds ≡ leaves t (item_places p i ds)
-  grown_items t p i no_items = refl
-  grown_items t p i (item d ds) =
-      let q = child p (decimal i) in
-      let u = with_leaf t q (content_of d) in
-      ap (λ z. items_grown z p (i + 1) ds) (grown_below u q d) ∙ grown_items (leaves u (places_below q d)) p (i + 1) ds ∙ sym (leaves_append u (places_below q d) (item_places p (i + 1) ds))
-
-  grown_members : (t : Tree) (p : Path) (ms : Members) → members_grown t p ms ≡ leaves t (member_places p ms)
-  grown_members t p no_members = refl
-  grown_members t p (member k d ms) =
-      let q = child p k in
-      let u = with_leaf t q (content_of d) in
-      ap (λ z. members_grown z p ms) (grown_below u q d) ∙ grown_members (leaves u (places_below q d)) p ms ∙ sym (leaves_append u (places_below q d) (member_places p ms))
-
-mutual
-  pub can_below : (t : Tree) (p : Path) (d : Data) → AllPut t (places_below p d) → CanGrow t p d
-  can_below t p null h = tt
-  can_below t p (boolean b) h = tt
-  can_below t p (number n) h = tt
-  can_below t p (string s) h = tt
-  can_below t p (array ds) h = can_items t p 0 ds h
-  can_below t p (object ms) h = can_members t p ms h
-
-  can_items : (t : Tree) (p : Path) (i : ℕ) (ds : Items) → AllPut t (item_places p i ds) → ItemsGrow t p i ds
-  can_items t p i no_items h = tt
-  can_items t p i (item d ds) h =
-      let q = child p (decimal i) in
-      let u = with_leaf t q (content_of d) in
-      let s = put_parts u (places_below q d) (item_places p (i + 1) ds) h.1 in
-      (h.0 p (decimal i) refl, can_below u q d s.0, can_items (grown u q d) p (i + 1) ds (subst (λ z. AllPut z (item_places p (i + 1) ds)) (sym (grown_below u q d)) s.1))
-
-  can_members : (t : Tree) (p : Path) (ms : Members) → AllPut t (member_places p ms) → MembersGrow t p ms
-  can_members t p no_members h = tt
-  can_members t p (member k d ms) h =
-      let q = child p k in
-      let u = with_leaf t q (content_of d) in
-      let s = put_parts u (places_below q d) (member_places p ms) h.1 in
-      (h.0 p k refl, can_below u q d s.0, can_members (grown u q d) p ms (subst (λ z. AllPut z (member_places p ms)) (sym (grown_below u q d)) s.1))
 
 -- ---- what stands where
 
 -- what is put in goes beside what was there
-pub get_inserted : (t : Tree) (es : List Entry) → IsListing t es → list_all (λ e. is_some e.1) es ≡ true → (r : Path) → keyed.get (inserted t es) r ≡ or_else (keyed.get t r) (look r (filter_map held es))
-get_inserted t [] x s r = sym (or_none (keyed.get t r))
-get_inserted t ((q, None) ∷ es) x s r = absurd (cc)
-get_inserted t ((q, Some c) ∷ es) x s r =
-    get_inserted (keyed.insert t q c) es x.1 s r
+pub get_with_entries : (t : Tree) (es : List Entry) → IsListing t es → list_all (λ e. is_some e.1) es ≡ true → (r : Path) → keyed.get (with_entries t es) r ≡ or_else (keyed.get t r) (look r (filter_map entry_of es))
+get_with_entries t [] x s r = sym (or_none (keyed.get t r))
+get_with_entries t ((q, None) ∷ es) x s r = absurd (cc)
+get_with_entries t ((q, Some c) ∷ es) x s r =
+    get_with_entries (keyed.insert t q c) es x.1 s r
     ∙ ap (λ o. or_else o rest) (get-insert t q c r)
     ∙ step (path_eq r q) refl
   where
     rest : Option Content
-    rest = look r (filter_map held es)
+    rest = look r (filter_map entry_of es)
 
     step : (b : Bool) → path_eq r q ≡ b → or_else (cond b (Some c) (keyed.get t r)) rest ≡ or_else (keyed.get t r) (cond b (Some c) rest)
     step true e = ap (λ o. or_else o (Some c)) (sym (ap (keyed.get t) (path_eq-same r q e) ∙ x.0.new))

@@ -1,6 +1,7 @@
 mod Parsing
-mod Surveying
+mod Walking
 mod Looking
-mod Ordered
 mod Growing
+mod Surveying
 mod Fitting
+mod Ordered

@@ -1,8 +1,9 @@
 -- What is read has the names of each object in order, each once.
-use Rattle.std.proofs.Common.{◌≡◌, ℕ, Bool, true, false, cond, List, refl, ap, ◌∙◌, subst}
+use Rattle.std.proofs.Common.{◌≡◌, ℕ, Bool, true, false, cond, List, Ok, refl, ap, ◌∙◌, subst}
 use Rattle.std.proofs.lemmas.Cmp.{nat_list_cmp_total}
 use Rattle.std.specs.Ordering.{match_ordering, ordering_reverse}
-use Rattle.std.specs.Option.{option_map, option_and_then}
+use Rattle.std.specs.Option.{ok_or, option_map, option_and_then}
+use Rattle.cp_json.specs.declared.fault.JsonFault.TheVariants.{NotJson}
 use Rattle.std.specs.Str.{is_utf8}
 use Rattle.std.specs.declared.cmp.Ordering.TheVariants.{Less, Equal, Greater}
 use Rattle.std.specs.declared.option.Option.{Option}
@@ -12,8 +13,9 @@ use Rattle.json.specs.Json as json
 use Rattle.json.specs.Lex.{tokens}
 use Rattle.serde_json.specs.Data.{Data, null, boolean, number, string, array, object, Items, no_items, item, Members, no_members, member, put}
 use Rattle.serde_json.specs.Read.{number_of, of_json, of_items, of_members, max_depth, read}
-use Rattle.cp_json.specs.JsonTrees.{value_of}
-use Rattle.cp_json.specs.Walks.{AllAbove, IsOrdered, ItemsOrdered, MembersOrdered}
+use Rattle.cp_json.specs.declared.fault.JsonFault.{JsonFault}
+use Rattle.cp_json.specs.JsonTrees.{value_reading}
+use Rattle.cp_json.specs.Ordered.{AllAbove, IsOrdered, ItemsOrdered, MembersOrdered}
 
 map_parts : {A B : Type 0} (f : A → B) (o : Option A) (b : B) → option_map f o ≡ Some b → (a : A) × ((o ≡ Some a) × (f a ≡ b))
 map_parts f None b h = absurd (cc)
@@ -67,12 +69,13 @@ mutual
       let a = then_parts (λ d. of_members js (put k d found)) (of_json j) ms h in
       members_ordered js (put k a.0 found) ms (put_ordered k a.0 found (json_ordered j a.0 a.1.0) o) a.1.1
 
-cond_some : {A : Type 0} (b : Bool) (o : Option A) (a : A) → cond b o None ≡ Some a → o ≡ Some a
-cond_some true o a h = h
-cond_some false o a h = absurd (cc)
+read_some : (b : Bool) (o : Option Data) (e : JsonFault) (d : Data) → ok_or (cond b o None) e ≡ Ok d → o ≡ Some d
+read_some true (Some x) e d h = let same : x ≡ d = cc in ap (λ z. Some z) same
+read_some true None e d h = absurd (cc)
+read_some false o e d h = absurd (cc)
 
 -- a value that is read is in order
-pub read_ordered : (text : List ℕ) (d : Data) → value_of text ≡ Some d → IsOrdered d
+pub read_ordered : (text : List ℕ) (d : Data) → value_reading text ≡ Ok d → IsOrdered d
 read_ordered text d h =
-    let a = then_parts of_json (option_and_then (λ p. json.if_last p.0 p.1) (json.value max_depth (tokens text))) d (cond_some (is_utf8 text) (read text) d h) in
+    let a = then_parts of_json (option_and_then (λ p. json.if_last p.0 p.1) (json.value max_depth (tokens text))) d (read_some (is_utf8 text) (read text) NotJson d h) in
     json_ordered a.0 d a.1.1

@@ -7,21 +7,20 @@ use Rattle.std.proofs.lemmas.List.Sums.{sum_by-cons, sum_by-append}
 use Rattle.std.proofs.lemmas.Bool.Decides.{nat_tests}
 use Rattle.std.specs.List.{list_all}
 use Rattle.std.specs.declared.option.Option.{Option}
-use Rattle.serde_json.specs.Data.{Data, null, boolean, number, string, array, object, Items, no_items, item, Members, no_members, member}
+use Rattle.serde_json.specs.Data.{Data}
 use Rattle.cp_model.specs.declared.row.Content.{Content}
 use Rattle.cp_model.specs.Place.{Label, Path, child}
 use Rattle.cp_model.specs.Tree.{last_bytes}
 use Rattle.cp_model.proofs.SumsLemmas.{last_bytes_child, sum_by-one}
 use Rattle.cp_tree.specs.Rows.{path_size}
-use Rattle.cp_json.specs.Places.{content_of, places_below, item_places, member_places, places, bytes_of, weighs}
+use Rattle.cp_json.specs.Places.{content_of, value_places, bytes_of, place_weight}
 use Rattle.cp_json.specs.JsonTrees.{any_above, refusals}
-use Rattle.cp_json.specs.Surveys.{capped, root_spot, child_spot, none_seen, noted, below_noted, items_noted, members_noted, survey_of, passed}
+use Rattle.cp_json.specs.Surveys.{capped_sum, name_spot, spot_below, empty_survey, survey_place, survey_of, survey_refusals}
+use Rattle.cp_json.specs.Walks.{walk_below}
+use Rattle.cp_json.proofs.Walking.{Entry, step_all, below_is}
 use Rattle.cp_json.specs.declared.fault.JsonFault.TheVariants.{LabelTooLong, TooDeep, PathTooLong, TextTooLong, TooMany, TooBig}
 use Rattle.cp_json.specs.declared.survey.Spot.{Spot}
 use Rattle.cp_json.specs.declared.survey.Survey.{Survey}
-
-abbrev Entry : Type 0
-Entry = Path × Option Content
 
 abbrev top : ℕ
 top = 2 ^ 64 - 1
@@ -36,59 +35,27 @@ deeper t k l e = omega (arith, e)
 larger : (t k a l : ℕ) → l ≡ k + (a + 1) → min (min (min k t + a) t + 1) t ≡ min l t
 larger t k a l e = omega (arith, e)
 
-spot_child : (n : ℕ) (p : Path) (a : Label) → child_spot (spot_of n p) (length a) ≡ spot_of n (child p a)
+spot_child : (n : ℕ) (p : Path) (a : Label) → spot_below (spot_of n p) a ≡ spot_of n (child p a)
 spot_child n p a =
-    let d : capped (min (length p) top) 1 ≡ min (length (child p a)) top = deeper top (length p) (length (child p a)) (length-append p (a ∷ [])) in
-    let z : capped (capped (min (n + path_size p) top) (length a)) 1 ≡ min (n + path_size (child p a)) top =
+    let d : capped_sum (min (length p) top) 1 ≡ min (length (child p a)) top = deeper top (length p) (length (child p a)) (length-append p (a ∷ [])) in
+    let z : capped_sum (capped_sum (min (n + path_size p) top) (length a)) 1 ≡ min (n + path_size (child p a)) top =
     larger top (n + path_size p) (length a) (n + path_size (child p a)) (omega (arith, sum_by-append (λ (b : Label). length b + 1) p (a ∷ []), sum_by-cons (λ (b : Label). length b + 1) a [])) in
     let l : length a ≡ last_bytes (child p a) = sym (last_bytes_child p a) in
     λ i. record { depth = d i; size = z i; last = l i }
 
 -- with these places
-abbrev noted_all : ℕ → List Entry → Survey → Survey
-noted_all n [] s = s
-noted_all n (e ∷ es) s = noted_all n es (noted (spot_of n e.0) e.1 s)
+abbrev survey_all : ℕ → List Entry → Survey → Survey
+survey_all n es s = step_all spot_below survey_place (spot_of n) (spot_child n) es s
 
-noted_append : (n : ℕ) (es fs : List Entry) (s : Survey) → noted_all n (es ++ fs) s ≡ noted_all n fs (noted_all n es s)
-noted_append n [] fs s = refl
-noted_append n (e ∷ es) fs s = noted_append n es fs (noted (spot_of n e.0) e.1 s)
-
-mutual
-  below_is : (n : ℕ) (p : Path) (d : Data) (s : Survey) → below_noted (spot_of n p) d s ≡ noted_all n (places_below p d) s
-  below_is n p null s = refl
-  below_is n p (boolean b) s = refl
-  below_is n p (number m) s = refl
-  below_is n p (string t) s = refl
-  below_is n p (array ds) s = items_is n p 0 ds s
-  below_is n p (object ms) s = members_is n p ms s
-
-  items_is : (n : ℕ) (p : Path) (i : ℕ) (ds : Items) (s : Survey) → items_noted (spot_of n p) i ds s ≡ noted_all n (item_places p i ds) s
-  items_is n p i no_items s = refl
-  items_is n p i (item d ds) s =
-      let q = child p (decimal i) in
-      let t = noted (spot_of n q) (content_of d) s in
-      ap (λ c. items_noted (spot_of n p) (i + 1) ds (below_noted c d (noted c (content_of d) s))) (spot_child n p (decimal i))
-      ∙ ap (items_noted (spot_of n p) (i + 1) ds) (below_is n q d t)
-      ∙ items_is n p (i + 1) ds (noted_all n (places_below q d) t)
-      ∙ sym (noted_append n (places_below q d) (item_places p (i + 1) ds) t)
-
-  members_is : (n : ℕ) (p : Path) (ms : Members) (s : Survey) → members_noted (spot_of n p) ms s ≡ noted_all n (member_places p ms) s
-  members_is n p no_members s = refl
-  members_is n p (member k d ms) s =
-      let q = child p k in
-      let t = noted (spot_of n q) (content_of d) s in
-      ap (λ c. members_noted (spot_of n p) ms (below_noted c d (noted c (content_of d) s))) (spot_child n p k)
-      ∙ ap (members_noted (spot_of n p) ms) (below_is n q d t)
-      ∙ members_is n p ms (noted_all n (places_below q d) t)
-      ∙ sym (noted_append n (places_below q d) (member_places p ms) t)
-
-root_is : (n : ℕ) → n ≤ top → root_spot n ≡ spot_of n []
+root_is : (n : ℕ) → n ≤ top → name_spot n ≡ spot_of n []
 root_is n h =
     let z : n ≡ min (n + 0) top = omega (arith, h) in
     λ i. record { depth = 0; size = z i; last = 0 }
 
-survey_is : (n : ℕ) (d : Data) → n ≤ top → survey_of n d ≡ noted_all n (places d) none_seen
-survey_is n d h = ap (λ r. below_noted r d (noted r (content_of d) none_seen)) (root_is n h) ∙ below_is n [] d (noted (spot_of n []) (content_of d) none_seen)
+survey_is : (n : ℕ) (d : Data) → n ≤ top → survey_of n d ≡ survey_all n (value_places d) empty_survey
+survey_is n d h =
+    ap (λ r. walk_below spot_below survey_place r d (survey_place r (content_of d) empty_survey)) (root_is n h)
+    ∙ below_is spot_below survey_place (spot_of n) (spot_child n) [] d (survey_place (spot_of n []) (content_of d) empty_survey)
 
 -- ---- tests
 
@@ -136,18 +103,18 @@ lt_capped k a t h = by (nat_lt k a) refl
         grind (arith, nat_tests)
 
 module _ (n : ℕ) where
-  any_is : (k : ℕ) (f : Survey → ℕ) (g : Entry → ℕ) → ((e : Entry) (s : Survey) → nat_lt k (f (noted (spot_of n e.0) e.1 s)) ≡ (nat_lt k (f s) || nat_lt k (g e))) →
-      (es : List Entry) (s : Survey) → nat_lt k (f (noted_all n es s)) ≡ (nat_lt k (f s) || any_above k g es)
+  any_is : (k : ℕ) (f : Survey → ℕ) (g : Entry → ℕ) → ((e : Entry) (s : Survey) → nat_lt k (f (survey_place (spot_of n e.0) e.1 s)) ≡ (nat_lt k (f s) || nat_lt k (g e))) →
+      (es : List Entry) (s : Survey) → nat_lt k (f (survey_all n es s)) ≡ (nat_lt k (f s) || any_above k g es)
   any_is k f g h [] s = or_nil (nat_lt k (f s))
   any_is k f g h (e ∷ es) s =
-      any_is k f g h es (noted (spot_of n e.0) e.1 s) ∙ ap (λ b. b || any_above k g es) (h e s) ∙ or_assoc (nat_lt k (f s)) (nat_lt k (g e)) (any_above k g es)
+      any_is k f g h es (survey_place (spot_of n e.0) e.1 s) ∙ ap (λ b. b || any_above k g es) (h e s) ∙ or_assoc (nat_lt k (f s)) (nat_lt k (g e)) (any_above k g es)
 
-  sum_is : (f : Survey → ℕ) (w : Entry → ℕ) → ((e : Entry) (s : Survey) → f (noted (spot_of n e.0) e.1 s) ≡ min (f s + w e) top) →
-      (es : List Entry) (s : Survey) → f s ≤ top → f (noted_all n es s) ≡ min (f s + sum_by w es) top
+  sum_is : (f : Survey → ℕ) (w : Entry → ℕ) → ((e : Entry) (s : Survey) → f (survey_place (spot_of n e.0) e.1 s) ≡ min (f s + w e) top) →
+      (es : List Entry) (s : Survey) → f s ≤ top → f (survey_all n es s) ≡ min (f s + sum_by w es) top
   sum_is f w h [] s l = omega (arith, l)
   sum_is f w h (e ∷ es) s l =
       let st = h e s in
-      sum_is f w h es (noted (spot_of n e.0) e.1 s) (at_top top (f s + w e) (f (noted (spot_of n e.0) e.1 s)) st)
+      sum_is f w h es (survey_place (spot_of n e.0) e.1 s) (at_top top (f s + w e) (f (survey_place (spot_of n e.0) e.1 s)) st)
       ∙ ap (λ m. min (m + sum_by w es) top) st
       ∙ joined top (f s) (w e) (sum_by w es) (sum_by w (e ∷ es)) (sum_by-cons w e es)
     where
@@ -157,9 +124,9 @@ module _ (n : ℕ) where
       joined : (t a b c m : ℕ) → m ≡ b + c → min (min (a + b) t + c) t ≡ min (a + m) t
       joined t a b c m e = omega (arith, e)
 
-  whole_is : (es : List Entry) (s : Survey) → (noted_all n es s).whole ≡ (s.whole && list_all (λ e. is_some e.1) es)
+  whole_is : (es : List Entry) (s : Survey) → (survey_all n es s).whole ≡ (s.whole && list_all (λ e. is_some e.1) es)
   whole_is [] s = and_nil s.whole
-  whole_is (e ∷ es) s = whole_is es (noted (spot_of n e.0) e.1 s) ∙ and_assoc s.whole (is_some e.1) (list_all (λ e. is_some e.1) es)
+  whole_is (e ∷ es) s = whole_is es (survey_place (spot_of n e.0) e.1 s) ∙ and_assoc s.whole (is_some e.1) (list_all (λ e. is_some e.1) es)
 
 weighed : (t w l b : ℕ) → min (min (min (w + 16) t + l) t + b) t ≡ min (w + (16 + l + b)) t
 weighed t w l b = omega arith
@@ -168,24 +135,24 @@ from_none : (t m k : ℕ) → m ≡ k → min (0 + m) t ≡ min k t
 from_none t m k e = omega (arith, e)
 
 -- the refusals by the survey are those by the listing
-pub passed_is : (name : List ℕ) (d : Data) → length name ≤ NAME_MAX → passed (survey_of (length name) d) ≡ refusals name (places d)
-passed_is name d h =
+pub refusals_is : (name : List ℕ) (d : Data) → length name ≤ NAME_MAX → survey_refusals (survey_of (length name) d) ≡ refusals name (value_places d)
+refusals_is name d h =
     let n = length name in
-    let es = places d in
-    let s : Survey = noted_all n es none_seen in
-    let a : nat_lt LABEL_MAX s.last ≡ any_above LABEL_MAX (λ e. last_bytes e.0) es = any_is n LABEL_MAX (λ s. s.last) (λ e. last_bytes e.0) (λ e s. lt_max LABEL_MAX s.last (last_bytes e.0)) es none_seen in
+    let es = value_places d in
+    let s : Survey = survey_all n es empty_survey in
+    let a : nat_lt LABEL_MAX s.last ≡ any_above LABEL_MAX (λ e. last_bytes e.0) es = any_is n LABEL_MAX (λ s. s.last) (λ e. last_bytes e.0) (λ e s. lt_max LABEL_MAX s.last (last_bytes e.0)) es empty_survey in
     let b : nat_lt LABELS_MAX s.depth ≡ any_above LABELS_MAX (λ e. length e.0) es =
-    any_is n LABELS_MAX (λ s. s.depth) (λ e. length e.0) (λ e s. lt_max LABELS_MAX s.depth (min (length e.0) top) ∙ ap (λ x. nat_lt LABELS_MAX s.depth || x) (lt_capped LABELS_MAX (length e.0) top (omega arith))) es none_seen in
+    any_is n LABELS_MAX (λ s. s.depth) (λ e. length e.0) (λ e s. lt_max LABELS_MAX s.depth (min (length e.0) top) ∙ ap (λ x. nat_lt LABELS_MAX s.depth || x) (lt_capped LABELS_MAX (length e.0) top (omega arith))) es empty_survey in
     let c : nat_lt LOC_MAX s.size ≡ any_above LOC_MAX (λ e. n + path_size e.0) es =
-    any_is n LOC_MAX (λ s. s.size) (λ e. n + path_size e.0) (λ e s. lt_max LOC_MAX s.size (min (n + path_size e.0) top) ∙ ap (λ x. nat_lt LOC_MAX s.size || x) (lt_capped LOC_MAX (n + path_size e.0) top (omega arith))) es none_seen in
-    let f : nat_lt TEXT_MAX s.text ≡ any_above TEXT_MAX (λ e. bytes_of e.1) es = any_is n TEXT_MAX (λ s. s.text) (λ e. bytes_of e.1) (λ e s. lt_max TEXT_MAX s.text (bytes_of e.1)) es none_seen in
+    any_is n LOC_MAX (λ s. s.size) (λ e. n + path_size e.0) (λ e s. lt_max LOC_MAX s.size (min (n + path_size e.0) top) ∙ ap (λ x. nat_lt LOC_MAX s.size || x) (lt_capped LOC_MAX (n + path_size e.0) top (omega arith))) es empty_survey in
+    let f : nat_lt TEXT_MAX s.text ≡ any_above TEXT_MAX (λ e. bytes_of e.1) es = any_is n TEXT_MAX (λ s. s.text) (λ e. bytes_of e.1) (λ e s. lt_max TEXT_MAX s.text (bytes_of e.1)) es empty_survey in
     let g : nat_lt NODES_MAX s.places ≡ nat_lt NODES_MAX (length es) =
-    ap (nat_lt NODES_MAX) (sum_is n (λ s. s.places) (λ _. 1) (λ e s. refl) es none_seen (omega arith) ∙ from_none top (sum_by (λ _. 1) es) (length es) (sum_by-one es)) ∙ lt_capped NODES_MAX (length es) top (omega arith) in
-    let w : nat_lt WEIGHT_MAX s.weight ≡ nat_lt WEIGHT_MAX (sum_by weighs es) =
-    ap (nat_lt WEIGHT_MAX) (sum_is n (λ s. s.weight) weighs (λ e s. weighed top s.weight (last_bytes e.0) (bytes_of e.1)) es none_seen (omega arith) ∙ from_none top (sum_by weighs es) (sum_by weighs es) refl) ∙ lt_capped WEIGHT_MAX (sum_by weighs es) top (omega arith) in
-    ap passed (survey_is n d (omega (arith, h)))
+    ap (nat_lt NODES_MAX) (sum_is n (λ s. s.places) (λ _. 1) (λ e s. refl) es empty_survey (omega arith) ∙ from_none top (sum_by (λ _. 1) es) (length es) (sum_by-one es)) ∙ lt_capped NODES_MAX (length es) top (omega arith) in
+    let w : nat_lt WEIGHT_MAX s.weight ≡ nat_lt WEIGHT_MAX (sum_by place_weight es) =
+    ap (nat_lt WEIGHT_MAX) (sum_is n (λ s. s.weight) place_weight (λ e s. weighed top s.weight (last_bytes e.0) (bytes_of e.1)) es empty_survey (omega arith) ∙ from_none top (sum_by place_weight es) (sum_by place_weight es) refl) ∙ lt_capped WEIGHT_MAX (sum_by place_weight es) top (omega arith) in
+    ap survey_refusals (survey_is n d (omega (arith, h)))
     ∙ (λ i. (a i, LabelTooLong) ∷ (b i, TooDeep) ∷ (c i, PathTooLong) ∷ (f i, TextTooLong) ∷ (g i, TooMany) ∷ (w i, TooBig) ∷ [])
 
 -- and so is whether each place holds a value
-pub survey_whole : (name : List ℕ) (d : Data) → length name ≤ NAME_MAX → (survey_of (length name) d).whole ≡ list_all (λ e. is_some e.1) (places d)
-survey_whole name d h = ap (λ (s : Survey). s.whole) (survey_is (length name) d (omega (arith, h))) ∙ whole_is (length name) (places d) none_seen
+pub survey_whole : (name : List ℕ) (d : Data) → length name ≤ NAME_MAX → (survey_of (length name) d).whole ≡ list_all (λ e. is_some e.1) (value_places d)
+survey_whole name d h = ap (λ (s : Survey). s.whole) (survey_is (length name) d (omega (arith, h))) ∙ whole_is (length name) (value_places d) empty_survey

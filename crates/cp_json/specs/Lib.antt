@@ -1,4 +1,6 @@
 pub mod Places
 pub mod JsonTrees
-pub mod Surveys
 pub mod Walks
+pub mod Growing
+pub mod Surveys
+pub mod Ordered

@@ -1,4 +1,5 @@
 -- The places of a JSON value, and what each holds.
+use Rattle.cp_model.specs.declared.limits.TheConstants.{PLACE_WEIGHT}
 use Rattle.std.specs.Prelude.{ℕ, ◌+◌, pos, Bool, true, false, List, [], ◌∷◌, ◌++◌, decimal}
 use Rattle.std.specs.declared.option.Option.{Option}
 use Rattle.std.specs.declared.option.Option.TheVariants.{None, Some}
@@ -48,14 +49,14 @@ abbrev mutual
   member_places p (member k d ms) = (child p k, content_of d) ∷ (places_below (child p k) d ++ member_places p ms)
 
 -- the places of a value, from its root
-abbrev pub places : Data → List (Path × Option Content)
-places d = ([], content_of d) ∷ places_below [] d
+abbrev pub value_places : Data → List (Path × Option Content)
+value_places d = ([], content_of d) ∷ places_below [] d
 
 -- the bytes of a text, and 0 where none is held
 abbrev pub bytes_of : Option Content → ℕ
 bytes_of None = 0
 bytes_of (Some c) = text_bytes c
 
--- 16, the bytes of the last label and those of a text
-abbrev pub weighs : Path × Option Content → ℕ
-weighs e = 16 + last_bytes e.0 + bytes_of e.1
+-- the weight of a place alone, the bytes of its last label and those of a text
+abbrev pub place_weight : Path × Option Content → ℕ
+place_weight e = PLACE_WEIGHT + last_bytes e.0 + bytes_of e.1

@@ -5,7 +5,8 @@ ghost use Rattle.cp_model.specs.Tree.{text_bytes};
 ghost use Rattle.cp_model.specs.Place.{child};
 ghost use Rattle.cp_tree.specs.Rows.{single};
 ghost use Rattle.cp_json.specs.Places.{content_of};
-ghost use Rattle.cp_json.specs.Walks.{IsNear, AreNear, ItemsNear, MembersNear, or_node, with_leaf, grown, items_grown, members_grown, CanPut, CanGrow, ItemsGrow, MembersGrow, IsFit, grown_whole};
+ghost use Rattle.cp_json.specs.Growing.{or_node, with_leaf, CanPut, CanGrow, grown_tree};
+ghost use Rattle.cp_json.specs.Walks.{walk_below, walk_items, walk_members, NeedsBelow, NeedsItems, NeedsMembers};
 
 use crate::value::{content_of, index_label};
 use cp_path::{Label, Path};
@@ -15,8 +16,8 @@ use std::alloc::{AllocError, Global};
 
 /// The tree of a value within the limits. Costs a leaf added for each place, in the order in which they are read.
 pub(crate) fn tree_of<R: TreeRep>(alloc: Global, value: &Value) -> Result<R, AllocError>
-    requires { IsFit (view value.now) }
-    ensures { IfOk result (λ t. R.contents t ≡ grown_whole (view value.now)) }
+    requires { CanGrow (view value.now) }
+    ensures { IfOk result (λ t. R.contents t ≡ grown_tree (view value.now)) }
 {
     let content = content_of(alloc, value)?;
     let mut tree = R::single(alloc, &content)?;
@@ -33,8 +34,8 @@ fn add<R: TreeRep>(
     label: &Label,
     value: &Value,
 ) -> Result<(), AllocError>
-    requires room { CanPut (R.contents tree.old) at.now label.now (content_of (view value.now)) }
-    ensures { OnOk result (R.contents tree.new ≡ with_leaf (R.contents tree.old) (child at.now label.now) (content_of (view value.now))) }
+    requires { CanPut at.now label.now (content_of (view value.now)) (R.contents tree.old) }
+    ensures { OnOk result (R.contents tree.new ≡ with_leaf (child at.now label.now) (content_of (view value.now)) (R.contents tree.old)) }
 {
     let content = content_of(alloc, value)?;
     tree.insert_leaf(alloc, at, label, &content)
@@ -48,9 +49,8 @@ fn add_below<R: TreeRep>(
     at: &Path,
     value: &Value,
 ) -> Result<(), AllocError>
-    requires near { AreNear at.now (view value.now) }
-    requires room { CanGrow (R.contents tree.old) at.now (view value.now) }
-    ensures { OnOk result (R.contents tree.new ≡ grown (R.contents tree.old) at.now (view value.now)) }
+    requires { NeedsBelow child with_leaf CanPut at.now (view value.now) (R.contents tree.old) }
+    ensures { OnOk result (R.contents tree.new ≡ walk_below child with_leaf at.now (view value.now) (R.contents tree.old)) }
 {
     match value {
         Value::Array(items) => add_items(alloc, tree, at, items),
@@ -66,9 +66,8 @@ fn add_items<R: TreeRep>(
     at: &Path,
     items: &Vec<Value>,
 ) -> Result<(), AllocError>
-    requires near { ItemsNear at.now 0 (items_view items.now.items) }
-    requires room { ItemsGrow (R.contents tree.old) at.now 0 (items_view items.now.items) }
-    ensures { OnOk result (R.contents tree.new ≡ items_grown (R.contents tree.old) at.now 0 (items_view items.now.items)) }
+    requires { NeedsItems child with_leaf CanPut at.now 0 (items_view items.now.items) (R.contents tree.old) }
+    ensures { OnOk result (R.contents tree.new ≡ walk_items child with_leaf at.now 0 (items_view items.now.items) (R.contents tree.old)) }
 {
     let mut i = 0u64;
     for item in items {
@@ -89,9 +88,8 @@ fn add_members<R: TreeRep>(
     at: &Path,
     members: &Map<String, Value>,
 ) -> Result<(), AllocError>
-    requires near { MembersNear at.now (members_view members.now.entries) }
-    requires room { MembersGrow (R.contents tree.old) at.now (members_view members.now.entries) }
-    ensures { OnOk result (R.contents tree.new ≡ members_grown (R.contents tree.old) at.now (members_view members.now.entries)) }
+    requires { NeedsMembers child with_leaf CanPut at.now (members_view members.now.entries) (R.contents tree.old) }
+    ensures { OnOk result (R.contents tree.new ≡ walk_members child with_leaf at.now (members_view members.now.entries) (R.contents tree.old)) }
 {
     for (key, member) in members.iter() {
         let label = Label::copy_of(alloc, key.as_str())?;

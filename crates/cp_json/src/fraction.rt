@@ -1,9 +1,11 @@
 //! The first number that isn't whole.
 ghost use Rattle.std.specs.Prelude.{◌≡◌, ◌≤◌, [], ◌∷◌, ◌++◌, IfOk, OnOk, length, false, is_some};
 ghost use Rattle.serde_json.specs.View.{view, items_view, members_view};
-ghost use Rattle.cp_json.specs.Places.{content_of, places};
-ghost use Rattle.cp_json.specs.JsonTrees.{with_place, earlier, first_from};
-ghost use Rattle.cp_json.specs.Walks.{IsNear, AreNear, ItemsNear, MembersNear, below_first, items_first, members_first};
+ghost use Rattle.cp_json.specs.Places.{content_of, value_places};
+ghost use Rattle.cp_model.specs.Place.{child};
+ghost use Rattle.cp_json.specs.JsonTrees.{first_fraction};
+ghost use Rattle.cp_json.specs.Growing.{earlier_of, with_place, IsNear, AreNear};
+ghost use Rattle.cp_json.specs.Walks.{walk_below, walk_items, walk_members, NeedsBelow, NeedsItems, NeedsMembers};
 
 use crate::value::{index_label, is_whole};
 use cp_path::{Label, Path};
@@ -12,7 +14,7 @@ use std::alloc::{AllocError, Global};
 
 /// The earlier of two paths, kept as a path of its own.
 fn keep_earlier(first: &mut Option<Path>, at: &Path) -> Result<(), AllocError>
-    ensures { OnOk result (first.new ≡ Some (earlier first.old at.now)) }
+    ensures { OnOk result (first.new ≡ Some (earlier_of first.old at.now)) }
 {
     let is_earlier = match first {
         Some(found) => *at < *found,
@@ -25,7 +27,7 @@ fn keep_earlier(first: &mut Option<Path>, at: &Path) -> Result<(), AllocError>
 }
 
 fn look_at(first: &mut Option<Path>, at: &Path, value: &Value) -> Result<(), AllocError>
-    ensures { OnOk result (first.new ≡ with_place first.old at.now (content_of (view value.now))) }
+    ensures { OnOk result (first.new ≡ with_place at.now (content_of (view value.now)) first.old) }
 {
     if is_whole(value) {
         return Ok(());
@@ -37,8 +39,8 @@ fn look_at(first: &mut Option<Path>, at: &Path, value: &Value) -> Result<(), All
 /// Costs the places, and the bytes of their paths.
 #[tactic(auto, using(crate::proofs::Looking::first_is))]
 pub(crate) fn first_fraction(alloc: Global, value: &Value) -> Result<Option<Path>, AllocError>
-    requires near { AreNear [] (view value.now) }
-    ensures { IfOk result (λ o. o ≡ first_from None (places (view value.now))) }
+    requires near { AreNear (view value.now) }
+    ensures { IfOk result (λ o. o ≡ first_fraction (value_places (view value.now))) }
 {
     let mut first = None;
     let root = Path::root(alloc);
@@ -54,8 +56,8 @@ fn look_below(
     at: &Path,
     value: &Value,
 ) -> Result<(), AllocError>
-    requires near { AreNear at.now (view value.now) }
-    ensures { OnOk result (first.new ≡ below_first first.old at.now (view value.now)) }
+    requires near { NeedsBelow child with_place IsNear at.now (view value.now) first.old }
+    ensures { OnOk result (first.new ≡ walk_below child with_place at.now (view value.now) first.old) }
 {
     match value {
         Value::Array(items) => look_at_items(alloc, first, at, items),
@@ -71,8 +73,8 @@ fn look_at_items(
     at: &Path,
     items: &Vec<Value>,
 ) -> Result<(), AllocError>
-    requires near { ItemsNear at.now 0 (items_view items.now.items) }
-    ensures { OnOk result (first.new ≡ items_first first.old at.now 0 (items_view items.now.items)) }
+    requires near { NeedsItems child with_place IsNear at.now 0 (items_view items.now.items) first.old }
+    ensures { OnOk result (first.new ≡ walk_items child with_place at.now 0 (items_view items.now.items) first.old) }
 {
     let mut i = 0u64;
     for item in items {
@@ -93,8 +95,8 @@ fn look_at_members(
     at: &Path,
     members: &Map<String, Value>,
 ) -> Result<(), AllocError>
-    requires near { MembersNear at.now (members_view members.now.entries) }
-    ensures { OnOk result (first.new ≡ members_first first.old at.now (members_view members.now.entries)) }
+    requires near { NeedsMembers child with_place IsNear at.now (members_view members.now.entries) first.old }
+    ensures { OnOk result (first.new ≡ walk_members child with_place at.now (members_view members.now.entries) first.old) }
 {
     for (key, member) in members.iter() {
         let label = Label::copy_of(alloc, key.as_str())?;

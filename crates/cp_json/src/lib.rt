@@ -13,6 +13,3 @@ mod value;
 
 pub use fault::JsonFault;
 pub use read::tree_of_json;
-
-#[cfg(test)]
-mod tests;

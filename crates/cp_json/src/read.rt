@@ -1,14 +1,17 @@
-ghost use Rattle.std.specs.Prelude.{◌≡◌, ◌⊎◌, [], true, false, is_some, IfOk, IfErr};
-ghost use Rattle.std.specs.declared.option.Option.TheVariants.{None, Some};
+ghost use Rattle.std.specs.Prelude.{◌≡◌, true, false, is_some, IfOk};
+ghost use Rattle.std.specs.Result.{result_map_both};
 ghost use Rattle.std.specs.List.{list_all};
 ghost use Rattle.serde_json.specs.View.{view};
+ghost use Rattle.cp_path.specs.Answers.{Answers};
+ghost use Rattle.cp_model.specs.Cases.{first_case};
 ghost use Rattle.cp_path.specs.Place.{over_limit};
 ghost use Rattle.cp_model.specs.Place.{Path};
 ghost use Rattle.cp_model.specs.Subtrees.{is_there};
-ghost use Rattle.cp_json.specs.Places.{places};
-ghost use Rattle.cp_json.specs.JsonTrees.{without_mark, value_of, first_that, first_from, refusals, tree_of_places, json_tree, Reads};
-ghost use Rattle.cp_json.specs.Surveys.{passed};
-ghost use Rattle.cp_json.specs.Walks.{AreNear, IsOrdered};
+ghost use Rattle.cp_json.specs.Places.{value_places};
+ghost use Rattle.cp_json.specs.JsonTrees.{without_mark, value_reading, first_fraction, tree_of_places, json_tree};
+ghost use Rattle.cp_json.specs.Surveys.{survey_refusals};
+ghost use Rattle.cp_json.specs.Growing.{AreNear};
+ghost use Rattle.cp_json.specs.Ordered.{IsOrdered};
 
 use crate::build::tree_of;
 use crate::fault::JsonFault;
@@ -34,8 +37,7 @@ fn without_mark(bytes: &[u8]) -> &[u8]
 /// The value that the bytes are.
 #[tactic(auto, using(crate::proofs::Parsing::value_read, crate::proofs::Parsing::value_refused))]
 fn parsed(alloc: Global, text: &[u8]) -> Result<Value, JsonFault>
-    ensures value { IfOk result (λ v. value_of text.now ≡ Some (view v)) }
-    ensures none { IfErr result (λ e. (e ≡ JsonFault.Memory) ⊎ ((e ≡ JsonFault.NotJson) × (value_of text.now ≡ None))) }
+    ensures answers { Answers JsonFault.Memory (value_reading text.now) (result_map_both view (λ e. e) result) }
 {
     match Value::from_slice(alloc, text) {
         Ok(value) => Ok(value),
@@ -50,7 +52,7 @@ fn parsed(alloc: Global, text: &[u8]) -> Result<Value, JsonFault>
 
 /// The first limit that is passed, if one is.
 fn refusal(survey: Survey) -> Option<JsonFault>
-    ensures { result ≡ first_that (passed survey) }
+    ensures { result ≡ first_case (survey_refusals survey) }
 {
     if survey.last > LABEL_MAX as u64 {
         return Some(JsonFault::LabelTooLong);
@@ -76,9 +78,9 @@ fn refusal(survey: Survey) -> Option<JsonFault>
 /// The first number that isn't whole, which is looked for where there is one.
 #[tactic(auto, using(crate::proofs::Looking::none_found))]
 fn fraction(alloc: Global, survey: Survey, value: &Value) -> Result<Option<Path>, AllocError>
-    requires near { AreNear [] (view value.now) }
-    requires whole { survey.whole ≡ list_all (λ e. is_some e.1) (places (view value.now)) }
-    ensures { IfOk result (λ o. o ≡ first_from None (places (view value.now))) }
+    requires near { AreNear (view value.now) }
+    requires whole { survey.whole ≡ list_all (λ e. is_some e.1) (value_places (view value.now)) }
+    ensures { IfOk result (λ o. o ≡ first_fraction (value_places (view value.now))) }
 {
     if survey.whole {
         return Ok(None);
@@ -89,7 +91,7 @@ fn fraction(alloc: Global, survey: Survey, value: &Value) -> Result<Option<Path>
 /// The tree of a value whose objects have each name once.
 fn tree_of_value<R: TreeRep>(alloc: Global, name: &Name, value: &Value) -> Result<R, JsonFault>
     requires ordered { IsOrdered (view value.now) }
-    ensures read { Reads R.contents result (tree_of_places name.now (places (view value.now))) }
+    ensures answers { Answers JsonFault.Memory (tree_of_places name.now (value_places (view value.now))) (result_map_both R.contents (λ e. e) result) }
     ensures places { IfOk result (λ t. (p : Path) → is_there (R.contents t) p ≡ true → over_limit (record { db = name.now; path = p }) ≡ false) }
 {
     let survey = Survey::of(alloc, name.as_str(), value)?;
@@ -109,7 +111,7 @@ fn tree_of_value<R: TreeRep>(alloc: Global, name: &Name, value: &Value) -> Resul
 /// Where several refusals apply, the first in the order of `JsonFault` is given. Costs the bytes, and adding each place.
 #[tactic(auto, using(crate::proofs::Fitting::json_is, crate::proofs::Fitting::json_none, crate::proofs::Ordered::read_ordered))]
 pub fn tree_of_json<R: TreeRep>(alloc: Global, name: &Name, bytes: &[u8]) -> Result<R, JsonFault>
-    ensures read { Reads R.contents result (json_tree name.now bytes.now) }
+    ensures answers { Answers JsonFault.Memory (json_tree name.now bytes.now) (result_map_both R.contents (λ e. e) result) }
     ensures places { IfOk result (λ t. (p : Path) → is_there (R.contents t) p ≡ true → over_limit (record { db = name.now; path = p }) ≡ false) }
 {
     let value = parsed(alloc, without_mark(bytes))?;

@@ -2,7 +2,8 @@
 ghost use Rattle.std.specs.Prelude.{◌≡◌, ◌<◌, ◌^◌, IfOk, OnOk, length};
 ghost use Rattle.serde_json.specs.View.{view, items_view, members_view};
 ghost use Rattle.cp_json.specs.Places.{content_of};
-ghost use Rattle.cp_json.specs.Surveys.{root_spot, child_spot, none_seen, survey_of, noted, below_noted, items_noted, members_noted};
+ghost use Rattle.cp_json.specs.Surveys.{spot_below, survey_of, survey_place};
+ghost use Rattle.cp_json.specs.Walks.{walk_below, walk_items, walk_members};
 
 use crate::value::{index_label, is_whole, text_bytes};
 use cp_model::PLACE_WEIGHT;
@@ -31,7 +32,7 @@ pub(crate) struct Survey {
 
 impl Spot {
     fn child(self, label: &str) -> Spot
-        ensures { result ≡ child_spot self (length label.now) }
+        ensures { result ≡ spot_below self label.now }
     {
         let last = label.len() as u64;
         Spot {
@@ -67,7 +68,7 @@ impl Survey {
     }
 
     fn note(&mut self, at: Spot, value: &Value)
-        ensures { self.new ≡ noted at (content_of (view value.now)) self.old }
+        ensures { self.new ≡ survey_place at (content_of (view value.now)) self.old }
     {
         let bytes = text_bytes(value);
         let is_whole = is_whole(value);
@@ -88,7 +89,7 @@ impl Survey {
 /// Notes the places below that of the value.
 #[cycle(note)]
 fn note_below(alloc: Global, seen: &mut Survey, at: Spot, value: &Value) -> Result<(), AllocError>
-    ensures { OnOk result (seen.new ≡ below_noted at (view value.now) seen.old) }
+    ensures { OnOk result (seen.new ≡ walk_below spot_below survey_place at (view value.now) seen.old) }
 {
     match value {
         Value::Array(items) => note_items(alloc, seen, at, items),
@@ -104,7 +105,7 @@ fn note_items(
     at: Spot,
     items: &Vec<Value>,
 ) -> Result<(), AllocError>
-    ensures { OnOk result (seen.new ≡ items_noted at 0 (items_view items.now.items) seen.old) }
+    ensures { OnOk result (seen.new ≡ walk_items spot_below survey_place at 0 (items_view items.now.items) seen.old) }
 {
     let mut i = 0u64;
     for item in items {
@@ -124,7 +125,7 @@ fn note_members(
     at: Spot,
     members: &Map<String, Value>,
 ) -> Result<(), AllocError>
-    ensures { OnOk result (seen.new ≡ members_noted at (members_view members.now.entries) seen.old) }
+    ensures { OnOk result (seen.new ≡ walk_members spot_below survey_place at (members_view members.now.entries) seen.old) }
 {
     for (key, member) in members.iter() {
         let below = at.child(key.as_str());

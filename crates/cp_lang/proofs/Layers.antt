@@ -30,7 +30,8 @@ use Rattle.cp_model.specs.Literals.{rows_under}
 use Rattle.cp_model.specs.Trees.{Group, into_groups, groups}
 use Rattle.cp_model.specs.declared.row.Content.{Content}
 use Rattle.cp_model.specs.declared.row.Content.TheVariants.{Node, Leaf}
-use Rattle.cp_lang.specs.Printer.{IsNumber, AreShort}
+use Rattle.cp_model.specs.Tree.{IsNumber}
+use Rattle.cp_lang.specs.Printer.{AreShort}
 use Rattle.cp_lang.specs.Printed.{Rows}
 
 -- ---- the levels

@@ -30,7 +30,8 @@ use Rattle.cp_model.specs.declared.row.Content.TheVariants.{Node, Leaf}
 use Rattle.cp_model.specs.declared.literal.Literal.{Literal}
 use Rattle.cp_model.specs.declared.literal.Literal.TheVariants as literal
 use Rattle.cp_lang.specs.Grammar.{Edges, rows_of_edges, node, has_edge}
-use Rattle.cp_lang.specs.Printer.{IsNumber, AreShort, IsShortTree}
+use Rattle.cp_model.specs.Tree.{IsNumber}
+use Rattle.cp_lang.specs.Printer.{AreShort, IsShortTree}
 use Rattle.cp_lang.specs.Printed.{Rows}
 use Rattle.cp_lang.proofs.Layers.{NoRoot, less-apart, look-same, look-other}
 

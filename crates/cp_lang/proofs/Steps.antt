@@ -1,5 +1,5 @@
 -- What a parser's steps come to.
-use Rattle.std.proofs.Common.{◌≡◌, ◌⊎◌, inl, inr, ℕ, ◌+◌, List, [], ◌∷◌, Bool, true, false, if◌then◌else◌, codes, length, refl, ap, sym, ◌∙◌, arith, MatchOption, IfSome, Result, Ok, Err, ◌++◌, ◌||◌, ◌==◌, cond, append_assoc, append-nil}
+use Rattle.std.proofs.Common.{◌≡◌, ◌⊎◌, inl, inr, ℕ, ◌+◌, List, [], ◌∷◌, Bool, true, false, if◌then◌else◌, codes, length, refl, ap, sym, ◌∙◌, arith, MatchOption, IfSome, IsErrAnd, Result, Ok, Err, subst, ◌++◌, ◌||◌, ◌==◌, cond, append_assoc, append-nil}
 use Rattle.std.specs.Option.{IfNone, is_some}
 use Rattle.std.specs.Str.{bytes_eq, IsUtf8}
 use Rattle.std.specs.Str.Lossy.{utf8_valid_len}
@@ -28,7 +28,7 @@ use Rattle.cp_lang.proofs.LexerLaws.{tokens_space, tokens_first}
 use Rattle.cp_lang.specs.Spaces.{is_space}
 use Rattle.cp_lang.specs.Tokenized.{token_of, shape_of}
 use Rattle.cp_lang.specs.Grammar.{Spot, Taken, takes, goes, cant, refused_or, by_reading, reading_of, bytes_reading, statement_reading, end_of, reads, Edges, Level, node, placed, close_node, at_open, at_close, at_colon, at_word, at_label, at_place, at_name, at_file, at_form, at_start, at_tree, at_first, at_edge_end, json_load, csv_load, query_of, Question, start, ins_open, ins_label, tree_colon, tree, first_edge, next_edge, edge_end, ins_close, ins_into, ins_place, del_label, del_from, del_place, copy_origin, copy_into, copy_place, load_name, load_form, json_file, csv_file, csv_by, csv_column, asked_place, show_place, ended, new_edge, has_edge, rows_of_edges}
-use Rattle.cp_lang.specs.Parser.{reading, edge_reading, Wants, Stops, Fails, misread, within, after_edge}
+use Rattle.cp_lang.specs.Parser.{reading, edge_reading, Wants, Stops, Fails, IsRead, Steps, Reads, ReadsTree, misread, within, after_edge}
 use Rattle.cp_lang.specs.declared.lexer.Token.{Token}
 use Rattle.cp_lang.specs.declared.parser.Parser.{Parser}
 use Rattle.cp_lang.specs.declared.stmt.Stmt.{Stmt}
@@ -103,6 +103,31 @@ fails_by at f r next (inr q) = inr (λ k. ap (λ v. refused_or (by_reading v nex
 pub on : (p q : Parser) (s t : Spot) (e : StmtFault) → reading p s ≡ reading q t → Stops q t e → Stops p s e
 on p q s t e h (inl m) = inl m
 on p q s t e h (inr r) = inr (h ∙ r)
+
+-- ---- parts
+
+-- what a token is read as is the step of its position
+pub steps_by : {X : Type 0} (p q : Parser) (x : Shape) (at : ℕ) (step : Shape → (X → Taken) → Taken) (r : Result X StmtFault)
+    → ((s : Spot) → reading p s ≡ refused_or (takes s x) at (reading q)) → IsRead at (step x) r → Steps p q step r
+steps_by p q x at step (Ok b) h k = λ s next w. h s ∙ ap (λ (u : Taken). refused_or u at (reading q)) (w.taken x ∙ k (λ c. goes (next c)))
+steps_by p q x at step (Err e) h k = λ s next w. fails_stops p q s x at (step x (λ c. goes (next c))) e (h s) (w.taken x) (k (λ c. goes (next c)))
+
+-- steps that lead to the beginning of a part, and then the part
+pub joined : {X : Type 0} (p q r : Parser) (s t : Spot) (next : X → Spot) (result : Result X StmtFault)
+    → reading p s ≡ reading q t → Reads q r t next result → Reads p r s next result
+joined p q r s t next (Ok x) e h = e ∙ h
+joined p q r s t next (Err f) e h = on p q s t f e h
+
+-- the fault of a part is the fault of the whole
+pub stopped : {X : Type 0} (p q : Parser) (s : Spot) (next : X → Spot) (result : Result X StmtFault) (e : StmtFault)
+    → IsErrAnd result (λ f. f ≡ e) → Stops p s e → Reads p q s next result
+stopped p q s next (Ok x) e k h = absurd k
+stopped p q s next (Err f) e k h = subst (λ v. Stops p s v) (sym k) h
+
+-- the same behind steps that lead to the part
+pub stopped_on : {X : Type 0} (p q r : Parser) (s t : Spot) (next : X → Spot) (result : Result X StmtFault) (e : StmtFault)
+    → IsErrAnd result (λ f. f ≡ e) → reading p s ≡ reading q t → Stops q t e → Reads p r s next result
+stopped_on p q r s t next result e k h m = stopped p r s next result e k (on p q s t e h m)
 
 -- a token that leads on
 pub leads : (p q : Parser) (s next : Spot) (x : Shape) (at : ℕ) (t : Taken)
@@ -265,6 +290,12 @@ pub tree_opens : (p q : Parser) (x : Shape) (at : ℕ) (b : Bool) (a : Label) (l
 tree_opens p q x at b a ls h w e =
     h ∙ ap (λ (u : Taken). refused_or u at (reading q))
     (takes_tree a ls x ∙ w ∙ ap (λ v. if v then goes (first_edge (within a [] ls)) else reading_of value_reading x (λ v. goes (placed a (literal.Leaf v) ls))) e)
+
+-- steps that lead to the beginning of a tree, and then the tree
+pub tree_joined : (p q r : Parser) (depth : ℕ) (f g : Label → List Level → Spot) (result : Result Literal StmtFault)
+    → ((a : Label) (ls : List Level) → length ls + 1 ≡ depth → reading p (f a ls) ≡ reading q (g a ls)) → ReadsTree q r depth g result → ReadsTree p r depth f result
+tree_joined p q r depth f g (Ok t) e h = λ a ls k. e a ls k ∙ h a ls k
+tree_joined p q r depth f g (Err m) e h = λ a ls k. on p q (f a ls) (g a ls) m (e a ls k) (h a ls k)
 
 -- a value
 pub tree_value : (p q : Parser) (x : Shape) (at : ℕ) (b : Bool) (a : Label) (ls : List Level)

@@ -12,6 +12,7 @@ use Rattle.cp_path.specs.declared.loc.Loc.{Loc}
 use Rattle.cp_path.specs.declared.value.Value.TheVariants as value
 use Rattle.cp_model.specs.Trees.{tree_at, levels}
 use Rattle.cp_model.specs.Literals.{literal_rows}
+use Rattle.cp_model.specs.Tree.{IsNumber}
 use Rattle.cp_model.specs.History.{IsLiteral}
 use Rattle.cp_model.specs.declared.row.Content.{Content}
 use Rattle.cp_model.specs.declared.row.Content.TheVariants.{Node, Leaf}
@@ -75,15 +76,6 @@ pub record IsPlace (q : Loc) : Type 0 where
 -- a label within its limit
 abbrev pub IsLabel : Label → Type 0
 IsLabel a = length a ≤ LABEL_MAX
-
--- a whole number within its range
-abbrev pub IsNumber : Content → Type 0
-IsNumber Node = ⊤
-IsNumber (Leaf value.Null) = ⊤
-IsNumber (Leaf value.False) = ⊤
-IsNumber (Leaf value.True) = ⊤
-IsNumber (Leaf (value.Whole n)) = IsWhole n
-IsNumber (Leaf (value.Text t)) = ⊤
 
 -- rows whose labels and numbers are within their limits, and whose ways have at most so many labels
 abbrev pub AreShort : ℕ → List (Path × Content) → Type 0

@@ -4,19 +4,16 @@ ghost use Rattle.cp_path.specs.Words.{value_reading};
 ghost use Rattle.cp_path.specs.declared.value.Value.{Value};
 ghost use Rattle.cp_model.specs.declared.literal.Literal.TheVariants as literal;
 ghost use Rattle.cp_lang.specs.Grammar.{at_tree, Taken, goes, refused_or, Edges, Level, at_label, at_first, at_edge_end, has_edge, new_edge, close_node, reading_of, rows_of_edges, node, tree, first_edge, edge_end, next_edge, tree_colon, placed};
-ghost use Rattle.cp_lang.specs.Parser.{reading, edge_reading, within, after_edge, Stops, Fails};
+ghost use Rattle.cp_lang.specs.Parser.{IsRead, IsEdgeLabel, ReadsTree, ReadsEdges, ReadsMore, within, after_edge};
 ghost use Rattle.cp_lang.specs.Tokenized.{shape_of};
 
 use crate::lexer::{Shape, Token};
 use crate::parser::{Parser, label_of, misread};
 use crate::stmt::StmtFault;
 use cp_model::{LitEdge, LitList, Literal};
-use cp_path::{Label, Value};
+use cp_path::{LABELS_MAX, Label, Value};
 use std::alloc::{AllocError, Global};
 use std::collections::BTreeMap;
-
-/// The most labels on a way from an insertion's place to a leaf.
-const LABELS_MAX: usize = 64;
 
 /// The edges in the order of their labels.
 fn list_of(alloc: Global, edges: BTreeMap<Label, Literal>) -> Result<LitList, AllocError>
@@ -31,8 +28,7 @@ fn list_of(alloc: Global, edges: BTreeMap<Label, Literal>) -> Result<LitList, Al
 
 /// The value that a token is read as.
 fn value_of<'a>(alloc: Global, token: Token<'a>) -> Result<Value, StmtFault>
-    ensures reads { IfOk result (λ v. (next : Value → Taken) → reading_of value_reading (shape_of token.entry.shape) next ≡ next v) }
-    ensures stops { IfErr result (λ e. (next : Value → Taken) → Fails token.entry.at (reading_of value_reading (shape_of token.entry.shape) next) e) }
+    ensures reads { IsRead token.entry.at (reading_of value_reading (shape_of token.entry.shape)) result }
 {
     match token.shape {
         Shape::Word(word) | Shape::Quoted(word) => match Value::read(alloc, word) {
@@ -58,10 +54,7 @@ fn edge_label<'a>(
     depth: usize,
     edges: &BTreeMap<Label, Literal>,
 ) -> Result<Label, StmtFault>
-    ensures reads { IfOk result (λ a. (b : Label) (ls : List Level) → length ls + 1 ≡ depth
-        → at_label (shape_of token.entry.shape) (new_edge (within b edges.now.entries ls)) ≡ goes (tree_colon a (within b edges.now.entries ls))) }
-    ensures stops { IfErr result (λ e. (b : Label) (ls : List Level) → length ls + 1 ≡ depth
-        → Fails token.entry.at (at_label (shape_of token.entry.shape) (new_edge (within b edges.now.entries ls))) e) }
+    ensures reads { IsEdgeLabel token.entry depth edges.now.entries result }
     ensures room { OnOk result (depth < LABELS_MAX) }
 {
     let label = label_of(alloc, token)?;
@@ -110,8 +103,7 @@ impl<'a> Parser<'a> {
     #[cycle(tree)]
     pub(crate) fn tree(&mut self, depth: usize) -> Result<Literal, StmtFault>
         requires { depth ≤ LABELS_MAX }
-        ensures reads { IfOk result (λ t. (a : Label) (ls : List Level) → length ls + 1 ≡ depth → reading self.old (tree a ls) ≡ reading self.new (placed a t ls)) }
-        ensures stops { IfErr result (λ e. (a : Label) (ls : List Level) → length ls + 1 ≡ depth → Stops self.old (tree a ls) e) }
+        ensures reads { ReadsTree self.old self.new depth tree result }
         ensures fewer { OnOk result (length self.new.lexer ≤ length self.old.lexer) }
     {
         let token = self.token()?;
@@ -125,8 +117,7 @@ impl<'a> Parser<'a> {
     #[cycle(tree)]
     fn node(&mut self, depth: usize) -> Result<Literal, StmtFault>
         requires { depth ≤ LABELS_MAX }
-        ensures reads { IfOk result (λ t. (a : Label) (ls : List Level) → length ls + 1 ≡ depth → reading self.old (first_edge (within a [] ls)) ≡ reading self.new (placed a t ls)) }
-        ensures stops { IfErr result (λ e. (a : Label) (ls : List Level) → length ls + 1 ≡ depth → Stops self.old (first_edge (within a [] ls)) e) }
+        ensures reads { ReadsTree self.old self.new depth (λ a ls. first_edge (within a [] ls)) result }
         ensures fewer { OnOk result (length self.new.lexer ≤ length self.old.lexer) }
     {
         let token = self.token()?;
@@ -149,8 +140,7 @@ impl<'a> Parser<'a> {
         edges: &mut BTreeMap<Label, Literal>,
     ) -> Result<(), StmtFault>
         requires { depth ≤ LABELS_MAX }
-        ensures reads { OnOk result ((a : Label) (ls : List Level) → length ls + 1 ≡ depth → edge_reading self.old first.entry a edges.old.entries ls ≡ reading self.new (placed a (node edges.new.entries) ls)) }
-        ensures stops { IfErr result (λ e. (a : Label) (ls : List Level) → length ls + 1 ≡ depth → (e ≡ StmtFault.Memory) ⊎ (edge_reading self.old first.entry a edges.old.entries ls ≡ Err e)) }
+        ensures reads { ReadsEdges self.old self.new first.entry depth edges.old.entries (λ a ls. placed a (node edges.new.entries) ls) result }
         ensures fewer { OnOk result (length self.new.lexer ≤ length self.old.lexer) }
     {
         self.edge(first, depth, edges)?;
@@ -170,8 +160,7 @@ impl<'a> Parser<'a> {
         edges: &mut BTreeMap<Label, Literal>,
     ) -> Result<(), StmtFault>
         requires { depth ≤ LABELS_MAX }
-        ensures reads { OnOk result ((a : Label) (ls : List Level) → length ls + 1 ≡ depth → edge_reading self.old token.entry a edges.old.entries ls ≡ reading self.new (edge_end (within a edges.new.entries ls))) }
-        ensures stops { IfErr result (λ e. (a : Label) (ls : List Level) → length ls + 1 ≡ depth → (e ≡ StmtFault.Memory) ⊎ (edge_reading self.old token.entry a edges.old.entries ls ≡ Err e)) }
+        ensures reads { ReadsEdges self.old self.new token.entry depth edges.old.entries (λ a ls. edge_end (within a edges.new.entries ls)) result }
         ensures fewer { OnOk result (length self.new.lexer ≤ length self.old.lexer) }
     {
         let label = edge_label(self.alloc, token, depth, edges)?;
@@ -183,9 +172,7 @@ impl<'a> Parser<'a> {
 
     /// Whether a comma stands behind an edge, or the closing brace.
     fn has_more(&mut self) -> Result<bool, StmtFault>
-        ensures reads { IfOk result (λ more. (a : Label) (es : Edges) (ls : List Level)
-            → reading self.old (edge_end (within a es ls)) ≡ reading self.new (if more then next_edge (within a es ls) else placed a (node es) ls)) }
-        ensures stops { IfErr result (λ e. (ls : List Level) → reading self.old (edge_end ls) ≡ Err e) }
+        ensures reads { ReadsMore self.old self.new result }
         ensures fewer { OnOk result (length self.new.lexer < length self.old.lexer) }
     {
         let token = self.token()?;

@@ -4,7 +4,7 @@ ghost use Rattle.cp_path.specs.Words.{place_reading};
 ghost use Rattle.cp_path.specs.declared.loc.Loc.{Loc};
 ghost use Rattle.cp_lang.specs.Grammar.{Spot, Taken, goes, cant, takes, refused_or, reads, end_of, by_reading, at_open, at_close, at_colon, at_word, at_label, at_place, at_name, at_file, at_number, ended};
 ghost use Rattle.cp_lang.specs.Lexer.{tokens_of};
-ghost use Rattle.cp_lang.specs.Parser.{reading, Wants, Stops, Refuses, Fails, misread};
+ghost use Rattle.cp_lang.specs.Parser.{reading, IsRead, IsReadOrRefused, GivesToken, Passes, Steps, Finishes, misread};
 ghost use Rattle.cp_lang.specs.Tokenized.{shape_of};
 ghost use Rattle.cp_lang.specs.declared.stmt.Stmt.{Stmt};
 ghost use Rattle.cp_lang.specs.declared.stmt.StmtFault.TheVariants as fault;
@@ -35,8 +35,7 @@ pub(crate) fn misread(at: usize, fault: PathFault) -> StmtFault
 
 /// The label that a token is read as.
 pub(crate) fn label_of<'a>(alloc: Global, token: Token<'a>) -> Result<Label, StmtFault>
-    ensures reads { IfOk result (λ a. (next : Label → Taken) → at_label (shape_of token.entry.shape) next ≡ next a) }
-    ensures stops { IfErr result (λ e. (next : Label → Taken) → Fails token.entry.at (at_label (shape_of token.entry.shape) next) e) }
+    ensures reads { IsRead token.entry.at (at_label (shape_of token.entry.shape)) result }
 {
     match token.shape {
         Shape::Word(word) | Shape::Quoted(word) => match Label::read(alloc, word) {
@@ -50,8 +49,7 @@ pub(crate) fn label_of<'a>(alloc: Global, token: Token<'a>) -> Result<Label, Stm
 /// The place that a word at this offset is read as.
 #[tactic(auto, using(crate::proofs::Steps::fails_by))]
 fn read_place(alloc: Global, at: usize, word: &str) -> Result<Loc, StmtFault>
-    ensures reads { IfOk result (λ q. place_reading word.now ≡ Ok q) }
-    ensures stops { IfErr result (λ e. (next : Loc → Taken) → Fails at (by_reading (place_reading word.now) next) e) }
+    ensures reads { IsRead at (by_reading (place_reading word.now)) result }
 {
     match Loc::read(alloc, word) {
         Ok(place) => Ok(place),
@@ -61,8 +59,7 @@ fn read_place(alloc: Global, at: usize, word: &str) -> Result<Loc, StmtFault>
 
 /// The place that a token is read as.
 pub(crate) fn place_of<'a>(alloc: Global, token: Token<'a>) -> Result<Loc, StmtFault>
-    ensures reads { IfOk result (λ q. (next : Loc → Taken) → at_place (shape_of token.entry.shape) next ≡ next q) }
-    ensures stops { IfErr result (λ e. (next : Loc → Taken) → Fails token.entry.at (at_place (shape_of token.entry.shape) next) e) }
+    ensures reads { IsRead token.entry.at (at_place (shape_of token.entry.shape)) result }
 {
     match token.shape {
         Shape::Word(word) => read_place(alloc, token.at, word),
@@ -73,8 +70,7 @@ pub(crate) fn place_of<'a>(alloc: Global, token: Token<'a>) -> Result<Loc, StmtF
 
 /// The name of a source that a token is.
 fn name_of<'a>(alloc: Global, token: Token<'a>) -> Result<Name, StmtFault>
-    ensures reads { IfOk result (λ n. (next : List ℕ → Taken) → at_name (shape_of token.entry.shape) next ≡ next n) }
-    ensures stops { IfErr result (λ e. (next : List ℕ → Taken) → Fails token.entry.at (at_name (shape_of token.entry.shape) next) e) }
+    ensures reads { IsRead token.entry.at (at_name (shape_of token.entry.shape)) result }
 {
     let Shape::Word(word) = token.shape else {
         return Err(StmtFault::Syntax(token.at));
@@ -93,8 +89,7 @@ fn name_of<'a>(alloc: Global, token: Token<'a>) -> Result<Name, StmtFault>
 
 /// The file name that a token is read as.
 fn file_of<'a>(alloc: Global, token: Token<'a>) -> Result<Text, StmtFault>
-    ensures reads { IfOk result (λ f. (next : List ℕ → Taken) → at_file (shape_of token.entry.shape) next ≡ next f) }
-    ensures stops { IfErr result (λ e. (next : List ℕ → Taken) → Fails token.entry.at (at_file (shape_of token.entry.shape) next) e) }
+    ensures reads { IsRead token.entry.at (at_file (shape_of token.entry.shape)) result }
 {
     let Shape::Quoted(word) = token.shape else {
         return Err(StmtFault::Syntax(token.at));
@@ -107,8 +102,7 @@ fn file_of<'a>(alloc: Global, token: Token<'a>) -> Result<Text, StmtFault>
 
 /// The number that a token is.
 pub(crate) fn number_of<'a>(token: Token<'a>) -> Result<u64, StmtFault>
-    ensures reads { IfOk result (λ n. (next : ℕ → Taken) → at_number (shape_of token.entry.shape) next ≡ next n) }
-    ensures stops { IfErr result (λ e. (next : ℕ → Taken) → Refuses token.entry.at (at_number (shape_of token.entry.shape) next) e) }
+    ensures reads { IsReadOrRefused token.entry.at (at_number (shape_of token.entry.shape)) result }
 {
     let Shape::Word(word) = token.shape else {
         return Err(StmtFault::Syntax(token.at));
@@ -184,8 +178,7 @@ impl<'a> Parser<'a> {
 
     /// The next token. A text that ends too early is refused at its end.
     pub(crate) fn token(&mut self) -> Result<Token<'a>, StmtFault>
-        ensures reads { IfOk result (λ t. (s : Spot) → reading self.old s ≡ refused_or (takes s (shape_of t.shape)) t.at (reading self.new)) }
-        ensures stops { IfErr result (λ e. (s : Spot) → ((n : ℕ) → end_of n s ≡ Err (fault.Syntax n)) → reading self.old s ≡ Err e) }
+        ensures reads { GivesToken self.old self.new result }
         ensures fewer { OnOk result (length self.new.lexer < length self.old.lexer) }
     {
         match self.next() {
@@ -196,8 +189,7 @@ impl<'a> Parser<'a> {
 
     /// The opening brace of an insertion.
     pub(crate) fn open(&mut self) -> Result<(), StmtFault>
-        ensures reads { OnOk result ((s next : Spot) → Wants s (λ x. at_open x next) → reading self.old s ≡ reading self.new next) }
-        ensures stops { IfErr result (λ e. (s next : Spot) → Wants s (λ x. at_open x next) → reading self.old s ≡ Err e) }
+        ensures reads { Passes self.old self.new at_open result }
     {
         let token = self.token()?;
         if is_open(token) {
@@ -209,8 +201,7 @@ impl<'a> Parser<'a> {
 
     /// The closing brace of an insertion.
     pub(crate) fn close(&mut self) -> Result<(), StmtFault>
-        ensures reads { OnOk result ((s next : Spot) → Wants s (λ x. at_close x next) → reading self.old s ≡ reading self.new next) }
-        ensures stops { IfErr result (λ e. (s next : Spot) → Wants s (λ x. at_close x next) → reading self.old s ≡ Err e) }
+        ensures reads { Passes self.old self.new at_close result }
     {
         let token = self.token()?;
         if is_close(token) {
@@ -222,8 +213,7 @@ impl<'a> Parser<'a> {
 
     /// The colon behind a label.
     pub(crate) fn colon(&mut self) -> Result<(), StmtFault>
-        ensures reads { OnOk result ((s next : Spot) → Wants s (λ x. at_colon x next) → reading self.old s ≡ reading self.new next) }
-        ensures stops { IfErr result (λ e. (s next : Spot) → Wants s (λ x. at_colon x next) → reading self.old s ≡ Err e) }
+        ensures reads { Passes self.old self.new at_colon result }
         ensures fewer { OnOk result (length self.new.lexer < length self.old.lexer) }
     {
         let token = self.token()?;
@@ -236,8 +226,7 @@ impl<'a> Parser<'a> {
 
     /// This key word.
     pub(crate) fn word(&mut self, text: &str) -> Result<(), StmtFault>
-        ensures reads { OnOk result ((s next : Spot) → Wants s (λ x. at_word text.now x next) → reading self.old s ≡ reading self.new next) }
-        ensures stops { IfErr result (λ e. (s next : Spot) → Wants s (λ x. at_word text.now x next) → reading self.old s ≡ Err e) }
+        ensures reads { Passes self.old self.new (at_word text.now) result }
     {
         let token = self.token()?;
         if is_word(token, text) {
@@ -248,16 +237,14 @@ impl<'a> Parser<'a> {
     }
 
     pub(crate) fn label(&mut self) -> Result<Label, StmtFault>
-        ensures reads { IfOk result (λ a. (s : Spot) (next : Label → Spot) → Wants s (λ x. at_label x (λ b. goes (next b))) → reading self.old s ≡ reading self.new (next a)) }
-        ensures stops { IfErr result (λ e. (s : Spot) (next : Label → Spot) → Wants s (λ x. at_label x (λ b. goes (next b))) → Stops self.old s e) }
+        ensures reads { Steps self.old self.new at_label result }
     {
         let token = self.token()?;
         label_of(self.alloc, token)
     }
 
     pub(crate) fn place(&mut self) -> Result<Loc, StmtFault>
-        ensures reads { IfOk result (λ q. (s : Spot) (next : Loc → Spot) → Wants s (λ x. at_place x (λ r. goes (next r))) → reading self.old s ≡ reading self.new (next q)) }
-        ensures stops { IfErr result (λ e. (s : Spot) (next : Loc → Spot) → Wants s (λ x. at_place x (λ r. goes (next r))) → Stops self.old s e) }
+        ensures reads { Steps self.old self.new at_place result }
     {
         let token = self.token()?;
         place_of(self.alloc, token)
@@ -265,8 +252,7 @@ impl<'a> Parser<'a> {
 
     /// The name of a source that is to be loaded.
     pub(crate) fn name(&mut self) -> Result<Name, StmtFault>
-        ensures reads { IfOk result (λ n. (s : Spot) (next : List ℕ → Spot) → Wants s (λ x. at_name x (λ m. goes (next m))) → reading self.old s ≡ reading self.new (next n)) }
-        ensures stops { IfErr result (λ e. (s : Spot) (next : List ℕ → Spot) → Wants s (λ x. at_name x (λ m. goes (next m))) → Stops self.old s e) }
+        ensures reads { Steps self.old self.new at_name result }
     {
         let token = self.token()?;
         name_of(self.alloc, token)
@@ -274,8 +260,7 @@ impl<'a> Parser<'a> {
 
     /// The name of a file.
     pub(crate) fn file(&mut self) -> Result<Text, StmtFault>
-        ensures reads { IfOk result (λ f. (s : Spot) (next : List ℕ → Spot) → Wants s (λ x. at_file x (λ g. goes (next g))) → reading self.old s ≡ reading self.new (next f)) }
-        ensures stops { IfErr result (λ e. (s : Spot) (next : List ℕ → Spot) → Wants s (λ x. at_file x (λ g. goes (next g))) → Stops self.old s e) }
+        ensures reads { Steps self.old self.new at_file result }
     {
         let token = self.token()?;
         file_of(self.alloc, token)
@@ -283,8 +268,7 @@ impl<'a> Parser<'a> {
 
     /// The end of the text, behind a whole statement.
     pub(crate) fn finish(&mut self) -> Result<(), StmtFault>
-        ensures reads { OnOk result ((x : Stmt) → reading self.old (ended x) ≡ Ok x) }
-        ensures stops { IfErr result (λ e. (x : Stmt) → reading self.old (ended x) ≡ Err e) }
+        ensures reads { Finishes self.old result }
     {
         match self.next() {
             None => Ok(()),

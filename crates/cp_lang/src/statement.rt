@@ -1,15 +1,17 @@
 ghost use Rattle.std.specs.Prelude.{◌≡◌, ◌⊎◌, length, IfOk, IfErr};
+ghost use Rattle.cp_path.specs.Answers.{Answers};
 ghost use Rattle.cp_lang.specs.Lexer as lexer;
-ghost use Rattle.cp_lang.specs.Grammar.{statement_reading, bytes_reading, csv_load, start, ended, ins_open, del_label, copy_origin, load_name, json_file, csv_file, show_place, records_tid};
+ghost use Rattle.cp_lang.specs.Grammar.{statement_reading, bytes_reading, csv_load, start, ended, ins_open, ins_close, del_label, copy_origin, load_name, json_file, csv_file, show_place, records_tid};
 ghost use Rattle.cp_lang.specs.Written.{IsWrittenStmt};
 ghost use Rattle.cp_lang.specs.Parser as parser;
-ghost use Rattle.cp_lang.specs.Parser.{reading, Stops};
+ghost use Rattle.cp_lang.specs.Parser.{Reads};
+ghost use Rattle.cp_lang.specs.Printer.{IsSpellable};
 
 use crate::lexer::spaces;
 use crate::parser::{Parser, is_word, number_of, place_of};
 use crate::stmt::{Load, Stmt, StmtFault};
 use crate::verb::{Verb, verb_of};
-use cp_model::{Form, Op, Query};
+use cp_model::{Form, Literal, Op, Query};
 use cp_path::{Label, Loc, Name, Text};
 use std::alloc::Global;
 
@@ -26,13 +28,19 @@ fn csv_load(name: Name, file: Text, key: Option<Label>) -> Stmt
 impl<'a> Parser<'a> {
     /// `ins { LABEL : TREE } into PLACE`, behind its first word.
     fn insertion(&mut self) -> Result<Stmt, StmtFault>
-        ensures reads { IfOk result (λ x. reading self.old ins_open ≡ reading self.new (ended x)) }
-        ensures stops { IfErr result (λ e. Stops self.old ins_open e) }
+        ensures reads { Reads self.old self.new ins_open ended result }
     {
         self.open()?;
         let label = self.label()?;
         self.colon()?;
         let tree = self.tree(1)?;
+        self.insertion_end(label, tree)
+    }
+
+    /// `} into PLACE`, behind the tree of an insertion.
+    fn insertion_end(&mut self, label: Label, tree: Literal) -> Result<Stmt, StmtFault>
+        ensures reads { Reads self.old self.new (ins_close label tree) ended result }
+    {
         self.close()?;
         self.word("into")?;
         let into = self.place()?;
@@ -41,8 +49,7 @@ impl<'a> Parser<'a> {
 
     /// `del LABEL from PLACE`, behind its first word.
     fn deletion(&mut self) -> Result<Stmt, StmtFault>
-        ensures reads { IfOk result (λ x. reading self.old del_label ≡ reading self.new (ended x)) }
-        ensures stops { IfErr result (λ e. Stops self.old del_label e) }
+        ensures reads { Reads self.old self.new del_label ended result }
     {
         let label = self.label()?;
         self.word("from")?;
@@ -52,8 +59,7 @@ impl<'a> Parser<'a> {
 
     /// `copy PLACE into PLACE`, behind its first word.
     fn copying(&mut self) -> Result<Stmt, StmtFault>
-        ensures reads { IfOk result (λ x. reading self.old copy_origin ≡ reading self.new (ended x)) }
-        ensures stops { IfErr result (λ e. Stops self.old copy_origin e) }
+        ensures reads { Reads self.old self.new copy_origin ended result }
     {
         let from = self.place()?;
         self.word("into")?;
@@ -63,8 +69,7 @@ impl<'a> Parser<'a> {
 
     /// `load NAME json FILE` or `load NAME csv FILE`, perhaps with `by LABEL`, behind its first word.
     fn loading(&mut self) -> Result<Stmt, StmtFault>
-        ensures reads { IfOk result (λ x. reading self.old load_name ≡ reading self.new (ended x)) }
-        ensures stops { IfErr result (λ e. Stops self.old load_name e) }
+        ensures reads { Reads self.old self.new load_name ended result }
     {
         let name = self.name()?;
         let token = self.token()?;
@@ -79,8 +84,7 @@ impl<'a> Parser<'a> {
 
     /// The file behind `json`.
     fn json(&mut self, name: Name) -> Result<Stmt, StmtFault>
-        ensures reads { IfOk result (λ x. reading self.old (json_file name) ≡ reading self.new (ended x)) }
-        ensures stops { IfErr result (λ e. Stops self.old (json_file name) e) }
+        ensures reads { Reads self.old self.new (json_file name) ended result }
     {
         let file = self.file()?;
         Ok(Stmt::Load(Load {
@@ -92,8 +96,7 @@ impl<'a> Parser<'a> {
 
     /// The file behind `csv`, and perhaps the key column.
     fn csv(&mut self, name: Name) -> Result<Stmt, StmtFault>
-        ensures reads { IfOk result (λ x. reading self.old (csv_file name) ≡ reading self.new (ended x)) }
-        ensures stops { IfErr result (λ e. Stops self.old (csv_file name) e) }
+        ensures reads { Reads self.old self.new (csv_file name) ended result }
     {
         let file = self.file()?;
         match self.next() {
@@ -110,8 +113,7 @@ impl<'a> Parser<'a> {
 
     /// `show` or `show PLACE`, behind its first word.
     fn showing(&mut self) -> Result<Stmt, StmtFault>
-        ensures reads { IfOk result (λ x. reading self.old show_place ≡ reading self.new (ended x)) }
-        ensures stops { IfErr result (λ e. Stops self.old show_place e) }
+        ensures reads { Reads self.old self.new show_place ended result }
     {
         match self.next() {
             None => Ok(Stmt::Show(Loc::target(self.alloc)?)),
@@ -121,8 +123,7 @@ impl<'a> Parser<'a> {
 
     /// `records` or `records NUMBER`, behind its first word.
     fn records(&mut self) -> Result<Stmt, StmtFault>
-        ensures reads { IfOk result (λ x. reading self.old records_tid ≡ reading self.new (ended x)) }
-        ensures stops { IfErr result (λ e. Stops self.old records_tid e) }
+        ensures reads { Reads self.old self.new records_tid ended result }
     {
         match self.next() {
             None => Ok(Stmt::Ask(Query::Records(None))),
@@ -132,8 +133,7 @@ impl<'a> Parser<'a> {
 
     /// What stands behind a statement's first word.
     fn behind(&mut self, verb: Verb) -> Result<Stmt, StmtFault>
-        ensures reads { IfOk result (λ x. reading self.old (parser.behind verb) ≡ reading self.new (ended x)) }
-        ensures stops { IfErr result (λ e. Stops self.old (parser.behind verb) e) }
+        ensures reads { Reads self.old self.new (parser.behind verb) ended result }
     {
         match verb {
             Verb::Ins => self.insertion(),
@@ -155,8 +155,7 @@ impl<'a> Parser<'a> {
 
     /// A whole statement.
     fn statement(&mut self) -> Result<Stmt, StmtFault>
-        ensures reads { IfOk result (λ x. reading self.old start ≡ reading self.new (ended x)) }
-        ensures stops { IfErr result (λ e. Stops self.old start e) }
+        ensures reads { Reads self.old self.new start ended result }
     {
         let token = self.token()?;
         match verb_of(token) {
@@ -166,10 +165,10 @@ impl<'a> Parser<'a> {
     }
 }
 
-/// The statement that a text is. Costs the text's bytes, and at the nodes of an inserted tree the sorting of their edges.
+/// The statement that a text is, within every limit, so that it can be printed. Costs the text's bytes, and at the nodes of an inserted tree the sorting of their edges.
 pub fn parse(alloc: Global, text: &str) -> Result<Stmt, StmtFault>
-    ensures reads { IfOk result (λ s. statement_reading text.now ≡ Ok s) }
-    ensures refuses { IfErr result (λ e. (e ≡ StmtFault.Memory) ⊎ (statement_reading text.now ≡ Err e)) }
+    ensures answers { Answers StmtFault.Memory (statement_reading text.now) result }
+    ensures spellable { IfOk result (λ s. IsSpellable s) }
     ensures written { IfOk result (λ s. IsWrittenStmt s) }
 {
     let mut parser = Parser::new(alloc, text);
@@ -180,8 +179,8 @@ pub fn parse(alloc: Global, text: &str) -> Result<Stmt, StmtFault>
 
 /// The statement that bytes are; the first that isn't UTF-8 can't stand.
 pub fn parse_bytes(alloc: Global, bytes: &[u8]) -> Result<Stmt, StmtFault>
-    ensures reads { IfOk result (λ s. bytes_reading bytes.now ≡ Ok s) }
-    ensures refuses { IfErr result (λ e. (e ≡ StmtFault.Memory) ⊎ (bytes_reading bytes.now ≡ Err e)) }
+    ensures answers { Answers StmtFault.Memory (bytes_reading bytes.now) result }
+    ensures spellable { IfOk result (λ s. IsSpellable s) }
     ensures written { IfOk result (λ s. IsWrittenStmt s) }
 {
     match std::str::from_utf8(bytes) {

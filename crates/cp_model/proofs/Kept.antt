@@ -1,5 +1,5 @@
 -- What isn't refused keeps a tree a tree.
-use Rattle.cp_path.specs.declared.limits.TheConstants.{TEXT_MAX}
+use Rattle.cp_path.specs.declared.limits.TheConstants.{LABEL_MAX, TEXT_MAX}
 use Rattle.std.specs.Prelude.{ℕ, ◌≤◌, ◌≡◌, Bool, true, false, cond, ◌||◌, List, [], ◌∷◌, ◌++◌, is_some, refl}
 use Rattle.std.proofs.Common.{sym, ap, subst, ◌∙◌, arith}
 use Rattle.std.specs.List.{list_any}
@@ -16,17 +16,17 @@ use Rattle.cp_model.specs.Keyed.{look}
 use Rattle.cp_model.specs.Closed.{Closed}
 use Rattle.cp_model.specs.Subtrees.{is_there, below, without, replaced}
 use Rattle.cp_model.specs.Literals.{literal_rows}
-use Rattle.cp_model.specs.Tree.{Tree, Source, source, database, taken, refusal, changed, reaches_over, text_bytes, IsWithin, IsRooted, IsTree}
+use Rattle.cp_model.specs.Tree.{Tree, Source, source, database, taken, refusal, changed, reaches_over, text_bytes, last_bytes, CanBeSpelled, IsWithin, IsRooted, IsTree}
 use Rattle.cp_model.specs.Step.{Working, contents, done, step}
 use Rattle.cp_model.specs.History.{IsWritten, AreWritten}
 use Rattle.cp_model.proofs.Strips.{strip_is}
 use Rattle.cp_model.specs.Laws.{placed, AreTrees}
 use Rattle.cp_model.proofs.Lookups.{get-without, get-replaced}
-use Rattle.cp_model.proofs.SumsLemmas.{len-without, weight-without}
+use Rattle.cp_model.proofs.SumsLemmas.{len-without, weight-without, last_bytes_child}
 use Rattle.cp_model.proofs.Accepted.{ins_accepted, copy_accepted}
 use Rattle.cp_model.proofs.Contents.{contents-applied, contents-opened, there-contents}
 use Rattle.cp_model.proofs.Folds.{step-keeps}
-use Rattle.cp_model.proofs.Rooted.{IsUnderNode, AreRows, under-there, under-child, rooted-replaced, rooted-without, rows-below, rows-literal}
+use Rattle.cp_model.proofs.Rooted.{IsUnderNode, AreRows, under-there, under-child, rooted-replaced, rooted-without, rows-below, rows-literal, last_bytes-parts}
 
 or_false : (a b : Bool) → (a || b) ≡ false → (a ≡ false) × (b ≡ false)
 or_false true b e = absurd (cc)
@@ -69,13 +69,34 @@ texts-replaced t p es h d r c e =
       | Some s ↦ λ e. d.texts s c e
     ] (sym (get-replaced p es t r) ∙ e)
 
+-- what can be spelled, put into a tree at a place with a short label, leaves what can be spelled
+pub spelled-replaced : (t : Tree) (p : Path) (es : List (Path × Content)) → ((r : Path) (c : Content) → keyed.get t r ≡ Some c → CanBeSpelled r c) →
+    AreRows es → last_bytes p ≤ LABEL_MAX → (r : Path) (c : Content) → keyed.get (replaced p es t) r ≡ Some c → CanBeSpelled r c
+spelled-replaced t p es h d l r c e =
+    elim (strip p r) as (λ o. strip p r ≡ o → placed o (λ s. look s es) (keyed.get t r) ≡ Some c → CanBeSpelled r c) [
+      | None ↦ λ _ e. h r c e
+      | Some s ↦ λ k e.
+          let x : CanBeSpelled s c = d.spelled s c e in
+          let y : CanBeSpelled (p ++ s) c = record { label = last_bytes-parts LABEL_MAX p s l x.label; number = x.number } in
+          subst (λ q. CanBeSpelled q c) (sym (strip_is p r s k)) y
+    ] refl (sym (get-replaced p es t r) ∙ e)
+
+-- the label of a place that is there is short
+pub label-there : (t : Tree) (p : Path) → IsTree t → is_there t p ≡ true → last_bytes p ≤ LABEL_MAX
+label-there t p h i =
+    elim (keyed.get t p) as (λ o. keyed.get t p ≡ o → is_some o ≡ true → last_bytes p ≤ LABEL_MAX) [
+      | None ↦ λ _ i. absurd (cc)
+      | Some c ↦ λ e _. (h.spelled p c e).label
+    ] refl i
+
 -- a whole tree within every limit put under a node leaves a tree
-pub tree-replaced : (t : Tree) (p : Loc) (es : List (Path × Content)) → IsTree t → AreRows es → IsUnderNode t p.path → in_target p ≡ true → reaches_over p es ≡ false → IsWithin (replaced p.path es t) → IsTree (replaced p.path es t)
-tree-replaced t p es h d up i n w = record {
+pub tree-replaced : (t : Tree) (p : Loc) (es : List (Path × Content)) → IsTree t → AreRows es → IsUnderNode t p.path → last_bytes p.path ≤ LABEL_MAX → in_target p ≡ true → reaches_over p es ≡ false → IsWithin (replaced p.path es t) → IsTree (replaced p.path es t)
+tree-replaced t p es h d up l i n w = record {
   rooted = rooted-replaced t p.path es h.rooted d up;
   within = w;
   places = places-replaced t p es h.places i n;
   texts = texts-replaced t p.path es h.texts d;
+  spelled = spelled-replaced t p.path es h.spelled d l;
 }
 
 -- what is left of a tree is as it was
@@ -93,6 +114,7 @@ tree-without t p a h = record {
   within = record { nodes = omega (arith, h.within.nodes, len-without (child p a) t); weighs = omega (arith, h.within.weighs, weight-without (child p a) t) };
   places = λ r i. was_there r (keyed.get (without (child p a) t) r) refl i;
   texts = λ r c e. h.texts r c (left-without t (child p a) r c e);
+  spelled = λ r c e. h.spelled r c (left-without t (child p a) r c e);
 }
   where
     was_there : (r : Path) (o : Option Content) → keyed.get (without (child p a) t) r ≡ o → is_some o ≡ true → over_limit (at_target r) ≡ false
@@ -112,12 +134,12 @@ pub tree-changed : (ss : List Source) (t : Tree) (op : Op) → IsTree t → AreT
 unfolding changed
 tree-changed ss t (Ins p a l) h k w n =
     let x = ins_accepted ss t p a l n in
-    tree-replaced t (below_place p (a ∷ [])) (literal_rows l) h (rows-literal (literal_rows l) w) (under-child t p.path a x.node) x.target x.places x.fits
+    tree-replaced t (below_place p (a ∷ [])) (literal_rows l) h (rows-literal (literal_rows l) w.1) (under-child t p.path a x.node) (omega (arith, last_bytes_child p.path a, w.0)) x.target x.places x.fits
 tree-changed ss t (Del a p) h k w n = tree-without t p.path a h
 tree-changed ss t (Copy q p) h k w n =
     let x = copy_accepted ss t q p n in
     let m : AreRows (below q.path x.tree) = rows-below x.tree q.path (tree-database ss t q x.tree h k x.is_tree) x.origin in
-    subst (λ o. IsTree (replaced p.path (taken o q.path) t)) (sym x.is_tree) (tree-replaced t p (below q.path x.tree) h m (under-there t p.path h.rooted x.there) x.target x.places x.fits)
+    subst (λ o. IsTree (replaced p.path (taken o q.path) t)) (sym x.is_tree) (tree-replaced t p (below q.path x.tree) h m (under-there t p.path h.rooted x.there) (label-there t p.path h x.there) x.target x.places x.fits)
 
 -- a step that is done ends with a tree
 pub tree-step : (t : Tree) (ss : List Source) (ops : List Op) (k : ℕ) (w : Working) → IsTree t → AreTrees ss → AreWritten ops → step t ss ops ≡ done k w → IsTree (contents w)

@@ -1,7 +1,7 @@
 -- Trees stay rooted: where a subtree is replaced or dropped.
 use Rattle.cp_path.specs.declared.limits.TheConstants.{TEXT_MAX}
-use Rattle.std.specs.Prelude.{◌≤◌, ◌≡◌, true, false, List, [], ◌∷◌, ◌++◌, is_some, refl}
-use Rattle.std.proofs.Common.{sym, ap, ◌∙◌, append_assoc}
+use Rattle.std.specs.Prelude.{ℕ, ◌≤◌, ◌≡◌, true, false, List, [], ◌∷◌, ◌++◌, is_some, refl}
+use Rattle.std.proofs.Common.{sym, ap, ◌∙◌, append_assoc, arith}
 use Rattle.std.specs.declared.option.Option.TheVariants.{None, Some}
 use Rattle.cp_model.specs.declared.row.Content.{Content}
 use Rattle.cp_model.specs.declared.row.Content.TheVariants.{Node}
@@ -9,7 +9,7 @@ use Rattle.cp_model.specs.Place.{Label, Path, child, strip}
 use Rattle.cp_model.specs.Keyed as keyed
 use Rattle.cp_model.specs.Keyed.{look}
 use Rattle.cp_model.specs.Subtrees.{is_there, below, without, replaced}
-use Rattle.cp_model.specs.Tree.{Tree, text_bytes, IsRooted, IsTree}
+use Rattle.cp_model.specs.Tree.{Tree, text_bytes, last_bytes, CanBeSpelled, IsRooted, IsTree}
 use Rattle.cp_model.specs.History.{IsLiteral}
 use Rattle.cp_model.proofs.Strips.{strip_is, strip-append, strip-snoc, append-nil, snoc-same, path_ind}
 use Rattle.cp_model.specs.Laws.{placed}
@@ -19,11 +19,30 @@ use Rattle.cp_model.proofs.Lookups.{find-below, get-without, get-replaced, find-
 abbrev pub IsUnderNode : Tree → Path → Type 0
 IsUnderNode t p = (r : Path) (a : Label) → r ++ a ∷ [] ≡ p → keyed.get t r ≡ Some Node
 
--- rows of a whole tree: the root is there, what is above a row is a node, and texts are within their limit
+-- rows of a whole tree: the root is there, what is above a row is a node, and labels, numbers and texts are within their limits
 pub record AreRows (es : List (Path × Content)) : Type 0 where
   pub root : is_some (look [] es) ≡ true
   pub parents : (r : Path) (a : Label) → is_some (look (r ++ a ∷ []) es) ≡ true → look r es ≡ Some Node
   pub texts : (r : Path) (c : Content) → look r es ≡ Some c → text_bytes c ≤ TEXT_MAX
+  pub spelled : (r : Path) (c : Content) → look r es ≡ Some c → CanBeSpelled r c
+
+-- the last label of a path is no longer than that of a longer path that ends so
+pub last_bytes-after : (p s : Path) → last_bytes s ≤ last_bytes (p ++ s)
+last_bytes-after [] s = omega arith
+last_bytes-after (a ∷ []) [] = omega arith
+last_bytes-after (a ∷ []) (b ∷ s) = omega arith
+last_bytes-after (a ∷ b ∷ p) s = last_bytes-after (b ∷ p) s
+
+-- the last label of a path is that of one of its parts
+pub last_bytes-parts : (n : ℕ) (p s : Path) → last_bytes p ≤ n → last_bytes s ≤ n → last_bytes (p ++ s) ≤ n
+last_bytes-parts n [] s h k = k
+last_bytes-parts n (a ∷ []) [] h k = h
+last_bytes-parts n (a ∷ []) (b ∷ s) h k = k
+last_bytes-parts n (a ∷ b ∷ p) s h k = last_bytes-parts n (b ∷ p) s h k
+
+-- what can be spelled below a place can be spelled from there on
+pub spelled-after : (p s : Path) (c : Content) → CanBeSpelled (p ++ s) c → CanBeSpelled s c
+spelled-after p s c h = record { label = omega (arith, h.label, last_bytes-after p s); number = h.number }
 
 -- a place that is there stands under a node
 pub under-there : (t : Tree) (p : Path) → IsRooted t → is_there t p ≡ true → IsUnderNode t p
@@ -80,6 +99,7 @@ rows-below t q h i = record {
   root = ap is_some (find-below q [] t) ∙ ap (is_there t) (append-nil q) ∙ i;
   parents = λ r a j. find-below q r t ∙ h.rooted.parents (q ++ r) a (ap (is_there t) (append_assoc q r (a ∷ [])) ∙ sym (ap is_some (find-below q (r ++ a ∷ []) t)) ∙ j);
   texts = λ r c e. h.texts (q ++ r) c (sym (find-below q r t) ∙ e);
+  spelled = λ r c e. spelled-after q r c (h.spelled (q ++ r) c (sym (find-below q r t) ∙ e));
 }
 
 -- the rows of a literal are a whole tree
@@ -88,4 +108,5 @@ rows-literal es h = record {
   root = ap is_some (sym (find-from_entries es [])) ∙ h.rooted.root;
   parents = λ r a i. sym (find-from_entries es r) ∙ h.rooted.parents r a (ap is_some (find-from_entries es (r ++ a ∷ [])) ∙ i);
   texts = h.texts;
+  spelled = h.spelled;
 }

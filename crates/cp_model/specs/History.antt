@@ -1,6 +1,6 @@
 -- Histories: their replay, what makes one legal, and the log of their commits.
 use Rattle.cp_model.specs.declared.limits.TheConstants.{OPS_MAX, SOURCES_MAX}
-use Rattle.cp_path.specs.declared.limits.TheConstants.{TEXT_MAX}
+use Rattle.cp_path.specs.declared.limits.TheConstants.{LABEL_MAX, TEXT_MAX}
 use Rattle.std.specs.Prelude.{ℕ, ◌+◌, ◌≤◌, ◌≡◌, true, false, List, [], ◌∷◌, ◌++◌, map, length, fold, is_some, ⊤}
 use Rattle.std.specs.declared.option.Option.{Option}
 use Rattle.std.specs.declared.option.Option.TheVariants.{None, Some}
@@ -11,7 +11,7 @@ use Rattle.cp_model.specs.Place.{Path, at_target, target, label_eq, over_limit, 
 use Rattle.cp_model.specs.Keyed as keyed
 use Rattle.cp_model.specs.Subtrees.{is_there}
 use Rattle.cp_model.specs.Literals.{literal_rows}
-use Rattle.cp_model.specs.Tree.{Tree, IsTree, IsRooted, Source, source, text_bytes}
+use Rattle.cp_model.specs.Tree.{Tree, IsTree, IsRooted, Source, source, text_bytes, CanBeSpelled}
 use Rattle.cp_model.specs.Step.{Working, step, Outcome, done, refused, is_done}
 use Rattle.cp_model.specs.Past.{AgedTree, settle, tree_of, aged}
 use Rattle.cp_model.specs.Rows.{Mark, I, C, D, K, full_rows, reduced_rows, Reading, read_full, read_reduced}
@@ -146,15 +146,16 @@ log_of h = log_after kind.N 0 h
 
 -- ---- legal histories
 
--- rows that a literal may have: a tree, its places in order, its texts within their limit
+-- rows that a literal may have: a tree, its places in order, its labels, numbers and texts within their limits
 pub record IsLiteral (rows : List (Path × Content)) : Type 0 where
   pub sorted : T (is_sorted path_cmp rows)
   pub rooted : IsRooted (keyed.from_entries rows)
   pub texts : (p : Path) (c : Content) → keyed.look p rows ≡ Some c → text_bytes c ≤ TEXT_MAX
+  pub spelled : (p : Path) (c : Content) → keyed.look p rows ≡ Some c → CanBeSpelled p c
 
 -- an operation that a statement can write
 abbrev pub IsWritten : Op → Type 0
-IsWritten (Ins p a l) = IsLiteral (literal_rows l)
+IsWritten (Ins p a l) = (length a ≤ LABEL_MAX) × IsLiteral (literal_rows l)
 IsWritten (Del a p) = ⊤
 IsWritten (Copy q p) = ⊤
 

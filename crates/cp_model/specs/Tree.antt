@@ -1,7 +1,7 @@
 -- Trees, their limits, and when an operation on one is refused.
 use Rattle.cp_model.specs.declared.limits.TheConstants.{NODES_MAX, PLACE_WEIGHT, WEIGHT_MAX}
-use Rattle.cp_path.specs.declared.limits.TheConstants.{TEXT_MAX}
-use Rattle.std.specs.Prelude.{ℕ, ◌+◌, ◌≤◌, ◌≡◌, Bool, true, false, not, List, [], ◌∷◌, ◌++◌, length, sum_by, nat_lt, if◌then◌else◌}
+use Rattle.cp_path.specs.declared.limits.TheConstants.{LABEL_MAX, TEXT_MAX}
+use Rattle.std.specs.Prelude.{ℕ, ◌+◌, ◌≤◌, ◌≡◌, Bool, true, false, not, List, [], ◌∷◌, ◌++◌, length, sum_by, nat_lt, if◌then◌else◌, ⊤}
 use Rattle.std.specs.List.{list_any}
 use Rattle.std.specs.declared.option.Option.{Option}
 use Rattle.std.specs.declared.option.Option.TheVariants.{None, Some}
@@ -11,6 +11,7 @@ use Rattle.cp_model.specs.Keyed as keyed
 use Rattle.cp_model.specs.Keyed.{Keyed}
 use Rattle.cp_model.specs.Subtrees.{below, without, replaced, is_there}
 use Rattle.cp_model.specs.Literals.{literal_rows}
+use Rattle.cp_path.specs.Whole.{IsWhole}
 use Rattle.cp_path.specs.declared.loc.Loc.{Loc}
 use Rattle.cp_path.specs.declared.value.Value.TheVariants.{Null, False, True, Whole, Text}
 use Rattle.cp_model.specs.declared.row.Content.{Content}
@@ -59,12 +60,27 @@ pub record IsRooted (t : Tree) : Type 0 where
   pub root : is_there t [] ≡ true
   pub parents : (p : Path) (a : Label) → is_there t (child p a) ≡ true → keyed.get t p ≡ Some Node
 
+-- a whole number is within its range
+abbrev pub IsNumber : Content → Type 0
+IsNumber Node = ⊤
+IsNumber (Leaf Null) = ⊤
+IsNumber (Leaf False) = ⊤
+IsNumber (Leaf True) = ⊤
+IsNumber (Leaf (Whole n)) = IsWhole n
+IsNumber (Leaf (Text bs)) = ⊤
+
+-- the last label of a place is short enough to be written, and so is a number that stands there
+pub record CanBeSpelled (p : Path) (c : Content) : Type 0 where
+  pub label : last_bytes p ≤ LABEL_MAX
+  pub number : IsNumber c
+
 -- a tree within every limit, its places with a name of one character included
 pub record IsTree (t : Tree) : Type 0 where
   pub rooted : IsRooted t
   pub within : IsWithin t
   pub places : (p : Path) → is_there t p ≡ true → over_limit (at_target p) ≡ false
   pub texts : (p : Path) (c : Content) → keyed.get t p ≡ Some c → text_bytes c ≤ TEXT_MAX
+  pub spelled : (p : Path) (c : Content) → keyed.get t p ≡ Some c → CanBeSpelled p c
 
 -- ---- sources
 

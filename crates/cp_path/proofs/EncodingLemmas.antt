@@ -17,7 +17,7 @@ same_front (x ∷ a) (y ∷ b) xs ys l e =
     (ap (λ z. z ∷ a) head ∙ ap (λ z. y ∷ z) rest.0, rest.1)
 
 -- counted bytes don't begin other counted bytes
-counted_front : (a b xs ys : List ℕ) → counted_bytes a ++ xs ≡ counted_bytes b ++ ys → (a ≡ b) × (xs ≡ ys)
+pub counted_front : (a b xs ys : List ℕ) → counted_bytes a ++ xs ≡ counted_bytes b ++ ys → (a ≡ b) × (xs ≡ ys)
 counted_front a b xs ys e =
     let size : length a ≡ length b = cc in
     let rest : a ++ xs ≡ b ++ ys = cc in

@@ -11,7 +11,7 @@ use Rattle.cp_model.specs.Step.{step}
 use Rattle.cp_model.specs.Past.{tree_of}
 use Rattle.cp_model.specs.History.{State}
 use Rattle.cp_model.proofs.Lookups.{there-mapped}
-use Rattle.cp_model.specs.Answers.{answer_to, has_place, at_place, src, hist, trace}
+use Rattle.cp_model.specs.Answers.{answer_to}
 use Rattle.cp_model.specs.declared.kind.Kind.TheVariants as kind
 use Rattle.cp_model.specs.declared.answer.Answer.{Answer}
 use Rattle.cp_model.specs.declared.answer.Answer.TheVariants as answer
@@ -32,7 +32,7 @@ use Rattle.cp_engine.specs.Transactions as txn
 use Rattle.cp_engine.specs.declared.txn.Txn.{Txn}
 use Rattle.cp_engine.specs.declared.state.TxnState.{TxnState}
 use Rattle.cp_engine.specs.declared.state.TxnState.TheVariants as state
-use Rattle.cp_query.specs.Asked.{IsCommitted, is_in}
+use Rattle.cp_query.specs.Asked.{IsCommitted}
 use Rattle.cp_outside.specs.FileReads.{FileTable}
 use Rattle.cp_program.specs.Job.{setting}
 use Rattle.cp_program.specs.Databases.{Stands, Opens, Turned}
@@ -88,7 +88,8 @@ module _ {R : Type 0} (view : R → Tree) (d : Database R) (s : Session) (z : St
     -- where it has failed, the committed tree is shown
     pub tree-failed : ((j : ℕ) → k ≡ state.Going j → ⊥) → view d.tree ≡ current_tree z.state s.opened
     tree-failed e = z.tree ∙ failed_tree s.opened stands_open e
-    -- ---- show
+
+-- ---- show
 
 module _ {R : Type 0} (view : R → Tree) (files : FileTable) (d : Database R) (s : Session) (z : Stands view d s) where
   shows : (q : Loc) (r : Option Reply) → Turned view (shown s q (shown_tree z.state s.opened q)) d r → Turned view (turn_of (setting files) s (says (stmt.Show q))) d r
@@ -119,60 +120,19 @@ module _ {R : Type 0} (view : R → Tree) (files : FileTable) (d : Database R) (
 
 -- ---- queries
 
-is_true : (b : Bool) → (b ≡ false → ⊥) → b ≡ true
-is_true true h = refl
-is_true false h = absurd (h refl)
-
 module _ {R : Type 0} (view : R → Tree) (files : FileTable) (d m : Database R) (s : Session) (z : Stands view d s) (y : Stands view m s) where
   -- the rows and the tree are those of the session's history
   pub committed-rows : IsCommitted kind.N d.store.upto d.store.list (view d.tree) z.state
   committed-rows = record { history = s.history; legal = z.legal; replayed = z.replayed; kind = z.kind; now = sym z.upto; rows = sym z.rows; tree = sym z.tree }
 
-  place_is : (q : Loc) → has_place z.state q ≡ is_in (view d.tree) q
-  place_is q = ap (λ b. in_target q && b) (sym (there-mapped (λ _ x. x.content) z.state.tree q.path) ∙ ap (λ u. is_there u q.path) (sym z.tree))
+  -- an answer is replied
+  pub turned-answered : (q : Query) (a : Answer) → answer_to z.state q ≡ Some a → Turned view (turn_of (setting files) s (says (stmt.Ask q))) m (Some (reply.Answered q a))
+  turned-answered q a e =
+      let r = Some (reply.Answered q a) in
+      turned-on view files d m s z (stmt.Ask q) r (subst (λ o. Turned view (answered s q o) m r) (sym e) (refl, y))
 
-  asked : (p : Query) (r : Option Reply) → Turned view (answered s p (answer_to z.state p)) m r → Turned view (turn_of (setting files) s (says (stmt.Ask p))) m r
-  asked p r h = turned-on view files d m s z (stmt.Ask p) r h
-
-  answers : (p : Query) (q : Loc) (a b : Answer) → answer_to z.state p ≡ at_place z.state q b → (is_in (view d.tree) q ≡ false → ⊥) → a ≡ b → Turned view (turn_of (setting files) s (says (stmt.Ask p))) m (Some (reply.Answered p a))
-  answers p q a b e there same =
-      asked p (Some (reply.Answered p a))
-      (subst (λ o. Turned view (answered s p o) m (Some (reply.Answered p a))) (sym (e ∙ ap (λ c. if c then Some b else None) (place_is q ∙ is_true (is_in (view d.tree) q) there)))
-      (ap (λ x. Some (reply.Answered p x)) same, y))
-
-  unanswered : (p : Query) (q : Loc) (b : Answer) → answer_to z.state p ≡ at_place z.state q b → no_place_of p ≡ why.NoPlace q → is_in (view d.tree) q ≡ false →
-      Turned view (turn_of (setting files) s (says (stmt.Ask p))) m (Some (reply.Refused of.Statement (why.NoPlace q)))
-  unanswered p q b e w there =
-      asked p (Some (reply.Refused of.Statement (why.NoPlace q)))
-      (subst (λ o. Turned view (answered s p o) m (Some (reply.Refused of.Statement (why.NoPlace q)))) (sym (e ∙ ap (λ c. if c then Some b else None) (place_is q ∙ there)))
-      (ap (λ x. Some (reply.Refused of.Statement x)) (sym w), y))
-
-  -- the step of the insertion is answered
-  pub turned-src : (q : Loc) (tid : Option ℕ) → (is_in (view d.tree) q ≡ false → ⊥) → tid ≡ src z.state.tree q.path → Turned view (turn_of (setting files) s (says (stmt.Ask (query.Src q)))) m (Some (reply.Answered (query.Src q) (answer.Src tid)))
-  unfolding answer_to
-  turned-src q tid there e = answers (query.Src q) q (answer.Src tid) (answer.Src (src z.state.tree q.path)) refl there (ap (λ x. answer.Src x) e)
-
-  -- of a place that isn't there none is
-  pub turned-no_src : (q : Loc) → is_in (view d.tree) q ≡ false → Turned view (turn_of (setting files) s (says (stmt.Ask (query.Src q)))) m (Some (reply.Refused of.Statement (why.NoPlace q)))
-  unfolding answer_to
-  turned-no_src q there = unanswered (query.Src q) q (answer.Src (src z.state.tree q.path)) refl refl there
-
-  -- the steps of the copies are answered
-  pub turned-hist : (q : Loc) (tids : List ℕ) → (is_in (view d.tree) q ≡ false → ⊥) → tids ≡ hist z.state.tree q.path → Turned view (turn_of (setting files) s (says (stmt.Ask (query.Hist q)))) m (Some (reply.Answered (query.Hist q) (answer.Tids tids)))
-  unfolding answer_to
-  turned-hist q tids there e = answers (query.Hist q) q (answer.Tids tids) (answer.Tids (hist z.state.tree q.path)) refl there (ap (λ x. answer.Tids x) e)
-
-  -- of a place that isn't there none are
-  pub turned-no_hist : (q : Loc) → is_in (view d.tree) q ≡ false → Turned view (turn_of (setting files) s (says (stmt.Ask (query.Hist q)))) m (Some (reply.Refused of.Statement (why.NoPlace q)))
-  unfolding answer_to
-  turned-no_hist q there = unanswered (query.Hist q) q (answer.Tids (hist z.state.tree q.path)) refl refl there
-
-  -- the trace is answered
-  pub turned-trace : (q : Loc) (t : Trace) → (is_in (view d.tree) q ≡ false → ⊥) → t ≡ trace z.state.now z.state.tree q.path → Turned view (turn_of (setting files) s (says (stmt.Ask (query.Trace q)))) m (Some (reply.Answered (query.Trace q) (answer.Trace t)))
-  unfolding answer_to
-  turned-trace q t there e = answers (query.Trace q) q (answer.Trace t) (answer.Trace (trace z.state.now z.state.tree q.path)) refl there (ap (λ x. answer.Trace x) e)
-
-  -- of a place that isn't there none is
-  pub turned-no_trace : (q : Loc) → is_in (view d.tree) q ≡ false → Turned view (turn_of (setting files) s (says (stmt.Ask (query.Trace q)))) m (Some (reply.Refused of.Statement (why.NoPlace q)))
-  unfolding answer_to
-  turned-no_trace q there = unanswered (query.Trace q) q (answer.Trace (trace z.state.now z.state.tree q.path)) refl refl there
+  -- a query without one is refused
+  pub turned-unanswered : (q : Query) → answer_to z.state q ≡ None → Turned view (turn_of (setting files) s (says (stmt.Ask q))) m (Some (reply.Refused of.Statement (no_place_of q)))
+  turned-unanswered q e =
+      let r = Some (reply.Refused of.Statement (no_place_of q)) in
+      turned-on view files d m s z (stmt.Ask q) r (subst (λ o. Turned view (answered s q o) m r) (sym e) (refl, y))

@@ -6,7 +6,6 @@ use Rattle.cp_model.specs.Keyed as keyed
 use Rattle.cp_model.specs.Tree.{Tree}
 use Rattle.cp_model.specs.declared.kind.Kind.TheVariants as kind
 use Rattle.cp_model.specs.declared.row.Content.TheVariants.{Node}
-use Rattle.cp_model.specs.declared.query.Query.TheVariants as query
 use Rattle.cp_model.specs.declared.query.Form.TheVariants.{Json}
 use Rattle.cp_lang.specs.Cuts.{cuts_in, cuts_of}
 use Rattle.cp_lang.specs.Lexer.{tokens_of, first_offset}
@@ -16,6 +15,7 @@ use Rattle.cp_lang.specs.declared.stmt.Stmt.TheVariants as stmt
 use Rattle.cp_lang.specs.declared.stmt.Load.{Load}
 use Rattle.cp_lang.specs.declared.stmt.StmtFault.{StmtFault}
 use Rattle.cp_lang.specs.declared.stmt.StmtFault.TheVariants as fault
+use Rattle.cp_query.specs.Answered.{is_answered}
 use Rattle.cp_reply.specs.Lines.{lines}
 use Rattle.cp_reply.specs.declared.reply.Of.TheVariants as of
 use Rattle.cp_reply.specs.declared.reply.Why.{Why}
@@ -29,19 +29,13 @@ use Rattle.cp_program.specs.Fetching.{fetch}
 
 -- ---- what a text says
 
--- the statements that are run: operations, commit, abort, load, src, hist, trace and show
+-- the statements that are run: operations, commit, abort, load, show and the queries that are answered
 abbrev pub is_run : Stmt → Bool
 is_run (stmt.Op op) = true
 is_run stmt.Commit = true
 is_run stmt.Abort = true
 is_run (stmt.Load l) = true
-is_run (stmt.Ask (query.Src q)) = true
-is_run (stmt.Ask (query.Hist q)) = true
-is_run (stmt.Ask (query.Mod q)) = false
-is_run (stmt.Ask (query.Trace q)) = true
-is_run (stmt.Ask (query.From q)) = false
-is_run (stmt.Ask (query.Records t)) = false
-is_run (stmt.Ask query.Stats) = false
+is_run (stmt.Ask q) = is_answered q
 is_run (stmt.Show q) = true
 
 -- a statement that reads a file

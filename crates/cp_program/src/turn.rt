@@ -10,8 +10,8 @@ ghost use Rattle.cp_program.specs.Turns.{Reads, BlamesFiles, IsOwn};
 use crate::database::Database;
 use crate::stop::Stop;
 use cp_lang::{Cut, Stmt, StmtFault, first_offset, parse_bytes};
-use cp_model::Query;
 use cp_outside::Files;
+use cp_query::is_answered;
 use cp_reply::{Of, Reply, Why};
 use cp_tree::TreeRep;
 use std::alloc::{AllocError, Global};
@@ -21,10 +21,8 @@ fn is_run(statement: &Stmt) -> bool
     ensures { result ≡ is_run statement.now }
 {
     match statement {
-        Stmt::Op(_) | Stmt::Commit | Stmt::Abort | Stmt::Load(_) => true,
-        Stmt::Ask(Query::Src(_) | Query::Hist(_) | Query::Trace(_)) => true,
-        Stmt::Show(_) => true,
-        _ => false,
+        Stmt::Op(_) | Stmt::Commit | Stmt::Abort | Stmt::Load(_) | Stmt::Show(_) => true,
+        Stmt::Ask(query) => is_answered(query),
     }
 }
 

@@ -16,8 +16,7 @@ use Rattle.cp_model.specs.declared.answer.Answer.{Answer}
 use Rattle.cp_model.specs.declared.kind.Kind.{Kind}
 use Rattle.cp_model.specs.declared.query.Query.{Query}
 use Rattle.cp_model.specs.declared.record.Record.{Record}
-use Rattle.cp_query.specs.Answered.{AnswersTo}
-use Rattle.cp_query.specs.Asked.{IsCommitted, is_in}
+use Rattle.cp_query.specs.Asked.{IsCommitted, AnswersTo, is_in}
 use Rattle.cp_query.specs.declared.fault.QueryFault.{QueryFault}
 use Rattle.cp_query.specs.declared.fault.QueryFault.TheVariants.{NoPlace}
 

@@ -3,8 +3,8 @@ ghost use Rattle.std.specs.declared.option.Option.TheVariants.{None};
 ghost use Rattle.cp_model.specs.History.{State};
 ghost use Rattle.cp_model.specs.Answers.{trace, src, hist};
 ghost use Rattle.cp_store.specs.Calls.{Asks};
-ghost use Rattle.cp_query.specs.Answered.{is_answered, AnswersTo};
-ghost use Rattle.cp_query.specs.Asked.{IsStateOf, is_in};
+ghost use Rattle.cp_query.specs.Answered.{is_answered};
+ghost use Rattle.cp_query.specs.Asked.{IsStateOf, AnswersTo, is_in};
 ghost use Rattle.cp_query.specs.Faults.{BlamesStore};
 ghost use Rattle.cp_query.specs.declared.fault.QueryFault.TheVariants.{NoPlace, Disk};
 

@@ -1,3 +1,4 @@
 mod Growing
 mod Kept
 mod Lengths
+mod Decoded

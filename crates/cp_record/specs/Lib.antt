@@ -1,2 +1,4 @@
 pub mod Bytes
+pub mod Kept
 pub mod Packed
+pub mod Unpacked

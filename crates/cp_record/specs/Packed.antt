@@ -13,26 +13,14 @@ use Rattle.cp_model.specs.declared.op.Op.TheVariants.{Ins, Del, Copy}
 use Rattle.cp_model.specs.declared.record.Record.{Record}
 use Rattle.cp_model.specs.declared.record.RecOp.{RecOp}
 use Rattle.cp_model.specs.declared.record.RecOp.TheVariants as op
-use Rattle.cp_record.specs.declared.packed.PackedRecords.{PackedRecords}
 use Rattle.cp_record.specs.Bytes.{records_bytes}
 
--- the letter is that of a copy
-abbrev pub is_copy : RecOp → Bool
-is_copy op.I = false
-is_copy op.C = true
-is_copy op.D = false
-is_copy op.K = false
-
--- a record of T whose Tid has eight bytes, with a source exactly where it is a copy
-pub record IsKept (r : Record) : Type 0 where
-  pub tid : r.tid < 2 ^ 64
-  pub place : r.loc ≡ at_target r.loc.path
-  pub source : is_some r.src ≡ is_copy r.op
-
--- the bytes are those of these records
-pub record Holds (x : PackedRecords) (rs : List Record) : Type 0 where
-  pub bytes : x.bytes.items ≡ records_bytes rs
-  pub kept : AllByRecursion IsKept rs
+-- the records end with one of them after so many bytes
+pub record EndsAt (rs : List Record) (n : ℕ) : Type 0 where
+  pub front : List Record
+  pub behind : List Record
+  pub all : rs ≡ front ++ behind
+  pub bytes : n ≡ length (records_bytes front)
 
 -- what was there is still there, and bytes may follow it
 pub record Grew (old new : List ℕ) : Type 0 where

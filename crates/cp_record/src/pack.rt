@@ -4,6 +4,9 @@ ghost use Rattle.std.specs.Option.{option_map};
 ghost use Rattle.cp_path.specs.Encoding.{counted_bytes, path_bytes, place_bytes};
 ghost use Rattle.cp_path.specs.Place.{below_place};
 ghost use Rattle.cp_record.specs.Bytes.{letter, record_bytes, record_below};
+ghost use Rattle.std.specs.List.{AllByRecursion};
+ghost use Rattle.std.specs.Prelude.{is_some};
+ghost use Rattle.cp_record.specs.Kept.{IsLabel, IsPath, IsPlace, IsKept, is_copy};
 ghost use Rattle.cp_record.specs.Packed.{Grew};
 
 use cp_model::RecOp;
@@ -36,6 +39,7 @@ fn push_counted(out: &mut Vec<u8>, bytes: &[u8]) -> Result<(), AllocError>
 /// Writes labels, each behind its length.
 fn push_labels(out: &mut Vec<u8>, labels: &[Label]) -> Result<(), AllocError>
     ensures ok { OnOk result (out.new.items ≡ out.old.items ++ flat_map counted_bytes labels.now) }
+    ensures labels { OnOk result (AllByRecursion IsLabel labels.now) }
     ensures err { Grew out.old.items out.new.items }
 {
     for label in labels {
@@ -48,6 +52,7 @@ fn push_labels(out: &mut Vec<u8>, labels: &[Label]) -> Result<(), AllocError>
 fn push_path(out: &mut Vec<u8>, base: &Path, below: &Path) -> Result<(), AllocError>
     requires { length base.now + length below.now ≤ LABELS_MAX }
     ensures ok { OnOk result (out.new.items ≡ out.old.items ++ path_bytes (base.now ++ below.now)) }
+    ensures path { OnOk result (IsPath (base.now ++ below.now)) }
     ensures err { Grew out.old.items out.new.items }
 {
     let count = base.labels().len() + below.labels().len();
@@ -61,6 +66,7 @@ fn push_path(out: &mut Vec<u8>, base: &Path, below: &Path) -> Result<(), AllocEr
 fn push_source(out: &mut Vec<u8>, source: &Loc, below: &Path) -> Result<(), AllocError>
     requires { length source.now.path + length below.now ≤ LABELS_MAX }
     ensures ok { OnOk result (out.new.items ≡ out.old.items ++ place_bytes (below_place source.now below.now)) }
+    ensures place { OnOk result (IsPlace (below_place source.now below.now)) }
     ensures err { Grew out.old.items out.new.items }
 {
     push_counted(out, source.db.as_str().as_bytes())?;
@@ -80,7 +86,9 @@ pub(crate) fn push_record(
 ) -> Result<(), AllocError>
     requires place { length base.now + length below.now ≤ LABELS_MAX }
     requires source { IfSome source (λ q. length q.now.path + length below.now ≤ LABELS_MAX) }
+    requires source_of_copy { is_some source ≡ is_copy op }
     ensures ok { OnOk result (out.new.items ≡ out.old.items ++ record_bytes (record_below tid op base.now below.now (option_map (λ q. q.now) source.entry))) }
+    ensures kept { OnOk result (IsKept (record_below tid op base.now below.now (option_map (λ q. q.now) source.entry))) }
     ensures err { Grew out.old.items out.new.items }
 {
     out.extend_from_slice(&tid.to_be_bytes())?;

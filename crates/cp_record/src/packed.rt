@@ -1,14 +1,19 @@
-ghost use Rattle.std.specs.Prelude.{◌≡◌, ◌≤◌, ◌+◌, ◌++◌, ◌∷◌, [], List, length, is_some, IfOk, OnOk, OnErr, IfSome};
+ghost use Rattle.std.specs.Prelude.{◌≡◌, ◌≤◌, ◌<◌, ◌+◌, ◌^◌, ◌++◌, ◌∷◌, [], List, length, drop, is_some, IfOk, OnOk, OnErr, IfSome};
+ghost use Rattle.std.specs.declared.option.Option.TheVariants.{Some};
+ghost use Rattle.std.specs.List.{slice_get, AllByRecursion};
+ghost use Rattle.std.specs.Option.{option_map};
+ghost use Rattle.cp_model.specs.Records.{mark_by};
 ghost use Rattle.cp_model.specs.declared.record.Record.{Record};
 ghost use Rattle.cp_record.specs.Bytes.{records_bytes, record_below};
-ghost use Rattle.std.specs.Option.{option_map};
-ghost use Rattle.cp_record.specs.Packed.{Holds, is_copy};
+ghost use Rattle.cp_record.specs.Kept.{is_copy, IsKept};
+ghost use Rattle.cp_record.specs.Packed.{EndsAt};
 
 use crate::pack::push_record;
-use crate::unpack::record_at;
-use cp_model::{RecOp, RecordList};
-use cp_path::{Loc, Path, LABELS_MAX};
+use crate::unpack::{behind_record, mark_at, record_at, tid_at};
+use cp_model::{RecOp, Record, RecordList, RowMark};
+use cp_path::{LABELS_MAX, Loc, Path};
 use std::alloc::{AllocError, Global};
+use std::marker::Model;
 
 /// Records of T, one after another, in about as many bytes as their labels have.
 #[derive(Drop)]
@@ -16,10 +21,22 @@ pub struct PackedRecords {
     bytes: Vec<u8>,
 }
 
+impl Model for PackedRecords {
+    ghost use Rattle.std.specs.Prelude.{List};
+    ghost use Rattle.cp_model.specs.declared.record.Record.{Record};
+    ghost use Rattle.cp_record.specs.Unpacked.{records_in, IsPacked};
+
+    ghost Value = { List Record };
+
+    ghost view = { λ p. records_in p.bytes.items };
+
+    ghost invariant = { λ p. IsPacked p.bytes.items };
+}
+
 impl PackedRecords {
     /// No records.
     pub fn new(alloc: Global) -> PackedRecords
-        ensures { Holds result [] }
+        ensures { result ≡ [] }
     {
         PackedRecords {
             bytes: Vec::new(alloc),
@@ -39,8 +56,8 @@ impl PackedRecords {
         requires place { length base.now + length below.now ≤ LABELS_MAX }
         requires source { IfSome source (λ q. length q.now.path + length below.now ≤ LABELS_MAX) }
         requires source_of_copy { is_some source ≡ is_copy op }
-        ensures ok { (rs : List Record) → Holds self.old rs → OnOk result (Holds self.new (rs ++ record_below tid op base.now below.now (option_map (λ q. q.now) source.entry) ∷ [])) }
-        ensures err { (rs : List Record) → Holds self.old rs → OnErr result (Holds self.new rs) }
+        ensures ok { OnOk result (self.new ≡ self.old ++ record_below tid op base.now below.now (option_map (λ q. q.now) source.entry) ∷ []) }
+        ensures err { OnErr result (self.new ≡ self.old) }
     {
         let len = self.bytes.len();
         match push_record(&mut self.bytes, tid, op, base, below, source) {
@@ -54,21 +71,23 @@ impl PackedRecords {
 
     /// The bytes that the records take.
     pub fn len(&self) -> usize
-        ensures { (rs : List Record) → Holds self.now rs → result ≡ length (records_bytes rs) }
+        ensures bytes { result ≡ length (records_bytes self.now) }
+        ensures bound { length (records_bytes self.now) < 2 ^ 63 }
     {
         self.bytes.len()
     }
 
     /// Gives up all records behind the first so many bytes.
     pub fn truncate(&mut self, len: usize)
-        ensures { (rs qs : List Record) → Holds self.old (rs ++ qs) → len ≡ length (records_bytes rs) → Holds self.new rs }
+        requires { EndsAt self.old len }
+        ensures { (rs qs : List Record) → self.old ≡ rs ++ qs → len ≡ length (records_bytes rs) → self.new ≡ rs }
     {
         self.bytes.truncate(len);
     }
 
     /// The records in order. Costs their bytes.
     pub fn records(&self, alloc: Global) -> Result<RecordList, AllocError>
-        ensures { (rs : List Record) → Holds self.now rs → IfOk result (λ l. l ≡ rs) }
+        ensures { IfOk result (λ l. l ≡ self.now) }
     {
         let mut items = Vec::new(alloc);
         let mut rest = self.bytes.as_slice();
@@ -78,5 +97,44 @@ impl PackedRecords {
             rest = behind;
         }
         Ok(RecordList { items })
+    }
+
+    /// The bytes of the record of this number and of all behind it. Costs the labels of those before it.
+    fn bytes_from(&self, number: usize) -> &[u8]
+        requires { number < length self.now }
+        ensures bytes { result.now ≡ records_bytes (drop number self.now) }
+        ensures kept { AllByRecursion IsKept self.now }
+    {
+        let mut rest = self.bytes.as_slice();
+        for _ in 0..number {
+            rest = behind_record(rest);
+        }
+        rest
+    }
+
+    /// The record of this number, the first being 0. Costs the labels of those before it, and its own size.
+    pub fn record(&self, alloc: Global, number: usize) -> Result<Record, AllocError>
+        requires { number < length self.now }
+        ensures { IfOk result (λ r. slice_get self.now number ≡ Some r) }
+    {
+        let (record, _) = record_at(alloc, self.bytes_from(number))?;
+        Ok(record)
+    }
+
+    /// The Tid of the record of this number. Costs the labels of those before it.
+    pub fn tid(&self, number: usize) -> u64
+        requires { number < length self.now }
+        ensures { option_map (λ r. r.tid) (slice_get self.now number) ≡ Some result }
+    {
+        let (tid, _) = tid_at(self.bytes_from(number));
+        tid
+    }
+
+    /// What the record of this number says of its place. Costs the labels of those before it, and its source's size.
+    pub fn mark(&self, alloc: Global, number: usize) -> Result<RowMark, AllocError>
+        requires { number < length self.now }
+        ensures { IfOk result (λ m. option_map (λ r. mark_by r.op r.src) (slice_get self.now number) ≡ Some m) }
+    {
+        Ok(mark_at(alloc, self.bytes_from(number))?)
     }
 }

@@ -13,6 +13,3 @@ mod write;
 
 pub use reply::{Of, Reply, Why};
 pub use write::lines;
-
-#[cfg(test)]
-mod tests;

@@ -1,26 +1,29 @@
 -- Worked examples: whole sessions over values, each with the text that it writes.
-use Rattle.std.specs.Prelude.{ℕ, ◌≡◌, ◌==◌, pos, List, [], ◌∷◌, ◌++◌, true, codes, flat_map, if◌then◌else◌}
+use Rattle.std.specs.Prelude.{ℕ, zero, suc, ◌≡◌, ◌==◌, pos, List, [], ◌∷◌, ◌++◌, true, codes, flat_map, length, nat_lt, if◌then◌else◌}
 use Rattle.std.specs.declared.option.Option.TheVariants.{None, Some}
 use Prim.Native.String.{String}
-use Rattle.cp_path.specs.Place.{label_eq, child_place}
+use Rattle.cp_path.specs.Place.{Path, label_eq, child_place}
 use Rattle.cp_path.specs.declared.loc.Loc.{Loc}
 use Rattle.cp_path.specs.declared.value.Value.TheVariants.{Null, Whole, Text}
 use Rattle.cp_model.specs.Keyed as keyed
 use Rattle.cp_model.specs.Literals.{literal_rows, edge_rows}
 use Rattle.cp_model.specs.Tree.{Tree}
+use Rattle.cp_model.specs.History.{log_of}
 use Rattle.cp_model.specs.declared.kind.Kind.{Kind}
 use Rattle.cp_model.specs.declared.kind.Kind.TheVariants as kind
 use Rattle.cp_model.specs.declared.literal.Literal.{Literal}
 use Rattle.cp_model.specs.declared.literal.Literal.TheVariants as literal
 use Rattle.cp_model.specs.declared.literal.LitEdge.{LitEdge}
+use Rattle.cp_model.specs.declared.op.Op.{Op}
 use Rattle.cp_model.specs.declared.op.Op.TheVariants.{Ins, Del, Copy}
 use Rattle.cp_model.specs.declared.query.Query.TheVariants as query
 use Rattle.cp_model.specs.declared.query.Form.TheVariants.{Json, Csv}
 use Rattle.cp_lang.specs.declared.stmt.Stmt.{Stmt}
 use Rattle.cp_lang.specs.declared.stmt.Stmt.TheVariants as stmt
 use Rattle.cp_reply.specs.Lines.{lines}
+use Rattle.cp_reply.specs.declared.reply.Reply.TheVariants as reply
 use Rattle.cp_reply.specs.declared.reply.Why.TheVariants as why
-use Rattle.cp_session.specs.Session.{Setting, unread, Fetched, gives, withholds, fresh, replies_to_statements}
+use Rattle.cp_session.specs.Session.{Setting, going, unread, Fetched, gives, withholds, fresh, replies_to_statements, session_after_statements}
 
 -- ---- places, trees and statements in short
 
@@ -144,10 +147,6 @@ small_source = tree (edge "x" (node (edge "a" (whole 8) ∷ [])) ∷ [])
 abbrev pub one_leaf : Tree
 one_leaf = tree (edge "x" (whole 5) ∷ [])
 
--- `{"l":[18446744073709551615,null]}`
-abbrev pub one_array : Tree
-one_array = tree (edge "l" (node (edge "0" (whole 18446744073709551615) ∷ edge "1" null ∷ [])) ∷ [])
-
 -- a row `g,s,c` of a table with the header `gene,symbol,chrom`, under its gene
 abbrev pub gene_row : String → String → String → LitEdge
 gene_row g s c = edge g (node (edge "chrom" (text c) ∷ edge "gene" (text g) ∷ edge "symbol" (text s) ∷ []))
@@ -164,7 +163,6 @@ file_named f =
     else if label_eq f (codes "s2.json") then gives second_source
     else if label_eq f (codes "s.json") then gives small_source
     else if label_eq f (codes "x.json") then gives one_leaf
-    else if label_eq f (codes "l.json") then gives one_array
     else if label_eq f (codes "g.csv") then gives genes
     else withholds why.NoFile
 
@@ -179,9 +177,24 @@ setting =
       curator = [];
     }
 
+-- the same, but no entry of two operations or more is within the limits
+abbrev pub cramped_setting : Setting
+cramped_setting = record setting { fits = λ _ _ ops _. nat_lt (length ops) 2 }
+
+-- the same, for this curator
+abbrev pub signed_by : String → Setting → Setting
+signed_by curator c = record c { curator = codes curator }
+
 -- all that a session writes which begins with this tree and is given these statements
+abbrev pub output_with : Setting → Kind → Tree → List Stmt → List ℕ
+output_with c k t script = flat_map lines (replies_to_statements c (fresh k t []) script)
+
 abbrev pub output : Kind → Tree → List Stmt → List ℕ
-output k t script = flat_map lines (replies_to_statements setting (fresh k t []) script)
+output k t script = output_with setting k t script
+
+-- the log of the history to which these statements lead, from an empty tree, where the clock tells these moments
+abbrev pub logged : Setting → Kind → List ℕ → List Stmt → List ℕ
+logged c k moments script = lines (reply.Logged (log_of (session_after_statements c (fresh k empty_tree moments) script).history))
 
 -- the lines, each with its line feed
 abbrev pub written : List String → List ℕ
@@ -249,6 +262,34 @@ pasts_end_where_data_came_from =
     ∷ "src T/c4/y: 1"
     ∷ "hist T/c2/y: 1" ∷ [])
 
+-- data that was inserted, and data of the start tree
+abbrev pub from_tells_new_and_start : Type 0
+from_tells_new_and_start =
+    output kind.N curated (ins "n" (whole 7) "T" ∷ stmt.Commit ∷ from "T/n" ∷ from "T/c1/x" ∷ src "T/c1/x" ∷ [])
+    ≡ written ("committed 1" ∷ "from T/n: new at 1" ∷ "from T/c1/x: start" ∷ "src T/c1/x: none" ∷ [])
+
+-- a trace passes over the loss of a child, which changes the node and not where its data came from
+abbrev pub trace_passes_a_loss : Type 0
+trace_passes_a_loss =
+    output kind.T empty_tree (ins "a" (node (edge "b" (whole 1) ∷ [])) "T" ∷ stmt.Commit ∷ del "b" "T/a" ∷ stmt.Commit
+    ∷ trace "T/a" ∷ from "T/a" ∷ mod_at "T/a"
+    ∷ ins "c" null "T" ∷ copy "T/a" "T/c" ∷ stmt.Commit
+    ∷ trace "T/c" ∷ src "T/c" ∷ hist "T/c" ∷ mod_at "T/c" ∷ [])
+    ≡ written ("committed 1" ∷ "committed 2"
+    ∷ "trace T/a: T/a@1..2 < new" ∷ "from T/a: new at 1" ∷ "mod T/a: 1 2"
+    ∷ "committed 3"
+    ∷ "trace T/c: T/c@3..3 < T/a@1..2 < new" ∷ "src T/c: 1" ∷ "hist T/c: 3" ∷ "mod T/c: 1 2 3" ∷ [])
+
+-- the records of all commits come in the order of their Tids, or those of one Tid alone
+abbrev pub records_of_several_commits : Type 0
+records_of_several_commits =
+    output kind.N empty_tree (ins "a" (whole 1) "T" ∷ stmt.Commit ∷ ins "b" null "T" ∷ copy "T/a" "T/b" ∷ stmt.Commit ∷ del "a" "T" ∷ stmt.Commit
+    ∷ all_records ∷ records 3 ∷ records 5 ∷ [])
+    ≡ written ("committed 1" ∷ "committed 2..3" ∷ "committed 4"
+    ∷ "1 I T/a" ∷ "2 I T/b" ∷ "3 C T/b T/a" ∷ "4 D T/a" ∷ "records: 4"
+    ∷ "3 C T/b T/a" ∷ "records: 1"
+    ∷ "records: 0" ∷ [])
+
 pub record CopyPasteHolds : Type 0 where
   pub naive : naive_kind_records_each_place
   pub transactional : transactional_kind_records_net_effects
@@ -256,6 +297,9 @@ pub record CopyPasteHolds : Type 0 where
   pub hierarchical_records : hierarchical_kind_records_each_operation_once
   pub hierarchical_transactional : implied_records_are_left_out
   pub pasts : pasts_end_where_data_came_from
+  pub from_new : from_tells_new_and_start
+  pub loss : trace_passes_a_loss
+  pub commits : records_of_several_commits
 
 -- ---- copies inside the tree, and of a whole source
 
@@ -325,6 +369,17 @@ kept_place_is_recorded =
     ∷ "1 C T/r S/x" ∷ "1 K T/r/a" ∷ "records: 2"
     ∷ "hist T/r/a: none" ∷ "trace T/r/a: T/r/a@0..1 < start" ∷ "show T: {r : {a : 5}}" ∷ [])
 
+-- what lies below a kept place is kept with it, and needs no record
+abbrev pub place_below_a_kept_one_is_kept : Type 0
+place_below_a_kept_one_is_kept =
+    output kind.HT (tree (edge "r" (node (edge "a" (node (edge "b" (whole 5) ∷ [])) ∷ [])) ∷ [])) (load "S" "s.json"
+    ∷ ins "tmp" (node []) "T" ∷ copy "T/r" "T/tmp" ∷ copy "S/x" "T/r" ∷ copy "T/tmp/a" "T/r/a" ∷ del "tmp" "T" ∷ stmt.Commit
+    ∷ records 1 ∷ hist "T/r/a/b" ∷ trace "T/r/a/b" ∷ from "T/r/a/b" ∷ mod_at "T/r" ∷ mod_at "T/r/a" ∷ show "T" ∷ [])
+    ≡ written ("loaded S 3" ∷ "committed 1"
+    ∷ "1 C T/r S/x" ∷ "1 K T/r/a" ∷ "records: 2"
+    ∷ "hist T/r/a/b: none" ∷ "trace T/r/a/b: T/r/a/b@0..1 < start" ∷ "from T/r/a/b: start" ∷ "mod T/r: 1" ∷ "mod T/r/a: none"
+    ∷ "show T: {r : {a : {b : 5}}}" ∷ [])
+
 -- a node that was put aside, changed and put back has a record of the change alone, in both transactional kinds
 abbrev pub round_trip_records_the_loss : Kind → Type 0
 round_trip_records_the_loss k =
@@ -344,6 +399,7 @@ pub record NetEffectsHold : Type 0 where
   pub onto_itself_hierarchical : copy_onto_itself_leaves_no_record kind.H
   pub onto_itself_hierarchical_transactional : copy_onto_itself_leaves_no_record kind.HT
   pub kept : kept_place_is_recorded
+  pub below_kept : place_below_a_kept_one_is_kept
   pub round_trip_transactional : round_trip_records_the_loss kind.T
   pub round_trip_hierarchical_transactional : round_trip_records_the_loss kind.HT
   pub temporary : temporary_data_leaves_no_record
@@ -397,11 +453,99 @@ query_sees_what_is_committed =
     output kind.N empty_tree (ins "a" (node []) "T" ∷ ins "b" (text "x") "T/a" ∷ src "T/a/b" ∷ stmt.Commit ∷ src "T/a/b" ∷ stmt.Abort ∷ [])
     ≡ written ("refused: no place T/a/b" ∷ "committed 1..2" ∷ "src T/a/b: 2" ∷ "aborted 0" ∷ [])
 
+-- operations whose entry is over a limit are given up
+abbrev pub commit_that_does_not_fit_is_refused : Type 0
+commit_that_does_not_fit_is_refused =
+    output_with cramped_setting kind.N empty_tree (ins "a" (whole 1) "T" ∷ ins "b" (whole 2) "T" ∷ stmt.Commit ∷ show "T" ∷ stats
+    ∷ ins "b" (whole 2) "T" ∷ stmt.Commit ∷ show "T" ∷ [])
+    ≡ written ("refused commit: transaction too large" ∷ "show T: {}" ∷ "stats: kind n, tid 0, transactions 0, records 0, nodes 1, sources 0"
+    ∷ "committed 1" ∷ "show T: {b : 2}" ∷ [])
+
+-- the log has each commit with its Tids, who made it and when, and the number of its operations
+abbrev pub log_tells_who_and_when : Type 0
+log_tells_who_and_when =
+    logged (signed_by "Ada L" setting) kind.N (1000 ∷ 2000 ∷ []) (ins "a" (whole 1) "T" ∷ stmt.Commit ∷ ins "b" (whole 2) "T" ∷ ins "c" (whole 3) "T" ∷ stmt.Commit ∷ [])
+    ≡ written ("commit 1 by \"Ada L\" at 1000, operations 1" ∷ "commit 2..3 by \"Ada L\" at 2000, operations 2" ∷ "log: 2" ∷ [])
+
+-- a commit that doesn't fit has taken a moment, one without operations none; where the clock tells no more the moment is 0
+abbrev pub moments_are_taken_in_turn : Type 0
+moments_are_taken_in_turn =
+    logged (signed_by "ann" cramped_setting) kind.HT (5 ∷ 6 ∷ []) (stmt.Commit ∷ ins "a" (whole 1) "T" ∷ ins "b" (whole 2) "T" ∷ stmt.Commit
+    ∷ ins "c" (whole 3) "T" ∷ stmt.Commit ∷ ins "d" (whole 4) "T" ∷ stmt.Commit ∷ [])
+    ≡ written ("commit 1 by ann at 6, operations 1" ∷ "commit 2 by ann at 0, operations 1" ∷ "log: 2" ∷ [])
+
 pub record TransactionsHold : Type 0 where
   pub failed : failed_transaction_changes_nothing
   pub empty : empty_commit_is_refused
   pub label_there : label_is_inserted_once
   pub committed : query_sees_what_is_committed
+  pub too_large : commit_that_does_not_fit_is_refused
+  pub log : log_tells_who_and_when
+  pub moments : moments_are_taken_in_turn
+
+-- ---- refusals of operations
+
+-- each operation alone in a transaction
+abbrev pub one_by_one : List Stmt → List Stmt
+one_by_one script = flat_map (λ x. x ∷ stmt.Abort ∷ []) script
+
+-- the refusal of each, and the end of its transaction
+abbrev pub each_refused : List String → List ℕ
+each_refused reasons = flat_map (λ s. written (s ∷ "aborted 0" ∷ [])) reasons
+
+-- of an insertion or a deletion: first that the place isn't of T, then that it isn't there, then that it is a leaf
+abbrev pub insertions_and_deletions_are_refused : Type 0
+insertions_and_deletions_are_refused =
+    output kind.N curated (load "S" "s.json" ∷ one_by_one (
+    ins "a" (whole 1) "S/x" ∷ ins "a" (whole 1) "R/x" ∷ ins "a" (whole 1) "T/z" ∷ ins "a" (whole 1) "T/c1/x/z" ∷ ins "a" (whole 1) "T/c1/x"
+    ∷ ins "x" (whole 1) "T/c1" ∷ del "a" "S/x" ∷ del "x" "T/z" ∷ del "x" "T/c1/x" ∷ del "z" "T/c1" ∷ []))
+    ≡ written ("loaded S 3" ∷ []) ++ each_refused (
+    "refused: read only S/x" ∷ "refused: read only R/x" ∷ "refused: no place T/z" ∷ "refused: no place T/c1/x/z" ∷ "refused: not a node T/c1/x"
+    ∷ "refused: label x is there in T/c1" ∷ "refused: read only S/x" ∷ "refused: no place T/z" ∷ "refused: not a node T/c1/x" ∷ "refused: no label z in T/c1" ∷ [])
+
+-- of a copy: first that its destination isn't of T, then that this isn't there, then that there is no such source, then that
+-- the source has no such place; a leaf may be replaced
+abbrev pub copies_are_refused : Type 0
+copies_are_refused =
+    output kind.N curated (load "S" "s.json" ∷ one_by_one (
+    copy "T/c1" "S/x" ∷ copy "R/x" "S/x" ∷ copy "R/x" "T/z" ∷ copy "R/x" "T/c1" ∷ copy "S/y" "T/c1" ∷ copy "T/z" "T/c1/x" ∷ []))
+    ≡ written ("loaded S 3" ∷ []) ++ each_refused (
+    "refused: read only S/x" ∷ "refused: read only S/x" ∷ "refused: no place T/z" ∷ "refused: no source R" ∷ "refused: no origin S/y" ∷ "refused: no origin T/z" ∷ [])
+
+-- nodes with the label `a`, so many one below the other
+abbrev pub nested : ℕ → Literal
+nested zero = node []
+nested (suc n) = node (edge "a" (nested n) ∷ [])
+
+-- the place that is so many labels `a` below the root
+abbrev pub under : ℕ → Path
+under zero = []
+under (suc n) = codes "a" ∷ under n
+
+-- a place has at most 64 labels, whether a tree is inserted, a leaf is, or a subtree is copied
+abbrev pub deeper_places_are_refused : Type 0
+deeper_places_are_refused =
+    output kind.H (keyed.from_entries (literal_rows (nested 64))) (one_by_one (
+    stmt.Op (Ins (record { db = codes "T"; path = under 64 }) (codes "b") (whole 1)) ∷ ins "b" (nested 64) "T" ∷ copy "T" "T/a" ∷ copy "T/a/a" "T/a/a/a" ∷ [])
+    ++ ins "b" (nested 63) "T" ∷ copy "T/a/a" "T/a" ∷ [])
+    ≡ each_refused ("refused: too deep" ∷ "refused: too deep" ∷ "refused: too deep" ∷ "refused: too deep" ∷ [])
+
+-- the operation so many times
+abbrev pub repeated : ℕ → Op → List Op
+repeated zero op = []
+repeated (suc n) op = op ∷ repeated n op
+
+-- a transaction has 65,535 operations at most
+abbrev pub one_more_operation_is_refused : Type 0
+one_more_operation_is_refused =
+    flat_map lines (replies_to_statements setting (record (fresh kind.T curated []) { opened = going (repeated 65535 (Copy (place "T/c1") (place "T/c3"))) }) (del "c1" "T" ∷ stmt.Abort ∷ []))
+    ≡ written ("refused: too many operations" ∷ "aborted 65535" ∷ [])
+
+pub record RefusalsHold : Type 0 where
+  pub at_labels : insertions_and_deletions_are_refused
+  pub of_copies : copies_are_refused
+  pub deep : deeper_places_are_refused
+  pub many : one_more_operation_is_refused
 
 -- ---- sources
 
@@ -428,16 +572,10 @@ abbrev pub source_is_loaded_once : Type 0
 source_is_loaded_once =
     output kind.N empty_tree (load "S" "x.json" ∷ load "S" "x.json" ∷ []) ≡ written ("loaded S 2" ∷ "refused load: source S is there" ∷ [])
 
--- an array is a node whose labels are the numbers of its elements, and the greatest whole number is kept
-abbrev pub array_has_numbered_labels : Type 0
-array_has_numbered_labels =
-    output kind.N empty_tree (load "S" "l.json" ∷ show "S" ∷ []) ≡ written ("loaded S 4" ∷ "show S: {l : {0 : 18446744073709551615, 1 : null}}" ∷ [])
-
 pub record SourcesHold : Type 0 where
   pub copied : row_of_a_table_is_copied
   pub there : copied_row_has_to_be_there
   pub once : source_is_loaded_once
-  pub array : array_has_numbered_labels
 
 -- ---- spellings
 

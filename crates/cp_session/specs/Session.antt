@@ -329,3 +329,8 @@ fresh k t moments = record { history = start k t ∷ []; opened = closed; moment
 unfoldable pub replies_to_statements : Setting → Session → List Stmt → List Reply
 replies_to_statements c s [] = []
 replies_to_statements c s (x ∷ xs) = with_reply (turn_of c s (says x)).reply (replies_to_statements c (turn_of c s (says x)).next xs)
+
+-- the state that they leave
+unfoldable pub session_after_statements : Setting → Session → List Stmt → Session
+session_after_statements c s [] = s
+session_after_statements c s (x ∷ xs) = session_after_statements c (turn_of c s (says x)).next xs

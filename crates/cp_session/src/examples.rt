@@ -1,4 +1,4 @@
-ghost use Rattle.cp_session.specs.Examples.{CopyPasteHolds, CopiesHold, NetEffectsHold, InsertedTreesHold, TransactionsHold, SourcesHold, SpellingsHold};
+ghost use Rattle.cp_session.specs.Examples.{CopyPasteHolds, CopiesHold, NetEffectsHold, InsertedTreesHold, TransactionsHold, RefusalsHold, SourcesHold, SpellingsHold};
 
 /// Does nothing when it runs. Its contract states worked examples of the definitions, whole sessions with the text that they write,
 /// and the check proves each of them by computation: so a definition that says something else than these examples is refused.
@@ -8,6 +8,7 @@ pub fn worked_examples()
     ensures net_effects { NetEffectsHold }
     ensures inserted_trees { InsertedTreesHold }
     ensures transactions { TransactionsHold }
+    ensures refusals { RefusalsHold }
     ensures sources { SourcesHold }
     ensures spellings { SpellingsHold }
 {}

@@ -1,5 +1,5 @@
 -- What a store answers over the rows that it keeps.
-use Rattle.std.specs.Prelude.{ℕ, ◌+◌, ◌≡◌, ◌==◌, ◌&&◌, ◌||◌, Bool, true, List, [], ◌∷◌, nat_lt, filter, if◌then◌else◌}
+use Rattle.std.specs.Prelude.{ℕ, ◌+◌, ◌≡◌, ◌==◌, ◌&&◌, ◌||◌, Bool, true, List, [], ◌∷◌, not, nat_lt, is_some, filter, if◌then◌else◌}
 use Rattle.std.specs.List.{list_all}
 use Rattle.std.specs.Ordering.{is_lt}
 use Rattle.std.specs.declared.option.Option.{Option}
@@ -12,6 +12,8 @@ use Rattle.cp_model.specs.Leaps.{last}
 use Rattle.cp_model.specs.Records.{reads}
 use Rattle.cp_model.specs.declared.kind.Kind.{Kind}
 use Rattle.cp_model.specs.declared.record.Record.{Record}
+use Rattle.cp_model.specs.declared.record.RecOp.{RecOp}
+use Rattle.cp_model.specs.declared.record.RecOp.TheVariants as op
 use Rattle.cp_store.specs.declared.change.Change.{Change}
 use Rattle.cp_store.specs.declared.change.What.{What}
 use Rattle.cp_store.specs.declared.change.What.TheVariants.{New, From, Gone}
@@ -50,7 +52,15 @@ rises (r ∷ s ∷ rs) = goes_before r s && rises (s ∷ rs)
 abbrev pub is_between : ℕ → ℕ → Record → Bool
 is_between low high r = in_target r.loc && nat_lt low r.tid && nat_lt r.tid (high + 1)
 
--- rows of T that rise by Tid and place, of steps after low up to high
+-- a source exactly where the letter is that of a copy
+abbrev pub is_source : RecOp → Option Loc → Bool
+is_source op.I q = not (is_some q)
+is_source op.C q = is_some q
+is_source op.D q = not (is_some q)
+is_source op.K q = not (is_some q)
+
+-- rows of T that rise by Tid and place, of steps after low up to high, each with a source exactly where it is a copy
 pub record AreNext (low high : ℕ) (rs : List Record) : Type 0 where
   pub rise : rises rs ≡ true
+  pub sources : list_all (λ r. is_source r.op r.src) rs ≡ true
   pub between : list_all (is_between low high) rs ≡ true

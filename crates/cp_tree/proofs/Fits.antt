@@ -1,6 +1,6 @@
 -- When a tree into which a subtree is put stays within the limits.
 use Rattle.cp_model.specs.declared.limits.TheConstants.{NODES_MAX, WEIGHT_MAX}
-use Rattle.cp_path.specs.declared.limits.TheConstants.{LABELS_MAX, LOC_MAX}
+use Rattle.cp_path.specs.declared.limits.TheConstants.{LABELS_MAX, LABEL_MAX, LOC_MAX}
 use Rattle.std.specs.Prelude.{◌≡◌, ℕ, ◌+◌, ◌≤◌, true, false, cond, ◌||◌, nat_lt, List, [], ◌∷◌, ◌++◌, length, max, sum_by, is_some, refl}
 use Rattle.std.proofs.Common.{sym, ap, ◌∙◌, T, arith, length-append}
 use Rattle.std.proofs.lemmas.List.Sums.{sum_by-append}
@@ -20,14 +20,14 @@ use Rattle.cp_model.proofs.Lookups.{get-replaced}
 use Rattle.cp_model.proofs.SumsLemmas.{len-replaced, weight-replaced}
 use Rattle.cp_model.proofs.Weights.{weight-moved}
 use Rattle.cp_model.proofs.Rooted.{AreRows, IsUnderNode, rooted-replaced}
-use Rattle.cp_model.proofs.Kept.{texts-replaced}
+use Rattle.cp_model.proofs.Kept.{texts-replaced, spelled-replaced}
 use Rattle.cp_tree.specs.Rows.{greatest, path_size, reach_of}
 use Rattle.cp_tree.specs.declared.reach.Reach.{Reach}
 
 -- a whole tree put under a node leaves a tree, where what it adds is few and light enough, and its places are within their limits
-pub tree-fits : (t : Tree) (p : Path) (es : List (Path × Content)) → IsTree t → AreRows es → T (is_sorted path_cmp es) → IsUnderNode t p → keyed.len t + length es ≤ NODES_MAX →
+pub tree-fits : (t : Tree) (p : Path) (es : List (Path × Content)) → IsTree t → AreRows es → T (is_sorted path_cmp es) → IsUnderNode t p → last_bytes p ≤ LABEL_MAX → keyed.len t + length es ≤ NODES_MAX →
     weight t + last_bytes p + sum_by weight_of es ≤ WEIGHT_MAX → ((r : Path) → is_some (look r es) ≡ true → over_limit (at_target (p ++ r)) ≡ false) → IsTree (replaced p es t)
-tree-fits t p es h d s u n w f = record {
+tree-fits t p es h d s u l n w f = record {
   rooted = rooted-replaced t p es h.rooted d u;
   within = record {
     nodes = omega (arith, n, len-replaced p es t s);
@@ -39,6 +39,7 @@ tree-fits t p es h d s u n w f = record {
         | Some s ↦ λ k j. ap (λ q. over_limit (at_target q)) (strip_is p r s k) ∙ f s j
       ] refl (ap is_some (sym (get-replaced p es t r)) ∙ i);
   texts = texts-replaced t p es h.texts d;
+  spelled = spelled-replaced t p es h.spelled d l;
 }
 
 -- few labels and short ones are within the limits
@@ -59,10 +60,10 @@ at_most_greatest f (e ∷ es) r i =
     ] refl i
 
 -- a whole tree put under a node leaves a tree, where its reach and that of the place are within the limits together
-pub reach-fits : (t : Tree) (p : Path) (es : List (Path × Content)) (z : Reach) → z ≡ reach_of es → IsTree t → AreRows es → T (is_sorted path_cmp es) → IsUnderNode t p → keyed.len t + z.nodes ≤ NODES_MAX →
+pub reach-fits : (t : Tree) (p : Path) (es : List (Path × Content)) (z : Reach) → z ≡ reach_of es → IsTree t → AreRows es → T (is_sorted path_cmp es) → IsUnderNode t p → last_bytes p ≤ LABEL_MAX → keyed.len t + z.nodes ≤ NODES_MAX →
     weight t + last_bytes p + z.inner ≤ WEIGHT_MAX → length p + z.depth ≤ LABELS_MAX → path_size p + z.size ≤ 1023 → IsTree (replaced p es t)
 unfolding reach_of
-reach-fits t p es z e h d s u n w deep large =
-    tree-fits t p es h d s u (omega (arith, n, ap (λ r. r.nodes) e)) (omega (arith, w, ap (λ r. r.inner) e)) (λ r i.
+reach-fits t p es z e h d s u l n w deep large =
+    tree-fits t p es h d s u l (omega (arith, n, ap (λ r. r.nodes) e)) (omega (arith, w, ap (λ r. r.inner) e)) (λ r i.
     within-limit (p ++ r) (omega (arith, deep, ap (λ r. r.depth) e, at_most_greatest (λ q. length q) es r i, length-append p r))
     (omega (arith, large, ap (λ r. r.size) e, at_most_greatest path_size es r i, sum_by-append (λ (a : Label). length a + 1) p r)))

@@ -17,7 +17,7 @@ use Rattle.cp_tree.specs.Branch.{branch, sub, without_child}
 use Rattle.cp_tree.proofs.BranchLemmas.{label_total, get_in, get-branch_root, get-branch_child, sub-branch, replaced_here, replaced_below, without_here, without_below}
 use Rattle.cp_tree.specs.Good.{AllRooted, IsBare, IsGood}
 
-pub rooted_where : (p : Label → Bool) (es : List (Label × Tree)) → AllRooted es → AllRooted (where_key text_cmp p es)
+rooted_where : (p : Label → Bool) (es : List (Label × Tree)) → AllRooted es → AllRooted (where_key text_cmp p es)
 rooted_where p [] t = tt
 rooted_where p (e ∷ es) t = elim (p e.0) as (λ b. AllRooted (cond b (e ∷ where_key text_cmp p es) (where_key text_cmp p es))) [ true ↦ (t.0, rooted_where p es t.1) | false ↦ rooted_where p es t.1 ]
 

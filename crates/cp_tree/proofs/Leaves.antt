@@ -1,6 +1,6 @@
 -- A root alone, and a leaf added below a node: when these are trees, and what a leaf adds.
 use Rattle.cp_model.specs.declared.limits.TheConstants.{NODES_MAX, WEIGHT_MAX}
-use Rattle.cp_path.specs.declared.limits.TheConstants.{TEXT_MAX}
+use Rattle.cp_path.specs.declared.limits.TheConstants.{LABEL_MAX, TEXT_MAX}
 use Rattle.std.specs.Prelude.{◌≡◌, ◌+◌, ◌≤◌, true, false, cond, [], ◌∷◌, ◌++◌, length, sum_by, is_some, refl}
 use Rattle.std.proofs.Common.{sym, ap, subst, ◌∙◌, arith}
 use Rattle.std.proofs.lemmas.List.Sums.{sum_by-cons}
@@ -13,7 +13,7 @@ use Rattle.cp_model.proofs.KeyedLemmas.{same_map, get-insert}
 use Rattle.cp_model.specs.Keyed as keyed
 use Rattle.cp_model.specs.Keyed.{look}
 use Rattle.cp_model.specs.Subtrees.{replaced, is_there}
-use Rattle.cp_model.specs.Tree.{Tree, IsTree, IsRooted, weight, weight_of, text_bytes}
+use Rattle.cp_model.specs.Tree.{Tree, IsTree, IsRooted, weight, weight_of, text_bytes, IsNumber, CanBeSpelled}
 use Rattle.cp_model.proofs.Strips.{strip_is, append-nil}
 use Rattle.cp_model.specs.Laws.{placed}
 use Rattle.cp_model.proofs.Lookups.{find-below, find-from_entries, get-replaced, path_eq-append, path_eq-sym, rest_is}
@@ -40,12 +40,17 @@ module _ (c : Content) where
   no_child [] a = refl
   no_child (b ∷ p) a = refl
 
+  alone-spelled : IsNumber c → (p : Path) (d : Content) → look p (root_entries c) ≡ Some d → CanBeSpelled p d
+  alone-spelled n [] d e = (let same : c ≡ d = cc in record { label = omega arith; number = subst IsNumber same n })
+  alone-spelled n (a ∷ p) d e = absurd (cc)
+
   -- what is asked of the rows of a tree holds of it
-  pub alone-rows : text_bytes c ≤ TEXT_MAX → AreRows (root_entries c)
-  alone-rows h = record {
+  pub alone-rows : text_bytes c ≤ TEXT_MAX → IsNumber c → AreRows (root_entries c)
+  alone-rows h n = record {
     root = refl;
     parents = λ p a i. absurd (let no : is_some (look (child p a) (root_entries c)) ≡ false = no_child p a in cc);
     texts = alone-texts h;
+    spelled = alone-spelled n;
   }
 
   pub single-get : (p : Path) → keyed.get (single c) p ≡ look p (root_entries c)
@@ -60,8 +65,8 @@ module _ (c : Content) where
   single-weight = ap (sum_by weight_of) (entries-single c) ∙ omega (arith, sum_by-cons weight_of ([], c) [])
 
   -- it is a tree within every limit
-  pub single-tree : text_bytes c ≤ TEXT_MAX → IsTree (single c)
-  single-tree h = record {
+  pub single-tree : text_bytes c ≤ TEXT_MAX → IsNumber c → IsTree (single c)
+  single-tree h n = record {
     rooted = record {
       root = ap is_some (single-get []);
       parents = λ p a i. absurd (let no : is_there (single c) (child p a) ≡ false = ap is_some (single-get (child p a)) ∙ no_child p a in cc);
@@ -69,6 +74,7 @@ module _ (c : Content) where
     within = record { nodes = omega (arith, single-len); weighs = omega (arith, single-weight, h) };
     places = λ p i. ap (λ q. over_limit (at_target q)) (alone-root p (sym (ap is_some (single-get p)) ∙ i));
     texts = λ p d e. alone-texts h p d (sym (single-get p) ∙ e);
+    spelled = λ p d e. alone-spelled n p d (sym (single-get p) ∙ e);
   }
 
 -- ---- a leaf below a node
@@ -92,10 +98,10 @@ leaf-insert t p c h n = same_map (replaced p (root_entries c) t) (keyed.insert t
         ∙ ap (λ b. cond b (Some c) (keyed.get t r)) (path_eq-sym z [])
 
 -- a leaf leaves a tree, where there is room and its place is within the limits
-pub leaf-fits : (t : Tree) (p : Path) (a : Label) (c : Content) → IsTree t → keyed.get t p ≡ Some Node → over_limit (at_target (child p a)) ≡ false → text_bytes c ≤ TEXT_MAX →
+pub leaf-fits : (t : Tree) (p : Path) (a : Label) (c : Content) → IsTree t → keyed.get t p ≡ Some Node → over_limit (at_target (child p a)) ≡ false → length a ≤ LABEL_MAX → text_bytes c ≤ TEXT_MAX → IsNumber c →
     keyed.len t + 1 ≤ NODES_MAX → weight t + 16 + length a + text_bytes c ≤ WEIGHT_MAX → IsTree (replaced (child p a) (root_entries c) t)
-leaf-fits t p a c h n near s l w =
-    tree-fits t (child p a) (root_entries c) h (alone-rows c s) tt (under-child t p a n) (omega (arith, l)) (omega (arith, w, last_bytes_child p a, sum_by-cons weight_of ([], c) [])) within
+leaf-fits t p a c h n near short s whole l w =
+    tree-fits t (child p a) (root_entries c) h (alone-rows c s whole) tt (under-child t p a n) (omega (arith, last_bytes_child p a, short)) (omega (arith, l)) (omega (arith, w, last_bytes_child p a, sum_by-cons weight_of ([], c) [])) within
   where
     within : (r : Path) → is_some (look r (root_entries c)) ≡ true → over_limit (at_target (child p a ++ r)) ≡ false
     within [] i = ap (λ q. over_limit (at_target q)) (append-nil (child p a)) ∙ near

@@ -37,6 +37,7 @@ literal-below t q h i =
       sorted = sorted-below q t;
       rooted = record { root = ap is_some (find-from_entries (below q t) []) ∙ d.root; parents = λ p a j. find-from_entries (below q t) p ∙ d.parents p a (ap is_some (sym (find-from_entries (below q t) (child p a))) ∙ j) };
       texts = d.texts;
+      spelled = d.spelled;
     }
 
 module _ {X : Type 0} where

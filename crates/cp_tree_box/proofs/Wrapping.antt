@@ -15,7 +15,7 @@ use Rattle.cp_model.proofs.KeyedLemmas.{get-entries, same_map}
 use Rattle.cp_model.specs.Keyed as keyed
 use Rattle.cp_model.specs.Keyed.{look}
 use Rattle.cp_model.specs.Subtrees.{is_there, below, moved, without, replaced}
-use Rattle.cp_model.specs.Tree.{Tree, IsRooted, IsTree, weight, text_bytes}
+use Rattle.cp_model.specs.Tree.{Tree, IsRooted, IsTree, weight, text_bytes, IsNumber}
 use Rattle.cp_model.proofs.Strips.{append-nil, strip-append}
 use Rattle.cp_model.specs.Laws.{placed}
 use Rattle.cp_model.proofs.Lookups.{get-replaced}
@@ -198,12 +198,12 @@ near_sub m n p t e q i =
 -- ---- a root alone
 
 -- the tree of a root alone, with what is kept of it
-module _ (c d : Content) (h : text_bytes c ≤ TEXT_MAX) (same_content : d ≡ c) (m : Tree) (e : m ≡ single d) where
+module _ (c d : Content) (h : text_bytes c ≤ TEXT_MAX) (whole : IsNumber c) (same_content : d ≡ c) (m : Tree) (e : m ≡ single d) where
   pub single_is : m ≡ single c
   single_is = e ∙ ap single same_content
 
   pub single_tree : IsTree m
-  single_tree = subst IsTree (sym single_is) (single-tree c h)
+  single_tree = subst IsTree (sym single_is) (single-tree c h whole)
 
   pub single_near : (s : Spot) → s ≡ root_spot → AreNear s m
   single_near s k = subst (λ z. AreNear z m) (sym k) (near_tree m single_tree)

@@ -3,13 +3,13 @@ ghost use Rattle.std.specs.declared.option.Option.TheVariants.{None, Some};
 ghost use Rattle.cp_model.specs.Place.{child};
 ghost use Rattle.cp_model.specs.Keyed.{get, entries};
 ghost use Rattle.cp_model.specs.Subtrees.{moved, without, replaced, is_there};
-ghost use Rattle.cp_model.specs.Tree.{IsRooted, is_node};
+ghost use Rattle.cp_model.specs.Tree.{IsRooted, IsNumber, is_node};
 ghost use Rattle.cp_model.specs.declared.row.Content.TheVariants.{Node};
 ghost use Rattle.cp_tree.specs.Branch.{sub};
 ghost use Rattle.cp_tree.specs.Rows.{entry_row, single, labels_at};
 
 use cp_model::{Content, Row};
-use cp_path::{Label, Path};
+use cp_path::{Label, Path, Value};
 use std::alloc::{AllocError, Global};
 use std::collections::BTreeMap;
 use std::marker::Model;
@@ -51,6 +51,15 @@ pub(crate) fn copy_content(content: &Content) -> Result<Content, AllocError>
     match content {
         Content::Node => Ok(Content::Node),
         Content::Leaf(value) => Ok(Content::Leaf(value.clone()?)),
+    }
+}
+
+/// Says of a content what its type holds: a whole number is within its range.
+pub(crate) fn number_range(content: &Content)
+    ensures { IsNumber content.now }
+{
+    if let Content::Leaf(Value::Whole(number)) = content {
+        let _number = number.get();
     }
 }
 

@@ -10,7 +10,7 @@ ghost use Rattle.cp_tree.specs.Branch.{sub};
 ghost use Rattle.cp_tree_box.specs.Tallies.{IsTallyOf, IsTallyOf-prop};
 
 use crate::build::build;
-use crate::node::{BoxNode, copy_content};
+use crate::node::{BoxNode, copy_content, number_range};
 use crate::reach::reach_of;
 use crate::spot::Spot;
 use crate::tally::Tally;
@@ -80,6 +80,7 @@ impl TreeRep for BoxTree {
     ghost contents = { λ t. t.root };
 
     fn single(alloc: Global, content: &Content) -> Result<BoxTree, AllocError> {
+        number_range(content);
         let root = BoxNode::leaf(alloc, copy_content(content)?);
         let mut tally = Tally::new(alloc)?;
         tally.add(Spot::root(), &root);

@@ -6,31 +6,6 @@ use cp_program::run_cpdb;
 use std::io::ErrorKind;
 use std::process::ExitCode;
 
-#[cfg(test)]
-mod calls;
-#[cfg(test)]
-mod curation;
-#[cfg(test)]
-mod differential;
-#[cfg(test)]
-mod examples;
-#[cfg(test)]
-mod failing_files;
-#[cfg(test)]
-mod histories;
-#[cfg(test)]
-mod limits;
-#[cfg(test)]
-mod source_copies;
-#[cfg(test)]
-mod source_limits;
-#[cfg(test)]
-mod sources;
-#[cfg(test)]
-mod starts;
-#[cfg(test)]
-mod tests;
-
 fn main(rt: HostRuntime) -> ExitCode {
     let alloc = rt.alloc();
     let args = match std::env::args(&rt) {

@@ -15,11 +15,11 @@ loop-label-preserved c =
     let hs = c.args.labels.now in
     let i = c.loop-label.label-index in
     let same : c.in_ok-clone.field-0 ≡ h = search rules in
-    let left : drop i hs ≡ h ∷ drop (i + 1) hs = drop_more hs i h c.loop-label-test.true ∙ ap (λ x. x ∷ drop (i + 1) hs) (sym c.label-item.is) in
-    let known : contains text_cmp c.loop-label.seen h ≡ false = search rules in
-    let new : list_any (label_eq h) before ≡ false = sym (inv.seen.1 h) ∙ known in
+    let records_left : drop i hs ≡ h ∷ drop (i + 1) hs = drop_more hs i h c.loop-label-test.true ∙ ap (λ x. x ∷ drop (i + 1) hs) (sym c.label-item.is) in
+    let slice_bytes : contains text_cmp c.loop-label.seen h ≡ false = search rules in
+    let new : list_any (label_eq h) before ≡ false = sym (inv.seen.1 h) ∙ slice_bytes in
     let updates = c.in_ok-insert.ensures.updates in
     record {
       count = ap (λ n. n + 1) inv.count;
-      seen = (h ∷ before, λ q. (rw same at updates).0 q ∙ seen_more q h (contains text_cmp c.loop-label.seen q) (list_any (label_eq q) before) (inv.seen.1 q), inv.seen.2 ∙ repeated_more before (c.loop-label.column + 1) h (drop (i + 1) hs) (drop i hs) left new);
+      seen = (h ∷ before, λ q. (rw same at updates).0 q ∙ seen_more q h (contains text_cmp c.loop-label.seen q) (list_any (label_eq q) before) (inv.seen.1 q), inv.seen.2 ∙ repeated_more before (c.loop-label.column + 1) h (drop (i + 1) hs) (drop i hs) records_left new);
     }

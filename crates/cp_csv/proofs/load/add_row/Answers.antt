@@ -1,3 +1,4 @@
+use Rattle.cp_path.specs.declared.limits.TheConstants.{LABEL_MAX}
 use Rattle.std.proofs.Common.{◌≤◌, [], length, sym, ap, subst, ◌∙◌, arith}
 use Rattle.csv.specs.Records.{fields_of}
 use Rattle.cp_model.specs.Keyed as keyed
@@ -24,5 +25,5 @@ returns-clause-shallow g c =
     let row = c.in_ok-row.row.label in
     let hs = c.args.columns.now.labels.items in
     let fs = fields_of c.in_ok-row.row.fields in
-    let short : length row ≤ 255 = omega (arith, ap length c.in_ok-row.ensures.label, fit_short hs (key_of hs c.args.columns.now.key) c.args.number (fields_of c.args.raw) c.in_ok-row.ensures.told) in
+    let short : length row ≤ LABEL_MAX = omega (arith, ap length c.in_ok-row.ensures.label, fit_short hs (key_of hs c.args.columns.now.key) c.args.number (fields_of c.args.raw) c.in_ok-row.ensures.told) in
     subst IsShallow (sym c.in_ok-put_row.ensures.put) (shallow_row row hs fs t short c.requires.columns.short c.requires.shallow)

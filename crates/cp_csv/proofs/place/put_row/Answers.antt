@@ -8,7 +8,7 @@ use Rattle.cp_model.proofs.SumsLemmas.{len_insert_new, weight_insert_new}
 use Rattle.cp_model.specs.Tree.{weight}
 use Rattle.cp_tree.specs.Rows.{root_entries}
 use Rattle.cp_csv.specs.CsvTrees.{with_fields}
-use Rattle.cp_csv.specs.Steps.{IsBare}
+use Rattle.cp_csv.specs.Steps.{IsEmptyRow}
 use Rattle.cp_model.proofs.Accepted.{none_is}
 use Rattle.cp_tree.proofs.Leaves.{leaf-insert}
 use Rattle.cp_csv.proofs.Placing.{leaf_fits, new_bare, is_many, is_big, is_fit}
@@ -56,7 +56,7 @@ put_fields-requires-clause-bare g c =
     let free : is_there t (row ∷ []) ≡ false = search rules in
     let none = none_is (keyed.get t (row ∷ [])) free in
     let same : t1 ≡ keyed.insert t (row ∷ []) Node = c.in_ok-insert_leaf.ensures.ok ∙ ap (λ p. replaced (child p row) (root_entries Node) t) c.root-root.ensures ∙ leaf-insert t (row ∷ []) Node tree.rooted none in
-    subst (λ z. IsBare z row hs) (sym same) (new_bare t row hs tree.rooted none c.requires.columns.apart)
+    subst (λ z. IsEmptyRow z row hs) (sym same) (new_bare t row hs tree.rooted none c.requires.columns.apart)
 
 pub put_fields-requires-clause-few : goal.put_fields-requires-clause-few
 put_fields-requires-clause-few g c =

@@ -1,6 +1,8 @@
 use Rattle.std.proofs.Common.{◌≡◌, drop}
 use Rattle.serde_json.specs.View.{items_view, members_view}
-use Rattle.cp_json.specs.Walks.{ItemsNear, MembersNear, items_first, members_first}
+use Rattle.cp_model.specs.Place.{child}
+use Rattle.cp_json.specs.Growing.{with_place, IsNear}
+use Rattle.cp_json.specs.Walks.{walk_items, walk_members, NeedsItems, NeedsMembers}
 use Rattle.cp_json.proofs.fraction.+look.Given as goal
 
 abbrev pub invariant-look_at_items-loop-item : goal.invariant-look_at_items-loop-item
@@ -8,14 +10,14 @@ invariant-look_at_items-loop-item l =
     let left = items_view (drop l.item-index l.item-items) in
     record {
       counted : l.i ≡ l.item-index;
-      near : ItemsNear l.at l.item-index left;
-      first : items_first l.first l.at l.item-index left ≡ items_first l.initial.first l.at 0 (items_view l.item-items);
+      near : NeedsItems child with_place IsNear l.at l.item-index left l.first;
+      first : walk_items child with_place l.at l.item-index left l.first ≡ walk_items child with_place l.at 0 (items_view l.item-items) l.initial.first;
     }
 
 abbrev pub invariant-look_at_members-loop-key : goal.invariant-look_at_members-loop-key
 invariant-look_at_members-loop-key l =
     let left = members_view l.key-iterator in
     record {
-      near : MembersNear l.at left;
-      first : members_first l.first l.at left ≡ members_first l.initial.first l.at (members_view l.members.entries);
+      near : NeedsMembers child with_place IsNear l.at left l.first;
+      first : walk_members child with_place l.at left l.first ≡ walk_members child with_place l.at (members_view l.members.entries) l.initial.first;
     }

@@ -2,7 +2,7 @@ use Rattle.std.proofs.Common.{ap, subst, sym, refl, Ok}
 use Rattle.cp_model.specs.Answers.{answer_to, src, hist, trace}
 use Rattle.cp_model.specs.declared.answer.Answer.TheVariants as answer
 use Rattle.cp_model.specs.declared.query.Query.TheVariants as query
-use Rattle.cp_query.specs.Answered.{AnswersTo}
+use Rattle.cp_query.specs.Asked.{AnswersTo}
 use Rattle.cp_query.proofs.Answering.{answers-at, faults-at}
 use Rattle.cp_query.proofs.ask.answer.Goals as goal
 

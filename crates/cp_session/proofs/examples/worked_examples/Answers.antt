@@ -17,6 +17,9 @@ returns-clause-inserted_trees c = worked.inserted_trees
 pub returns-clause-transactions : goal.returns-clause-transactions
 returns-clause-transactions c = worked.transactions
 
+pub returns-clause-refusals : goal.returns-clause-refusals
+returns-clause-refusals c = worked.refusals
+
 pub returns-clause-sources : goal.returns-clause-sources
 returns-clause-sources c = worked.sources
 

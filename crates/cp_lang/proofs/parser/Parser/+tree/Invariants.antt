@@ -1,3 +1,4 @@
+use Rattle.cp_path.specs.declared.limits.TheConstants.{LABELS_MAX}
 use Rattle.std.proofs.Common.{◌≡◌, ◌≤◌, ◌+◌, ◌-◌, ◌*◌, List, length}
 use Rattle.cp_path.specs.Place.{Label}
 use Rattle.cp_lang.specs.Grammar.{Level, edge_end}
@@ -5,16 +6,16 @@ use Rattle.cp_lang.specs.Parser.{reading, edge_reading, within}
 use Rattle.cp_lang.proofs.parser.Parser.+tree.Given as goal
 
 abbrev pub decreases-edge : goal.decreases-edge
-decreases-edge l = 4 * (64 - l.depth)
+decreases-edge l = 4 * (LABELS_MAX - l.depth)
 
 abbrev pub decreases-edges : goal.decreases-edges
-decreases-edges l = 4 * (64 - l.depth) + 1
+decreases-edges l = 4 * (LABELS_MAX - l.depth) + 1
 
 abbrev pub decreases-node : goal.decreases-node
-decreases-node l = 4 * (64 - l.depth) + 2
+decreases-node l = 4 * (LABELS_MAX - l.depth) + 2
 
 abbrev pub decreases-tree : goal.decreases-tree
-decreases-tree l = 4 * (64 - l.depth) + 3
+decreases-tree l = 4 * (LABELS_MAX - l.depth) + 3
 
 abbrev pub invariant-edges-loop-self : goal.invariant-edges-loop-self
 invariant-edges-loop-self l = record {

@@ -7,6 +7,6 @@ use Rattle.cp_lang.proofs.parser.Parser.has_more.Goals as goal
 pub returns-in-Some-clause-reads : goal.returns-in-Some-clause-reads
 returns-in-Some-clause-reads c = λ a es ls. after_reads _ _ _ _ _ c.in-Some.more a es ls (c.in_ok-token.ensures.reads (edge_end (within a es ls))) (c.has_next.ensures (within a es ls)) c.in-Some.is
 
-pub returns-in-None-clause-stops : goal.returns-in-None-clause-stops
+pub returns-in-None-clause-reads : goal.returns-in-None-clause-reads
 unfolding takes
-returns-in-None-clause-stops c = λ ls. c.in_ok-token.ensures.reads (edge_end ls) ∙ ap (λ (u : Taken). refused_or u c.in_ok-token.token.at (reading c.token.new.self)) (c.has_next.ensures ls ∙ ap (λ v. after_edge v ls) c.in-None.is)
+returns-in-None-clause-reads c = λ ls. c.in_ok-token.ensures.reads (edge_end ls) ∙ ap (λ (u : Taken). refused_or u c.in_ok-token.token.at (reading c.token.new.self)) (c.has_next.ensures ls ∙ ap (λ v. after_edge v ls) c.in-None.is)

@@ -1,8 +1,6 @@
-use Rattle.std.proofs.lemmas.Result.{IfErr-weaker}
-use Rattle.cp_lang.specs.Grammar.{goes}
-use Rattle.cp_lang.proofs.Steps.{fails_stops}
+use Rattle.cp_lang.specs.Grammar.{at_label}
+use Rattle.cp_lang.proofs.Steps.{steps_by}
 use Rattle.cp_lang.proofs.parser.Parser.label.Goals as goal
 
-pub returns-clause-stops : goal.returns-clause-stops
-returns-clause-stops c =
-    IfErr-weaker c.label_of.result _ _ (λ e h s next w. fails_stops _ _ s _ _ _ e (c.in_ok-token.ensures.reads s) (w.taken _) (h (λ b. goes (next b)))) c.label_of.ensures.stops
+pub returns : goal.returns
+returns c = record { reads = steps_by _ _ _ _ at_label c.label_of.result c.in_ok-token.ensures.reads c.label_of.ensures.reads }

@@ -1,23 +1,29 @@
-use Rattle.std.proofs.Common.{sym, subst, IfOk}
+use Rattle.std.proofs.Common.{sym, ap, subst, ◌∙◌, refl, Err}
 use Rattle.std.specs.declared.option.Option.TheVariants.{Some}
-use Rattle.cp_session.specs.Session.{Session, says, turn_of}
+use Rattle.cp_session.specs.Session.{says, turn_of}
 use Rattle.cp_lang.specs.declared.stmt.Stmt.TheVariants as stmt
-use Rattle.cp_outside.specs.FileReads.{FileTable}
 use Rattle.cp_program.specs.Job.{setting}
-use Rattle.cp_program.specs.Databases.{Stands, Turned}
+use Rattle.cp_program.specs.Databases.{Turned}
+use Rattle.cp_program.proofs.Standing.{stands-same, if-ok}
+use Rattle.cp_program.proofs.Answering.{committed-rows, turned-answered, turned-unanswered}
 use Rattle.cp_program.proofs.database.Database.ask.Goals as goal
 
-pub returns-in-Src-clause-turned : goal.returns-in-Src-clause-turned
-returns-in-Src-clause-turned g c =
+pub returns-in-Ok-clause-turned : goal.returns-in-Ok-clause-turned
+returns-in-Ok-clause-turned g c = λ files s z.
     let view = g.R.TreeRep.contents in
-    subst (λ q. IfOk c.answer_src.result (λ r. (files : FileTable) (s : Session) → Stands view c.args.self.now s → Turned view (turn_of (setting files) s (says (stmt.Ask q))) c.answer_src.new.self (Some r))) (sym c.in-Src.is) c.answer_src.ensures.turned
+    let d = c.args.self.now in
+    let m = record d { store = c.answer.new.store } in
+    let y = stands-same view d m s z refl refl c.answer.ensures.asks.rows c.answer.ensures.asks.last refl refl in
+    turned-answered view files d m s z y c.args.query c.in-Ok.answer (c.in-Ok.ensures.answer z.state (committed-rows view files d m s z y)).answer
 
-pub returns-in-Hist-clause-turned : goal.returns-in-Hist-clause-turned
-returns-in-Hist-clause-turned g c =
+pub returns-in-Err-clause-turned : goal.returns-in-Err-clause-turned
+returns-in-Err-clause-turned g c =
     let view = g.R.TreeRep.contents in
-    subst (λ q. IfOk c.answer_hist.result (λ r. (files : FileTable) (s : Session) → Stands view c.args.self.now s → Turned view (turn_of (setting files) s (says (stmt.Ask q))) c.answer_hist.new.self (Some r))) (sym c.in-Hist.is) c.answer_hist.ensures.turned
-
-pub returns-in-Trace-clause-turned : goal.returns-in-Trace-clause-turned
-returns-in-Trace-clause-turned g c =
-    let view = g.R.TreeRep.contents in
-    subst (λ q. IfOk c.answer_trace.result (λ r. (files : FileTable) (s : Session) → Stands view c.args.self.now s → Turned view (turn_of (setting files) s (says (stmt.Ask q))) c.answer_trace.new.self (Some r))) (sym c.in-Trace.is) c.answer_trace.ensures.turned
+    let d = c.args.self.now in
+    let m = record d { store = c.answer.new.store } in
+    if-ok _ _
+    (λ r p. λ files s z.
+    let y = stands-same view d m s z refl refl c.answer.ensures.asks.rows c.answer.ensures.asks.last refl refl in
+    let there = c.answer.ensures.answer z.state (committed-rows view files d m s z y) in
+    subst (λ x. Turned view (turn_of (setting files) s (says (stmt.Ask c.args.query))) m (Some x)) (sym p.1) (turned-unanswered view files d m s z y c.args.query (there.place.0 (c.in-Err.is ∙ ap (λ e. Err e) p.0))))
+    c.unanswered.result c.unanswered.ensures

@@ -1,0 +1,28 @@
+-- Values whose objects have their members in order, each once.
+use Rattle.std.specs.Prelude.{◌≡◌, ℕ, List, ⊤}
+use Rattle.std.specs.declared.cmp.Ordering.TheVariants.{Less}
+use Rattle.serde_json.specs.Data.{Data, null, boolean, number, string, array, object, Items, no_items, item, Members, no_members, member}
+use Rattle.cp_path.specs.Text.{text_cmp}
+
+-- no member has this name, or a lesser one
+abbrev pub AllAbove : List ℕ → Members → Type 0
+AllAbove k no_members = ⊤
+AllAbove k (member l d ms) = (text_cmp k l ≡ Less) × AllAbove k ms
+
+-- the names of each object rise
+abbrev mutual
+  pub IsOrdered : Data → Type 0
+  IsOrdered null = ⊤
+  IsOrdered (boolean b) = ⊤
+  IsOrdered (number n) = ⊤
+  IsOrdered (string s) = ⊤
+  IsOrdered (array ds) = ItemsOrdered ds
+  IsOrdered (object ms) = MembersOrdered ms
+
+  pub ItemsOrdered : Items → Type 0
+  ItemsOrdered no_items = ⊤
+  ItemsOrdered (item d ds) = IsOrdered d × ItemsOrdered ds
+
+  pub MembersOrdered : Members → Type 0
+  MembersOrdered no_members = ⊤
+  MembersOrdered (member k d ms) = AllAbove k ms × IsOrdered d × MembersOrdered ms

@@ -1,0 +1,6 @@
+mod Before
+pub mod Steps
+mod Noted
+mod Joined
+mod Keeping
+mod Counting

@@ -1,0 +1,15 @@
+-- Records in blocks.
+use Rattle.std.specs.Prelude.{ℕ, ◌≡◌, ◌≤◌, List, [], ◌∷◌, ◌++◌, length}
+use Rattle.std.specs.List.{AllByRecursion}
+use Rattle.cp_model.specs.declared.record.Record.{Record}
+use Rattle.cp_rows.specs.declared.limits.TheConstants.{BLOCK_LEN}
+
+-- the records of full blocks, and behind them the others
+unfoldable pub joined : List (List Record) → List Record → List Record
+joined [] last = last
+joined (block ∷ full) last = block ++ joined full last
+
+-- each block is full, and the last has no more records than a full one
+pub record AreBlocks (full : List (List Record)) (last : List Record) : Type 0 where
+  pub each : AllByRecursion (λ block. length block ≡ BLOCK_LEN) full
+  pub few : length last ≤ BLOCK_LEN

@@ -1,0 +1,4 @@
+pub mod Steps
+pub mod Index
+pub mod Blocks
+pub mod Rows
