@@ -1,4 +1,3 @@
 mod Between
 mod Front
 mod Runs
-pub mod LinesLemmas

@@ -1,11 +1,11 @@
 -- What keeps a tree rooted, seen from its root and its edges, and how a change at or below an edge keeps it.
-use Rattle.std.specs.Prelude.{◌≡◌, true, false, cond, List, [], ◌∷◌, ◌++◌, is_some, refl}
+use Rattle.std.specs.Prelude.{◌≡◌, Bool, true, false, cond, not, List, [], ◌∷◌, ◌++◌, is_some, refl}
 use Rattle.std.proofs.Common.{sym, ap, subst, ◌∙◌}
 use Rattle.std.specs.declared.option.Option.{Option}
 use Rattle.std.specs.declared.option.Option.TheVariants.{None, Some}
 use Rattle.std.specs.declared.cmp.Ordering.TheVariants.{Less, Equal, Greater}
 use Rattle.std.specs.Ordering.{eq_by_cmp}
-use Rattle.std.specs.FinMap.Entries.{find, put, by_order, is_sorted-put}
+use Rattle.std.specs.FinMap.Entries.{find, put, by_order, where_key, is_sorted-put, is_sorted-where_key}
 use Rattle.cp_path.specs.Text.{text_cmp}
 use Rattle.cp_model.specs.declared.row.Content.{Content}
 use Rattle.cp_model.specs.declared.row.Content.TheVariants.{Node, Leaf}
@@ -15,7 +15,23 @@ use Rattle.cp_model.specs.Subtrees.{without, replaced, is_there}
 use Rattle.cp_model.specs.Tree.{Tree, IsRooted}
 use Rattle.cp_tree.specs.Branch.{branch, sub, without_kid}
 use Rattle.cp_tree.proofs.BranchLemmas.{label_total, get_in, get-branch_root, get-branch_kid, sub-branch, replaced_here, replaced_below, without_here, without_below}
-use Rattle.cp_tree.specs.Good.{AllRooted, IsBare, IsGood, bare, good_without}
+use Rattle.cp_tree.specs.Good.{AllRooted, IsBare, IsGood}
+
+rooted_where : (p : Label → Bool) (es : List (Label × Tree)) → AllRooted es → AllRooted (where_key text_cmp p es)
+rooted_where p [] t = tt
+rooted_where p (e ∷ es) t = elim (p e.0) as (λ b. AllRooted (cond b (e ∷ where_key text_cmp p es) (where_key text_cmp p es))) [ true ↦ (t.0, rooted_where p es t.1) | false ↦ rooted_where p es t.1 ]
+
+-- an edge dropped
+pub good_without : (x : Content) (es : List (Label × Tree)) (a : Label) → IsGood x es → IsGood x (without_kid a es)
+good_without x es a g = record {
+  sorted = is_sorted-where_key text_cmp (λ b. not (eq_by_cmp text_cmp a b)) es g.sorted;
+  bare = bare x g.bare;
+  trees = rooted_where (λ b. not (eq_by_cmp text_cmp a b)) es g.trees;
+}
+  where
+    bare : (y : Content) → IsBare y es → IsBare y (without_kid a es)
+    bare Node b = tt
+    bare (Leaf v) b = ap (where_key text_cmp (λ c. not (eq_by_cmp text_cmp a c))) b
 
 -- an edge that is found leads to a rooted tree
 pub rooted_found : (a : Label) (es : List (Label × Tree)) (n : Tree) → AllRooted es → find text_cmp a es ≡ Some n → IsRooted n

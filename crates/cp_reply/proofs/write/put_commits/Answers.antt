@@ -1,5 +1,5 @@
 use Rattle.std.proofs.Common.{◌++◌, ap, ◌∙◌}
-use Rattle.cp_reply.specs.Lines.{commit_text}
+use Rattle.cp_reply.specs.Lines.{line, commit_text}
 use Rattle.cp_reply.proofs.Front.{begins_then, lines_step}
 use Rattle.cp_reply.proofs.write.put_commits.Goals as goal
 

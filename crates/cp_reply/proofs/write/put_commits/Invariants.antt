@@ -1,6 +1,6 @@
 use Rattle.std.proofs.Common.{◌≡◌, ◌++◌, take, flat_map}
 use Rattle.cp_reply.specs.Front.{Begins}
-use Rattle.cp_reply.specs.Lines.{commit_text}
+use Rattle.cp_reply.specs.Lines.{line, commit_text}
 use Rattle.cp_reply.proofs.write.put_commits.Given as goal
 
 abbrev pub invariant-loop-commit : goal.invariant-loop-commit

@@ -1,6 +1,6 @@
 use Rattle.std.proofs.Common.{◌≡◌, ◌++◌, take, flat_map}
 use Rattle.cp_reply.specs.Front.{Begins}
-use Rattle.cp_reply.specs.Lines.{record_text}
+use Rattle.cp_reply.specs.Lines.{line, record_text}
 use Rattle.cp_reply.proofs.write.put_records.Given as goal
 
 abbrev pub invariant-loop-entry : goal.invariant-loop-entry
