@@ -51,6 +51,6 @@ module _ {R : Type 0} (view : R → Tree) (ss : List Source) where
         held = o ∙ ap (λ os. os ++ op ∷ []) h.held;
         tid = f ∙ h.tid;
         tree = e ∙ ap (λ u. changed ss u op) h.tree ∙ sym (pass-tree ss p op) ∙ ap (λ q. q.tree) (sym more);
-        rows = r ∙ ap (λ held. held ++ with_tid tid (op_rows ss (view x.tree) op)) h.rows ∙ records;
+        rows = r.is ∙ ap (λ rs. rs ++ with_tid tid (op_rows ss (view x.tree) op)) h.rows ∙ records;
         failure = l ∙ h.failure;
       }

@@ -17,25 +17,21 @@ use Rattle.cp_engine.specs.Held.{Appended, Grown}
 -- ---- appending
 
 pub appended-none : (x : List Record) → Appended x x []
-appended-none x = sym (append-nil x)
+appended-none x = record { is = sym (append-nil x) }
 
-pub appended-then : (x y z rs qs : List Record) → Appended x y rs → Appended y z qs → Appended x z (rs ++ qs)
-appended-then x y z rs qs a b = b ∙ ap (λ held. held ++ qs) a ∙ append_assoc x rs qs
+pub appended-then : (x y z : List Record) (rs qs : List Record) → Appended x y rs → Appended y z qs → Appended x z (rs ++ qs)
+appended-then x y z rs qs a b = record { is = b.is ∙ ap (λ l. l ++ qs) a.is ∙ append_assoc x rs qs }
 
-pub appended-is : (x y rs qs : List Record) → rs ≡ qs → Appended x y rs → Appended x y qs
-appended-is x y rs qs e a = a ∙ ap (λ more. x ++ more) e
+pub appended-is : (x y : List Record) (rs qs : List Record) → rs ≡ qs → Appended x y rs → Appended x y qs
+appended-is x y rs qs e a = subst (Appended x y) e a
 
--- records that are the same have grown by none
-pub grown_same : (x y : List Record) → y ≡ x → Grown x y
-grown_same x y e = record { more = []; is = e ∙ sym (append-nil x) }
+-- nothing more
+pub grown-same : (x y : List Record) → y ≡ x → Grown x y
+grown-same x y e = record { more = []; is = e ∙ sym (append-nil x) }
 
--- records to which some were appended, and then no more
-pub grown_after : (x y z rs : List Record) → Appended x y rs → z ≡ y → Grown x z
-grown_after x y z rs a e = record { more = rs; is = e ∙ a }
-
--- records to which some were appended, and then maybe more
-pub grown_then : (x y z rs : List Record) → Appended x y rs → Grown y z → Grown x z
-grown_then x y z rs a g = record { more = rs ++ g.more; is = appended-then x y z rs g.more a g.is }
+-- some more, and then some
+pub grown-then : (x y z : List Record) (rs : List Record) → Appended x y rs → Grown y z → Grown x z
+grown-then x y z rs a g = record { more = rs ++ g.more; is = g.is ∙ ap (λ l. l ++ g.more) a.is ∙ append_assoc x rs g.more }
 
 -- ---- literals
 

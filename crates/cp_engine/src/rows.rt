@@ -10,7 +10,7 @@ ghost use Rattle.cp_model.specs.declared.op.Op.TheVariants.{Del, Copy};
 ghost use Rattle.cp_model.specs.declared.record.RecOp.TheVariants as letter;
 ghost use Rattle.cp_record.specs.Bytes.{record_below};
 ghost use Rattle.cp_tree.specs.Rows.{greatest};
-ghost use Rattle.cp_engine.specs.Held.{Appended, Grown};
+ghost use Rattle.cp_engine.specs.Held.{Appended, Grown, Restored};
 ghost use Rattle.cp_engine.specs.Loaded.{sources_in};
 ghost use Rattle.cp_engine.specs.RowsAlone.{behind, op_rows};
 ghost use Rattle.cp_model.specs.declared.record.RowMark.TheVariants as mark;
@@ -34,7 +34,7 @@ pub(crate) fn push_op<R: TreeRep, S: TreeRep>(
 ) -> Result<(), AllocError>
     requires accepted { refusal (sources_in S.contents sources.now) (R.contents tree.now) op.now ≡ None }
     ensures ok { OnOk result (Appended rows.old rows.new (with_tid tid (op_rows (sources_in S.contents sources.now) (R.contents tree.now) op.now))) }
-    ensures err { OnErr result (rows.new ≡ rows.old) }
+    ensures err { OnErr result (Restored rows.old rows.new) }
 {
     let bytes = rows.len();
     match push_places(alloc, rows, tid, tree, sources, op) {
@@ -190,7 +190,6 @@ fn push_edges(
 }
 
 /// Appends a record for each place of a subtree that is gone.
-#[tactic(auto, using(crate::proofs::Recorded::grown_after))]
 fn push_gone(
     rows: &mut PackedRecords,
     tid: u64,
@@ -208,7 +207,6 @@ fn push_gone(
 }
 
 /// Appends a record for each place of a subtree that is copied.
-#[tactic(auto, using(crate::proofs::Recorded::grown_after))]
 fn push_copies(
     rows: &mut PackedRecords,
     tid: u64,

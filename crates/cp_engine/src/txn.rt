@@ -188,7 +188,7 @@ impl<R: TreeRep> Txn<R> {
         ensures length { result ≡ commit_length self.now.ops self.now.rows }
         ensures fits { result < 2 ^ 64 }
     {
-        (9 + self.ops.bytes()).saturating_add(self.rows.len() as u64)
+        9 + self.ops.bytes() + self.rows.len() as u64
     }
 
     /// Gives the transaction up, and says how many accepted operations it held.

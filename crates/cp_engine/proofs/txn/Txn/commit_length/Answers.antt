@@ -4,4 +4,4 @@ use Rattle.cp_engine.proofs.txn.Txn.commit_length.Goals as goal
 
 pub returns-clause-length : goal.returns-clause-length
 unfolding commit_length
-returns-clause-length g c = omega (arith, c.saturating_add.ensures, c.len.ensures.bytes, c.len.ensures.bound, c.bytes.ensures.sum, c.bytes.ensures.bound)
+returns-clause-length g c = omega (arith, c.len.ensures.bytes, c.bytes.ensures.sum)
