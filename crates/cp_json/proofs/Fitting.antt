@@ -1,6 +1,6 @@
 -- A value that nothing refuses can be made into a tree, which is the map of its places.
 use Rattle.cp_model.specs.declared.limits.TheConstants.{NODES_MAX, WEIGHT_MAX}
-use Rattle.cp_path.specs.declared.limits.TheConstants.{LABELS_MAX, LOC_MAX, NAME_MAX, TEXT_MAX}
+use Rattle.cp_path.specs.declared.limits.TheConstants.{LABEL_MAX, LABELS_MAX, LOC_MAX, NAME_MAX, TEXT_MAX}
 use Rattle.std.proofs.Common.{◌≡◌, ◌≤◌, ℕ, Bool, true, false, cond, ◌||◌, List, [], ◌∷◌, length, sum_by, nat_lt, is_some, Result, Ok, Err, refl, sym, ap, ◌∙◌, arith, subst}
 use Rattle.std.proofs.lemmas.Bool.{and_parts, or_parts}
 use Rattle.cp_model.proofs.Accepted.{at_most}
@@ -18,7 +18,7 @@ use Rattle.cp_model.specs.Keyed as keyed
 use Rattle.cp_model.specs.Keyed.{look}
 use Rattle.cp_model.specs.Subtrees.{is_there}
 use Rattle.cp_model.proofs.Lookups.{find-from_entries}
-use Rattle.cp_model.specs.Tree.{Tree, IsTree}
+use Rattle.cp_model.specs.Tree.{Tree, IsTree, last_bytes}
 use Rattle.cp_tree.specs.Rows.{single}
 use Rattle.cp_tree.proofs.Leaves.{single-get, single-len, single-weight, single-tree}
 use Rattle.cp_tree.proofs.Fits.{within-limit}
@@ -32,7 +32,7 @@ use Rattle.cp_json.specs.declared.survey.Survey.{Survey}
 use Rattle.cp_json.specs.Surveys.{survey_of, passed}
 use Rattle.cp_json.proofs.Surveying.{passed_is, survey_whole}
 use Rattle.cp_json.proofs.Looking.{AreLow, near_all, all_held}
-use Rattle.cp_json.proofs.Growing.{Entry, IsListing, inserted, listing_below, AllSmall, AllPut, leaves, all_put, grown_below, can_below, get_inserted}
+use Rattle.cp_json.proofs.Growing.{Entry, AllInRange, range_all, IsListing, inserted, listing_below, AllSmall, AllPut, leaves, all_put, grown_below, can_below, get_inserted}
 
 -- ---- where nothing is refused
 
@@ -68,10 +68,11 @@ holds : (c : Option Content) → is_some c ≡ true → c ≡ Some (or_node c)
 holds None h = absurd (cc)
 holds (Some c) h = refl
 
-small : (name : List ℕ) (es : List Entry) → 1 ≤ length name → any_above LABELS_MAX (λ e. length e.0) es ≡ false → any_above LOC_MAX (λ e. size (record { db = name; path = e.0 })) es ≡ false →
+small : (name : List ℕ) (es : List Entry) → 1 ≤ length name → any_above LABEL_MAX (λ e. last_bytes e.0) es ≡ false → AllInRange es → any_above LABELS_MAX (λ e. length e.0) es ≡ false → any_above LOC_MAX (λ e. size (record { db = name; path = e.0 })) es ≡ false →
     any_above TEXT_MAX (λ e. bytes_of e.1) es ≡ false → list_all (λ e. is_some e.1) es ≡ true → AllSmall es
-small name [] n f s t w = tt
-small name (e ∷ es) n f s t w =
+small name [] n l g f s t w = tt
+small name (e ∷ es) n l g f s t w =
+    let z = or_parts (nat_lt LABEL_MAX (last_bytes e.0)) (any_above LABEL_MAX (λ e. last_bytes e.0) es) l in
     let a = or_parts (nat_lt LABELS_MAX (length e.0)) (any_above LABELS_MAX (λ e. length e.0) es) f in
     let b = or_parts (nat_lt LOC_MAX (size (record { db = name; path = e.0 }))) (any_above LOC_MAX (λ e. size (record { db = name; path = e.0 })) es) s in
     let c = or_parts (nat_lt TEXT_MAX (bytes_of e.1)) (any_above TEXT_MAX (λ e. bytes_of e.1) es) t in
@@ -81,8 +82,10 @@ small name (e ∷ es) n f s t w =
         holds = is;
         place = within-limit e.0 (at_most LABELS_MAX (length e.0) a.0) (omega (arith, n, at_most LOC_MAX (size (record { db = name; path = e.0 })) b.0));
         text = omega (arith, at_most TEXT_MAX (bytes_of e.1) c.0, ap bytes_of is);
+        label = at_most LABEL_MAX (last_bytes e.0) z.0;
+        number = g.0;
       },
-      small name es n a.1 b.1 c.1 d.1,
+      small name es n z.1 g.1 a.1 b.1 c.1 d.1,
     )
 
 -- a place of the map lies within the limits
@@ -112,10 +115,10 @@ module _ (name : List ℕ) (d : Data) (n : 1 ≤ length name) (o : IsOrdered d) 
   x = within name (places d) r
 
   all : AllSmall (places d)
-  all = small name (places d) n x.low.few x.near x.texts (all_held (places d) w)
+  all = small name (places d) n x.low.short (range_all d o) x.low.few x.near x.texts (all_held (places d) w)
 
   start : IsTree (single v)
-  start = single-tree v all.0.text
+  start = single-tree v all.0.text all.0.number
 
   listed : IsListing (single v) (places_below [] d)
   listed = listing_below (single v) [] d o (omega (arith, x.nodes)) (single-get v []) (λ a s. single-get v (a ∷ s))

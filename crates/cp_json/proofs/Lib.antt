@@ -4,3 +4,4 @@ mod Looking
 mod Ordered
 mod Growing
 mod Fitting
+mod Worked

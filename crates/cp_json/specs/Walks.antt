@@ -12,9 +12,9 @@ use Rattle.cp_model.specs.declared.row.Content.TheVariants.{Node}
 use Rattle.cp_model.specs.Place.{Label, Path, child}
 use Rattle.cp_model.specs.Keyed as keyed
 use Rattle.cp_model.specs.Subtrees.{replaced, is_there}
-use Rattle.cp_model.specs.Tree.{Tree, IsTree, text_bytes}
+use Rattle.cp_model.specs.Tree.{Tree, IsTree, IsNumber, text_bytes}
 use Rattle.cp_tree.specs.Rows.{alone, single}
-use Rattle.cp_json.specs.Places.{content_of}
+use Rattle.cp_json.specs.Places.{number_content, content_of}
 use Rattle.cp_json.specs.JsonTrees.{with_place}
 
 -- the child's label and the depth of its place are within their limits
@@ -130,12 +130,12 @@ abbrev pub AllAbove : List ℕ → Members → Type 0
 AllAbove k no_members = ⊤
 AllAbove k (member l d ms) = (text_cmp k l ≡ Less) × AllAbove k ms
 
--- the names of each object rise
+-- the names of each object rise, and whole numbers are within their range
 abbrev mutual
   pub IsOrdered : Data → Type 0
   IsOrdered null = ⊤
   IsOrdered (boolean b) = ⊤
-  IsOrdered (number n) = ⊤
+  IsOrdered (number n) = IsNumber (or_node (number_content n))
   IsOrdered (string s) = ⊤
   IsOrdered (array ds) = ItemsOrdered ds
   IsOrdered (object ms) = MembersOrdered ms
