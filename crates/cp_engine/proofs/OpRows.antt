@@ -21,7 +21,7 @@ use Rattle.cp_model.specs.declared.op.Op.TheVariants.{Ins, Del, Copy}
 use Rattle.cp_model.specs.declared.record.RowMark.TheVariants as mark
 use Rattle.cp_model.specs.declared.record.RecOp.TheVariants as letter
 use Rattle.cp_record.specs.Bytes.{record_below}
-use Rattle.cp_tree.specs.Rows.{row_of, greatest, deepest}
+use Rattle.cp_tree.specs.Rows.{entry_row, greatest, deepest}
 use Rattle.cp_engine.specs.Held.{Appended}
 use Rattle.cp_engine.specs.RowsAlone.{behind, op_rows}
 use Rattle.cp_engine.proofs.Depths.{deepest-within, deepest-rows, below-within}
@@ -33,12 +33,12 @@ unfolding moved
 made_rows tid base [] = refl
 made_rows tid base (e ∷ es) = ap (λ rs. record_below tid letter.I base e.0 None ∷ rs) (made_rows tid base es)
 
-gone_rows : (tid : ℕ) (base : Path) (es : List (Path × Content)) → map (λ (r : Row). record_below tid letter.D base r.path None) (map row_of es) ≡ with_tid tid (behind base (λ _. mark.Gone) es)
+gone_rows : (tid : ℕ) (base : Path) (es : List (Path × Content)) → map (λ (r : Row). record_below tid letter.D base r.path None) (map entry_row es) ≡ with_tid tid (behind base (λ _. mark.Gone) es)
 gone_rows tid base [] = refl
 gone_rows tid base (e ∷ es) = ap (λ rs. record_below tid letter.D base e.0 None ∷ rs) (gone_rows tid base es)
 
 copied_rows : (tid : ℕ) (base : Path) (q : Loc) (es : List (Path × Content)) →
-    map (λ (r : Row). record_below tid letter.C base r.path (Some q)) (map row_of es) ≡ with_tid tid (behind base (λ s. mark.Copied (below_place q s)) es)
+    map (λ (r : Row). record_below tid letter.C base r.path (Some q)) (map entry_row es) ≡ with_tid tid (behind base (λ s. mark.Copied (below_place q s)) es)
 copied_rows tid base q [] = refl
 copied_rows tid base q (e ∷ es) = ap (λ rs. record_below tid letter.C base e.0 (Some q) ∷ rs) (copied_rows tid base q es)
 
@@ -94,14 +94,14 @@ ins-rows result tid ss t p a l op x y e h = subst (λ rs. OnOk result (Appended 
 -- ---- deletions
 
 -- the subtree that is gone lies within the limit of places
-pub rows-within : (t : Tree) (q base : Path) (list : List Row) → IsTree t → is_there t q ≡ true → base ≡ q → list ≡ map row_of (below base t) → length base + greatest (λ (r : Row). length r.path) list ≤ LABELS_MAX
+pub rows-within : (t : Tree) (q base : Path) (list : List Row) → IsTree t → is_there t q ≡ true → base ≡ q → list ≡ map entry_row (below base t) → length base + greatest (λ (r : Row). length r.path) list ≤ LABELS_MAX
 rows-within t q base list h i e k =
     let deep : greatest (λ (r : Row). length r.path) list ≡ deepest (below base t) = ap (greatest (λ (r : Row). length r.path)) k ∙ deepest-rows (below base t) in
     let same : length base + deepest (below base t) ≡ length q + deepest (below q t) = ap (λ q. length q + deepest (below q t)) e in
     omega (arith, deep, same, below-within t q h i)
 
 -- and the records of what is gone
-pub del-added : {E : Type 0} (result : Result (Unit {0}) E) (tid : ℕ) (ss : List Source) (t : Tree) (base : Path) (p : Loc) (a : Label) (list : List Row) (x y : List Record) → base ≡ child p.path a → list ≡ map row_of (below base t) →
+pub del-added : {E : Type 0} (result : Result (Unit {0}) E) (tid : ℕ) (ss : List Source) (t : Tree) (base : Path) (p : Loc) (a : Label) (list : List Row) (x y : List Record) → base ≡ child p.path a → list ≡ map entry_row (below base t) →
     OnOk result (Appended x y (map (λ (r : Row). record_below tid letter.D base r.path None) list)) → OnOk result (Appended x y (with_tid tid (op_rows ss t (Del a p))))
 del-added result tid ss t base p a list x y e k h =
     subst (λ rs. OnOk result (Appended x y rs))
@@ -110,11 +110,11 @@ del-added result tid ss t base p a list x y e k h =
 -- ---- copies
 
 -- what is copied lies within the limit of places where it comes to stand
-pub copy-within : (u : Tree) (q p : Loc) (list : List Row) → is_there u q.path ≡ true → reaches_over p (below q.path u) ≡ false → list ≡ map row_of (below q.path u) → length p.path + greatest (λ (r : Row). length r.path) list ≤ LABELS_MAX
+pub copy-within : (u : Tree) (q p : Loc) (list : List Row) → is_there u q.path ≡ true → reaches_over p (below q.path u) ≡ false → list ≡ map entry_row (below q.path u) → length p.path + greatest (λ (r : Row). length r.path) list ≤ LABELS_MAX
 copy-within u q p list i n k = omega (arith, ap (greatest (λ (r : Row). length r.path)) k ∙ deepest-rows (below q.path u), deepest-within p (below q.path u) (root-below u q.path i) n)
 
 -- the records of what is copied
-pub subtree-added : {E : Type 0} (result : Result (Unit {0}) E) (tid : ℕ) (u : Tree) (q p : Loc) (list : List Row) (x y : List Record) → list ≡ map row_of (below q.path u) →
+pub subtree-added : {E : Type 0} (result : Result (Unit {0}) E) (tid : ℕ) (u : Tree) (q p : Loc) (list : List Row) (x y : List Record) → list ≡ map entry_row (below q.path u) →
     OnOk result (Appended x y (map (λ (r : Row). record_below tid letter.C p.path r.path (Some q)) list)) →
     OnOk result (Appended x y (with_tid tid (behind p.path (λ s. mark.Copied (below_place q s)) (below q.path u))))
 subtree-added result tid u q p list x y k h =

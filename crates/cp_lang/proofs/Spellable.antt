@@ -358,7 +358,7 @@ read_spellable text s e = reads-good (length text) start (tokens_of text) s tt e
 
 -- a statement within every limit can be written
 spellable_written : (s : Stmt) → IsSpellable s → IsWrittenStmt s
-spellable_written (stmt.Op (Ins p a t)) h = let tree : IsShortTree t = h.2 in tree.0
+spellable_written (stmt.Op (Ins p a t)) h = let tree : IsShortTree t = h.2 in (h.1, tree.0)
 spellable_written (stmt.Op (Del a p)) h = tt
 spellable_written (stmt.Op (Copy q p)) h = tt
 spellable_written stmt.Commit h = tt
