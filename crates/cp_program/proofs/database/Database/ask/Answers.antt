@@ -1,7 +1,7 @@
 use Rattle.std.proofs.Common.{sym, subst, IfOk}
 use Rattle.std.specs.declared.option.Option.TheVariants.{Some}
 use Rattle.cp_session.specs.Session.{Session, says, turn_of}
-use Rattle.cp_lang.specs.declared.stmt.Stmt.TheVariants as stmt
+use Rattle.cp_lang.specs.declared.syntax_tree.Stmt.TheVariants as stmt
 use Rattle.cp_outside.specs.FileReads.{FileTable}
 use Rattle.cp_program.specs.Job.{setting}
 use Rattle.cp_program.specs.Databases.{Stands, Turned}
