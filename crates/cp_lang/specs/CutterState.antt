@@ -8,7 +8,7 @@ use Rattle.cp_lang.specs.declared.cut.Cut.{Cut}
 use Rattle.cp_lang.specs.declared.cut.Cut.TheVariants.{Text, TooLong}
 
 -- the text that is kept, none of a long one; whether the text is white space alone; whether it is over the limit
-pub record Held : Type 0 where
+pub record CutterState : Type 0 where
   pub mode : Mode
   pub text : List ℕ
   pub blank : Bool
@@ -18,7 +18,7 @@ abbrev pub is_long : List ℕ → Bool
 is_long text = nat_lt STATEMENT_MAX (length text)
 
 -- what is kept of a scan
-abbrev pub held_of : Scan → Held
+abbrev pub held_of : Scan → CutterState
 held_of s = record {
   mode = s.mode;
   text = if is_long s.text then [] else s.text;
@@ -27,8 +27,8 @@ held_of s = record {
 }
 
 -- what is kept behind one byte more of the text
-abbrev pub grown : Held → ℕ → Held
-grown h b = record {
+abbrev pub grow : CutterState → ℕ → CutterState
+grow h b = record {
   mode = after h.mode b;
   text = if h.long then h.text else (if nat_lt (length h.text) STATEMENT_MAX then h.text ++ b ∷ [] else []);
   blank = h.blank && is_space b;
@@ -36,16 +36,16 @@ grown h b = record {
 }
 
 -- the cut that the kept text gives at its end
-abbrev pub held_cut : Held → List Cut
+abbrev pub held_cut : CutterState → List Cut
 held_cut h = if h.blank then [] else (if h.long then TooLong ∷ [] else Text h.text ∷ [])
 
 -- the cuts that end with one byte more
-abbrev pub byte_cuts : Held → ℕ → List Cut
+abbrev pub byte_cuts : CutterState → ℕ → List Cut
 byte_cuts h b = if ends h.mode b then held_cut h else []
 
 -- what is kept behind one byte more
-abbrev pub byte_held : Held → ℕ → Held
-byte_held h b = if ends h.mode b then held_of scan_start else grown h b
+abbrev pub byte_held : CutterState → ℕ → CutterState
+byte_held h b = if ends h.mode b then held_of scan_start else grow h b
 
 -- a list that begins with another
 abbrev pub Begins : List Cut → List Cut → Type 0

@@ -3,7 +3,7 @@ use Rattle.std.specs.Str.{IsCharBoundary}
 use Rattle.cp_path.specs.Spelling.{is_trigger}
 use Rattle.cp_lang.specs.Lexer.{run}
 use Rattle.cp_lang.proofs.Cutting.{mark_cut, run_cut}
-use Rattle.cp_lang.proofs.lexer.lexed.Goals as goal
+use Rattle.cp_lang.proofs.lexer.front_token.Goals as goal
 
 pub split_at-requires : goal.split_at-requires
 split_at-requires c =

@@ -1,6 +1,6 @@
 use Rattle.std.proofs.lemmas.Map.Iter.{rest_more}
 use Rattle.cp_lang.proofs.Steps.{listed}
-use Rattle.cp_lang.proofs.literal.list_of.Goals as goal
+use Rattle.cp_lang.proofs.parser.list_of.Goals as goal
 
 pub loop-label-preserved : goal.loop-label-preserved
 loop-label-preserved c =

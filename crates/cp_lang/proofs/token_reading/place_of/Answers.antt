@@ -3,7 +3,7 @@ use Rattle.cp_lang.specs.Grammar.{at_place}
 use Rattle.cp_lang.specs.Parser.{IsRead}
 use Rattle.cp_lang.specs.Tokenized.{shape_of}
 use Rattle.cp_lang.specs.declared.lexer.Shape.{Shape}
-use Rattle.cp_lang.proofs.parser.place_of.Goals as goal
+use Rattle.cp_lang.proofs.token_reading.place_of.Goals as goal
 
 pub returns-in-Word : goal.returns-in-Word
 returns-in-Word c = record {

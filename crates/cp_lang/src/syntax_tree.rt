@@ -38,7 +38,7 @@ pub enum StmtFault {
 
 impl From<AllocError> for StmtFault {
     ghost use Rattle.std.specs.Prelude.{◌≡◌};
-    ghost use Rattle.cp_lang.specs.declared.stmt.StmtFault.TheVariants.{Memory};
+    ghost use Rattle.cp_lang.specs.declared.syntax_tree.StmtFault.TheVariants.{Memory};
 
     ghost from_gives = { λ _ fault. fault ≡ Memory };
 
@@ -49,7 +49,7 @@ impl From<AllocError> for StmtFault {
 
 impl<T: Drop> From<AllocFailed<T>> for StmtFault {
     ghost use Rattle.std.specs.Prelude.{◌≡◌};
-    ghost use Rattle.cp_lang.specs.declared.stmt.StmtFault.TheVariants.{Memory};
+    ghost use Rattle.cp_lang.specs.declared.syntax_tree.StmtFault.TheVariants.{Memory};
 
     ghost from_gives = { λ _ fault. fault ≡ Memory };
 

@@ -3,7 +3,7 @@ use Rattle.std.proofs.lemmas.Result.{err_from_is_err_and}
 use Rattle.cp_lang.specs.Grammar.{start, statement_reading}
 use Rattle.cp_lang.proofs.Spellable.{read_written, read_spellable}
 use Rattle.cp_lang.proofs.Steps.{past}
-use Rattle.cp_lang.proofs.statement.parse.Goals as goal
+use Rattle.cp_lang.proofs.parser.parse.Goals as goal
 
 pub returns-in_err-statement-clause-answers : goal.returns-in_err-statement-clause-answers
 unfolding statement_reading
