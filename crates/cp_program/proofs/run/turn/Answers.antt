@@ -24,16 +24,16 @@ returns-then-count-eq0-clause-ends g c =
     ran-closed g.R.TreeRep.contents (g.F.Files.found c.args.files.now) c.args.session.now c.args.before l0 l1 (g.O.Sink.contents c.args.output.now) (g.O.Sink.contents c.closing.new.output) (g.O.Sink.refusals c.args.output.now) (g.O.Sink.refusals c.closing.new.output)
     c.closing.result c.requires.taken took end c.closing.ensures.own c.closing.ensures.went
 
-pub returns-then-now-gt-MOST_INPUT-clause-ends : goal.returns-then-now-gt-MOST_INPUT-clause-ends
-returns-then-now-gt-MOST_INPUT-clause-ends g c =
+pub returns-then-now-gt-INPUT_MAX-clause-ends : goal.returns-then-now-gt-INPUT_MAX-clause-ends
+returns-then-now-gt-INPUT_MAX-clause-ends g c =
     let l0 = (g.I.Source.left c.args.input.now) in
     let l1 = (g.I.Source.left c.read.new.self) in
     let bytes = take c.in-Ok.count c.read.new.into in
     let same : length c.read.new.into ≡ length c.args.piece.now = search rules in
     let count : length bytes ≡ c.in-Ok.count = length-take-le c.in-Ok.count c.read.new.into (omega (arith, c.in-Ok.ensures.bound)) in
-    ran-too-long g.R.TreeRep.contents (g.F.Files.found c.args.files.now) c.args.session.now c.args.before bytes l0 l1 (g.O.Sink.contents c.args.output.now) (g.O.Sink.contents c.last_line-then-now-gt-MOST_INPUT.new.output)
-    (g.O.Sink.refusals c.args.output.now) (g.O.Sink.refusals c.last_line-then-now-gt-MOST_INPUT.new.output) c.requires.taken
-    c.in-Ok.ensures.bytes.0 (omega (arith, count, c.if-now-gt-MOST_INPUT.true)) (omega (arith, count, same, c.in-Ok.ensures.bound, c.requires.bounded)) c.last_line-then-now-gt-MOST_INPUT.ensures.wrote
+    ran-too-long g.R.TreeRep.contents (g.F.Files.found c.args.files.now) c.args.session.now c.args.before bytes l0 l1 (g.O.Sink.contents c.args.output.now) (g.O.Sink.contents c.last_line-then-now-gt-INPUT_MAX.new.output)
+    (g.O.Sink.refusals c.args.output.now) (g.O.Sink.refusals c.last_line-then-now-gt-INPUT_MAX.new.output) c.requires.taken
+    c.in-Ok.ensures.bytes.0 (omega (arith, count, c.if-now-gt-INPUT_MAX.true)) (omega (arith, count, same, c.in-Ok.ensures.bound, c.requires.bounded)) c.last_line-then-now-gt-INPUT_MAX.ensures.wrote
 
 pub returns-in-Err-clause-ends : goal.returns-in-Err-clause-ends
 returns-in-Err-clause-ends g c =
@@ -55,7 +55,7 @@ returns-in-Err-clause-ends g c =
     λ files told s f. subst (Fed view files s bytes first c.feed.new.self b m) c.in-Err.is (c.feed.ensures.went files told s f) in
     subst P (sym c.stopped.ensures.status) (
     ran-stopped view found first c.feed.new.self c.args.before bytes l0 l1 b m a r (g.O.Sink.refusals c.feed.new.output) v stop
-    (omega (arith, count, c.if-now-gt-MOST_INPUT.false)) c.in-Err.ensures.cause.kept c.stopped.ensures.kept c.in-Ok.ensures.bytes.0 fed c.stopped.ensures.wrote
+    (omega (arith, count, c.if-now-gt-INPUT_MAX.false)) c.in-Err.ensures.cause.kept c.stopped.ensures.kept c.in-Ok.ensures.bytes.0 fed c.stopped.ensures.wrote
     (λ full. c.in-Err.ensures.cause.full (ap (λ s. Err s) full))
     )
 
