@@ -2,7 +2,7 @@
 //!
 //! Examples stand in blocks that are indented by four spaces. After `< ` comes the whole input of a call of `scratch n`, and
 //! the lines below it are its output. After `$ bin/cpdb ` come the words of a session: of the lines of this block and of all
-//! later ones, those that end in a semicolon go in, and all others come out.
+//! later ones, those that end in a semicolon go in, and all others come out. The status is 1 where a line refuses something.
 
 use crate::sheet::{Case, Part, Sheet};
 use std::alloc::{AllocError, Global};
@@ -73,6 +73,17 @@ fn add_line(
     Ok(block)
 }
 
+/// Adds the status that goes with the output of a call.
+fn add_status(alloc: Global, case: &mut Case) -> Result<(), AllocError> {
+    let refuses = case.parts.iter().any(|part| {
+        let mut lines = part.lines.iter();
+        part.key.as_str() == "out" && lines.any(|line| line.as_str().starts_with("refused"))
+    });
+    let status = if refuses { "1" } else { "0" };
+    case.parts.push(Part::new(alloc, 0, "ends", status)?)?;
+    Ok(())
+}
+
 /// The examples of a document.
 pub(crate) fn read(alloc: Global, text: &str) -> Result<Sheet, AllocError> {
     let mut sheet = Sheet::new(alloc);
@@ -85,6 +96,9 @@ pub(crate) fn read(alloc: Global, text: &str) -> Result<Sheet, AllocError> {
         } else if block == Block::Example {
             block = Block::Prose;
         }
+    }
+    for case in sheet.cases.iter_mut() {
+        add_status(alloc, case)?;
     }
     Ok(sheet)
 }
@@ -102,6 +116,9 @@ pub(crate) fn of_script(alloc: Global, script: &str, output: &str) -> Result<She
     }
     for line in output.split_terminator('\n') {
         add_to_last(alloc, &mut sheet.cases, false, line)?;
+    }
+    for case in sheet.cases.iter_mut() {
+        add_status(alloc, case)?;
     }
     Ok(sheet)
 }

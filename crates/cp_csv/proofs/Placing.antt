@@ -17,7 +17,7 @@ use Rattle.cp_model.proofs.KeyedLemmas.{get-insert}
 use Rattle.cp_model.specs.Keyed as keyed
 use Rattle.cp_model.specs.Keyed.{look}
 use Rattle.cp_model.specs.Subtrees.{is_there, replaced}
-use Rattle.cp_model.specs.Tree.{Tree, IsTree, IsRooted, weight, text_bytes}
+use Rattle.cp_model.specs.Tree.{Tree, IsTree, IsRooted, weight, text_bytes, IsNumber}
 use Rattle.cp_model.proofs.SumsLemmas.{len_insert_new, weight_insert_new}
 use Rattle.cp_tree.specs.Rows.{root_entries, path_size, single}
 use Rattle.cp_tree.proofs.Fits.{within-limit}
@@ -29,16 +29,16 @@ use Rattle.cp_csv.specs.CsvTrees.{Fields, is_long_label, is_long_text, repeated_
 use Rattle.cp_model.specs.Cases.{unless}
 use Rattle.cp_csv.specs.Steps.{IsEmptyRow, IsShallow, fields_weight}
 use Rattle.cp_csv.specs.declared.fault.CsvFault.{CsvFault}
-use Rattle.cp_csv.specs.declared.fault.CsvFault.TheVariants.{NoHeader, NotUtf8, LabelTooLong, RepeatedHeader, NoColumn, Ragged, TextTooLong, RepeatedKey, TooMany, TooBig, Memory}
+use Rattle.cp_csv.specs.declared.fault.CsvFault.TheVariants.{NoHeader, NotUtf8, LabelTooLong, Ragged, TextTooLong, RepeatedKey, TooMany, TooBig, Memory}
 use Rattle.cp_csv.proofs.Lists.{none_pass}
 
 -- ---- a leaf
 
 -- a leaf below the root, or below a child of it, leaves a tree where there is room
-pub leaf_fits : (t : Tree) (p : Path) (a : Label) (c : Content) → IsTree t → keyed.get t p ≡ Some Node → length p ≤ 1 → path_size p ≤ 256 → length a ≤ LABEL_MAX → text_bytes c ≤ TEXT_MAX →
+pub leaf_fits : (t : Tree) (p : Path) (a : Label) (c : Content) → IsTree t → keyed.get t p ≡ Some Node → length p ≤ 1 → path_size p ≤ 256 → length a ≤ LABEL_MAX → text_bytes c ≤ TEXT_MAX → IsNumber c →
     keyed.len t + 1 ≤ NODES_MAX → weight t + 16 + length a + text_bytes c ≤ WEIGHT_MAX → IsTree (replaced (child p a) (root_entries c) t)
-leaf_fits t p a c h n deep large s x l w =
-    leaf-fits t p a c h n (within-limit (child p a) (omega (arith, deep, length-append p (a ∷ []))) (omega (arith, large, s, sum_by-append (λ (a : Label). length a + 1) p (a ∷ [])))) x l w
+leaf_fits t p a c h n deep large s x whole l w =
+    leaf-fits t p a c h n (within-limit (child p a) (omega (arith, deep, length-append p (a ∷ []))) (omega (arith, large, s, sum_by-append (λ (a : Label). length a + 1) p (a ∷ [])))) s x whole l w
 
 -- ---- the fields
 

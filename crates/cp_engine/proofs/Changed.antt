@@ -86,6 +86,6 @@ pub op-small : (ss : List Source) (t : Tree) (op o : Op) → IsTree t → IsWrit
 op-small ss t op o h w n e = subst IsSmall (sym e) (small op w n)
   where
     small : (op : Op) → IsWritten op → refusal ss t op ≡ None → IsSmall op
-    small (Ins p a l) w n = let x = ins_accepted ss t p a l n in literal-small t p a l h w (ap is_some x.free) x.fits.weighs
+    small (Ins p a l) w n = let x = ins_accepted ss t p a l n in literal-small t p a l h w.1 (ap is_some x.free) x.fits.weighs
     small (Del a p) w n = tt
     small (Copy q p) w n = tt

@@ -7,7 +7,6 @@ use Rattle.cp_model.specs.Tree.{Tree, Source, IsTree, refusal, changed}
 use Rattle.cp_model.specs.Laws.{AreTrees}
 use Rattle.cp_model.specs.History.{IsWritten, with_tid}
 use Rattle.cp_model.specs.declared.op.Op.{Op}
-use Rattle.cp_record.specs.Packed.{Holds}
 use Rattle.cp_engine.specs.Passed.{Passed, passed, pass}
 use Rattle.cp_engine.specs.Held.{Appended}
 use Rattle.cp_engine.specs.RowsAlone.{op_rows}
@@ -23,7 +22,7 @@ pass-records ss x op h w n = ap (λ rows. x.records ++ with_tid x.next rows) (ro
 
 module _ {R : Type 0} (view : R → Tree) (ss : List Source) where
   -- a transaction that has just begun
-  pub going-begun : (x : Txn R) (t : Tree) (n : ℕ) → IsTree t → n ≤ 2 ^ 63 → x.ops ≡ [] → x.first ≡ n → view x.tree ≡ t → Holds x.rows [] → x.failure ≡ None → IsGoing view x ss t n []
+  pub going-begun : (x : Txn R) (t : Tree) (n : ℕ) → IsTree t → n ≤ 2 ^ 63 → x.ops ≡ [] → x.first ≡ n → view x.tree ≡ t → x.rows ≡ [] → x.failure ≡ None → IsGoing view x ss t n []
   unfolding passed
   going-begun x t n h b o f e r k = record { start = h; first = b; few = omega arith; written = tt; accepted = tt; held = o; tid = f; tree = e; rows = r; failure = k }
 
@@ -52,6 +51,6 @@ module _ {R : Type 0} (view : R → Tree) (ss : List Source) where
         held = o ∙ ap (λ os. os ++ op ∷ []) h.held;
         tid = f ∙ h.tid;
         tree = e ∙ ap (λ u. changed ss u op) h.tree ∙ sym (pass-tree ss p op) ∙ ap (λ q. q.tree) (sym more);
-        rows = subst (Holds y.rows) records (r.behind p.records h.rows);
+        rows = r.is ∙ ap (λ rs. rs ++ with_tid tid (op_rows ss (view x.tree) op)) h.rows ∙ records;
         failure = l ∙ h.failure;
       }

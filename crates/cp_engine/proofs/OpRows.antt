@@ -21,7 +21,6 @@ use Rattle.cp_model.specs.declared.op.Op.TheVariants.{Ins, Del, Copy}
 use Rattle.cp_model.specs.declared.record.RowMark.TheVariants as mark
 use Rattle.cp_model.specs.declared.record.RecOp.TheVariants as letter
 use Rattle.cp_record.specs.Bytes.{record_below}
-use Rattle.cp_record.specs.declared.packed.PackedRecords.{PackedRecords}
 use Rattle.cp_tree.specs.Rows.{entry_row, greatest, deepest}
 use Rattle.cp_engine.specs.Held.{Appended}
 use Rattle.cp_engine.specs.RowsAlone.{behind, op_rows}
@@ -82,13 +81,13 @@ pub made-within : (base root p : Path) (a : Label) (d : ℕ) → base ≡ child 
 made-within base root p a d e r h = omega (arith, ap length e, ap length r)
 
 -- the records of what is inserted
-pub ins-added : {E : Type 0} (result : Result (Unit {0}) E) (tid : ℕ) (base root p : Path) (a : Label) (es : List (Path × Content)) (x y : PackedRecords) → base ≡ child p a → root ≡ [] →
+pub ins-added : {E : Type 0} (result : Result (Unit {0}) E) (tid : ℕ) (base root p : Path) (a : Label) (es : List (Path × Content)) (x y : List Record) → base ≡ child p a → root ≡ [] →
     OnOk result (Appended x y (map (λ (e : Path × Content). record_below tid letter.I base e.0 None) (moved root es))) → OnOk result (Appended x y (with_tid tid (behind (child p a) (λ _. mark.Made) es)))
 ins-added result tid base root p a es x y e r h =
     subst (λ rs. OnOk result (Appended x y rs))
     (ap (λ q. map (λ (e : Path × Content). record_below tid letter.I base e.0 None) (moved q es)) r ∙ made_rows tid base es ∙ ap (λ q. with_tid tid (behind q (λ _. mark.Made) es)) e) h
 
-pub ins-rows : {E : Type 0} (result : Result (Unit {0}) E) (tid : ℕ) (ss : List Source) (t : Tree) (p : Loc) (a : Label) (l : Literal) (op : Op) (x y : PackedRecords) → op ≡ Ins p a l →
+pub ins-rows : {E : Type 0} (result : Result (Unit {0}) E) (tid : ℕ) (ss : List Source) (t : Tree) (p : Loc) (a : Label) (l : Literal) (op : Op) (x y : List Record) → op ≡ Ins p a l →
     OnOk result (Appended x y (with_tid tid (behind (child p.path a) (λ _. mark.Made) (literal_rows l)))) → OnOk result (Appended x y (with_tid tid (op_rows ss t op)))
 ins-rows result tid ss t p a l op x y e h = subst (λ rs. OnOk result (Appended x y rs)) (ins_is tid ss t p a l ∙ ap (λ o. with_tid tid (op_rows ss t o)) (sym e)) h
 
@@ -102,7 +101,7 @@ rows-within t q base list h i e k =
     omega (arith, deep, same, below-within t q h i)
 
 -- and the records of what is gone
-pub del-added : {E : Type 0} (result : Result (Unit {0}) E) (tid : ℕ) (ss : List Source) (t : Tree) (base : Path) (p : Loc) (a : Label) (list : List Row) (x y : PackedRecords) → base ≡ child p.path a → list ≡ map entry_row (below base t) →
+pub del-added : {E : Type 0} (result : Result (Unit {0}) E) (tid : ℕ) (ss : List Source) (t : Tree) (base : Path) (p : Loc) (a : Label) (list : List Row) (x y : List Record) → base ≡ child p.path a → list ≡ map entry_row (below base t) →
     OnOk result (Appended x y (map (λ (r : Row). record_below tid letter.D base r.path None) list)) → OnOk result (Appended x y (with_tid tid (op_rows ss t (Del a p))))
 del-added result tid ss t base p a list x y e k h =
     subst (λ rs. OnOk result (Appended x y rs))
@@ -115,18 +114,18 @@ pub copy-within : (u : Tree) (q p : Loc) (list : List Row) → is_there u q.path
 copy-within u q p list i n k = omega (arith, ap (greatest (λ (r : Row). length r.path)) k ∙ deepest-rows (below q.path u), deepest-within p (below q.path u) (root-below u q.path i) n)
 
 -- the records of what is copied
-pub subtree-added : {E : Type 0} (result : Result (Unit {0}) E) (tid : ℕ) (u : Tree) (q p : Loc) (list : List Row) (x y : PackedRecords) → list ≡ map entry_row (below q.path u) →
+pub subtree-added : {E : Type 0} (result : Result (Unit {0}) E) (tid : ℕ) (u : Tree) (q p : Loc) (list : List Row) (x y : List Record) → list ≡ map entry_row (below q.path u) →
     OnOk result (Appended x y (map (λ (r : Row). record_below tid letter.C p.path r.path (Some q)) list)) →
     OnOk result (Appended x y (with_tid tid (behind p.path (λ s. mark.Copied (below_place q s)) (below q.path u))))
 subtree-added result tid u q p list x y k h =
     subst (λ rs. OnOk result (Appended x y rs)) (ap (map (λ (r : Row). record_below tid letter.C p.path r.path (Some q))) k ∙ copied_rows tid p.path q (below q.path u)) h
 
 -- a place is copied onto itself with no records
-pub copy-itself : (tid : ℕ) (ss : List Source) (t : Tree) (q p : Loc) (x : PackedRecords) → q ≡ p → Appended x x (with_tid tid (op_rows ss t (Copy q p)))
+pub copy-itself : (tid : ℕ) (ss : List Source) (t : Tree) (q p : Loc) (x : List Record) → q ≡ p → Appended x x (with_tid tid (op_rows ss t (Copy q p)))
 copy-itself tid ss t q p x e = subst (λ rs. Appended x x (with_tid tid rs)) (sym (itself_is ss t q p (ap (λ r. place_eq q r) (sym e) ∙ place_eq-refl q))) (appended-none x)
 
 -- the records of a copy onto another place
-pub copy-added : {E : Type 0} (result : Result (Unit {0}) E) (tid : ℕ) (ss : List Source) (t u : Tree) (q p : Loc) (x y : PackedRecords) → ¬ (q ≡ p) → database ss t q ≡ Some u →
+pub copy-added : {E : Type 0} (result : Result (Unit {0}) E) (tid : ℕ) (ss : List Source) (t u : Tree) (q p : Loc) (x y : List Record) → ¬ (q ≡ p) → database ss t q ≡ Some u →
     OnOk result (Appended x y (with_tid tid (behind p.path (λ s. mark.Copied (below_place q s)) (below q.path u)))) → OnOk result (Appended x y (with_tid tid (op_rows ss t (Copy q p))))
 copy-added result tid ss t u q p x y d e h =
     subst (λ rs. OnOk result (Appended x y (with_tid tid rs))) (sym (elsewhere_is ss t u q p (other (place_eq q p) (λ e. d (place_eq-same q p e))) e)) h
@@ -135,5 +134,5 @@ copy-added result tid ss t u q p x y d e h =
     other true n = absurd (n refl)
     other false n = refl
 
-pub op-added : {E : Type 0} (result : Result (Unit {0}) E) (tid : ℕ) (ss : List Source) (t : Tree) (o op : Op) (x y : PackedRecords) → op ≡ o → OnOk result (Appended x y (with_tid tid (op_rows ss t o))) → OnOk result (Appended x y (with_tid tid (op_rows ss t op)))
+pub op-added : {E : Type 0} (result : Result (Unit {0}) E) (tid : ℕ) (ss : List Source) (t : Tree) (o op : Op) (x y : List Record) → op ≡ o → OnOk result (Appended x y (with_tid tid (op_rows ss t o))) → OnOk result (Appended x y (with_tid tid (op_rows ss t op)))
 op-added result tid ss t o op x y e h = subst (λ o. OnOk result (Appended x y (with_tid tid (op_rows ss t o)))) (sym e) h

@@ -12,20 +12,26 @@ use Rattle.cp_model.specs.declared.literal.Literal.{Literal}
 use Rattle.cp_model.specs.declared.literal.Literal.TheVariants as literal
 use Rattle.cp_model.specs.declared.literal.LitEdge.{LitEdge}
 use Rattle.cp_model.specs.declared.record.Record.{Record}
-use Rattle.cp_record.specs.Packed.{Holds}
-use Rattle.cp_record.specs.declared.packed.PackedRecords.{PackedRecords}
-use Rattle.cp_engine.specs.Held.{Appended}
+use Rattle.cp_engine.specs.Held.{Appended, Grown}
 
 -- ---- appending
 
-pub appended-none : (x : PackedRecords) → Appended x x []
-appended-none x = record { behind = λ held h. subst (Holds x) (sym (append-nil held)) h }
+pub appended-none : (x : List Record) → Appended x x []
+appended-none x = record { is = sym (append-nil x) }
 
-pub appended-then : (x y z : PackedRecords) (rs qs : List Record) → Appended x y rs → Appended y z qs → Appended x z (rs ++ qs)
-appended-then x y z rs qs a b = record { behind = λ held h. subst (Holds z) (append_assoc held rs qs) (b.behind (held ++ rs) (a.behind held h)) }
+pub appended-then : (x y z : List Record) (rs qs : List Record) → Appended x y rs → Appended y z qs → Appended x z (rs ++ qs)
+appended-then x y z rs qs a b = record { is = b.is ∙ ap (λ l. l ++ qs) a.is ∙ append_assoc x rs qs }
 
-pub appended-is : (x y : PackedRecords) (rs qs : List Record) → rs ≡ qs → Appended x y rs → Appended x y qs
+pub appended-is : (x y : List Record) (rs qs : List Record) → rs ≡ qs → Appended x y rs → Appended x y qs
 appended-is x y rs qs e a = subst (Appended x y) e a
+
+-- nothing more
+pub grown-same : (x y : List Record) → y ≡ x → Grown x y
+grown-same x y e = record { more = []; is = e ∙ sym (append-nil x) }
+
+-- some more, and then some
+pub grown-then : (x y z : List Record) (rs : List Record) → Appended x y rs → Grown y z → Grown x z
+grown-then x y z rs a g = record { more = rs ++ g.more; is = g.is ∙ ap (λ l. l ++ g.more) a.is ∙ append_assoc x rs g.more }
 
 -- ---- literals
 
@@ -54,7 +60,7 @@ edges-more f at path es i e h k p =
     ∙ ap (λ ds. map f (moved at (edge_rows ds))) (sym (take_more es i e h ∙ ap (λ y. take i es ++ y ∷ []) (sym k)))
 
 -- before the first edge
-pub edges-none : (f : Path × Content → Record) (at : Path) (es : List LitEdge) (x : PackedRecords) → Appended x x (map f (moved at (edge_rows (take 0 es))))
+pub edges-none : (f : Path × Content → Record) (at : Path) (es : List LitEdge) (x : List Record) → Appended x x (map f (moved at (edge_rows (take 0 es))))
 unfolding moved
 edges-none f at es x = appended-none x
 
@@ -67,12 +73,12 @@ unfolding moved
 root-added f at c es = ap (λ q. f (q, c) ∷ map f (moved at es)) (sym (append-nil at))
 
 -- a leaf is its root alone
-pub leaf-added : (f : Path × Content → Record) (at : Path) (l : Literal) (v : Value) (x y : PackedRecords) → l ≡ literal.Leaf v → Appended x y (f (at, Leaf v) ∷ []) → Appended x y (map f (moved at (literal_rows l)))
+pub leaf-added : (f : Path × Content → Record) (at : Path) (l : Literal) (v : Value) (x y : List Record) → l ≡ literal.Leaf v → Appended x y (f (at, Leaf v) ∷ []) → Appended x y (map f (moved at (literal_rows l)))
 unfolding moved
 leaf-added f at l v x y e a = subst (Appended x y) (root-added f at (Leaf v) [] ∙ ap (λ l. map f (moved at (literal_rows l))) (sym e)) a
 
 -- the rows below a node come behind its own
-pub node-added : {E : Type 0} (result : Result (Unit {0}) E) (f : Path × Content → Record) (at : Path) (l : Literal) (below : List (Path × Content)) (x y z : PackedRecords) → l ≡ literal.Node below → Appended x y (f (at, Node) ∷ []) →
+pub node-added : {E : Type 0} (result : Result (Unit {0}) E) (f : Path × Content → Record) (at : Path) (l : Literal) (below : List (Path × Content)) (x y z : List Record) → l ≡ literal.Node below → Appended x y (f (at, Node) ∷ []) →
     OnOk result (Appended y z (map f (moved at below))) → OnOk result (Appended x z (map f (moved at (literal_rows l))))
 node-added (Ok u) f at l below x y z e a b =
     subst (Appended x z) (root-added f at Node below ∙ ap (λ l. map f (moved at (literal_rows l))) (sym e)) (appended-then x y z (f (at, Node) ∷ []) (map f (moved at below)) a b)

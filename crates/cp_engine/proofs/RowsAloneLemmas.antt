@@ -383,7 +383,7 @@ sorted-taken (Some t) q = sorted-below q t
 -- the rows of one operation rise
 pub sorted-op_rows : (ss : List Source) (t : Tree) (op : Op) → IsWritten op → T (is_sorted path_cmp (op_rows ss t op))
 unfolding op_rows
-sorted-op_rows ss t (Ins p a l) h = sorted-behind (child p.path a) (λ _. I) (literal_rows l) h.sorted
+sorted-op_rows ss t (Ins p a l) h = sorted-behind (child p.path a) (λ _. I) (literal_rows l) h.1.sorted
 sorted-op_rows ss t (Del a p) h = sorted-behind (child p.path a) (λ _. D) (below (child p.path a) t) (sorted-below (child p.path a) t)
 sorted-op_rows ss t (Copy q p) h =
     elim (place_eq q p) as (λ b. T (is_sorted path_cmp (if b then [] else behind p.path (λ s. C (below_place q s)) (taken (database ss t q) q.path)))) [

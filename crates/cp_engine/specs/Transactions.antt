@@ -8,7 +8,6 @@ use Rattle.cp_model.specs.declared.op.Op.{Op}
 use Rattle.cp_model.specs.declared.refusal.Cause.{Cause}
 use Rattle.cp_model.specs.declared.refusal.Cause.TheVariants.{Refused, Unread}
 use Rattle.cp_record.specs.Bytes.{commit_length}
-use Rattle.cp_record.specs.Packed.{Holds}
 use Rattle.cp_engine.specs.Passed.{passed, refusal_behind, AllAccepted}
 use Rattle.cp_engine.specs.declared.txn.Txn.{Txn}
 use Rattle.cp_engine.specs.declared.txn.Step.{Step}
@@ -49,7 +48,7 @@ pub record IsGoing {R : Type 0} (view : R → Tree) (x : Txn R) (ss : List Sourc
   pub held : x.ops ≡ ops
   pub tid : x.first ≡ n
   pub tree : view x.tree ≡ (passed ss t n ops).tree
-  pub rows : Holds x.rows (passed ss t n ops).records
+  pub rows : x.rows ≡ (passed ss t n ops).records
   pub failure : x.failure ≡ None
 
 -- the transaction stands where this progress was made from the tree t

@@ -6,7 +6,6 @@ ghost use Rattle.cp_model.specs.declared.op.Op.{Op};
 ghost use Rattle.cp_model.specs.declared.record.Record.{Record};
 ghost use Rattle.cp_model.specs.declared.refusal.Refusal.TheVariants.{TooManyOps};
 ghost use Rattle.cp_record.specs.Bytes.{commit_length};
-ghost use Rattle.cp_record.specs.Packed.{Holds};
 ghost use Rattle.cp_engine.specs.Loaded.{sources_in};
 ghost use Rattle.cp_engine.specs.Passed.{passed};
 ghost use Rattle.cp_engine.specs.Transactions.{Progress, going, Stands, Applies, Finishes, IsGoing, state_of, spoiled, given_up};
@@ -186,10 +185,10 @@ impl<R: TreeRep> Txn<R> {
 
     /// The bytes of the commit. Costs the places of its operations.
     fn commit_length(&self) -> u64
-        ensures length { (rs : List Record) → Holds self.now.rows rs → result ≡ commit_length self.now.ops rs }
+        ensures length { result ≡ commit_length self.now.ops self.now.rows }
         ensures fits { result < 2 ^ 64 }
     {
-        (9 + self.ops.bytes()).saturating_add(self.rows.len() as u64)
+        9 + self.ops.bytes() + self.rows.len() as u64
     }
 
     /// Gives the transaction up, and says how many accepted operations it held.

@@ -1,7 +1,7 @@
 -- A value that nothing refuses can be made into a tree, which is the map of its value_places.
 use Rattle.cp_model.specs.declared.limits.TheConstants.{NODES_MAX, WEIGHT_MAX}
 use Rattle.cp_path.specs.declared.limits.TheConstants.{LABEL_MAX, LABELS_MAX, LOC_MAX, NAME_MAX, TEXT_MAX}
-use Rattle.std.proofs.Common.{◌≡◌, ◌≤◌, ℕ, Bool, true, false, cond, ◌||◌, List, [], ◌∷◌, length, sum_by, nat_lt, is_some, Result, Ok, Err, refl, sym, ap, ◌∙◌, arith, subst}
+use Rattle.std.proofs.Common.{◌≡◌, ◌≤◌, ℕ, Bool, true, false, cond, ◌||◌, List, [], ◌∷◌, length, sum_by, nat_lt, is_some, Result, Ok, Err, refl, sym, ap, ◌∙◌, arith}
 use Rattle.std.proofs.lemmas.Bool.{and_parts, or_parts}
 use Rattle.cp_model.proofs.Accepted.{at_most}
 use Rattle.std.proofs.lemmas.List.Sums.{sum_by-cons}
@@ -35,7 +35,7 @@ use Rattle.cp_json.specs.Surveys.{survey_of, survey_refusals}
 use Rattle.cp_json.proofs.Surveying.{refusals_is, survey_whole}
 use Rattle.cp_json.proofs.Walking.{Entry, stepped, AllNeeds, below_is, needs_below}
 use Rattle.cp_json.proofs.Looking.{AreLow, near_all, all_held, low_first}
-use Rattle.cp_json.proofs.Growing.{IsListing, with_entries, listing_below, AllSmall, all_put, get_with_entries}
+use Rattle.cp_json.proofs.Growing.{AllInRange, range_all, IsListing, with_entries, listing_below, AllSmall, all_put, get_with_entries}
 
 -- ---- where nothing is refused
 
@@ -71,10 +71,10 @@ holds : (c : Option Content) → is_some c ≡ true → c ≡ Some (or_node c)
 holds None h = absurd (cc)
 holds (Some c) h = refl
 
-small : (name : List ℕ) (es : List Entry) → 1 ≤ length name → any_above LABEL_MAX (λ e. last_bytes e.0) es ≡ false → any_above LABELS_MAX (λ e. length e.0) es ≡ false → any_above LOC_MAX (λ e. size (record { db = name; path = e.0 })) es ≡ false →
+small : (name : List ℕ) (es : List Entry) → 1 ≤ length name → any_above LABEL_MAX (λ e. last_bytes e.0) es ≡ false → AllInRange es → any_above LABELS_MAX (λ e. length e.0) es ≡ false → any_above LOC_MAX (λ e. size (record { db = name; path = e.0 })) es ≡ false →
     any_above TEXT_MAX (λ e. bytes_of e.1) es ≡ false → list_all (λ e. is_some e.1) es ≡ true → AllSmall es
-small name [] n l f s t w = tt
-small name (e ∷ es) n l f s t w =
+small name [] n l g f s t w = tt
+small name (e ∷ es) n l g f s t w =
     let low = low_first e es (record { short = l; few = f }) in
     let a = or_parts (nat_lt LABELS_MAX (length e.0)) (any_above LABELS_MAX (λ e. length e.0) es) f in
     let b = or_parts (nat_lt LOC_MAX (size (record { db = name; path = e.0 }))) (any_above LOC_MAX (λ e. size (record { db = name; path = e.0 })) es) s in
@@ -86,8 +86,9 @@ small name (e ∷ es) n l f s t w =
         holds = is;
         place = within-limit e.0 (at_most LABELS_MAX (length e.0) a.0) (omega (arith, n, at_most LOC_MAX (size (record { db = name; path = e.0 })) b.0));
         text = omega (arith, at_most TEXT_MAX (bytes_of e.1) c.0, ap bytes_of is);
+        number = g.0;
       },
-      small name es n low.1.short a.1 b.1 c.1 d.1,
+      small name es n low.1.short g.1 a.1 b.1 c.1 d.1,
     )
 
 -- a place of the map lies within the limits
@@ -117,10 +118,10 @@ module _ (name : List ℕ) (d : Data) (n : 1 ≤ length name) (o : IsOrdered d) 
   x = within name (value_places d) r
 
   all : AllSmall (value_places d)
-  all = small name (value_places d) n x.low.short x.low.few x.near x.texts (all_held (value_places d) w)
+  all = small name (value_places d) n x.low.short (range_all d o) x.low.few x.near x.texts (all_held (value_places d) w)
 
   start : IsTree (single v)
-  start = single-tree v all.0.text
+  start = single-tree v all.0.text all.0.number
 
   listed : IsListing (single v) (places_below [] d)
   listed = listing_below (single v) [] d o (omega (arith, x.nodes)) (single-get v []) (λ a s. single-get v (a ∷ s))

@@ -23,10 +23,10 @@ use Rattle.cp_model.specs.Keyed as keyed
 use Rattle.cp_model.specs.Keyed.{look}
 use Rattle.cp_model.proofs.Strips.{strip_is, strip-append, strip-itself, append-nil, snoc-same}
 use Rattle.cp_model.proofs.Lookups.{path_eq-append, path_eq-sym, rest_is, or_none}
-use Rattle.cp_model.specs.Tree.{Tree, IsTree, weight, weight_of, text_bytes, last_bytes}
+use Rattle.cp_model.specs.Tree.{Tree, IsTree, IsNumber, weight, weight_of, text_bytes, last_bytes}
 use Rattle.cp_model.proofs.SumsLemmas.{last_bytes_child, len_insert_new, weight_insert_new}
 use Rattle.cp_tree.proofs.Leaves.{leaf-insert, leaf-fits}
-use Rattle.cp_json.specs.Places.{content_of, places_below, item_places, member_places, bytes_of, place_weight}
+use Rattle.cp_json.specs.Places.{content_of, value_places, places_below, item_places, member_places, bytes_of, place_weight}
 use Rattle.cp_json.specs.JsonTrees.{entry_of}
 use Rattle.cp_json.specs.Growing.{or_node, with_leaf, CanPut}
 use Rattle.cp_json.specs.Ordered.{AllAbove, IsOrdered, ItemsOrdered, MembersOrdered}
@@ -196,6 +196,46 @@ mutual
             (fresh_kept t (with_entries u here) p k ms o.0 (λ m s e. stands_still t q d (child p m ++ s) (strip_other p k m s e)) f.1)),
       )
 
+-- ---- whole numbers within their range
+
+abbrev pub AllInRange : List Entry → Type 0
+AllInRange [] = ⊤
+AllInRange (e ∷ es) = IsNumber (or_node e.1) × AllInRange es
+
+range_append : (es fs : List Entry) → AllInRange es → AllInRange fs → AllInRange (es ++ fs)
+range_append [] fs h k = k
+range_append (e ∷ es) fs h k = (h.0, range_append es fs h.1 k)
+
+range_of : (d : Data) → IsOrdered d → IsNumber (or_node (content_of d))
+range_of null o = tt
+range_of (boolean true) o = tt
+range_of (boolean false) o = tt
+range_of (number n) o = o
+range_of (string s) o = tt
+range_of (array ds) o = tt
+range_of (object ms) o = tt
+
+mutual
+  range_below : (p : Path) (d : Data) → IsOrdered d → AllInRange (places_below p d)
+  range_below p null o = tt
+  range_below p (boolean b) o = tt
+  range_below p (number n) o = tt
+  range_below p (string s) o = tt
+  range_below p (array ds) o = range_items p 0 ds o
+  range_below p (object ms) o = range_members p ms o
+
+  range_items : (p : Path) (i : ℕ) (ds : Items) → ItemsOrdered ds → AllInRange (item_places p i ds)
+  range_items p i no_items o = tt
+  range_items p i (item d ds) o = (range_of d o.0, range_append (places_below (child p (decimal i)) d) (item_places p (i + 1) ds) (range_below (child p (decimal i)) d o.0) (range_items p (i + 1) ds o.1))
+
+  range_members : (p : Path) (ms : Members) → MembersOrdered ms → AllInRange (member_places p ms)
+  range_members p no_members o = tt
+  range_members p (member k d ms) o = (range_of d o.1, range_append (places_below (child p k) d) (member_places p ms) (range_below (child p k) d o.1) (range_members p ms o.2))
+
+-- so are all of a value that is read
+pub range_all : (d : Data) → IsOrdered d → AllInRange (value_places d)
+range_all d o = (range_of d o, range_below [] d o)
+
 -- ---- leaves added to a tree within the limits
 
 pub record IsSmall (e : Entry) : Type 0 where
@@ -203,6 +243,7 @@ pub record IsSmall (e : Entry) : Type 0 where
   pub holds : e.1 ≡ Some (or_node e.1)
   pub place : over_limit (at_target e.0) ≡ false
   pub text : text_bytes (or_node e.1) ≤ TEXT_MAX
+  pub number : IsNumber (or_node e.1)
 
 abbrev pub AllSmall : List Entry → Type 0
 AllSmall [] = ⊤
@@ -211,7 +252,7 @@ AllSmall (e ∷ es) = IsSmall e × AllSmall es
 leaf_tree : (t : Tree) (e : Entry) → IsTree t → IsNew t e → IsSmall e → keyed.len t + 1 ≤ NODES_MAX → weight t + place_weight e ≤ WEIGHT_MAX → IsTree (with_leaf e.0 e.1 t)
 leaf_tree t e h x s n w =
     let near : over_limit (at_target (child x.above x.label)) ≡ false = ap (λ q. over_limit (at_target q)) (sym x.is) ∙ s.place in
-    subst (λ q. IsTree (with_leaf q e.1 t)) (sym x.is) (leaf-fits t x.above x.label (or_node e.1) h x.node near s.text n (omega (arith, w, ap last_bytes x.is, last_bytes_child x.above x.label, ap bytes_of s.holds)))
+    subst (λ q. IsTree (with_leaf q e.1 t)) (sym x.is) (leaf-fits t x.above x.label (or_node e.1) h x.node near (s.low.near x.above x.label x.is).1 s.text s.number n (omega (arith, w, ap last_bytes x.is, last_bytes_child x.above x.label, ap bytes_of s.holds)))
 
 -- each can be added as a leaf, and adding them is putting them in
 pub all_put : (t : Tree) (es : List Entry) → IsTree t → IsListing t es → AllSmall es → keyed.len t + length es ≤ NODES_MAX → weight t + sum_by place_weight es ≤ WEIGHT_MAX → AllNeeds with_leaf CanPut es t × (stepped with_leaf es t ≡ with_entries t es)

@@ -5,3 +5,4 @@ mod Growing
 mod Surveying
 mod Fitting
 mod Ordered
+mod Worked

@@ -4,3 +4,4 @@ pub mod Walks
 pub mod Growing
 pub mod Surveys
 pub mod Ordered
+pub mod Examples

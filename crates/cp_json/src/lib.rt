@@ -5,11 +5,13 @@
 #![tactic(auto)]
 
 mod build;
+mod examples;
 mod fault;
 mod fraction;
 mod read;
 mod survey;
 mod value;
 
+pub use examples::worked_examples;
 pub use fault::JsonFault;
 pub use read::tree_of_json;

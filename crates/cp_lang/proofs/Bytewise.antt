@@ -7,7 +7,7 @@ use Rattle.std.proofs.lemmas.List.Folds.{list_all-append}
 use Rattle.cp_lang.specs.declared.cut.Mode.{Mode}
 use Rattle.cp_lang.specs.Spaces.{is_space, is_blank}
 use Rattle.cp_lang.specs.Cuts.{ends, after, Scan, scan_byte}
-use Rattle.cp_lang.specs.Held.{Held, held_of, grown, byte_cuts, byte_held}
+use Rattle.cp_lang.specs.CutterState.{CutterState, held_of, grow, byte_cuts, byte_held}
 
 -- the text under a limit, else nothing
 abbrev kept : ℕ → List ℕ → List ℕ
@@ -34,14 +34,14 @@ long_more m t b true q e f = rw (over m t b e, e) refl
 long_more m t b false true e f = rw (under m t b f, e, f) refl
 long_more m t b false false e f = rw (reached m t b f, e, f) refl
 
-abbrev held : Mode → List ℕ → Bool → Bool → Held
+abbrev held : Mode → List ℕ → Bool → Bool → CutterState
 held mode t p q = record { mode = mode; text = t; blank = p; long = q }
 
 same_held : (mode : Mode) (t u : List ℕ) (p q k l : Bool) → t ≡ u → p ≡ q → k ≡ l → held mode t p k ≡ held mode u q l
 same_held mode t u p q k l e f g = rw (e, f, g) refl
 
 -- behind a byte that ends no statement
-grown_is : (s : Scan) (b : ℕ) → grown (held_of s) b ≡ held_of (record { text = s.text ++ b ∷ []; mode = after s.mode b })
+grown_is : (s : Scan) (b : ℕ) → grow (held_of s) b ≡ held_of (record { text = s.text ++ b ∷ []; mode = after s.mode b })
 grown_is s b =
     same_held (after s.mode b) _ _ _ _ _ _
     (kept_more STATEMENT_MAX s.text b _ _ refl refl)

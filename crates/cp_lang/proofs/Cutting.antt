@@ -6,7 +6,7 @@ use Rattle.std.proofs.lemmas.Str.{IsCharBoundary-start, IsCharBoundary-after_asc
 use Rattle.std.specs.Str.{IsUtf8, IsCharBoundary}
 use Rattle.cp_path.specs.Spelling.{is_trigger}
 use Rattle.cp_lang.specs.Spaces.{is_space}
-use Rattle.cp_lang.specs.Lexer.{run, closing, lexed, tokens_in, tokens_at, spaces, first_lexed}
+use Rattle.cp_lang.specs.Lexer.{run, closing, front_token, tokens_in, tokens_at, spaces, first_token}
 use Rattle.cp_lang.proofs.LexerLaws.{token, later, lexed_fits, tokens_spaces, tokens_first, spaces_stop}
 
 space-ascii : (x : ℕ) → is_space x ≡ true → x < 128
@@ -107,11 +107,11 @@ tokens_none at k bs mid s m l =
     tokens_spaces at bs ∙ sym (ap (λ n. tokens_at (at + n) (drop n bs)) s) ∙ ap (tokens_at (at + k)) (sym m) ∙ tokens_empty (at + k) mid l
 
 -- the first token behind white space, and the tokens of what follows
-pub tokens_next : (at k : ℕ) (bs mid rest : List ℕ) → k ≡ spaces bs → mid ≡ drop k bs → 0 < length mid → rest ≡ drop (first_lexed mid).size mid →
-    tokens_at at bs ≡ token (at + k) (first_lexed mid).shape ∷ tokens_at (at + k + (length mid - length rest)) rest
+pub tokens_next : (at k : ℕ) (bs mid rest : List ℕ) → k ≡ spaces bs → mid ≡ drop k bs → 0 < length mid → rest ≡ drop (first_token mid).size mid →
+    tokens_at at bs ≡ token (at + k) (first_token mid).shape ∷ tokens_at (at + k + (length mid - length rest)) rest
 tokens_next at k bs [] rest s m l r = absurd (omega (arith, l))
 tokens_next at k bs (x ∷ xs) rest s m l r =
-    let n = (lexed x xs).size in
+    let n = (front_token x xs).size in
     let f = lexed_fits x xs in
     let d = length-drop n (x ∷ xs) in
     let lr : length rest ≡ length (drop n (x ∷ xs)) = ap length r in
@@ -119,5 +119,5 @@ tokens_next at k bs (x ∷ xs) rest s m l r =
     let stop = spaces_stop bs x xs (sym (ap (λ j. drop j bs) s) ∙ sym m) in
     tokens_spaces at bs ∙ sym (ap (λ j. tokens_at (at + j) (drop j bs)) s) ∙ ap (tokens_at (at + k)) (sym m)
     ∙ tokens_first (at + k) x xs stop
-    ∙ ap (λ bs. token (at + k) (lexed x xs).shape ∷ tokens_at (at + k + n) bs) (sym r)
-    ∙ ap (λ j. token (at + k) (lexed x xs).shape ∷ tokens_at (at + k + j) rest) size
+    ∙ ap (λ bs. token (at + k) (front_token x xs).shape ∷ tokens_at (at + k + n) bs) (sym r)
+    ∙ ap (λ j. token (at + k) (front_token x xs).shape ∷ tokens_at (at + k + j) rest) size

@@ -20,9 +20,9 @@ use Rattle.cp_path.specs.declared.value.Value.TheVariants as value
 use Rattle.cp_model.specs.Place.{or_else}
 use Rattle.cp_path.proofs.Same.{text_eq-same}
 use Rattle.cp_model.specs.Keyed.{look}
-use Rattle.cp_model.specs.Tree.{text_bytes}
+use Rattle.cp_model.specs.Tree.{text_bytes, CanBeSpelled}
 use Rattle.cp_model.specs.History.{IsLiteral}
-use Rattle.cp_model.proofs.Rooted.{AreRows, rows-literal}
+use Rattle.cp_model.proofs.Rooted.{AreRows, rows-literal, spelled-after}
 use Rattle.cp_model.proofs.Sorted.{path_cmp-append, parts_of, all_of, root-first}
 use Rattle.cp_model.proofs.Strips.{path_ind}
 use Rattle.cp_model.proofs.Lookups.{or_none}
@@ -198,17 +198,18 @@ look-none : (a : Label) (q : Path) (gs : List Group) → Each (λ h. text_cmp a 
 look-none a q [] h = refl
 look-none a q (g ∷ gs) h = look-other g.label a q g.rows (rows_of gs) (less-apart a g.label h.0) ∙ look-none a q gs h.1
 
--- rows below a root: what is above a row is a node, and texts are within their limit
+-- rows below a root: what is above a row is a node, and labels, numbers and texts are within their limits
 record IsForest (rows : Rows) : Type 0 where
   parents : (a : Label) (r : Path) (b : Label) → is_some (look (a ∷ r ++ b ∷ []) rows) ≡ true → look (a ∷ r) rows ≡ Some Node
   texts : (a : Label) (r : Path) (c : Content) → look (a ∷ r) rows ≡ Some c → text_bytes c ≤ TEXT_MAX
+  spelled : (a : Label) (r : Path) (c : Content) → look (a ∷ r) rows ≡ Some c → CanBeSpelled (a ∷ r) c
 
 -- no row stands at or below the label
 abbrev Lacks : Label → Rows → Type 0
 Lacks a rows = (q : Path) → look (a ∷ q) rows ≡ None
 
 forest-under : (a : Label) (rs more : Rows) → IsFilled rs → Lacks a more → IsForest (rows_under a rs ++ more) → AreRows rs
-forest-under a rs more f n h = record { root = root; parents = parents; texts = λ r c e. h.texts a r c (same r ∙ e) }
+forest-under a rs more f n h = record { root = root; parents = parents; texts = λ r c e. h.texts a r c (same r ∙ e); spelled = λ r c e. spelled-after (a ∷ []) r c (h.spelled a r c (same r ∙ e)) }
   where
     same : (q : Path) → look (a ∷ q) (rows_under a rs ++ more) ≡ look q rs
     same q = look-same a q rs more ∙ ap (or_else (look q rs)) (n q) ∙ or_none (look q rs)
@@ -227,6 +228,7 @@ forest-after a rs more n h = record {
   parents = λ b r c i. let e = apart b (r ++ c ∷ []) (text_eq b a) refl i in
       sym (look-other a b r rs more e) ∙ h.parents b r c (ap is_some (look-other a b (r ++ c ∷ []) rs more e) ∙ i);
   texts = λ b r c k. let e = apart b r (text_eq b a) refl (ap is_some k) in h.texts b r c (look-other a b r rs more e ∙ k);
+  spelled = λ b r c k. let e = apart b r (text_eq b a) refl (ap is_some k) in h.spelled b r c (look-other a b r rs more e ∙ k);
 }
   where
     apart : (b : Label) (q : Path) (t : Bool) → text_eq b a ≡ t → is_some (look (b ∷ q) more) ≡ true → text_eq b a ≡ false
@@ -309,7 +311,7 @@ fit (value.Whole k) h n = n
 fit (value.Text t) h n = h
 
 forest : (rows : Rows) → AreRows (([], Node) ∷ rows) → IsForest rows
-forest rows t = record { parents = λ a r b i. t.parents (a ∷ r) b i; texts = λ a r c e. t.texts (a ∷ r) c e }
+forest rows t = record { parents = λ a r b i. t.parents (a ∷ r) b i; texts = λ a r c e. t.texts (a ∷ r) c e; spelled = λ a r c e. t.spelled (a ∷ r) c e }
 
 -- rows without labels are none
 none_below : (rows : Rows) → NoRoot rows → AreShort zero rows → rows ≡ []

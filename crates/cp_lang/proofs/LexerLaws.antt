@@ -11,10 +11,10 @@ use Rattle.std.proofs.lemmas.List.{length-drop, length-append, take_at, drop_at}
 use Rattle.json.specs.Print.{quoted, escape, escape_byte, escape_letter}
 use Rattle.cp_path.specs.Spelling.{is_trigger, has_trigger}
 use Rattle.cp_lang.specs.Spaces.{is_space}
-use Rattle.cp_lang.specs.Lexer.{Shape, Token, Lexed, word, quotes, run, closing, mark, lexed_quote, lexed, tokens_in, tokens_at, spaces, first_lexed}
+use Rattle.cp_lang.specs.Lexer.{Shape, Token, FrontToken, word, quotes, run, closing, mark, quote_token, front_token, tokens_in, tokens_at, spaces, first_token}
 
 -- what a token is, and how many bytes it takes
-abbrev pub lexeme : Shape → ℕ → Lexed
+abbrev pub lexeme : Shape → ℕ → FrontToken
 lexeme s n = record { shape = s; size = n }
 
 -- a token at an offset
@@ -27,7 +27,7 @@ stops_word [] = true
 stops_word (x ∷ xs) = is_trigger x
 
 -- the token of a byte that isn't a quotation mark and of what follows it, by whether the byte is a trigger
-abbrev bare_lexed : Bool → ℕ → List ℕ → Lexed
+abbrev bare_lexed : Bool → ℕ → List ℕ → FrontToken
 bare_lexed b x xs = if b then lexeme (mark x) 1 else lexeme (word (take (run (x ∷ xs)) (x ∷ xs))) (run (x ∷ xs))
 
 -- a size, if there is one, is at least 1 and at most n
@@ -66,21 +66,21 @@ quote_triggers x e = grind (arith, nat_tests)
 pub space_triggers : (x : ℕ) → is_trigger x ≡ false → is_space x ≡ false
 space_triggers x e = grind (arith, nat_tests)
 
-lexed_bare : (x : ℕ) (xs : List ℕ) → (x == 34) ≡ false → lexed x xs ≡ bare_lexed (is_trigger x) x xs
-lexed_bare x xs e = ap (λ b. if b then lexed_quote (x ∷ xs) (closing false xs) else bare_lexed (is_trigger x) x xs) e
+lexed_bare : (x : ℕ) (xs : List ℕ) → (x == 34) ≡ false → front_token x xs ≡ bare_lexed (is_trigger x) x xs
+lexed_bare x xs e = ap (λ b. if b then quote_token (x ∷ xs) (closing false xs) else bare_lexed (is_trigger x) x xs) e
 
 -- a token takes a byte, and no more than there are
-abbrev pub Fits : ℕ → Lexed → Type 0
+abbrev pub Fits : ℕ → FrontToken → Type 0
 Fits n l = (1 ≤ l.size) × (l.size ≤ n)
 
-pub lexed_fits : (x : ℕ) (xs : List ℕ) → Fits (suc (length xs)) (lexed x xs)
+pub lexed_fits : (x : ℕ) (xs : List ℕ) → Fits (suc (length xs)) (front_token x xs)
 lexed_fits x xs =
-    elim (x == 34) as (λ b. Fits (suc (length xs)) (if b then lexed_quote (x ∷ xs) (closing false xs) else bare_lexed (is_trigger x) x xs)) [
+    elim (x == 34) as (λ b. Fits (suc (length xs)) (if b then quote_token (x ∷ xs) (closing false xs) else bare_lexed (is_trigger x) x xs)) [
       | true ↦ quote (closing false xs) (closing_within false xs)
       | false ↦ bare (is_trigger x) refl
     ]
   where
-    quote : (o : Option ℕ) → Within (length xs) o → Fits (suc (length xs)) (lexed_quote (x ∷ xs) o)
+    quote : (o : Option ℕ) → Within (length xs) o → Fits (suc (length xs)) (quote_token (x ∷ xs) o)
     quote None p = (omega arith, omega arith)
     quote (Some n) p = (omega (arith, p.0), omega (arith, p.1))
 
@@ -99,30 +99,30 @@ tokens_enough (suc n) zero at (x ∷ xs) p q = absurd (omega (arith, q))
 tokens_enough (suc n) (suc m) at [] p q = refl
 tokens_enough (suc n) (suc m) at (x ∷ xs) p q =
     let s = lexed_fits x xs in
-    let d = length-drop (lexed x xs).size (x ∷ xs) in
-    let after = drop (lexed x xs).size (x ∷ xs) in
-    let first = token at (lexed x xs).shape in
-    elim (is_space x) as (λ b. (if b then tokens_in n (at + 1) xs else first ∷ tokens_in n (at + (lexed x xs).size) after) ≡ (if b then tokens_in m (at + 1) xs else first ∷ tokens_in m (at + (lexed x xs).size) after)) [
+    let d = length-drop (front_token x xs).size (x ∷ xs) in
+    let after = drop (front_token x xs).size (x ∷ xs) in
+    let first = token at (front_token x xs).shape in
+    elim (is_space x) as (λ b. (if b then tokens_in n (at + 1) xs else first ∷ tokens_in n (at + (front_token x xs).size) after) ≡ (if b then tokens_in m (at + 1) xs else first ∷ tokens_in m (at + (front_token x xs).size) after)) [
       | true ↦ tokens_enough n m (at + 1) xs (omega (arith, p)) (omega (arith, q))
-      | false ↦ ap (λ ts. first ∷ ts) (tokens_enough n m (at + (lexed x xs).size) after (omega (arith, p, d, s.0)) (omega (arith, q, d, s.0)))
+      | false ↦ ap (λ ts. first ∷ ts) (tokens_enough n m (at + (front_token x xs).size) after (omega (arith, p, d, s.0)) (omega (arith, q, d, s.0)))
     ]
 
 -- white space before the tokens moves them
 pub tokens_space : (at x : ℕ) (xs : List ℕ) → is_space x ≡ true → tokens_at at (x ∷ xs) ≡ tokens_at (at + 1) xs
 unfolding tokens_in
 tokens_space at x xs e =
-    ap (λ b. if b then tokens_in (length xs) (at + 1) xs else token at (lexed x xs).shape ∷ tokens_in (length xs) (at + (lexed x xs).size) (drop (lexed x xs).size (x ∷ xs))) e
+    ap (λ b. if b then tokens_in (length xs) (at + 1) xs else token at (front_token x xs).shape ∷ tokens_in (length xs) (at + (front_token x xs).size) (drop (front_token x xs).size (x ∷ xs))) e
 
 -- the first token, and the tokens of what follows it
 pub tokens_first : (at x : ℕ) (xs : List ℕ) → is_space x ≡ false →
-    tokens_at at (x ∷ xs) ≡ token at (lexed x xs).shape ∷ tokens_at (at + (lexed x xs).size) (drop (lexed x xs).size (x ∷ xs))
+    tokens_at at (x ∷ xs) ≡ token at (front_token x xs).shape ∷ tokens_at (at + (front_token x xs).size) (drop (front_token x xs).size (x ∷ xs))
 unfolding tokens_in
 tokens_first at x xs e =
     let s = lexed_fits x xs in
-    let d = length-drop (lexed x xs).size (x ∷ xs) in
-    let after = drop (lexed x xs).size (x ∷ xs) in
-    ap (λ b. if b then tokens_in (length xs) (at + 1) xs else token at (lexed x xs).shape ∷ tokens_in (length xs) (at + (lexed x xs).size) after) e
-    ∙ ap (λ ts. token at (lexed x xs).shape ∷ ts) (tokens_enough (length xs) (length after) (at + (lexed x xs).size) after (omega (arith, d, s.0)) (omega arith))
+    let d = length-drop (front_token x xs).size (x ∷ xs) in
+    let after = drop (front_token x xs).size (x ∷ xs) in
+    ap (λ b. if b then tokens_in (length xs) (at + 1) xs else token at (front_token x xs).shape ∷ tokens_in (length xs) (at + (front_token x xs).size) after) e
+    ∙ ap (λ ts. token at (front_token x xs).shape ∷ ts) (tokens_enough (length xs) (length after) (at + (front_token x xs).size) after (omega (arith, d, s.0)) (omega arith))
 
 -- all white space that bytes begin with moves their tokens
 pub tokens_spaces : (at : ℕ) (bs : List ℕ) → tokens_at at bs ≡ tokens_at (at + spaces bs) (drop (spaces bs) bs)
@@ -157,7 +157,7 @@ spaces_stop (y ∷ ys) x xs h = by (is_space y) refl (spaces_stop ys x xs)
         let f : y ≡ x = cc in sym (ap is_space f) ∙ e
 
 -- the token that bytes begin with, of which it is the front
-pub tokens_front : (at : ℕ) (s : Shape) (x : ℕ) (front rest : List ℕ) → is_space x ≡ false → lexed x (front ++ rest) ≡ lexeme s (suc (length front)) →
+pub tokens_front : (at : ℕ) (s : Shape) (x : ℕ) (front rest : List ℕ) → is_space x ≡ false → front_token x (front ++ rest) ≡ lexeme s (suc (length front)) →
     tokens_at at (x ∷ front ++ rest) ≡ token at s ∷ tokens_at (at + suc (length front)) rest
 tokens_front at s x front rest a e =
     tokens_first at x (front ++ rest) a
@@ -173,7 +173,7 @@ run_word (x ∷ w) rest h s =
     run_more x (w ++ rest) p.0 ∙ ap (λ n. n + 1) (run_word w rest p.1 s) ∙ add-one (length w)
 
 -- a word is a token, and takes all its bytes
-pub word_lexed : (w rest : List ℕ) → 0 < length w → has_trigger w ≡ false → stops_word rest ≡ true → first_lexed (w ++ rest) ≡ lexeme (word w) (length w)
+pub word_lexed : (w rest : List ℕ) → 0 < length w → has_trigger w ≡ false → stops_word rest ≡ true → first_token (w ++ rest) ≡ lexeme (word w) (length w)
 word_lexed [] rest l h s = absurd (omega (arith, l))
 word_lexed (x ∷ w) rest l h s =
     let p = or_parts (is_trigger x) (has_trigger w) h in
@@ -190,7 +190,7 @@ tokens_word at (x ∷ w) rest l h s =
     tokens_front at (word (x ∷ w)) x w rest (space_triggers x (or_parts (is_trigger x) (has_trigger w) h).0) (word_lexed (x ∷ w) rest l h s)
 
 -- a trigger that is no quotation mark is a token
-pub mark_lexed : (x : ℕ) (rest : List ℕ) → is_trigger x ≡ true → (x == 34) ≡ false → lexed x rest ≡ lexeme (mark x) 1
+pub mark_lexed : (x : ℕ) (rest : List ℕ) → is_trigger x ≡ true → (x == 34) ≡ false → front_token x rest ≡ lexeme (mark x) 1
 mark_lexed x rest t q = lexed_bare x rest q ∙ ap (λ b. bare_lexed b x rest) t
 
 -- the tokens of a mark and of what follows it
@@ -267,10 +267,10 @@ closing_escape (x ∷ t) rest =
     ∙ ap Some (n ∙ sym (ap length all))
 
 -- a quoted text is a token, and takes all its bytes
-pub quoted_lexed : (t rest : List ℕ) → first_lexed (quoted t ++ rest) ≡ lexeme (quotes (quoted t)) (length (quoted t))
+pub quoted_lexed : (t rest : List ℕ) → first_token (quoted t ++ rest) ≡ lexeme (quotes (quoted t)) (length (quoted t))
 quoted_lexed t rest =
     let body = escape t ++ 34 ∷ [] in
-    ap (lexed_quote (34 ∷ body ++ rest)) (closing_escape t rest)
+    ap (quote_token (34 ∷ body ++ rest)) (closing_escape t rest)
     ∙ ap (λ n. lexeme (quotes (take n (34 ∷ body ++ rest))) n) (add-one (length body))
     ∙ ap (λ bs. lexeme (quotes bs) (length (quoted t))) (take_at (quoted t) rest (length (quoted t)) refl)
 

@@ -1,6 +1,6 @@
 mod Cutting
 mod Digits
-mod Held
+mod CutterLemmas
 pub mod Printing
 mod Steps
 pub mod Bare

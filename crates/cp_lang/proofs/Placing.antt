@@ -1,8 +1,8 @@
 -- A node whose edges rise, and lead to literals within their limits, is a literal within its limits.
 use Rattle.cp_path.specs.declared.limits.TheConstants.{LABEL_MAX, TEXT_MAX}
-use Rattle.std.specs.Prelude.{ℕ, suc, ◌≤◌, ◌+◌, ◌≡◌, Bool, true, false, ◌||◌, [], ◌∷◌, ◌++◌, length, ⊤, is_some, refl}
+use Rattle.std.specs.Prelude.{ℕ, suc, ◌≤◌, ◌+◌, ◌≡◌, Bool, true, false, ◌||◌, cond, nat_lt, [], ◌∷◌, ◌++◌, length, ⊤, is_some, refl}
 use Rattle.std.proofs.Common.{T, ap, sym, subst, ◌∙◌, arith}
-use Rattle.std.proofs.lemmas.Bool.{le-ltb, or_parts}
+use Rattle.std.proofs.lemmas.Bool.{le-ltb, ltb-false, or_parts}
 use Rattle.std.specs.declared.option.Option.TheVariants.{None, Some}
 use Rattle.std.specs.declared.cmp.Ordering.{Ordering}
 use Rattle.std.specs.declared.cmp.Ordering.TheVariants.{Less, Equal, Greater}
@@ -11,15 +11,14 @@ use Rattle.std.specs.BTreeMap.{insert_entry}
 use Rattle.std.specs.Cmp.Lexicographic.{nat_list_cmp_total, texts_ties}
 use Rattle.std.specs.FinMap.Entries.{is_sorted, below_all}
 use Rattle.cp_path.specs.Text.{text_cmp, text_eq}
-use Rattle.cp_path.specs.Place.{Label, Path, path_cmp}
+use Rattle.cp_path.specs.Place.{Label, Path, path_cmp, path_eq}
 use Rattle.cp_path.specs.Reading.{any_long}
 use Rattle.cp_path.specs.Laws.{IsWithin}
 use Rattle.cp_path.specs.declared.value.Value.{Value}
 use Rattle.cp_path.specs.declared.value.Value.TheVariants as value
 use Rattle.cp_model.specs.Place.{or_else}
-use Rattle.cp_path.proofs.Same.{text_eq-same}
+use Rattle.cp_path.proofs.Same.{text_eq-same, path_eq-same}
 use Rattle.cp_model.specs.Keyed.{look}
-use Rattle.cp_model.specs.Tree.{text_bytes}
 use Rattle.cp_model.specs.History.{IsLiteral}
 use Rattle.cp_model.proofs.Rooted.{AreRows, rows-literal}
 use Rattle.cp_model.proofs.Sorted.{path_cmp-append, parts_of, all_of}
@@ -30,7 +29,7 @@ use Rattle.cp_model.specs.declared.row.Content.TheVariants.{Node, Leaf}
 use Rattle.cp_model.specs.declared.literal.Literal.{Literal}
 use Rattle.cp_model.specs.declared.literal.Literal.TheVariants as literal
 use Rattle.cp_lang.specs.Grammar.{Edges, rows_of_edges, node, has_edge}
-use Rattle.cp_model.specs.Tree.{IsNumber}
+use Rattle.cp_model.specs.Tree.{text_bytes, IsNumber, CanBeSpelled, last_bytes}
 use Rattle.cp_lang.specs.Printer.{AreShort, IsShortTree}
 use Rattle.cp_lang.specs.Printed.{Rows}
 use Rattle.cp_lang.proofs.Layers.{NoRoot, less-apart, look-same, look-other}
@@ -131,30 +130,6 @@ texts-edges k (e ∷ es) h b r c i = by (texts-edges k es h.3 b r c) (text_eq b 
 same_content : (c d : Content) → Some c ≡ Some d → c ≡ d
 same_content c d e = cc
 
--- rows of a whole tree in order are those of a literal
-literal-rows : (es : Rows) → T (is_sorted path_cmp es) → AreRows es → IsLiteral es
-literal-rows es s h = record {
-  sorted = s;
-  rooted = record {
-    root = ap is_some (find-from_entries es []) ∙ h.root;
-    parents = λ r a i. find-from_entries es r ∙ h.parents r a (ap is_some (sym (find-from_entries es (r ++ a ∷ []))) ∙ i);
-  };
-  texts = h.texts;
-}
-
-node-written : (k : ℕ) (es : Edges) → AreEdges k es → IsLiteral (literal_rows (node es))
-node-written k es h = literal-rows (([], Node) ∷ rows_of_edges es)
-    (all_of (below_all path_cmp [] (rows_of_edges es)) (is_sorted path_cmp (rows_of_edges es)) (no_root-edges es) (sorted-edges k es h))
-    (record { root = refl; parents = parents; texts = texts })
-  where
-    parents : (r : Path) (a : Label) → is_some (look (r ++ a ∷ []) (([], Node) ∷ rows_of_edges es)) ≡ true → look r (([], Node) ∷ rows_of_edges es) ≡ Some Node
-    parents [] a i = refl
-    parents (b ∷ r) a i = parents-edges k es h b r a i
-
-    texts : (r : Path) (c : Content) → look r (([], Node) ∷ rows_of_edges es) ≡ Some c → text_bytes c ≤ TEXT_MAX
-    texts [] c e = subst (λ d. text_bytes d ≤ TEXT_MAX) (same_content Node c e) (omega arith)
-    texts (b ∷ r) c e = texts-edges k es h b r c e
-
 -- ---- limits
 
 deep-append : (k : ℕ) (xs ys : Rows) → AreDeep k xs → AreDeep k ys → AreDeep k (xs ++ ys)
@@ -170,6 +145,51 @@ deep-edges : (k : ℕ) (es : Edges) → AreEdges k es → AreDeep k (rows_of_edg
 deep-edges k [] h = tt
 deep-edges k (e ∷ es) h = deep-append k (rows_under e.0 (literal_rows e.1)) (rows_of_edges es) (deep-under k e.0 (literal_rows e.1) h.0 h.1.deep) (deep-edges k es h.3)
 
+short_last : (p : Path) → any_long p ≡ false → last_bytes p ≤ LABEL_MAX
+short_last [] h = omega arith
+short_last (a ∷ []) h = ltb-false LABEL_MAX (length a) (or_parts (nat_lt LABEL_MAX (length a)) false h).0
+short_last (a ∷ b ∷ p) h = short_last (b ∷ p) (or_parts (nat_lt LABEL_MAX (length a)) (any_long (b ∷ p)) h).1
+
+-- such rows can be spelled
+deep-spelled : (k : ℕ) (rows : Rows) → AreDeep k rows → (r : Path) (c : Content) → look r rows ≡ Some c → CanBeSpelled r c
+deep-spelled k [] h r c e = absurd (cc)
+deep-spelled k (x ∷ rows) h r c e =
+    elim (path_eq r x.0) as (λ b. path_eq r x.0 ≡ b → cond b (Some x.1) (look r rows) ≡ Some c → CanBeSpelled r c) [
+      | true ↦ λ s e. (let same : x.1 ≡ c = cc in record { label = omega (arith, ap last_bytes (path_eq-same r x.0 s), short_last x.0 h.1); number = subst IsNumber same h.2 })
+      | false ↦ λ _ e. deep-spelled k rows h.3 r c e
+    ] refl e
+
+-- ---- nodes and leaves
+
+-- rows of a whole tree in order are those of a literal
+literal-rows : (es : Rows) → T (is_sorted path_cmp es) → AreRows es → IsLiteral es
+literal-rows es s h = record {
+  sorted = s;
+  rooted = record {
+    root = ap is_some (find-from_entries es []) ∙ h.root;
+    parents = λ r a i. find-from_entries es r ∙ h.parents r a (ap is_some (sym (find-from_entries es (r ++ a ∷ []))) ∙ i);
+  };
+  texts = h.texts;
+  spelled = h.spelled;
+}
+
+node-written : (k : ℕ) (es : Edges) → AreEdges k es → IsLiteral (literal_rows (node es))
+node-written k es h = literal-rows (([], Node) ∷ rows_of_edges es)
+    (all_of (below_all path_cmp [] (rows_of_edges es)) (is_sorted path_cmp (rows_of_edges es)) (no_root-edges es) (sorted-edges k es h))
+    (record { root = refl; parents = parents; texts = texts; spelled = spelled })
+  where
+    parents : (r : Path) (a : Label) → is_some (look (r ++ a ∷ []) (([], Node) ∷ rows_of_edges es)) ≡ true → look r (([], Node) ∷ rows_of_edges es) ≡ Some Node
+    parents [] a i = refl
+    parents (b ∷ r) a i = parents-edges k es h b r a i
+
+    texts : (r : Path) (c : Content) → look r (([], Node) ∷ rows_of_edges es) ≡ Some c → text_bytes c ≤ TEXT_MAX
+    texts [] c e = subst (λ d. text_bytes d ≤ TEXT_MAX) (same_content Node c e) (omega arith)
+    texts (b ∷ r) c e = texts-edges k es h b r c e
+
+    spelled : (r : Path) (c : Content) → look r (([], Node) ∷ rows_of_edges es) ≡ Some c → CanBeSpelled r c
+    spelled [] c e = record { label = omega arith; number = subst IsNumber (same_content Node c e) tt }
+    spelled (b ∷ r) c e = deep-spelled k (rows_of_edges es) (deep-edges k es h) (b ∷ r) c e
+
 -- a node of edges within their limits is within its own
 pub node-below : (k : ℕ) (es : Edges) → k ≤ 63 → AreEdges k es → IsBelow k (node es)
 node-below k es l h = record { written = node-written k es h; deep = (omega (arith, l), refl, tt, deep-edges k es h) }
@@ -177,7 +197,7 @@ node-below k es l h = record { written = node-written k es h; deep = (omega (ari
 -- a value within its limits is a literal within them
 pub leaf-below : (k : ℕ) (v : Value) → k ≤ 63 → IsWithin v → IsBelow k (literal.Leaf v)
 leaf-below k v l h = record {
-  written = literal-rows (([], Leaf v) ∷ []) tt (record { root = refl; parents = parents; texts = texts });
+  written = literal-rows (([], Leaf v) ∷ []) tt (record { root = refl; parents = parents; texts = texts; spelled = spelled });
   deep = (omega (arith, l), refl, number v h, tt);
 }
   where
@@ -202,6 +222,10 @@ leaf-below k v l h = record {
     number value.True h = tt
     number (value.Whole n) h = h
     number (value.Text t) h = tt
+
+    spelled : (r : Path) (c : Content) → look r (([], Leaf v) ∷ []) ≡ Some c → CanBeSpelled r c
+    spelled [] c e = record { label = omega arith; number = subst IsNumber (same_content (Leaf v) c e) (number v h) }
+    spelled (b ∷ r) c e = absurd (cc)
 
 short-deep : (rows : Rows) → AreDeep 0 rows → AreShort 63 rows
 short-deep [] h = tt

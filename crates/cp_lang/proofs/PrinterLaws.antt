@@ -22,14 +22,14 @@ use Rattle.cp_model.specs.declared.query.Form.{Form}
 use Rattle.cp_model.specs.declared.query.Form.TheVariants as form
 use Rattle.cp_lang.specs.Lexer.{word, quotes, tokens_in}
 use Rattle.cp_lang.proofs.LexerLaws.{stops_word}
-use Rattle.cp_lang.specs.Grammar.{Spot, Taken, start, ins_open, ins_label, tree_colon, tree, ins_close, ins_into, ins_place, del_label, del_from, del_place, copy_origin, copy_into, copy_place, load_name, load_form, json_file, csv_file, csv_by, csv_column, asked_place, Question, asks_src, asks_hist, asks_mod, asks_trace, asks_from, show_place, records_tid, ended, goes, cant, takes, reads, end_of, by_reading, if_some, query_of, json_load, csv_load, statement_reading}
+use Rattle.cp_lang.specs.Grammar.{Spot, Move, start, ins_open, ins_label, tree_colon, tree, ins_close, ins_into, ins_place, del_label, del_from, del_place, copy_origin, copy_into, copy_place, load_name, load_form, json_file, csv_file, csv_by, csv_column, asked_place, Question, asks_src, asks_hist, asks_mod, asks_trace, asks_from, show_place, records_tid, ended, goes, cant, takes, reads, end_of, by_reading, if_some, query_of, json_load, csv_load, statement_reading}
 use Rattle.cp_lang.specs.Printer.{literal_text, op_text, form_text, query_text, statement_text, IsPlace, SpellsOp, SpellsForm, SpellsQuery, IsSpellable}
 use Rattle.cp_lang.proofs.Layers.{literal-layers}
 use Rattle.cp_lang.proofs.Reached.{Reaches, on, from_same, to_same, space_on, mark_on, word_on, quoted_on, read_on}
 use Rattle.cp_lang.proofs.TreeReads.{literal_of, tree_on}
 use Rattle.cp_lang.proofs.Bare.{name_some, name_bare, decimal_some, decimal_bare, decimal_reads_back}
-use Rattle.cp_lang.specs.declared.stmt.Stmt.{Stmt}
-use Rattle.cp_lang.specs.declared.stmt.Stmt.TheVariants as stmt
+use Rattle.cp_lang.specs.declared.syntax_tree.Stmt.{Stmt}
+use Rattle.cp_lang.specs.declared.syntax_tree.Stmt.TheVariants as stmt
 
 -- the whole text is read, up to this position
 abbrev IsRead : List ℕ → Spot → Type 0
@@ -38,26 +38,26 @@ IsRead text t = Reaches start text t []
 -- ---- parts
 
 -- a place is wanted
-record WantsPlace (s : Spot) (next : Loc → Taken) : Type 0 where
+record WantsPlace (s : Spot) (next : Loc → Move) : Type 0 where
   bare : (u : List ℕ) → takes s (word u) ≡ by_reading (place_reading u) next
   inside : (u : List ℕ) → takes s (quotes u) ≡ by_reading (place_reading u) next
 
-place_on : (q : Loc) (next : Loc → Taken) (s t : Spot) (rest : List ℕ) → IsPlace q → WantsPlace s next → stops_word rest ≡ true → next q ≡ goes t → Reaches s (place_text q ++ rest) t rest
+place_on : (q : Loc) (next : Loc → Move) (s t : Spot) (rest : List ℕ) → IsPlace q → WantsPlace s next → stops_word rest ≡ true → next q ≡ goes t → Reaches s (place_text q ++ rest) t rest
 place_on q next s t rest h w e g =
     read_on place_reading next (place_text q) q s t rest (place_shape q h.name) e w.bare w.inside (place_reads_back q h.name h.short h.few h.small) g
 
-last_place : (q : Loc) (next : Loc → Taken) (s t : Spot) → IsPlace q → WantsPlace s next → next q ≡ goes t → Reaches s (place_text q) t []
+last_place : (q : Loc) (next : Loc → Move) (s t : Spot) → IsPlace q → WantsPlace s next → next q ≡ goes t → Reaches s (place_text q) t []
 last_place q next s t h w g = from_same (sym (append-nil (place_text q))) (place_on q next s t [] h w refl g)
 
 -- a label is wanted
-record WantsLabel (s : Spot) (next : Label → Taken) : Type 0 where
+record WantsLabel (s : Spot) (next : Label → Move) : Type 0 where
   bare : (u : List ℕ) → takes s (word u) ≡ by_reading (label_reading u) next
   inside : (u : List ℕ) → takes s (quotes u) ≡ by_reading (label_reading u) next
 
-label_on : (a : Label) (next : Label → Taken) (s t : Spot) (rest : List ℕ) → length a ≤ LABEL_MAX → WantsLabel s next → stops_word rest ≡ true → next a ≡ goes t → Reaches s (label_text a ++ rest) t rest
+label_on : (a : Label) (next : Label → Move) (s t : Spot) (rest : List ℕ) → length a ≤ LABEL_MAX → WantsLabel s next → stops_word rest ≡ true → next a ≡ goes t → Reaches s (label_text a ++ rest) t rest
 label_on a next s t rest h w e g = read_on label_reading next (label_text a) a s t rest (label_shape a) e w.bare w.inside (label_reads_back a h) g
 
-last_label : (a : Label) (next : Label → Taken) (s t : Spot) → length a ≤ LABEL_MAX → WantsLabel s next → next a ≡ goes t → Reaches s (label_text a) t []
+last_label : (a : Label) (next : Label → Move) (s t : Spot) → length a ≤ LABEL_MAX → WantsLabel s next → next a ≡ goes t → Reaches s (label_text a) t []
 last_label a next s t h w g = from_same (sym (append-nil (label_text a))) (label_on a next s t [] h w refl g)
 
 literal_of-rows : (t : Literal) → literal_of (literal_rows t) ≡ t
@@ -121,10 +121,10 @@ name_on w rest n o e =
     (ap (λ b. if b then (if text_eq w target then cant else goes (load_form w)) else cant) n ∙ ap (λ b. if b then cant else goes (load_form w)) o)
 
 -- the name of a file in quotation marks
-file_on : (f : List ℕ) (next : List ℕ → Taken) (s t : Spot) (rest : List ℕ) → ((u : List ℕ) → takes s (quotes u) ≡ if_some (string_reading u) next) → next f ≡ goes t → Reaches s (quoted f ++ rest) t rest
+file_on : (f : List ℕ) (next : List ℕ → Move) (s t : Spot) (rest : List ℕ) → ((u : List ℕ) → takes s (quotes u) ≡ if_some (string_reading u) next) → next f ≡ goes t → Reaches s (quoted f ++ rest) t rest
 file_on f next s t rest w g = quoted_on f s t rest (w (quoted f) ∙ ap (λ o. if_some o next) (string_reads_back f) ∙ g)
 
-last_file : (f : List ℕ) (next : List ℕ → Taken) (s t : Spot) → ((u : List ℕ) → takes s (quotes u) ≡ if_some (string_reading u) next) → next f ≡ goes t → Reaches s (quoted f) t []
+last_file : (f : List ℕ) (next : List ℕ → Move) (s t : Spot) → ((u : List ℕ) → takes s (quotes u) ≡ if_some (string_reading u) next) → next f ≡ goes t → Reaches s (quoted f) t []
 last_file f next s t w g = from_same (sym (append-nil (quoted f))) (file_on f next s t [] w g)
 
 -- where a form's text ends

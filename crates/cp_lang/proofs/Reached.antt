@@ -8,7 +8,7 @@ use Rattle.cp_path.specs.declared.fault.PathFault.{PathFault}
 use Rattle.cp_lang.specs.Spaces.{is_space}
 use Rattle.cp_lang.specs.Lexer.{Shape, word, quotes, mark, tokens_at}
 use Rattle.cp_lang.proofs.LexerLaws.{token, stops_word, tokens_space, tokens_word, tokens_mark, tokens_quoted}
-use Rattle.cp_lang.specs.Grammar.{Spot, Taken, goes, takes, reads, refused_or, by_reading}
+use Rattle.cp_lang.specs.Grammar.{Spot, Move, goes, takes, reads, refused_or, by_reading}
 
 -- the tokens of bytes lead from a position to another one, where these bytes are left
 pub record Reaches (s : Spot) (bs : List ℕ) (t : Spot) (rest : List ℕ) : Type 0 where
@@ -50,7 +50,7 @@ quoted_on t s u rest g =
     record { leads = λ n at. (at + length (quoted t), step n at (at + length (quoted t)) s u (quotes (quoted t)) (quoted t ++ rest) rest (tokens_quoted at t rest) g) }
 
 -- a spelling that is read
-pub read_on : {X : Type 0} (read : List ℕ → Result X PathFault) (next : X → Taken) (w : List ℕ) (x : X) (s t : Spot) (rest : List ℕ) →
+pub read_on : {X : Type 0} (read : List ℕ → Result X PathFault) (next : X → Move) (w : List ℕ) (x : X) (s t : Spot) (rest : List ℕ) →
     Spelling w → stops_word rest ≡ true →
     ((u : List ℕ) → takes s (word u) ≡ by_reading (read u) next) → ((u : List ℕ) → takes s (quotes u) ≡ by_reading (read u) next) →
     read w ≡ Ok x → next x ≡ goes t → Reaches s (w ++ rest) t rest

@@ -24,13 +24,13 @@ use Rattle.cp_model.specs.declared.op.Op.TheVariants.{Ins, Del, Copy}
 use Rattle.cp_model.specs.declared.query.Query.TheVariants as query
 use Rattle.cp_lang.specs.Decimal.{is_decimal, decimal_value}
 use Rattle.cp_lang.specs.Lexer.{Shape, opens, closes, colon, comma, word, quotes, stray, Token, tokens_of}
-use Rattle.cp_lang.specs.Grammar.{Level, has_edge, node, placed, close_node, new_edge, at_tree, at_first, at_edge_end, at_form, after_start, reading_of, by_reading, if_some, at_word, at_open, at_close, at_colon, at_label, at_place, at_name, at_file, at_number, json_load, csv_load, Spot, Question, query_of, Taken, goes, cant, bad, takes, reads, end_of, refused_or, statement_reading, start, ins_open, ins_label, tree_colon, tree, first_edge, next_edge, edge_end, ins_close, ins_into, ins_place, del_label, del_from, del_place, copy_origin, copy_into, copy_place, load_name, load_form, json_file, csv_file, csv_by, csv_column, asked_place, asks_src, asks_hist, asks_mod, asks_trace, asks_from, show_place, records_tid, ended}
+use Rattle.cp_lang.specs.Grammar.{Level, has_edge, node, after_tree, close_node, new_edge, at_tree, at_first, at_edge_end, at_form, after_start, reading_of, by_reading, if_some, at_word, at_open, at_close, at_colon, at_label, at_place, at_name, at_file, at_number, json_load, csv_load, Spot, Question, query_of, Move, goes, cant, bad, takes, reads, end_of, refused_or, statement_reading, start, ins_open, ins_label, tree_colon, tree, first_edge, next_edge, edge_end, ins_close, ins_into, ins_place, del_label, del_from, del_place, copy_origin, copy_into, copy_place, load_name, load_form, json_file, csv_file, csv_by, csv_column, asked_place, asks_src, asks_hist, asks_mod, asks_trace, asks_from, show_place, records_tid, ended}
 use Rattle.cp_lang.specs.Printer.{IsPlace, IsLabel, IsShortTree, IsSpellable}
 use Rattle.cp_lang.proofs.Placing.{IsBelow, AreEdges, node-below, leaf-below, short-below, edges-insert}
 use Rattle.cp_lang.specs.Written.{IsWrittenStmt}
-use Rattle.cp_lang.specs.declared.stmt.Stmt.{Stmt}
-use Rattle.cp_lang.specs.declared.stmt.Stmt.TheVariants as stmt
-use Rattle.cp_lang.specs.declared.stmt.StmtFault.{StmtFault}
+use Rattle.cp_lang.specs.declared.syntax_tree.Stmt.{Stmt}
+use Rattle.cp_lang.specs.declared.syntax_tree.Stmt.TheVariants as stmt
+use Rattle.cp_lang.specs.declared.syntax_tree.StmtFault.{StmtFault}
 
 -- the innermost node has no edge of this label
 abbrev IsNew : Label → List Level → Type 0
@@ -81,18 +81,18 @@ IsGood records_tid = ⊤
 IsGood (ended x) = IsSpellable x
 
 -- where a token leads is
-abbrev Leads : Taken → Type 0
+abbrev Leads : Move → Type 0
 Leads (goes s) = IsGood s
 Leads cant = ⊤
 Leads (bad e) = ⊤
 
 -- ---- one token
 
-reading-leads : {X : Type 0} (r : Result X PathFault) (next : X → Taken) → ((x : X) → r ≡ Ok x → Leads (next x)) → Leads (by_reading r next)
+reading-leads : {X : Type 0} (r : Result X PathFault) (next : X → Move) → ((x : X) → r ≡ Ok x → Leads (next x)) → Leads (by_reading r next)
 reading-leads (Ok x) next h = h x refl
 reading-leads (Err e) next h = tt
 
-shape-leads : {X : Type 0} (read : List ℕ → Result X PathFault) (s : Shape) (next : X → Taken) → ((w : List ℕ) (x : X) → read w ≡ Ok x → Leads (next x)) → Leads (reading_of read s next)
+shape-leads : {X : Type 0} (read : List ℕ → Result X PathFault) (s : Shape) (next : X → Move) → ((w : List ℕ) (x : X) → read w ≡ Ok x → Leads (next x)) → Leads (reading_of read s next)
 shape-leads read (word w) next h = reading-leads (read w) next (h w)
 shape-leads read (quotes w) next h = reading-leads (read w) next (h w)
 shape-leads read opens next h = tt
@@ -101,13 +101,13 @@ shape-leads read colon next h = tt
 shape-leads read comma next h = tt
 shape-leads read stray next h = tt
 
-label-leads : (s : Shape) (next : Label → Taken) → ((a : Label) → IsLabel a → Leads (next a)) → Leads (at_label s next)
+label-leads : (s : Shape) (next : Label → Move) → ((a : Label) → IsLabel a → Leads (next a)) → Leads (at_label s next)
 label-leads s next h = shape-leads label_reading s next (λ w a e. h a (label_read w a e).1)
 
-place-leads : (s : Shape) (next : Loc → Taken) → ((q : Loc) → IsPlace q → Leads (next q)) → Leads (at_place s next)
+place-leads : (s : Shape) (next : Loc → Move) → ((q : Loc) → IsPlace q → Leads (next q)) → Leads (at_place s next)
 place-leads s next h = shape-leads place_reading s next (λ w q e. h q (let p = place_read w q e in record { name = p.3; short = p.4; few = p.2; small = p.1 }))
 
-if-leads : (b : Bool) (t : Taken) → Leads t → Leads (if b then t else cant)
+if-leads : (b : Bool) (t : Move) → Leads t → Leads (if b then t else cant)
 if-leads true t h = h
 if-leads false t h = tt
 
@@ -147,11 +147,11 @@ colon-leads closes next h = tt
 colon-leads comma next h = tt
 colon-leads stray next h = tt
 
-some-leads : {X : Type 0} (o : Option X) (next : X → Taken) → ((x : X) → o ≡ Some x → Leads (next x)) → Leads (if_some o next)
+some-leads : {X : Type 0} (o : Option X) (next : X → Move) → ((x : X) → o ≡ Some x → Leads (next x)) → Leads (if_some o next)
 some-leads None next h = tt
 some-leads (Some x) next h = h x refl
 
-file-leads : (s : Shape) (next : List ℕ → Taken) → ((f : List ℕ) → Leads (next f)) → Leads (at_file s next)
+file-leads : (s : Shape) (next : List ℕ → Move) → ((f : List ℕ) → Leads (next f)) → Leads (at_file s next)
 file-leads (quotes w) next h = some-leads (string_reading w) next (λ f e. h f)
 file-leads (word w) next h = tt
 file-leads opens next h = tt
@@ -171,7 +171,7 @@ number_small w n h = by (is_decimal w) (nat_lt (digits_value 10 w) (2 ^ 64)) ref
     by true false e k = absurd (cc)
     by false b e k = absurd (cc)
 
-number-leads : (s : Shape) (next : ℕ → Taken) → ((n : ℕ) → n < 2 ^ 64 → Leads (next n)) → Leads (at_number s next)
+number-leads : (s : Shape) (next : ℕ → Move) → ((n : ℕ) → n < 2 ^ 64 → Leads (next n)) → Leads (at_number s next)
 number-leads (word w) next h = some-leads (decimal_value w) next (λ n e. h n (number_small w n e))
 number-leads (quotes w) next h = tt
 number-leads opens next h = tt
@@ -180,7 +180,7 @@ number-leads colon next h = tt
 number-leads comma next h = tt
 number-leads stray next h = tt
 
-name-leads : (s : Shape) (next : List ℕ → Taken) → ((n : List ℕ) → IsOther n → Leads (next n)) → Leads (at_name s next)
+name-leads : (s : Shape) (next : List ℕ → Move) → ((n : List ℕ) → IsOther n → Leads (next n)) → Leads (at_name s next)
 name-leads (word w) next h = by (is_name w) (text_eq w target) refl refl
   where
     by : (a b : Bool) → is_name w ≡ a → text_eq w target ≡ b → Leads (if a then (if b then cant else next w) else cant)
@@ -194,14 +194,14 @@ name-leads colon next h = tt
 name-leads comma next h = tt
 name-leads stray next h = tt
 
-choice-leads : (b : Bool) (t u : Taken) → Leads t → Leads u → Leads (if b then t else u)
+choice-leads : (b : Bool) (t u : Move) → Leads t → Leads u → Leads (if b then t else u)
 choice-leads true t u h k = h
 choice-leads false t u h k = k
 
 -- ---- trees
 
 -- a tree is placed
-placed-good : (a : Label) (t : Literal) (ls : List Level) → MayCome a ls → AreLevels ls → IsBelow (length ls) t → IsGood (placed a t ls)
+placed-good : (a : Label) (t : Literal) (ls : List Level) → MayCome a ls → AreLevels ls → IsBelow (length ls) t → IsGood (after_tree a t ls)
 placed-good a t [] m h b = (m.0, short-below t b)
 placed-good a t (l ∷ ls) m h b = (h.0, edges-insert (length ls) a t l.edges m.0 b m.2 h.1, h.2)
 
@@ -227,13 +227,13 @@ spelled-within w value.True h = tt
 spelled-within w (value.Whole n) h = h.0
 spelled-within w (value.Text t) h = h.1
 
-value-leads : (a : Label) (ls : List Level) → MayCome a ls → AreLevels ls → (w : List ℕ) (v : Value) → value_reading w ≡ Ok v → Leads (goes (placed a (literal.Leaf v) ls))
+value-leads : (a : Label) (ls : List Level) → MayCome a ls → AreLevels ls → (w : List ℕ) (v : Value) → value_reading w ≡ Ok v → Leads (goes (after_tree a (literal.Leaf v) ls))
 value-leads a ls m h w v e = placed-good a (literal.Leaf v) ls m h (leaf-below (length ls) v m.1 (spelled-within w v (value_read w v e)))
 
 tree-leads : (a : Label) (ls : List Level) (s : Shape) → MayCome a ls → AreLevels ls → Leads (at_tree a ls s)
 tree-leads a ls opens m h = (m, tt, h)
-tree-leads a ls (word w) m h = reading-leads (value_reading w) (λ v. goes (placed a (literal.Leaf v) ls)) (value-leads a ls m h w)
-tree-leads a ls (quotes w) m h = reading-leads (value_reading w) (λ v. goes (placed a (literal.Leaf v) ls)) (value-leads a ls m h w)
+tree-leads a ls (word w) m h = reading-leads (value_reading w) (λ v. goes (after_tree a (literal.Leaf v) ls)) (value-leads a ls m h w)
+tree-leads a ls (quotes w) m h = reading-leads (value_reading w) (λ v. goes (after_tree a (literal.Leaf v) ls)) (value-leads a ls m h w)
 tree-leads a ls closes m h = tt
 tree-leads a ls colon m h = tt
 tree-leads a ls comma m h = tt
@@ -346,7 +346,7 @@ unfolding reads
 reads-good n s [] x h e = ends-good n s x h e
 reads-good n s (t ∷ ts) x h e = by (takes s t.shape) (takes-leads s t.shape h) (λ u g k. reads-good n u ts x g k) e
   where
-    by : (k : Taken) → Leads k → ((u : Spot) → IsGood u → reads n u ts ≡ Ok x → IsSpellable x) → refused_or k t.at (λ u. reads n u ts) ≡ Ok x → IsSpellable x
+    by : (k : Move) → Leads k → ((u : Spot) → IsGood u → reads n u ts ≡ Ok x → IsSpellable x) → refused_or k t.at (λ u. reads n u ts) ≡ Ok x → IsSpellable x
     by (goes u) g later e = later u g e
     by cant g later e = absurd (cc)
     by (bad f) g later e = absurd (cc)
@@ -358,7 +358,7 @@ read_spellable text s e = reads-good (length text) start (tokens_of text) s tt e
 
 -- a statement within every limit can be written
 spellable_written : (s : Stmt) → IsSpellable s → IsWrittenStmt s
-spellable_written (stmt.Op (Ins p a t)) h = let tree : IsShortTree t = h.2 in tree.0
+spellable_written (stmt.Op (Ins p a t)) h = let tree : IsShortTree t = h.2 in (h.1, tree.0)
 spellable_written (stmt.Op (Del a p)) h = tt
 spellable_written (stmt.Op (Copy q p)) h = tt
 spellable_written stmt.Commit h = tt

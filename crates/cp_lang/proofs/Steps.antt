@@ -27,14 +27,14 @@ use Rattle.cp_lang.specs.Lexer.{Shape, first_offset, tokens_of, spaces, tokens_a
 use Rattle.cp_lang.proofs.LexerLaws.{tokens_space, tokens_first}
 use Rattle.cp_lang.specs.Spaces.{is_space}
 use Rattle.cp_lang.specs.Tokenized.{token_of, shape_of}
-use Rattle.cp_lang.specs.Grammar.{Spot, Taken, takes, goes, cant, refused_or, by_reading, reading_of, bytes_reading, statement_reading, end_of, reads, Edges, Level, node, placed, close_node, at_open, at_close, at_colon, at_word, at_label, at_place, at_name, at_file, at_form, at_start, at_tree, at_first, at_edge_end, json_load, csv_load, query_of, Question, start, ins_open, ins_label, tree_colon, tree, first_edge, next_edge, edge_end, ins_close, ins_into, ins_place, del_label, del_from, del_place, copy_origin, copy_into, copy_place, load_name, load_form, json_file, csv_file, csv_by, csv_column, asked_place, show_place, ended, new_edge, has_edge, rows_of_edges}
-use Rattle.cp_lang.specs.Parser.{reading, edge_reading, Wants, Stops, Fails, IsRead, Steps, Reads, ReadsTree, misread, within, after_edge}
+use Rattle.cp_lang.specs.Grammar.{Spot, Move, takes, goes, cant, refused_or, by_reading, reading_of, bytes_reading, statement_reading, end_of, reads, Edges, Level, node, after_tree, close_node, at_open, at_close, at_colon, at_word, at_label, at_place, at_name, at_file, at_form, at_start, at_tree, at_first, at_edge_end, json_load, csv_load, query_of, Question, start, ins_open, ins_label, tree_colon, tree, first_edge, next_edge, edge_end, ins_close, ins_into, ins_place, del_label, del_from, del_place, copy_origin, copy_into, copy_place, load_name, load_form, json_file, csv_file, csv_by, csv_column, asked_place, show_place, ended, new_edge, has_edge, rows_of_edges}
+use Rattle.cp_lang.specs.Parser.{reading, edge_reading, Wants, Stops, Fails, IsRead, Steps, Reads, ReadsTree, spelling_fault, within, after_edge}
 use Rattle.cp_lang.specs.declared.lexer.Token.{Token}
 use Rattle.cp_lang.specs.declared.parser.Parser.{Parser}
-use Rattle.cp_lang.specs.declared.stmt.Stmt.{Stmt}
-use Rattle.cp_lang.specs.declared.stmt.Stmt.TheVariants as stmt
-use Rattle.cp_lang.specs.declared.stmt.StmtFault.{StmtFault}
-use Rattle.cp_lang.specs.declared.stmt.StmtFault.TheVariants as fault
+use Rattle.cp_lang.specs.declared.syntax_tree.Stmt.{Stmt}
+use Rattle.cp_lang.specs.declared.syntax_tree.Stmt.TheVariants as stmt
+use Rattle.cp_lang.specs.declared.syntax_tree.StmtFault.{StmtFault}
+use Rattle.cp_lang.specs.declared.syntax_tree.StmtFault.TheVariants as fault
 
 -- ---- the first token
 
@@ -87,15 +87,15 @@ next_last n old new (Some t) h = tt
 -- ---- composition
 
 -- a fault of a token is a fault of the position before it
-pub fails_stops : (p q : Parser) (s : Spot) (x : Shape) (at : ℕ) (t : Taken) (e : StmtFault)
+pub fails_stops : (p q : Parser) (s : Spot) (x : Shape) (at : ℕ) (t : Move) (e : StmtFault)
     → reading p s ≡ refused_or (takes s x) at (reading q) → takes s x ≡ t → Fails at t e → Stops p s e
 fails_stops p q s x at t e h w (inl m) = inl m
-fails_stops p q s x at t e h w (inr r) = inr (h ∙ ap (λ (u : Taken). refused_or u at (reading q)) w ∙ r (reading q))
+fails_stops p q s x at t e h w (inr r) = inr (h ∙ ap (λ (u : Move). refused_or u at (reading q)) w ∙ r (reading q))
 
 -- a fault of a reading is the fault of its token
-pub fails_by : {X : Type 0} (at : ℕ) (f : PathFault) (r : Result X PathFault) (next : X → Taken)
-    → (f ≡ path.Memory) ⊎ (r ≡ Err f) → Fails at (by_reading r next) (misread at f)
-fails_by at f r next (inl m) = inl (ap (misread at) m)
+pub fails_by : {X : Type 0} (at : ℕ) (f : PathFault) (r : Result X PathFault) (next : X → Move)
+    → (f ≡ path.Memory) ⊎ (r ≡ Err f) → Fails at (by_reading r next) (spelling_fault at f)
+fails_by at f r next (inl m) = inl (ap (spelling_fault at) m)
 fails_by at path.Memory r next (inr q) = inl refl
 fails_by at f r next (inr q) = inr (λ k. ap (λ v. refused_or (by_reading v next) at k) q)
 
@@ -107,9 +107,9 @@ on p q s t e h (inr r) = inr (h ∙ r)
 -- ---- parts
 
 -- what a token is read as is the step of its position
-pub steps_by : {X : Type 0} (p q : Parser) (x : Shape) (at : ℕ) (step : Shape → (X → Taken) → Taken) (r : Result X StmtFault)
+pub steps_by : {X : Type 0} (p q : Parser) (x : Shape) (at : ℕ) (step : Shape → (X → Move) → Move) (r : Result X StmtFault)
     → ((s : Spot) → reading p s ≡ refused_or (takes s x) at (reading q)) → IsRead at (step x) r → Steps p q step r
-steps_by p q x at step (Ok b) h k = λ s next w. h s ∙ ap (λ (u : Taken). refused_or u at (reading q)) (w.taken x ∙ k (λ c. goes (next c)))
+steps_by p q x at step (Ok b) h k = λ s next w. h s ∙ ap (λ (u : Move). refused_or u at (reading q)) (w.taken x ∙ k (λ c. goes (next c)))
 steps_by p q x at step (Err e) h k = λ s next w. fails_stops p q s x at (step x (λ c. goes (next c))) e (h s) (w.taken x) (k (λ c. goes (next c)))
 
 -- steps that lead to the beginning of a part, and then the part
@@ -130,14 +130,14 @@ pub stopped_on : {X : Type 0} (p q r : Parser) (s t : Spot) (next : X → Spot) 
 stopped_on p q r s t next result e k h m = stopped p r s next result e k (on p q s t e h m)
 
 -- a token that leads on
-pub leads : (p q : Parser) (s next : Spot) (x : Shape) (at : ℕ) (t : Taken)
+pub leads : (p q : Parser) (s next : Spot) (x : Shape) (at : ℕ) (t : Move)
     → reading p s ≡ refused_or (takes s x) at (reading q) → takes s x ≡ t → t ≡ goes next → reading p s ≡ reading q next
-leads p q s next x at t h w g = h ∙ ap (λ (u : Taken). refused_or u at (reading q)) (w ∙ g)
+leads p q s next x at t h w g = h ∙ ap (λ (u : Move). refused_or u at (reading q)) (w ∙ g)
 
 -- a token that can't stand
-pub refused : (p q : Parser) (s : Spot) (x : Shape) (at : ℕ) (t : Taken)
+pub refused : (p q : Parser) (s : Spot) (x : Shape) (at : ℕ) (t : Move)
     → reading p s ≡ refused_or (takes s x) at (reading q) → takes s x ≡ t → t ≡ cant → reading p s ≡ Err (fault.Syntax at)
-refused p q s x at t h w g = h ∙ ap (λ (u : Taken). refused_or u at (reading q)) (w ∙ g)
+refused p q s x at t h w g = h ∙ ap (λ (u : Move). refused_or u at (reading q)) (w ∙ g)
 
 -- a key word, by its test
 pub worded : (text : List ℕ) (x : Shape) (b : Bool) (s : Spot) → at_word text x s ≡ (if b then goes s else cant) → b ≡ true → at_word text x s ≡ goes s
@@ -150,10 +150,10 @@ unworded text x b s h e = h ∙ ap (λ v. if v then goes s else cant) e
 pub after_reads : (p q : Parser) (x : Shape) (at : ℕ) (o : Option Bool) (more : Bool) (a : Label) (es : Edges) (ls : List Level)
     → reading p (edge_end (within a es ls)) ≡ refused_or (takes (edge_end (within a es ls)) x) at (reading q)
     → at_edge_end (within a es ls) x ≡ after_edge o (within a es ls) → o ≡ Some more
-    → reading p (edge_end (within a es ls)) ≡ reading q (if more then next_edge (within a es ls) else placed a (node es) ls)
+    → reading p (edge_end (within a es ls)) ≡ reading q (if more then next_edge (within a es ls) else after_tree a (node es) ls)
 unfolding takes
-after_reads p q x at o true a es ls h w i = h ∙ ap (λ (u : Taken). refused_or u at (reading q)) (w ∙ ap (λ v. after_edge v (within a es ls)) i)
-after_reads p q x at o false a es ls h w i = h ∙ ap (λ (u : Taken). refused_or u at (reading q)) (w ∙ ap (λ v. after_edge v (within a es ls)) i)
+after_reads p q x at o true a es ls h w i = h ∙ ap (λ (u : Move). refused_or u at (reading q)) (w ∙ ap (λ v. after_edge v (within a es ls)) i)
+after_reads p q x at o false a es ls h w i = h ∙ ap (λ (u : Move). refused_or u at (reading q)) (w ∙ ap (λ v. after_edge v (within a es ls)) i)
 
 -- ---- the form of a file
 
@@ -250,7 +250,7 @@ past x y e h (inl m) = inl m
 past x y e h (inr r) = inr (h ∙ r)
 
 -- a fault of a token
-pub fails_past : (x : Result Stmt StmtFault) (at : ℕ) (t : Taken) (next : Spot → Result Stmt StmtFault) (e : StmtFault)
+pub fails_past : (x : Result Stmt StmtFault) (at : ℕ) (t : Move) (next : Spot → Result Stmt StmtFault) (e : StmtFault)
     → x ≡ refused_or t at next → Fails at t e → (e ≡ fault.Memory) ⊎ (x ≡ Err e)
 fails_past x at t next e h (inl m) = inl m
 fails_past x at t next e h (inr r) = inr (h ∙ r next)
@@ -259,9 +259,9 @@ fails_past x at t next e h (inr r) = inr (h ∙ r next)
 pub first_close : (p q : Parser) (x : Shape) (at : ℕ) (b : Bool) (a : Label) (ls : List Level)
     → reading p (first_edge (within a [] ls)) ≡ refused_or (takes (first_edge (within a [] ls)) x) at (reading q)
     → at_first (within a [] ls) x ≡ (if b then close_node (within a [] ls) else at_label x (new_edge (within a [] ls))) → b ≡ true
-    → reading p (first_edge (within a [] ls)) ≡ reading q (placed a (node []) ls)
+    → reading p (first_edge (within a [] ls)) ≡ reading q (after_tree a (node []) ls)
 first_close p q x at b a ls h w e =
-    h ∙ ap (λ (u : Taken). refused_or u at (reading q))
+    h ∙ ap (λ (u : Move). refused_or u at (reading q))
     (takes_first_edge (within a [] ls) x ∙ w ∙ ap (λ v. if v then close_node (within a [] ls) else at_label x (new_edge (within a [] ls))) e)
 
 -- the first label of a node
@@ -270,26 +270,26 @@ pub first_label : (p q : Parser) (t : Token) (b : Bool) (a : Label) (ls : List L
     → at_first (within a [] ls) (shape_of t.shape) ≡ (if b then close_node (within a [] ls) else at_label (shape_of t.shape) (new_edge (within a [] ls))) → b ≡ false
     → reading p (first_edge (within a [] ls)) ≡ edge_reading q t a [] ls
 first_label p q t b a ls h w e =
-    h ∙ ap (λ (u : Taken). refused_or u t.at (reading q))
+    h ∙ ap (λ (u : Move). refused_or u t.at (reading q))
     (takes_first_edge (within a [] ls) (shape_of t.shape) ∙ w ∙ ap (λ v. if v then close_node (within a [] ls) else at_label (shape_of t.shape) (new_edge (within a [] ls))) e)
 
 -- a label behind a comma
 pub next_label : (p q r : Parser) (t : Token) (b : Bool) (a : Label) (es : Edges) (ls : List Level)
-    → reading p (edge_end (within a es ls)) ≡ reading q (if b then next_edge (within a es ls) else placed a (node es) ls) → b ≡ true
+    → reading p (edge_end (within a es ls)) ≡ reading q (if b then next_edge (within a es ls) else after_tree a (node es) ls) → b ≡ true
     → reading q (next_edge (within a es ls)) ≡ refused_or (takes (next_edge (within a es ls)) (shape_of t.shape)) t.at (reading r)
     → reading p (edge_end (within a es ls)) ≡ edge_reading r t a es ls
 next_label p q r t b a es ls h e k =
-    h ∙ ap (λ v. reading q (if v then next_edge (within a es ls) else placed a (node es) ls)) e ∙ k
-    ∙ ap (λ (u : Taken). refused_or u t.at (reading r)) (takes_next_edge (within a es ls) (shape_of t.shape))
+    h ∙ ap (λ v. reading q (if v then next_edge (within a es ls) else after_tree a (node es) ls)) e ∙ k
+    ∙ ap (λ (u : Move). refused_or u t.at (reading r)) (takes_next_edge (within a es ls) (shape_of t.shape))
 
 -- the opening brace of a node
 pub tree_opens : (p q : Parser) (x : Shape) (at : ℕ) (b : Bool) (a : Label) (ls : List Level)
     → reading p (tree a ls) ≡ refused_or (takes (tree a ls) x) at (reading q)
-    → at_tree a ls x ≡ (if b then goes (first_edge (within a [] ls)) else reading_of value_reading x (λ v. goes (placed a (literal.Leaf v) ls))) → b ≡ true
+    → at_tree a ls x ≡ (if b then goes (first_edge (within a [] ls)) else reading_of value_reading x (λ v. goes (after_tree a (literal.Leaf v) ls))) → b ≡ true
     → reading p (tree a ls) ≡ reading q (first_edge (within a [] ls))
 tree_opens p q x at b a ls h w e =
-    h ∙ ap (λ (u : Taken). refused_or u at (reading q))
-    (takes_tree a ls x ∙ w ∙ ap (λ v. if v then goes (first_edge (within a [] ls)) else reading_of value_reading x (λ v. goes (placed a (literal.Leaf v) ls))) e)
+    h ∙ ap (λ (u : Move). refused_or u at (reading q))
+    (takes_tree a ls x ∙ w ∙ ap (λ v. if v then goes (first_edge (within a [] ls)) else reading_of value_reading x (λ v. goes (after_tree a (literal.Leaf v) ls))) e)
 
 -- steps that lead to the beginning of a tree, and then the tree
 pub tree_joined : (p q r : Parser) (depth : ℕ) (f g : Label → List Level → Spot) (result : Result Literal StmtFault)
@@ -300,17 +300,17 @@ tree_joined p q r depth f g (Err m) e h = λ a ls k. on p q (f a ls) (g a ls) m 
 -- a value
 pub tree_value : (p q : Parser) (x : Shape) (at : ℕ) (b : Bool) (a : Label) (ls : List Level)
     → reading p (tree a ls) ≡ refused_or (takes (tree a ls) x) at (reading q)
-    → at_tree a ls x ≡ (if b then goes (first_edge (within a [] ls)) else reading_of value_reading x (λ v. goes (placed a (literal.Leaf v) ls))) → b ≡ false
-    → reading p (tree a ls) ≡ refused_or (reading_of value_reading x (λ v. goes (placed a (literal.Leaf v) ls))) at (reading q)
+    → at_tree a ls x ≡ (if b then goes (first_edge (within a [] ls)) else reading_of value_reading x (λ v. goes (after_tree a (literal.Leaf v) ls))) → b ≡ false
+    → reading p (tree a ls) ≡ refused_or (reading_of value_reading x (λ v. goes (after_tree a (literal.Leaf v) ls))) at (reading q)
 tree_value p q x at b a ls h w e =
-    h ∙ ap (λ (u : Taken). refused_or u at (reading q))
-    (takes_tree a ls x ∙ w ∙ ap (λ v. if v then goes (first_edge (within a [] ls)) else reading_of value_reading x (λ v. goes (placed a (literal.Leaf v) ls))) e)
+    h ∙ ap (λ (u : Move). refused_or u at (reading q))
+    (takes_tree a ls x ∙ w ∙ ap (λ v. if v then goes (first_edge (within a [] ls)) else reading_of value_reading x (λ v. goes (after_tree a (literal.Leaf v) ls))) e)
 
 -- the label, the colon and the tree of an edge
 pub label_leads : (p : Parser) (t : Token) (a b : Label) (es : Edges) (ls : List Level)
     → at_label (shape_of t.shape) (new_edge (within b es ls)) ≡ goes (tree_colon a (within b es ls))
     → edge_reading p t b es ls ≡ reading p (tree_colon a (within b es ls))
-label_leads p t a b es ls h = ap (λ (u : Taken). refused_or u t.at (reading p)) h
+label_leads p t a b es ls h = ap (λ (u : Move). refused_or u t.at (reading p)) h
 
 -- one label deeper
 pub deeper : (b : Label) (es : Edges) (ls : List Level) (depth : ℕ) → length ls + 1 ≡ depth → length (within b es ls) + 1 ≡ depth + 1

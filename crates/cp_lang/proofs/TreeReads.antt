@@ -20,7 +20,7 @@ use Rattle.cp_model.specs.declared.literal.Literal.{Literal}
 use Rattle.cp_model.specs.declared.literal.Literal.TheVariants as literal
 use Rattle.cp_lang.specs.Lexer.{word, quotes}
 use Rattle.cp_lang.proofs.LexerLaws.{stops_word}
-use Rattle.cp_lang.specs.Grammar.{Edges, Level, rows_of_edges, node, has_edge, Spot, tree_colon, tree, first_edge, next_edge, edge_end, takes, goes, cant, placed, new_edge, by_reading}
+use Rattle.cp_lang.specs.Grammar.{Edges, Level, rows_of_edges, node, has_edge, Spot, tree_colon, tree, first_edge, next_edge, edge_end, takes, goes, cant, after_tree, new_edge, by_reading}
 use Rattle.cp_lang.specs.Printed.{Rows, group_text}
 use Rattle.cp_lang.proofs.Layers.{Each, Rising, rows_of, Layered, less-apart}
 use Rattle.cp_lang.proofs.Reached.{Reaches, on, from_same, to_same, space_on, mark_on, read_on}
@@ -84,7 +84,7 @@ level a es = record { label = a; edges = es }
 -- the tree of a group is read within any nodes that aren't too deep
 abbrev TreesRead : ℕ → ℕ → Type 0
 TreesRead d m = (rows : Rows) (a : Label) (ls : List Level) (rest : List ℕ) → Layered d rows → length ls + d ≤ LABELS_MAX → stops_word rest ≡ true →
-    Reaches (tree a ls) (tree_at m rows ++ rest) (placed a (literal_of rows) ls) rest
+    Reaches (tree a ls) (tree_at m rows ++ rest) (after_tree a (literal_of rows) ls) rest
 
 -- a label is wanted
 record WantsLabel (s : Spot) (ls : List Level) : Type 0 where
@@ -128,11 +128,11 @@ edge_on d m g b es ls s rest read h n l w e =
 -- edges and the closing brace are read
 edges_on : (d m : ℕ) (g : Group) (gs : List Group) (b : Label) (es : Edges) (ls : List Level) (s : Spot) (rest : List ℕ) →
     TreesRead d m → Each (IsGroup d) (g ∷ gs) → Rising (g ∷ gs) → Each (λ h. Before es h.label) (g ∷ gs) → length ls + suc d ≤ LABELS_MAX → WantsLabel s (level b es ∷ ls) → stops_word rest ≡ true →
-    Reaches s (between (codes ", ") (map (group_text m) (g ∷ gs)) ++ 125 ∷ rest) (placed b (node (es ++ edges_of (g ∷ gs))) ls) rest
+    Reaches s (between (codes ", ") (map (group_text m) (g ∷ gs)) ++ 125 ∷ rest) (after_tree b (node (es ++ edges_of (g ∷ gs))) ls) rest
 unfolding takes
 edges_on d m g [] b es ls s rest read h r n l w e =
     on (edge_on d m g b es ls s (125 ∷ rest) read h.0 n.0 l w refl)
-    (mark_on 125 (edge_end (level b (es ++ edges_of (g ∷ [])) ∷ ls)) (placed b (node (es ++ edges_of (g ∷ []))) ls) rest refl refl refl refl)
+    (mark_on 125 (edge_end (level b (es ++ edges_of (g ∷ [])) ∷ ls)) (after_tree b (node (es ++ edges_of (g ∷ []))) ls) rest refl refl refl refl)
 edges_on d m g (h ∷ gs) b es ls s rest read k r n l w e =
     let more = es ++ (g.label, literal_of g.rows) ∷ [] in
     let later = between (codes ", ") (map (group_text m) (h ∷ gs)) in
@@ -143,7 +143,7 @@ edges_on d m g (h ∷ gs) b es ls s rest read k r n l w e =
     (on (space_on (next_edge above) (later ++ 125 ∷ rest))
     (to_same (edges_on d m h gs b more ls (next_edge above) rest read k.1 r.1
     (each-pair (λ i. Before es i.label) (λ i. text_cmp g.label i.label ≡ Less) (λ i. Before more i.label) (λ i. before-more g.label i.label (literal_of g.rows) es) (h ∷ gs) n.1 r.0) l (next_wants above) e)
-    (ap (λ fs. placed b (node fs) ls) (append_assoc es ((g.label, literal_of g.rows) ∷ []) (edges_of (h ∷ gs))))))))
+    (ap (λ fs. after_tree b (node fs) ls) (append_assoc es ((g.label, literal_of g.rows) ∷ []) (edges_of (h ∷ gs))))))))
 
 all_before : (gs : List Group) → Each (λ h. Before [] h.label) gs
 all_before [] = tt
@@ -152,15 +152,15 @@ all_before (g ∷ gs) = (tt, all_before gs)
 -- a node is read
 node_on : (d m : ℕ) (gs : List Group) (rows : Rows) (a : Label) (ls : List Level) (rest : List ℕ) →
     TreesRead d m → Each (IsGroup d) gs → Rising gs → rows_of gs ≡ rows → length ls + suc d ≤ LABELS_MAX → stops_word rest ≡ true →
-    Reaches (tree a ls) (123 ∷ between (codes ", ") (map (group_text m) gs) ++ 125 ∷ rest) (placed a (literal.Node rows) ls) rest
+    Reaches (tree a ls) (123 ∷ between (codes ", ") (map (group_text m) gs) ++ 125 ∷ rest) (after_tree a (literal.Node rows) ls) rest
 unfolding takes
 node_on d m [] rows a ls rest read h r s l e =
     on (mark_on 123 (tree a ls) (first_edge (level a [] ∷ ls)) (125 ∷ rest) refl refl refl refl)
-    (to_same (mark_on 125 (first_edge (level a [] ∷ ls)) (placed a (node []) ls) rest refl refl refl refl) (ap (λ rs. placed a (literal.Node rs) ls) s))
+    (to_same (mark_on 125 (first_edge (level a [] ∷ ls)) (after_tree a (node []) ls) rest refl refl refl refl) (ap (λ rs. after_tree a (literal.Node rs) ls) s))
 node_on d m (g ∷ gs) rows a ls rest read h r s l e =
     on (mark_on 123 (tree a ls) (first_edge (level a [] ∷ ls)) (between (codes ", ") (map (group_text m) (g ∷ gs)) ++ 125 ∷ rest) refl refl refl refl)
     (to_same (edges_on d m g gs a [] ls (first_edge (level a [] ∷ ls)) rest read h r (all_before (g ∷ gs)) l (first_wants (level a [] ∷ ls)) e)
-    (ap (λ rs. placed a (literal.Node rs) ls) (rows-edges_of d (g ∷ gs) h ∙ s)))
+    (ap (λ rs. after_tree a (literal.Node rs) ls) (rows-edges_of d (g ∷ gs) h ∙ s)))
 
 -- the text of a tree is read, within nodes that aren't too deep
 pub tree_on : (d m : ℕ) → d ≤ m → TreesRead d m
@@ -169,7 +169,7 @@ tree_on zero m n rows a ls rest h l e = absurd h
 tree_on (suc d) zero n rows a ls rest h l e = absurd (omega (arith, n))
 tree_on (suc d) (suc m) n [] a ls rest h l e = absurd h
 tree_on (suc d) (suc m) n ((p, Leaf v) ∷ rows) a ls rest h l e =
-    read_on value_reading (λ x. goes (placed a (literal.Leaf x) ls)) (value_text v) v (tree a ls) (placed a (literal.Leaf v) ls) rest (value_shape v) e (λ u. refl) (λ u. refl) (value_reads_back v h.2) refl
+    read_on value_reading (λ x. goes (after_tree a (literal.Leaf x) ls)) (value_text v) v (tree a ls) (after_tree a (literal.Leaf v) ls) rest (value_shape v) e (λ u. refl) (λ u. refl) (value_reads_back v h.2) refl
 tree_on (suc d) (suc m) n ((p, Node) ∷ rows) a ls rest h l e =
     from_same (ap (λ bs. 123 ∷ bs) (append_assoc (between (codes ", ") (map (group_text m) (groups rows))) (codes "}") rest))
     (node_on d m (groups rows) rows a ls rest (λ rs b ks more. tree_on d m (omega (arith, n)) rs b ks more) h.3 h.2 h.1 l e)

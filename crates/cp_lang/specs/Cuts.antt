@@ -37,24 +37,24 @@ abbrev pub cut_of : List ℕ → List Cut
 cut_of text = cut_by Text text
 
 -- what bytes bring: the cuts that end in them, and where the scan stands then
-pub record Scanned : Type 0 where
+pub record ScanResult : Type 0 where
   pub cuts : List Cut
   pub scan : Scan
 
 -- one byte ends a statement, or is gathered
-abbrev pub scan_byte : Scan → ℕ → Scanned
+abbrev pub scan_byte : Scan → ℕ → ScanResult
 scan_byte s b =
     if ends s.mode b then record { cuts = cut_of s.text; scan = scan_start }
     else record { cuts = []; scan = record { text = s.text ++ b ∷ []; mode = after s.mode b } }
 
 -- what was scanned, and then what the scan brings from there
-abbrev pub scan_on : Scanned → (Scan → Scanned) → Scanned
+abbrev pub scan_on : ScanResult → (Scan → ScanResult) → ScanResult
 scan_on x next = record { cuts = x.cuts ++ (next x.scan).cuts; scan = (next x.scan).scan }
 
 -- the bytes one after another
-unfoldable pub scanned : Scan → List ℕ → Scanned
-scanned s [] = record { cuts = []; scan = s }
-scanned s (b ∷ bs) = scan_on (scan_byte s b) (λ t. scanned t bs)
+unfoldable pub scan_bytes : Scan → List ℕ → ScanResult
+scan_bytes s [] = record { cuts = []; scan = s }
+scan_bytes s (b ∷ bs) = scan_on (scan_byte s b) (λ t. scan_bytes t bs)
 
 -- what is left at the end of the input
 abbrev pub rest_of : Scan → List Cut
@@ -62,8 +62,8 @@ rest_of s = cut_by Unfinished s.text
 
 -- the cuts that end in these bytes
 abbrev pub cuts_in : List ℕ → List Cut
-cuts_in bytes = (scanned scan_start bytes).cuts
+cuts_in bytes = (scan_bytes scan_start bytes).cuts
 
 -- the cuts of a whole input
 abbrev pub cuts_of : List ℕ → List Cut
-cuts_of bytes = cuts_in bytes ++ rest_of (scanned scan_start bytes).scan
+cuts_of bytes = cuts_in bytes ++ rest_of (scan_bytes scan_start bytes).scan

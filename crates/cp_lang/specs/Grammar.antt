@@ -21,10 +21,10 @@ use Rattle.cp_model.specs.declared.query.Query.TheVariants as query
 use Rattle.cp_model.specs.declared.query.Form.TheVariants as form
 use Rattle.cp_lang.specs.Lexer.{Shape, opens, closes, colon, comma, word, quotes, Token, tokens_of}
 use Rattle.cp_lang.specs.Decimal.{decimal_value}
-use Rattle.cp_lang.specs.declared.stmt.Stmt.{Stmt}
-use Rattle.cp_lang.specs.declared.stmt.Stmt.TheVariants as stmt
-use Rattle.cp_lang.specs.declared.stmt.StmtFault.{StmtFault}
-use Rattle.cp_lang.specs.declared.stmt.StmtFault.TheVariants as fault
+use Rattle.cp_lang.specs.declared.syntax_tree.Stmt.{Stmt}
+use Rattle.cp_lang.specs.declared.syntax_tree.Stmt.TheVariants as stmt
+use Rattle.cp_lang.specs.declared.syntax_tree.StmtFault.{StmtFault}
+use Rattle.cp_lang.specs.declared.syntax_tree.StmtFault.TheVariants as fault
 
 -- ---- literal trees
 
@@ -104,101 +104,101 @@ pub data Spot : Type 0 where
   ended : Stmt → Spot
 
 -- what a token does at a position: it leads on, it can't stand there, or it is read with a fault
-pub data Taken : Type 0 where
-  goes : Spot → Taken
-  cant : Taken
-  bad : PathFault → Taken
+pub data Move : Type 0 where
+  goes : Spot → Move
+  cant : Move
+  bad : PathFault → Move
 
 -- ---- one token
 
 -- the opening brace leads on
-abbrev pub at_open : Shape → Spot → Taken
+abbrev pub at_open : Shape → Spot → Move
 at_open opens next = goes next
 at_open s next = cant
 
 -- the closing brace leads on
-abbrev pub at_close : Shape → Spot → Taken
+abbrev pub at_close : Shape → Spot → Move
 at_close closes next = goes next
 at_close s next = cant
 
 -- the colon leads on
-abbrev pub at_colon : Shape → Spot → Taken
+abbrev pub at_colon : Shape → Spot → Move
 at_colon colon next = goes next
 at_colon s next = cant
 
 -- the key word leads on
-abbrev pub at_word : List ℕ → Shape → Spot → Taken
+abbrev pub at_word : List ℕ → Shape → Spot → Move
 at_word text (word w) next = if bytes_eq w text then goes next else cant
 at_word text s next = cant
 
 -- what is read leads on
-abbrev pub by_reading : {X : Type 0} → Result X PathFault → (X → Taken) → Taken
+abbrev pub by_reading : {X : Type 0} → Result X PathFault → (X → Move) → Move
 by_reading (Ok x) next = next x
 by_reading (Err e) next = bad e
 
 -- a word or a quoted token is read
-abbrev pub reading_of : {X : Type 0} → (List ℕ → Result X PathFault) → Shape → (X → Taken) → Taken
+abbrev pub reading_of : {X : Type 0} → (List ℕ → Result X PathFault) → Shape → (X → Move) → Move
 reading_of read (word w) next = by_reading (read w) next
 reading_of read (quotes w) next = by_reading (read w) next
 reading_of read s next = cant
 
 -- a label leads on
-abbrev pub at_label : Shape → (Label → Taken) → Taken
+abbrev pub at_label : Shape → (Label → Move) → Move
 at_label s next = reading_of label_reading s next
 
 -- a place leads on
-abbrev pub at_place : Shape → (Loc → Taken) → Taken
+abbrev pub at_place : Shape → (Loc → Move) → Move
 at_place s next = reading_of place_reading s next
 
 -- the name of a source leads on
-abbrev pub at_name : Shape → (List ℕ → Taken) → Taken
+abbrev pub at_name : Shape → (List ℕ → Move) → Move
 at_name (word w) next = if is_name w then (if text_eq w target then cant else next w) else cant
 at_name s next = cant
 
 -- what is there leads on
-abbrev pub if_some : {X : Type 0} → Option X → (X → Taken) → Taken
+abbrev pub if_some : {X : Type 0} → Option X → (X → Move) → Move
 if_some None next = cant
 if_some (Some x) next = next x
 
 -- the name of a file leads on
-abbrev pub at_file : Shape → (List ℕ → Taken) → Taken
+abbrev pub at_file : Shape → (List ℕ → Move) → Move
 at_file (quotes w) next = if_some (string_reading w) next
 at_file s next = cant
 
 -- a number leads on
-abbrev pub at_number : Shape → (ℕ → Taken) → Taken
+abbrev pub at_number : Shape → (ℕ → Move) → Move
 at_number (word w) next = if_some (decimal_value w) next
 at_number s next = cant
 
 -- ---- trees
 
 -- the tree of this label is whole: the insertion's own, or an edge of the innermost node
-abbrev pub placed : Label → Literal → List Level → Spot
-placed a t [] = ins_close a t
-placed a t (l ∷ ls) = edge_end (record { label = l.label; edges = insert_entry text_cmp l.edges a t } ∷ ls)
+abbrev pub after_tree : Label → Literal → List Level → Spot
+after_tree a t [] = ins_close a t
+after_tree a t (l ∷ ls) = edge_end (record { label = l.label; edges = insert_entry text_cmp l.edges a t } ∷ ls)
 
 -- the innermost node is whole
-abbrev pub close_node : List Level → Taken
+abbrev pub close_node : List Level → Move
 close_node [] = cant
-close_node (l ∷ ls) = goes (placed l.label (node l.edges) ls)
+close_node (l ∷ ls) = goes (after_tree l.label (node l.edges) ls)
 
 -- a label of the innermost node: not a second time, and not the 65th on its way
-abbrev pub new_edge : List Level → Label → Taken
+abbrev pub new_edge : List Level → Label → Move
 new_edge [] a = cant
 new_edge (l ∷ ls) a = if nat_le LABELS_MAX (length (l ∷ ls)) || has_edge a l.edges then cant else goes (tree_colon a (l ∷ ls))
 
 -- a value, or the opening brace of a node
-abbrev pub at_tree : Label → List Level → Shape → Taken
+abbrev pub at_tree : Label → List Level → Shape → Move
 at_tree a ls opens = goes (first_edge (record { label = a; edges = [] } ∷ ls))
-at_tree a ls s = reading_of value_reading s (λ v. goes (placed a (literal.Leaf v) ls))
+at_tree a ls s = reading_of value_reading s (λ v. goes (after_tree a (literal.Leaf v) ls))
 
 -- a label, or the closing brace of a node without edges
-abbrev pub at_first : List Level → Shape → Taken
+abbrev pub at_first : List Level → Shape → Move
 at_first ls closes = close_node ls
 at_first ls s = at_label s (new_edge ls)
 
 -- one edge more, or the end of the node
-abbrev pub at_edge_end : List Level → Shape → Taken
+abbrev pub at_edge_end : List Level → Shape → Move
 at_edge_end ls comma = goes (next_edge ls)
 at_edge_end ls closes = close_node ls
 at_edge_end ls s = cant
@@ -206,7 +206,7 @@ at_edge_end ls s = cant
 -- ---- statements
 
 -- the position behind the first word of a question
-abbrev pub after_question : List ℕ → Taken
+abbrev pub after_question : List ℕ → Move
 after_question w =
     if bytes_eq w (codes "src") then goes (asked_place asks_src)
     else (if bytes_eq w (codes "hist") then goes (asked_place asks_hist)
@@ -218,7 +218,7 @@ after_question w =
     else (if bytes_eq w (codes "stats") then goes (ended (stmt.Ask query.Stats)) else cant)))))))
 
 -- the position behind a statement's first word
-abbrev pub after_start : List ℕ → Taken
+abbrev pub after_start : List ℕ → Move
 after_start w =
     if bytes_eq w (codes "ins") then goes ins_open
     else (if bytes_eq w (codes "del") then goes del_label
@@ -228,12 +228,12 @@ after_start w =
     else (if bytes_eq w (codes "load") then goes load_name else after_question w)))))
 
 -- a statement's first word
-abbrev pub at_start : Shape → Taken
+abbrev pub at_start : Shape → Move
 at_start (word w) = after_start w
 at_start s = cant
 
 -- the form of a file
-abbrev pub at_form : List ℕ → Shape → Taken
+abbrev pub at_form : List ℕ → Shape → Move
 at_form n (word w) =
     if bytes_eq w (codes "json") then goes (json_file n) else (if bytes_eq w (codes "csv") then goes (csv_file n) else cant)
 at_form n s = cant
@@ -255,7 +255,7 @@ abbrev pub csv_load : List ℕ → List ℕ → Option Label → Stmt
 csv_load n f key = stmt.Load (record { name = n; form = form.Csv key; file = f })
 
 -- what a token does at each position
-unfoldable pub takes : Spot → Shape → Taken
+unfoldable pub takes : Spot → Shape → Move
 takes start s = at_start s
 takes ins_open s = at_open s ins_label
 takes ins_label s = at_label s (λ a. goes (tree_colon a []))
@@ -293,7 +293,7 @@ end_of n (csv_by name f) = Ok (csv_load name f None)
 end_of n s = Err (fault.Syntax n)
 
 -- the first token that can't stand, or is read with a fault, is the refusal
-abbrev pub refused_or : Taken → ℕ → (Spot → Result Stmt StmtFault) → Result Stmt StmtFault
+abbrev pub refused_or : Move → ℕ → (Spot → Result Stmt StmtFault) → Result Stmt StmtFault
 refused_or (goes s) at next = next s
 refused_or cant at next = Err (fault.Syntax at)
 refused_or (bad e) at next = Err (fault.Place at e)

@@ -25,7 +25,7 @@ pub record Token : Type 0 where
   pub shape : Shape
 
 -- what bytes begin with, and how many of them it takes
-pub record Lexed : Type 0 where
+pub record FrontToken : Type 0 where
   pub shape : Shape
   pub size : ℕ
 
@@ -41,18 +41,18 @@ closing true (x ∷ xs) = option_map (λ n. n + 1) (closing false xs)
 closing false (x ∷ xs) = if x == 34 then Some 1 else option_map (λ n. n + 1) (closing (x == 92) xs)
 
 -- a quotation mark that nothing closes takes all that follows
-abbrev pub lexed_quote : List ℕ → Option ℕ → Lexed
-lexed_quote bs None = record { shape = stray; size = length bs }
-lexed_quote bs (Some n) = record { shape = quotes (take (n + 1) bs); size = n + 1 }
+abbrev pub quote_token : List ℕ → Option ℕ → FrontToken
+quote_token bs None = record { shape = stray; size = length bs }
+quote_token bs (Some n) = record { shape = quotes (take (n + 1) bs); size = n + 1 }
 
 -- the four marks; every other trigger can't stand
 abbrev pub mark : ℕ → Shape
 mark x = if x == 123 then opens else (if x == 125 then closes else (if x == 58 then colon else (if x == 44 then comma else stray)))
 
 -- the token that bytes without white space before it begin with
-abbrev pub lexed : ℕ → List ℕ → Lexed
-lexed x xs =
-    if x == 34 then lexed_quote (x ∷ xs) (closing false xs)
+abbrev pub front_token : ℕ → List ℕ → FrontToken
+front_token x xs =
+    if x == 34 then quote_token (x ∷ xs) (closing false xs)
     else (if is_trigger x then record { shape = mark x; size = 1 }
     else record { shape = word (take (run (x ∷ xs)) (x ∷ xs)); size = run (x ∷ xs) })
 
@@ -62,7 +62,7 @@ tokens_in zero at bs = []
 tokens_in (suc n) at [] = []
 tokens_in (suc n) at (x ∷ xs) =
     if is_space x then tokens_in n (at + 1) xs
-    else record { at = at; shape = (lexed x xs).shape } ∷ tokens_in n (at + (lexed x xs).size) (drop (lexed x xs).size (x ∷ xs))
+    else record { at = at; shape = (front_token x xs).shape } ∷ tokens_in n (at + (front_token x xs).size) (drop (front_token x xs).size (x ∷ xs))
 
 -- the tokens from an offset of the text on, of which there are no more than bytes
 abbrev pub pending : List ℕ → ℕ → List Token
@@ -87,6 +87,6 @@ spaces [] = 0
 spaces (x ∷ xs) = if is_space x then spaces xs + 1 else 0
 
 -- the token that bytes begin with, where there are any
-abbrev pub first_lexed : List ℕ → Lexed
-first_lexed [] = record { shape = stray; size = 0 }
-first_lexed (x ∷ xs) = lexed x xs
+abbrev pub first_token : List ℕ → FrontToken
+first_token [] = record { shape = stray; size = 0 }
+first_token (x ∷ xs) = front_token x xs

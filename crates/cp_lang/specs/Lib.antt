@@ -3,7 +3,7 @@ pub mod Lexer
 pub mod Tokenized
 pub mod Decimal
 pub mod Cuts
-pub mod Held
+pub mod CutterState
 pub mod Grammar
 pub mod Printer
 pub mod Printed

@@ -7,25 +7,25 @@ use Rattle.cp_path.specs.Place.{Label}
 use Rattle.cp_path.specs.declared.fault.PathFault.{PathFault}
 use Rattle.cp_path.specs.declared.fault.PathFault.TheVariants as path
 use Rattle.cp_lang.specs.Grammar as at
-use Rattle.cp_lang.specs.Grammar.{Spot, Taken, goes, cant, takes, end_of, refused_or, reads, Edges, Level, next_edge, close_node, at_label, new_edge, edge_end, tree_colon, placed, node}
+use Rattle.cp_lang.specs.Grammar.{Spot, Move, goes, cant, takes, end_of, refused_or, reads, Edges, Level, next_edge, close_node, at_label, new_edge, edge_end, tree_colon, after_tree, node}
 use Rattle.cp_lang.specs.Tokenized.{shape_of}
 use Rattle.cp_lang.specs.declared.lexer.Token.{Token}
 use Rattle.cp_lang.specs.declared.parser.Parser.{Parser}
 use Rattle.cp_model.specs.declared.literal.Literal.{Literal}
 use Rattle.cp_model.specs.declared.query.Query.TheVariants.{Stats as stats}
-use Rattle.cp_lang.specs.declared.stmt.Stmt.{Stmt}
-use Rattle.cp_lang.specs.declared.stmt.Stmt.TheVariants as stmt
+use Rattle.cp_lang.specs.declared.syntax_tree.Stmt.{Stmt}
+use Rattle.cp_lang.specs.declared.syntax_tree.Stmt.TheVariants as stmt
 use Rattle.cp_lang.specs.declared.verb.Verb.{Verb}
 use Rattle.cp_lang.specs.declared.verb.Verb.TheVariants as verb
-use Rattle.cp_lang.specs.declared.stmt.StmtFault.{StmtFault}
-use Rattle.cp_lang.specs.declared.stmt.StmtFault.TheVariants as fault
+use Rattle.cp_lang.specs.declared.syntax_tree.StmtFault.{StmtFault}
+use Rattle.cp_lang.specs.declared.syntax_tree.StmtFault.TheVariants as fault
 
 -- what the tokens that are left are, from a position
 abbrev pub reading : Parser → Spot → Result Stmt StmtFault
 reading p s = reads p.end s p.lexer
 
 -- a position where a token is wanted, and what the token does there
-pub record Wants (s : Spot) (does : Shape → Taken) : Type 0 where
+pub record Wants (s : Spot) (does : Shape → Move) : Type 0 where
   pub taken : (x : Shape) → takes s x ≡ does x
   pub ended : (n : ℕ) → end_of n s ≡ Err (fault.Syntax n)
 
@@ -34,20 +34,20 @@ abbrev pub Stops : Parser → Spot → StmtFault → Type 0
 Stops p s e = (e ≡ fault.Memory) ⊎ (reading p s ≡ Err e)
 
 -- the fault is what a token at this offset is refused with
-abbrev pub Refuses : ℕ → Taken → StmtFault → Type 0
+abbrev pub Refuses : ℕ → Move → StmtFault → Type 0
 Refuses at t e = (next : Spot → Result Stmt StmtFault) → refused_or t at next ≡ Err e
 
 -- the same, or memory ran out
-abbrev pub Fails : ℕ → Taken → StmtFault → Type 0
+abbrev pub Fails : ℕ → Move → StmtFault → Type 0
 Fails at t e = (e ≡ fault.Memory) ⊎ Refuses at t e
 
 -- how a token at this offset is read: the step goes on with what was read, or the token is refused
-abbrev pub IsReadOrRefused : {X : Type 0} → ℕ → ((X → Taken) → Taken) → Result X StmtFault → Type 0
-IsReadOrRefused {X} at step result = MatchResult result (λ x. (next : X → Taken) → step next ≡ next x) (λ e. (next : X → Taken) → Refuses at (step next) e)
+abbrev pub IsReadOrRefused : {X : Type 0} → ℕ → ((X → Move) → Move) → Result X StmtFault → Type 0
+IsReadOrRefused {X} at step result = MatchResult result (λ x. (next : X → Move) → step next ≡ next x) (λ e. (next : X → Move) → Refuses at (step next) e)
 
 -- the same, or memory ran out
-abbrev pub IsRead : {X : Type 0} → ℕ → ((X → Taken) → Taken) → Result X StmtFault → Type 0
-IsRead {X} at step result = MatchResult result (λ x. (next : X → Taken) → step next ≡ next x) (λ e. (next : X → Taken) → Fails at (step next) e)
+abbrev pub IsRead : {X : Type 0} → ℕ → ((X → Move) → Move) → Result X StmtFault → Type 0
+IsRead {X} at step result = MatchResult result (λ x. (next : X → Move) → step next ≡ next x) (λ e. (next : X → Move) → Fails at (step next) e)
 
 -- the next token, whatever its position does with it, or a text that ends too early
 abbrev pub GivesToken : Parser → Parser → Result Token StmtFault → Type 0
@@ -56,13 +56,13 @@ GivesToken old new result = MatchResult result
     (λ e. (s : Spot) → ((n : ℕ) → end_of n s ≡ Err (fault.Syntax n)) → reading old s ≡ Err e)
 
 -- how a parser takes a mark or a key word: where it is wanted it leads on, or the text is refused
-abbrev pub Passes : Parser → Parser → (Shape → Spot → Taken) → Result (Unit {0}) StmtFault → Type 0
+abbrev pub Passes : Parser → Parser → (Shape → Spot → Move) → Result (Unit {0}) StmtFault → Type 0
 Passes old new step result = MatchResult result
     (λ _. (s next : Spot) → Wants s (λ x. step x next) → reading old s ≡ reading new next)
     (λ e. (s next : Spot) → Wants s (λ x. step x next) → reading old s ≡ Err e)
 
 -- how a parser takes one token: where this step is wanted it goes on with what was read, or the text is refused, or memory ran out
-abbrev pub Steps : {X : Type 0} → Parser → Parser → (Shape → (X → Taken) → Taken) → Result X StmtFault → Type 0
+abbrev pub Steps : {X : Type 0} → Parser → Parser → (Shape → (X → Move) → Move) → Result X StmtFault → Type 0
 Steps {X} old new step result = MatchResult result
     (λ x. (s : Spot) (next : X → Spot) → Wants s (λ y. step y (λ b. goes (next b))) → reading old s ≡ reading new (next x))
     (λ e. (s : Spot) (next : X → Spot) → Wants s (λ y. step y (λ b. goes (next b))) → Stops old s e)
@@ -76,9 +76,9 @@ abbrev pub Finishes : Parser → Result (Unit {0}) StmtFault → Type 0
 Finishes old result = MatchResult result (λ _. (x : Stmt) → reading old (at.ended x) ≡ Ok x) (λ e. (x : Stmt) → reading old (at.ended x) ≡ Err e)
 
 -- the fault of a token at this offset that is wrongly spelled
-abbrev pub misread : ℕ → PathFault → StmtFault
-misread at path.Memory = fault.Memory
-misread at e = fault.Place at e
+abbrev pub spelling_fault : ℕ → PathFault → StmtFault
+spelling_fault at path.Memory = fault.Memory
+spelling_fault at e = fault.Place at e
 
 -- the open nodes, the innermost with this label and these edges
 abbrev pub within : Label → Edges → List Level → List Level
@@ -103,40 +103,40 @@ ReadsEdges old new t depth es next result = MatchResult result
 -- how a parser reads a tree at this depth, from the position that its label and the open nodes give
 abbrev pub ReadsTree : Parser → Parser → ℕ → (Label → List Level → Spot) → Result Literal StmtFault → Type 0
 ReadsTree old new depth start result = MatchResult result
-    (λ t. (a : Label) (ls : List Level) → length ls + 1 ≡ depth → reading old (start a ls) ≡ reading new (placed a t ls))
+    (λ t. (a : Label) (ls : List Level) → length ls + 1 ≡ depth → reading old (start a ls) ≡ reading new (after_tree a t ls))
     (λ e. (a : Label) (ls : List Level) → length ls + 1 ≡ depth → Stops old (start a ls) e)
 
 -- how a parser reads what stands behind an edge: whether one more follows
 abbrev pub ReadsMore : Parser → Parser → Result Bool StmtFault → Type 0
 ReadsMore old new result = MatchResult result
     (λ more. (a : Label) (es : Edges) (ls : List Level)
-        → reading old (edge_end (within a es ls)) ≡ reading new (if more then next_edge (within a es ls) else placed a (node es) ls))
+    → reading old (edge_end (within a es ls)) ≡ reading new (if more then next_edge (within a es ls) else after_tree a (node es) ls))
     (λ e. (ls : List Level) → reading old (edge_end ls) ≡ Err e)
 
 -- behind an edge: one more, or the end of the node, or what can't stand
-abbrev pub after_edge : Option Bool → List Level → Taken
+abbrev pub after_edge : Option Bool → List Level → Move
 after_edge None ls = cant
 after_edge (Some true) ls = goes (next_edge ls)
 after_edge (Some false) ls = close_node ls
 
 -- the position behind a statement's first word
-abbrev pub behind : Verb → Spot
-behind verb.Ins = at.ins_open
-behind verb.Del = at.del_label
-behind verb.Copy = at.copy_origin
-behind verb.Commit = at.ended stmt.Commit
-behind verb.Abort = at.ended stmt.Abort
-behind verb.Load = at.load_name
-behind verb.Src = at.asked_place at.asks_src
-behind verb.Hist = at.asked_place at.asks_hist
-behind verb.Mod = at.asked_place at.asks_mod
-behind verb.Trace = at.asked_place at.asks_trace
-behind verb.From = at.asked_place at.asks_from
-behind verb.Show = at.show_place
-behind verb.Records = at.records_tid
-behind verb.Stats = at.ended (stmt.Ask stats)
+abbrev pub after_verb : Verb → Spot
+after_verb verb.Ins = at.ins_open
+after_verb verb.Del = at.del_label
+after_verb verb.Copy = at.copy_origin
+after_verb verb.Commit = at.ended stmt.Commit
+after_verb verb.Abort = at.ended stmt.Abort
+after_verb verb.Load = at.load_name
+after_verb verb.Src = at.asked_place at.asks_src
+after_verb verb.Hist = at.asked_place at.asks_hist
+after_verb verb.Mod = at.asked_place at.asks_mod
+after_verb verb.Trace = at.asked_place at.asks_trace
+after_verb verb.From = at.asked_place at.asks_from
+after_verb verb.Show = at.show_place
+after_verb verb.Records = at.records_tid
+after_verb verb.Stats = at.ended (stmt.Ask stats)
 
 -- what a first word does
-abbrev pub begun : Option Verb → Taken
-begun None = cant
-begun (Some v) = goes (behind v)
+abbrev pub at_verb : Option Verb → Move
+at_verb None = cant
+at_verb (Some v) = goes (after_verb v)

@@ -23,8 +23,8 @@ use Rattle.cp_model.specs.declared.query.Query.{Query}
 use Rattle.cp_model.specs.declared.query.Query.TheVariants as query
 use Rattle.cp_model.specs.declared.query.Form.{Form}
 use Rattle.cp_model.specs.declared.query.Form.TheVariants as form
-use Rattle.cp_lang.specs.declared.stmt.Stmt.{Stmt}
-use Rattle.cp_lang.specs.declared.stmt.Stmt.TheVariants as stmt
+use Rattle.cp_lang.specs.declared.syntax_tree.Stmt.{Stmt}
+use Rattle.cp_lang.specs.declared.syntax_tree.Stmt.TheVariants as stmt
 
 -- ---- texts
 

@@ -2,8 +2,8 @@
 use Rattle.std.specs.Prelude.{◌≡◌, false}
 use Rattle.cp_model.specs.History.{IsWritten}
 use Rattle.cp_model.specs.Place.{label_eq, target}
-use Rattle.cp_lang.specs.declared.stmt.Stmt.{Stmt}
-use Rattle.cp_lang.specs.declared.stmt.Stmt.TheVariants.{Op, Commit, Abort, Load, Ask, Show}
+use Rattle.cp_lang.specs.declared.syntax_tree.Stmt.{Stmt}
+use Rattle.cp_lang.specs.declared.syntax_tree.Stmt.TheVariants.{Op, Commit, Abort, Load, Ask, Show}
 
 -- a statement whose operation, if it is one, can be written, and which loads nothing under the name of T
 abbrev pub IsWrittenStmt : Stmt → Type 0

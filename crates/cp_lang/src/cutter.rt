@@ -1,10 +1,10 @@
 ghost use Rattle.std.specs.Prelude.{◌≡◌, OnOk, IfOk, [], ◌++◌, ◌∷◌};
 ghost use Rattle.std.specs.Option.{option_to_list};
-ghost use Rattle.cp_lang.specs.Cuts.{Scan, scan_start, scanned, rest_of};
-ghost use Rattle.cp_lang.specs.Held.{held_of, held_cut, grown, byte_cuts, byte_held, Begins};
+ghost use Rattle.cp_lang.specs.Cuts.{Scan, scan_start, scan_bytes, rest_of};
+ghost use Rattle.cp_lang.specs.CutterState.{held_of, held_cut, grow, byte_cuts, byte_held, Begins};
 
-use crate::limits::STATEMENT_MAX;
 use crate::cut::{Cut, Mode, after, ends, is_space};
+use crate::limits::STATEMENT_MAX;
 use cp_path::Bytes;
 use std::alloc::{AllocError, Global};
 use std::marker::Model;
@@ -22,9 +22,9 @@ pub struct Cutter {
 }
 
 impl Model for Cutter {
-    ghost use Rattle.cp_lang.specs.Held.{Held};
+    ghost use Rattle.cp_lang.specs.CutterState.{CutterState};
 
-    ghost Value = { Held };
+    ghost Value = { CutterState };
 
     ghost view = { λ a. record { mode = a.mode; text = a.text.items; blank = a.blank; long = a.long } };
 }
@@ -45,7 +45,7 @@ impl Cutter {
 
     /// Puts a byte that ends no statement behind the text; lets go of a text that grows too long.
     fn grow(&mut self, byte: u8) -> Result<(), AllocError>
-        ensures ok { OnOk result (self.new ≡ grown self.old byte) }
+        ensures ok { OnOk result (self.new ≡ grow self.old byte) }
     {
         self.mode = after(self.mode, byte);
         self.blank = self.blank && is_space(byte);
@@ -107,7 +107,7 @@ impl Cutter {
     pub fn feed(&mut self, piece: &[u8], out: &mut Vec<Cut>) -> Result<(), AllocError>
         ensures ok { OnOk result
             ((s : Scan) → self.old ≡ held_of s
-            → (out.new.items ≡ out.old.items ++ (scanned s piece.now).cuts) × (self.new ≡ held_of (scanned s piece.now).scan)) }
+            → (out.new.items ≡ out.old.items ++ (scan_bytes s piece.now).cuts) × (self.new ≡ held_of (scan_bytes s piece.now).scan)) }
         ensures front { Begins out.old.items out.new.items }
     {
         for byte in piece {

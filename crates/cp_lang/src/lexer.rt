@@ -1,6 +1,6 @@
 ghost use Rattle.std.specs.Prelude.{◌≡◌, ◌<◌, [], ◌∷◌, false, length, drop, slice_index, MatchOption};
 ghost use Rattle.cp_lang.specs.Lexer.{tokens_of, run, closing, mark};
-ghost use Rattle.cp_lang.specs.Lexer.{spaces, first_lexed};
+ghost use Rattle.cp_lang.specs.Lexer.{spaces, first_token};
 ghost use Rattle.cp_lang.specs.Tokenized.{token_of, shape_of};
 
 use crate::cut::is_space;
@@ -107,8 +107,8 @@ fn mark<'a>(byte: u8) -> Shape<'a>
 fn quoted<'a>(text: &'a str) -> (Shape<'a>, &'a str)
     requires some { 0 < length text.now }
     requires opens { slice_index text.now 0 ≡ 34 }
-    ensures shape { shape_of result.0 ≡ (first_lexed text.now).shape }
-    ensures rest { result.1.now ≡ drop (first_lexed text.now).size text.now }
+    ensures shape { shape_of result.0 ≡ (first_token text.now).shape }
+    ensures rest { result.1.now ≡ drop (first_token text.now).size text.now }
 {
     match closing(&text.as_bytes()[1..]) {
         Some(size) => {
@@ -120,10 +120,10 @@ fn quoted<'a>(text: &'a str) -> (Shape<'a>, &'a str)
 }
 
 /// The token that the text begins with, without white space before it, and what follows. Costs the token's bytes.
-fn lexed<'a>(text: &'a str) -> (Shape<'a>, &'a str)
+fn front_token<'a>(text: &'a str) -> (Shape<'a>, &'a str)
     requires { 0 < length text.now }
-    ensures shape { shape_of result.0 ≡ (first_lexed text.now).shape }
-    ensures rest { result.1.now ≡ drop (first_lexed text.now).size text.now }
+    ensures shape { shape_of result.0 ≡ (first_token text.now).shape }
+    ensures rest { result.1.now ≡ drop (first_token text.now).size text.now }
 {
     let bytes = text.as_bytes();
     let first = bytes[0];
@@ -158,7 +158,7 @@ impl<'a> Lexer<'a> {
             self.at = at;
             return None;
         }
-        let (shape, rest) = lexed(text);
+        let (shape, rest) = front_token(text);
         self.text = rest;
         self.at = at + (text.len() - rest.len());
         Some(Token { at, shape })

@@ -6,19 +6,15 @@ mod cutter;
 mod decimal;
 mod lexer;
 mod limits;
-mod literal;
 mod parser;
 mod printer;
-mod statement;
-mod stmt;
+mod syntax_tree;
+mod token_reading;
 mod verb;
 
 pub use cut::Cut;
 pub use cutter::Cutter;
 pub use limits::STATEMENT_MAX;
+pub use parser::{first_offset, parse, parse_bytes};
 pub use printer::print;
-pub use statement::{first_offset, parse, parse_bytes};
-pub use stmt::{Load, Stmt, StmtFault};
-
-#[cfg(test)]
-mod tests;
+pub use syntax_tree::{Load, Stmt, StmtFault};

@@ -1,161 +1,37 @@
-ghost use Rattle.std.specs.Prelude.{◌≡◌, ◌⊎◌, ◌<◌, List, ℕ, length, IfOk, IfErr, OnOk, IfSome, IfNone, if◌then◌else◌};
-ghost use Rattle.cp_path.specs.Place.{Label};
-ghost use Rattle.cp_path.specs.Words.{place_reading};
-ghost use Rattle.cp_path.specs.declared.loc.Loc.{Loc};
-ghost use Rattle.cp_lang.specs.Grammar.{Spot, Taken, goes, cant, takes, refused_or, reads, end_of, by_reading, at_open, at_close, at_colon, at_word, at_label, at_place, at_name, at_file, at_number, ended};
+ghost use Rattle.std.specs.Prelude.{◌≡◌, ◌≤◌, ◌<◌, ◌+◌, [], length, IfOk, OnOk, IfSome, IfNone, if◌then◌else◌};
+ghost use Rattle.cp_path.specs.Answers.{Answers};
+ghost use Rattle.cp_lang.specs.Lexer as lexer;
 ghost use Rattle.cp_lang.specs.Lexer.{tokens_of};
-ghost use Rattle.cp_lang.specs.Parser.{reading, IsRead, IsReadOrRefused, GivesToken, Passes, Steps, Finishes, misread};
+ghost use Rattle.cp_lang.specs.Grammar.{Spot, Move, takes, refused_or, reads, end_of, at_open, at_close, at_colon, at_word, at_label, at_place, at_name, at_file, has_edge, rows_of_edges, node, tree, first_edge, edge_end, after_tree, statement_reading, bytes_reading, csv_load, start, ended, ins_open, ins_close, del_label, copy_origin, load_name, json_file, csv_file, show_place, records_tid};
+ghost use Rattle.cp_lang.specs.Parser.{reading, GivesToken, Passes, Steps, Reads, Finishes, IsEdgeLabel, ReadsTree, ReadsEdges, ReadsMore, within, after_verb};
+ghost use Rattle.cp_lang.specs.Printer.{IsSpellable};
 ghost use Rattle.cp_lang.specs.Tokenized.{shape_of};
-ghost use Rattle.cp_lang.specs.declared.stmt.Stmt.{Stmt};
-ghost use Rattle.cp_lang.specs.declared.stmt.StmtFault.TheVariants as fault;
+ghost use Rattle.cp_lang.specs.Written.{IsWrittenStmt};
+ghost use Rattle.cp_lang.specs.declared.syntax_tree.Stmt.{Stmt};
 
-use crate::decimal::decimal_value;
-use crate::lexer::{Lexer, Shape, Token};
-use crate::stmt::StmtFault;
-use cp_path::{Label, Loc, Name, PathFault, Text};
-use std::alloc::Global;
+use crate::lexer::{Lexer, Token, spaces};
+use crate::syntax_tree::{Load, Stmt, StmtFault};
+use crate::token_reading::{
+    file_of, has_next, is_close, is_colon, is_empty_end, is_open, is_word, label_of, name_of,
+    number_of, opens_node, place_of, value_of,
+};
+use crate::verb::{Verb, verb_of};
+use cp_model::{Form, LitEdge, LitList, Literal, Op, Query};
+use cp_path::{LABELS_MAX, Label, Loc, Name, Text};
+use std::alloc::{AllocError, Global};
+use std::collections::BTreeMap;
 
 /// The tokens of a text that are still to be read, and the text's length.
 #[derive(Drop)]
-pub(crate) struct Parser<'a> {
-    pub(crate) alloc: Global,
-    pub(crate) lexer: Lexer<'a>,
-    pub(crate) end: usize,
-}
-
-/// The fault of a token at this offset that is wrongly spelled.
-pub(crate) fn misread(at: usize, fault: PathFault) -> StmtFault
-    ensures { result ≡ misread at fault }
-{
-    match fault {
-        PathFault::Memory => StmtFault::Memory,
-        fault => StmtFault::Place(at, fault),
-    }
-}
-
-/// The label that a token is read as.
-pub(crate) fn label_of<'a>(alloc: Global, token: Token<'a>) -> Result<Label, StmtFault>
-    ensures reads { IsRead token.entry.at (at_label (shape_of token.entry.shape)) result }
-{
-    match token.shape {
-        Shape::Word(word) | Shape::Quoted(word) => match Label::read(alloc, word) {
-            Ok(label) => Ok(label),
-            Err(fault) => Err(misread(token.at, fault)),
-        },
-        _ => Err(StmtFault::Syntax(token.at)),
-    }
-}
-
-/// The place that a word at this offset is read as.
-#[tactic(auto, using(crate::proofs::Steps::fails_by))]
-fn read_place(alloc: Global, at: usize, word: &str) -> Result<Loc, StmtFault>
-    ensures reads { IsRead at (by_reading (place_reading word.now)) result }
-{
-    match Loc::read(alloc, word) {
-        Ok(place) => Ok(place),
-        Err(fault) => Err(misread(at, fault)),
-    }
-}
-
-/// The place that a token is read as.
-pub(crate) fn place_of<'a>(alloc: Global, token: Token<'a>) -> Result<Loc, StmtFault>
-    ensures reads { IsRead token.entry.at (at_place (shape_of token.entry.shape)) result }
-{
-    match token.shape {
-        Shape::Word(word) => read_place(alloc, token.at, word),
-        Shape::Quoted(word) => read_place(alloc, token.at, word),
-        _ => Err(StmtFault::Syntax(token.at)),
-    }
-}
-
-/// The name of a source that a token is.
-fn name_of<'a>(alloc: Global, token: Token<'a>) -> Result<Name, StmtFault>
-    ensures reads { IsRead token.entry.at (at_name (shape_of token.entry.shape)) result }
-{
-    let Shape::Word(word) = token.shape else {
-        return Err(StmtFault::Syntax(token.at));
-    };
-    match Name::read(alloc, word) {
-        Ok(name) => {
-            if name.is_target() {
-                return Err(StmtFault::Syntax(token.at));
-            }
-            Ok(name)
-        }
-        Err(PathFault::Memory) => Err(StmtFault::Memory),
-        Err(_) => Err(StmtFault::Syntax(token.at)),
-    }
-}
-
-/// The file name that a token is read as.
-fn file_of<'a>(alloc: Global, token: Token<'a>) -> Result<Text, StmtFault>
-    ensures reads { IsRead token.entry.at (at_file (shape_of token.entry.shape)) result }
-{
-    let Shape::Quoted(word) = token.shape else {
-        return Err(StmtFault::Syntax(token.at));
-    };
-    match Text::read(alloc, word)? {
-        Some(file) => Ok(file),
-        None => Err(StmtFault::Syntax(token.at)),
-    }
-}
-
-/// The number that a token is.
-pub(crate) fn number_of<'a>(token: Token<'a>) -> Result<u64, StmtFault>
-    ensures reads { IsReadOrRefused token.entry.at (at_number (shape_of token.entry.shape)) result }
-{
-    let Shape::Word(word) = token.shape else {
-        return Err(StmtFault::Syntax(token.at));
-    };
-    match decimal_value(word.as_bytes()) {
-        Some(number) => Ok(number),
-        None => Err(StmtFault::Syntax(token.at)),
-    }
-}
-
-/// Whether a token is this key word.
-pub(crate) fn is_word<'a>(token: Token<'a>, text: &str) -> bool
-    ensures { (s : Spot) → at_word text.now (shape_of token.entry.shape) s ≡ (if result then goes s else cant) }
-{
-    match token.shape {
-        Shape::Word(word) => word == text,
-        _ => false,
-    }
-}
-
-/// Whether a token is an opening brace.
-fn is_open<'a>(token: Token<'a>) -> bool
-    ensures { (s : Spot) → at_open (shape_of token.entry.shape) s ≡ (if result then goes s else cant) }
-{
-    match token.shape {
-        Shape::Open => true,
-        _ => false,
-    }
-}
-
-/// Whether a token is a closing brace.
-fn is_close<'a>(token: Token<'a>) -> bool
-    ensures { (s : Spot) → at_close (shape_of token.entry.shape) s ≡ (if result then goes s else cant) }
-{
-    match token.shape {
-        Shape::Close => true,
-        _ => false,
-    }
-}
-
-/// Whether a token is a colon.
-fn is_colon<'a>(token: Token<'a>) -> bool
-    ensures { (s : Spot) → at_colon (shape_of token.entry.shape) s ≡ (if result then goes s else cant) }
-{
-    match token.shape {
-        Shape::Colon => true,
-        _ => false,
-    }
+struct Parser<'a> {
+    alloc: Global,
+    lexer: Lexer<'a>,
+    end: usize,
 }
 
 impl<'a> Parser<'a> {
     /// Stands at the beginning of a text.
-    pub(crate) fn new(alloc: Global, text: &'a str) -> Parser<'a>
+    fn new(alloc: Global, text: &'a str) -> Parser<'a>
         ensures { (s : Spot) → reading result s ≡ reads (length text.now) s (tokens_of text.now) }
     {
         Parser {
@@ -166,7 +42,7 @@ impl<'a> Parser<'a> {
     }
 
     /// The next token, if there is one.
-    pub(crate) fn next(&mut self) -> Option<Token<'a>>
+    fn next(&mut self) -> Option<Token<'a>>
         ensures more { IfSome result (λ t. (s : Spot) → reading self.old s ≡ refused_or (takes s (shape_of t.shape)) t.at (reading self.new)) }
         ensures none { IfNone result ((s : Spot) → reading self.old s ≡ end_of self.old.end s) }
         ensures last { IfNone result ((x : Stmt) → reading self.new (ended x) ≡ Ok x) }
@@ -177,7 +53,7 @@ impl<'a> Parser<'a> {
     }
 
     /// The next token. A text that ends too early is refused at its end.
-    pub(crate) fn token(&mut self) -> Result<Token<'a>, StmtFault>
+    fn token(&mut self) -> Result<Token<'a>, StmtFault>
         ensures reads { GivesToken self.old self.new result }
         ensures fewer { OnOk result (length self.new.lexer < length self.old.lexer) }
     {
@@ -188,7 +64,7 @@ impl<'a> Parser<'a> {
     }
 
     /// The opening brace of an insertion.
-    pub(crate) fn open(&mut self) -> Result<(), StmtFault>
+    fn open(&mut self) -> Result<(), StmtFault>
         ensures reads { Passes self.old self.new at_open result }
     {
         let token = self.token()?;
@@ -200,7 +76,7 @@ impl<'a> Parser<'a> {
     }
 
     /// The closing brace of an insertion.
-    pub(crate) fn close(&mut self) -> Result<(), StmtFault>
+    fn close(&mut self) -> Result<(), StmtFault>
         ensures reads { Passes self.old self.new at_close result }
     {
         let token = self.token()?;
@@ -212,7 +88,7 @@ impl<'a> Parser<'a> {
     }
 
     /// The colon behind a label.
-    pub(crate) fn colon(&mut self) -> Result<(), StmtFault>
+    fn colon(&mut self) -> Result<(), StmtFault>
         ensures reads { Passes self.old self.new at_colon result }
         ensures fewer { OnOk result (length self.new.lexer < length self.old.lexer) }
     {
@@ -225,7 +101,7 @@ impl<'a> Parser<'a> {
     }
 
     /// This key word.
-    pub(crate) fn word(&mut self, text: &str) -> Result<(), StmtFault>
+    fn word(&mut self, text: &str) -> Result<(), StmtFault>
         ensures reads { Passes self.old self.new (at_word text.now) result }
     {
         let token = self.token()?;
@@ -236,14 +112,16 @@ impl<'a> Parser<'a> {
         }
     }
 
-    pub(crate) fn label(&mut self) -> Result<Label, StmtFault>
+    /// A label.
+    fn label(&mut self) -> Result<Label, StmtFault>
         ensures reads { Steps self.old self.new at_label result }
     {
         let token = self.token()?;
         label_of(self.alloc, token)
     }
 
-    pub(crate) fn place(&mut self) -> Result<Loc, StmtFault>
+    /// A place.
+    fn place(&mut self) -> Result<Loc, StmtFault>
         ensures reads { Steps self.old self.new at_place result }
     {
         let token = self.token()?;
@@ -251,7 +129,7 @@ impl<'a> Parser<'a> {
     }
 
     /// The name of a source that is to be loaded.
-    pub(crate) fn name(&mut self) -> Result<Name, StmtFault>
+    fn name(&mut self) -> Result<Name, StmtFault>
         ensures reads { Steps self.old self.new at_name result }
     {
         let token = self.token()?;
@@ -259,7 +137,7 @@ impl<'a> Parser<'a> {
     }
 
     /// The name of a file.
-    pub(crate) fn file(&mut self) -> Result<Text, StmtFault>
+    fn file(&mut self) -> Result<Text, StmtFault>
         ensures reads { Steps self.old self.new at_file result }
     {
         let token = self.token()?;
@@ -267,7 +145,7 @@ impl<'a> Parser<'a> {
     }
 
     /// The end of the text, behind a whole statement.
-    pub(crate) fn finish(&mut self) -> Result<(), StmtFault>
+    fn finish(&mut self) -> Result<(), StmtFault>
         ensures reads { Finishes self.old result }
     {
         match self.next() {
@@ -275,4 +153,310 @@ impl<'a> Parser<'a> {
             Some(token) => Err(StmtFault::Syntax(token.at)),
         }
     }
+
+    /// The tree of a label that is the `depth`th on its way. Costs its bytes, and at a node the sorting of its edges.
+    #[cycle(tree)]
+    fn tree(&mut self, depth: usize) -> Result<Literal, StmtFault>
+        requires { depth ≤ LABELS_MAX }
+        ensures reads { ReadsTree self.old self.new depth tree result }
+        ensures fewer { OnOk result (length self.new.lexer ≤ length self.old.lexer) }
+    {
+        let token = self.token()?;
+        if opens_node(token) {
+            return self.node(depth);
+        }
+        Ok(Literal::Leaf(value_of(self.alloc, token)?))
+    }
+
+    /// The node whose opening brace was read.
+    #[cycle(tree)]
+    fn node(&mut self, depth: usize) -> Result<Literal, StmtFault>
+        requires { depth ≤ LABELS_MAX }
+        ensures reads { ReadsTree self.old self.new depth (λ a ls. first_edge (within a [] ls)) result }
+        ensures fewer { OnOk result (length self.new.lexer ≤ length self.old.lexer) }
+    {
+        let token = self.token()?;
+        if is_empty_end(token) {
+            return Ok(Literal::Node(LitList {
+                items: Vec::new(self.alloc),
+            }));
+        }
+        let mut edges = BTreeMap::new(self.alloc);
+        self.edges(token, depth, &mut edges)?;
+        Ok(Literal::Node(list_of(self.alloc, edges)?))
+    }
+
+    /// Adds the edges up to the closing brace, the first of which begins with this token.
+    #[cycle(tree)]
+    fn edges(
+        &mut self,
+        first: Token<'a>,
+        depth: usize,
+        edges: &mut BTreeMap<Label, Literal>,
+    ) -> Result<(), StmtFault>
+        requires { depth ≤ LABELS_MAX }
+        ensures reads { ReadsEdges self.old self.new first.entry depth edges.old.entries (λ a ls. after_tree a (node edges.new.entries) ls) result }
+        ensures fewer { OnOk result (length self.new.lexer ≤ length self.old.lexer) }
+    {
+        self.edge(first, depth, edges)?;
+        while self.has_more()? {
+            let token = self.token()?;
+            self.edge(token, depth, edges)?;
+        }
+        Ok(())
+    }
+
+    /// Adds the edge that begins with this token.
+    #[cycle(tree)]
+    fn edge(
+        &mut self,
+        token: Token<'a>,
+        depth: usize,
+        edges: &mut BTreeMap<Label, Literal>,
+    ) -> Result<(), StmtFault>
+        requires { depth ≤ LABELS_MAX }
+        ensures reads { ReadsEdges self.old self.new token.entry depth edges.old.entries (λ a ls. edge_end (within a edges.new.entries ls)) result }
+        ensures fewer { OnOk result (length self.new.lexer ≤ length self.old.lexer) }
+    {
+        let label = edge_label(self.alloc, token, depth, edges)?;
+        self.colon()?;
+        let tree = self.tree(depth + 1)?;
+        edges.insert(label, tree)?;
+        Ok(())
+    }
+
+    /// Whether a comma stands behind an edge, or the closing brace.
+    fn has_more(&mut self) -> Result<bool, StmtFault>
+        ensures reads { ReadsMore self.old self.new result }
+        ensures fewer { OnOk result (length self.new.lexer < length self.old.lexer) }
+    {
+        let token = self.token()?;
+        match has_next(token) {
+            Some(more) => Ok(more),
+            None => Err(StmtFault::Syntax(token.at)),
+        }
+    }
+
+    /// `ins { LABEL : TREE } into PLACE`, behind its first word.
+    fn insertion(&mut self) -> Result<Stmt, StmtFault>
+        ensures reads { Reads self.old self.new ins_open ended result }
+    {
+        self.open()?;
+        let label = self.label()?;
+        self.colon()?;
+        let tree = self.tree(1)?;
+        self.insertion_end(label, tree)
+    }
+
+    /// `} into PLACE`, behind the tree of an insertion.
+    fn insertion_end(&mut self, label: Label, tree: Literal) -> Result<Stmt, StmtFault>
+        ensures reads { Reads self.old self.new (ins_close label tree) ended result }
+    {
+        self.close()?;
+        self.word("into")?;
+        let into = self.place()?;
+        Ok(Stmt::Op(Op::Ins { into, label, tree }))
+    }
+
+    /// `del LABEL from PLACE`, behind its first word.
+    fn deletion(&mut self) -> Result<Stmt, StmtFault>
+        ensures reads { Reads self.old self.new del_label ended result }
+    {
+        let label = self.label()?;
+        self.word("from")?;
+        let from = self.place()?;
+        Ok(Stmt::Op(Op::Del { label, from }))
+    }
+
+    /// `copy PLACE into PLACE`, behind its first word.
+    fn copying(&mut self) -> Result<Stmt, StmtFault>
+        ensures reads { Reads self.old self.new copy_origin ended result }
+    {
+        let from = self.place()?;
+        self.word("into")?;
+        let into = self.place()?;
+        Ok(Stmt::Op(Op::Copy { from, into }))
+    }
+
+    /// `load NAME json FILE` or `load NAME csv FILE`, perhaps with `by LABEL`, behind its first word.
+    fn loading(&mut self) -> Result<Stmt, StmtFault>
+        ensures reads { Reads self.old self.new load_name ended result }
+    {
+        let name = self.name()?;
+        let token = self.token()?;
+        if is_word(token, "json") {
+            return self.json(name);
+        }
+        if is_word(token, "csv") {
+            return self.csv(name);
+        }
+        Err(StmtFault::Syntax(token.at))
+    }
+
+    /// The file behind `json`.
+    fn json(&mut self, name: Name) -> Result<Stmt, StmtFault>
+        ensures reads { Reads self.old self.new (json_file name) ended result }
+    {
+        let file = self.file()?;
+        Ok(Stmt::Load(Load {
+            name,
+            form: Form::Json,
+            file,
+        }))
+    }
+
+    /// The file behind `csv`, and perhaps the key column.
+    fn csv(&mut self, name: Name) -> Result<Stmt, StmtFault>
+        ensures reads { Reads self.old self.new (csv_file name) ended result }
+    {
+        let file = self.file()?;
+        match self.next() {
+            None => Ok(csv_load(name, file, None)),
+            Some(token) => {
+                if !is_word(token, "by") {
+                    return Err(StmtFault::Syntax(token.at));
+                }
+                let key = self.label()?;
+                Ok(csv_load(name, file, Some(key)))
+            }
+        }
+    }
+
+    /// `show` or `show PLACE`, behind its first word.
+    fn showing(&mut self) -> Result<Stmt, StmtFault>
+        ensures reads { Reads self.old self.new show_place ended result }
+    {
+        match self.next() {
+            None => Ok(Stmt::Show(Loc::target(self.alloc)?)),
+            Some(token) => Ok(Stmt::Show(place_of(self.alloc, token)?)),
+        }
+    }
+
+    /// `records` or `records NUMBER`, behind its first word.
+    fn records(&mut self) -> Result<Stmt, StmtFault>
+        ensures reads { Reads self.old self.new records_tid ended result }
+    {
+        match self.next() {
+            None => Ok(Stmt::Ask(Query::Records(None))),
+            Some(token) => Ok(Stmt::Ask(Query::Records(Some(number_of(token)?)))),
+        }
+    }
+
+    /// What stands behind a statement's first word.
+    fn after_verb(&mut self, verb: Verb) -> Result<Stmt, StmtFault>
+        ensures reads { Reads self.old self.new (after_verb verb) ended result }
+    {
+        match verb {
+            Verb::Ins => self.insertion(),
+            Verb::Del => self.deletion(),
+            Verb::Copy => self.copying(),
+            Verb::Commit => Ok(Stmt::Commit),
+            Verb::Abort => Ok(Stmt::Abort),
+            Verb::Load => self.loading(),
+            Verb::Src => Ok(Stmt::Ask(Query::Src(self.place()?))),
+            Verb::Hist => Ok(Stmt::Ask(Query::Hist(self.place()?))),
+            Verb::Mod => Ok(Stmt::Ask(Query::Mod(self.place()?))),
+            Verb::Trace => Ok(Stmt::Ask(Query::Trace(self.place()?))),
+            Verb::From => Ok(Stmt::Ask(Query::From(self.place()?))),
+            Verb::Show => self.showing(),
+            Verb::Records => self.records(),
+            Verb::Stats => Ok(Stmt::Ask(Query::Stats)),
+        }
+    }
+
+    /// A whole statement.
+    fn statement(&mut self) -> Result<Stmt, StmtFault>
+        ensures reads { Reads self.old self.new start ended result }
+    {
+        let token = self.token()?;
+        match verb_of(token) {
+            Some(verb) => self.after_verb(verb),
+            None => Err(StmtFault::Syntax(token.at)),
+        }
+    }
+}
+
+// ---- the edges of a node
+
+/// The edges in the order of their labels.
+fn list_of(alloc: Global, edges: BTreeMap<Label, Literal>) -> Result<LitList, AllocError>
+    ensures { IfOk result (λ l. l ≡ rows_of_edges edges.entries) }
+{
+    let mut items = Vec::new(alloc);
+    for (label, tree) in edges {
+        items.push(LitEdge { label, tree })?;
+    }
+    Ok(LitList { items })
+}
+
+/// Whether an edge of this label is there. Costs the logarithm of their number.
+fn has_edge(edges: &BTreeMap<Label, Literal>, label: &Label) -> bool
+    ensures { result ≡ has_edge label.now edges.now.entries }
+{
+    edges.contains_key(label)
+}
+
+/// The label of one edge more below the `depth`th label on a way. A sibling's label can't stand again,
+/// and neither can a label that would be the 65th.
+fn edge_label<'a>(
+    alloc: Global,
+    token: Token<'a>,
+    depth: usize,
+    edges: &BTreeMap<Label, Literal>,
+) -> Result<Label, StmtFault>
+    ensures reads { IsEdgeLabel token.entry depth edges.now.entries result }
+    ensures room { OnOk result (depth < LABELS_MAX) }
+{
+    let label = label_of(alloc, token)?;
+    let is_full = depth >= LABELS_MAX;
+    let is_there = has_edge(edges, &label);
+    if is_full || is_there {
+        return Err(StmtFault::Syntax(token.at));
+    }
+    Ok(label)
+}
+
+// ---- whole statements
+
+/// The loading of a CSV file.
+fn csv_load(name: Name, file: Text, key: Option<Label>) -> Stmt
+    ensures { result ≡ csv_load name file key }
+{
+    Stmt::Load(Load {
+        name,
+        form: Form::Csv(key),
+        file,
+    })
+}
+
+/// The statement that a text is, within every limit, so that it can be printed. Costs the text's bytes, and at the nodes of an inserted tree the sorting of their edges.
+pub fn parse(alloc: Global, text: &str) -> Result<Stmt, StmtFault>
+    ensures answers { Answers StmtFault.Memory (statement_reading text.now) result }
+    ensures spellable { IfOk result (λ s. IsSpellable s) }
+    ensures written { IfOk result (λ s. IsWrittenStmt s) }
+{
+    let mut parser = Parser::new(alloc, text);
+    let statement = parser.statement()?;
+    parser.finish()?;
+    Ok(statement)
+}
+
+/// The statement that bytes are; the first that isn't UTF-8 can't stand.
+pub fn parse_bytes(alloc: Global, bytes: &[u8]) -> Result<Stmt, StmtFault>
+    ensures answers { Answers StmtFault.Memory (bytes_reading bytes.now) result }
+    ensures spellable { IfOk result (λ s. IsSpellable s) }
+    ensures written { IfOk result (λ s. IsWrittenStmt s) }
+{
+    match std::str::from_utf8(bytes) {
+        Ok(text) => parse(alloc, text),
+        Err(fault) => Err(StmtFault::Syntax(fault.valid_up_to())),
+    }
+}
+
+/// The offset of the first token of a text, and the text's length where there is none. Costs the white space before it.
+#[tactic(auto, using(crate::proofs::Steps::spaces_first))]
+pub fn first_offset(bytes: &[u8]) -> usize
+    ensures { result ≡ lexer.first_offset (length bytes.now) (lexer.tokens_of bytes.now) }
+{
+    spaces(bytes)
 }

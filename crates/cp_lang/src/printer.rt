@@ -5,12 +5,12 @@ ghost use Rattle.cp_model.specs.Literals.{literal_rows};
 ghost use Rattle.cp_model.specs.Trees.{tree_at};
 ghost use Rattle.cp_model.specs.declared.row.Content.TheVariants.{Node};
 ghost use Rattle.cp_model.specs.declared.op.Op.TheVariants.{Ins};
-ghost use Rattle.cp_lang.specs.declared.stmt.Stmt.TheVariants as stmt;
+ghost use Rattle.cp_lang.specs.declared.syntax_tree.Stmt.TheVariants as stmt;
 ghost use Rattle.cp_lang.specs.Grammar.{statement_reading};
 ghost use Rattle.cp_lang.specs.Printed.{IsOrdered, edge_text, edges_text, node_edges_text};
 ghost use Rattle.cp_lang.specs.Printer.{IsSpellable, IsShortTree, SpellsOp, literal_text, op_text, form_text, query_text, statement_text};
 
-use crate::stmt::{Load, Stmt};
+use crate::syntax_tree::{Load, Stmt};
 use cp_model::{Form, LitEdge, LitList, Literal, Op, Query};
 use cp_path::{Label, Loc, Text, Value};
 use std::alloc::{AllocError, Global};

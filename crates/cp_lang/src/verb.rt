@@ -1,6 +1,6 @@
 ghost use Rattle.std.specs.Prelude.{◌≡◌};
 ghost use Rattle.cp_lang.specs.Grammar.{after_question, after_start, at_start};
-ghost use Rattle.cp_lang.specs.Parser.{begun};
+ghost use Rattle.cp_lang.specs.Parser.{at_verb};
 ghost use Rattle.cp_lang.specs.Tokenized.{shape_of};
 
 use crate::lexer::{Shape, Token};
@@ -26,7 +26,7 @@ pub(crate) enum Verb {
 
 /// The verb that a word is: the operations and what goes with them, then the questions.
 fn verb_from(word: &str) -> Option<Verb>
-    ensures { after_start word.now ≡ begun result }
+    ensures { after_start word.now ≡ at_verb result }
 {
     if word == "ins" {
         Some(Verb::Ins)
@@ -47,7 +47,7 @@ fn verb_from(word: &str) -> Option<Verb>
 
 /// The verb of a question that a word is.
 fn question(word: &str) -> Option<Verb>
-    ensures { after_question word.now ≡ begun result }
+    ensures { after_question word.now ≡ at_verb result }
 {
     if word == "src" {
         Some(Verb::Src)
@@ -72,7 +72,7 @@ fn question(word: &str) -> Option<Verb>
 
 /// The verb that a token is.
 pub(crate) fn verb_of<'a>(token: Token<'a>) -> Option<Verb>
-    ensures { at_start (shape_of token.entry.shape) ≡ begun result }
+    ensures { at_start (shape_of token.entry.shape) ≡ at_verb result }
 {
     match token.shape {
         Shape::Word(word) => verb_from(word),

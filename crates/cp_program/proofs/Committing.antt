@@ -9,7 +9,7 @@ use Rattle.cp_model.specs.Past.{tree_of}
 use Rattle.cp_model.specs.History.{commit, State, CanCommit, CanFollow, then_entry, each_alone, steps_of, after_step, after_commit, one_commit_more}
 use Rattle.cp_model.proofs.Histories.{replay-snoc, legal-snoc}
 use Rattle.cp_model.specs.declared.refusal.Cause.{Cause}
-use Rattle.cp_lang.specs.declared.stmt.Stmt.TheVariants as stmt
+use Rattle.cp_lang.specs.declared.syntax_tree.Stmt.TheVariants as stmt
 use Rattle.cp_reply.specs.declared.reply.Of.TheVariants as of
 use Rattle.cp_reply.specs.declared.reply.Why.TheVariants as why
 use Rattle.cp_reply.specs.declared.reply.Reply.TheVariants as reply

@@ -1,16 +1,14 @@
 -- What a source file gives, by how it was read.
 use Rattle.cp_program.specs.declared.limits.TheConstants.{FILE_MAX}
-use Rattle.std.specs.Prelude.{ℕ, ◌≡◌, ◌≤◌, ◌<◌, true, false, List, length, nat_lt, refl, Result, Ok, Err, if◌then◌else◌}
-use Rattle.std.proofs.Common.{sym, ap, subst, ◌∙◌, arith}
+use Rattle.std.specs.Prelude.{ℕ, ◌≡◌, ◌⊎◌, ◌≤◌, ◌<◌, true, false, List, length, nat_lt, refl, Result, Ok, Err, if◌then◌else◌}
+use Rattle.std.proofs.Common.{inl, inr, sym, ap, subst, ◌∙◌, arith}
 use Rattle.std.proofs.lemmas.Bool.Decides.{nat_tests}
 use Rattle.std.specs.declared.option.Option.{Option}
 use Rattle.std.specs.declared.option.Option.TheVariants.{None, Some}
 use Rattle.cp_model.specs.Tree.{Tree}
 use Rattle.cp_model.specs.declared.query.Form.{Form}
-use Rattle.cp_json.specs.JsonTrees as json_trees
 use Rattle.cp_json.specs.declared.fault.JsonFault.{JsonFault}
 use Rattle.cp_json.specs.declared.fault.JsonFault.TheVariants as json
-use Rattle.cp_csv.specs.CsvTrees as csv_trees
 use Rattle.cp_csv.specs.declared.fault.CsvFault.{CsvFault}
 use Rattle.cp_csv.specs.declared.fault.CsvFault.TheVariants as csv
 use Rattle.cp_reply.specs.declared.reply.Why.{Why}
@@ -22,44 +20,22 @@ use Rattle.cp_program.specs.Fetched.{Gives}
 -- ---- texts
 
 -- a JSON text that is read
-pub json-gives : {R : Type 0} (view : R → Tree) (name : List ℕ) (r : Result Tree JsonFault) (x : R) → json_trees.Reads view (Ok x) r → Gives view (json_given name r) (Ok x)
+pub json-gives : {R : Type 0} (view : R → Tree) (name : List ℕ) (r : Result Tree JsonFault) (x : R) → r ≡ Ok (view x) → Gives view (json_given name r) (Ok x)
 json-gives view name r x h = subst (λ y. Gives view (json_given name y) (Ok x)) (sym h) refl
 
-withheld : {R : Type 0} (view : R → Tree) (name : List ℕ) (r : Result Tree JsonFault) (e : JsonFault) (w : Why) → r ≡ Err e → w ≡ json_why name e → Gives view (json_given name r) (Err w)
-withheld view name r e w h i = subst (λ y. Gives view (json_given name y) (Err w)) (sym h) i
-
 -- one that is refused
-pub json-withholds : {R : Type 0} (view : R → Tree) (name : List ℕ) (r : Result Tree JsonFault) (e : JsonFault) (w : Why) → json_trees.Reads view (Err e) r → (e ≡ json.Memory → ⊥) → w ≡ json_why name e → Gives view (json_given name r) (Err w)
-json-withholds view name r json.NotJson w h n i = withheld view name r json.NotJson w h i
-json-withholds view name r json.LabelTooLong w h n i = withheld view name r json.LabelTooLong w h i
-json-withholds view name r json.TooDeep w h n i = withheld view name r json.TooDeep w h i
-json-withholds view name r json.PathTooLong w h n i = withheld view name r json.PathTooLong w h i
-json-withholds view name r json.TextTooLong w h n i = withheld view name r json.TextTooLong w h i
-json-withholds view name r json.TooMany w h n i = withheld view name r json.TooMany w h i
-json-withholds view name r json.TooBig w h n i = withheld view name r json.TooBig w h i
-json-withholds view name r (json.NotWhole p) w h n i = withheld view name r (json.NotWhole p) w h i
-json-withholds view name r json.Memory w h n i = absurd (n refl)
+pub json-withholds : {R : Type 0} (view : R → Tree) (name : List ℕ) (r : Result Tree JsonFault) (e : JsonFault) (w : Why) → (e ≡ json.Memory) ⊎ (r ≡ Err e) → (e ≡ json.Memory → ⊥) → w ≡ json_why name e → Gives view (json_given name r) (Err w)
+json-withholds view name r e w (inl m) n i = absurd (n m)
+json-withholds view name r e w (inr h) n i = subst (λ y. Gives view (json_given name y) (Err w)) (sym h) i
 
 -- a CSV text that is read
-pub csv-gives : {R : Type 0} (view : R → Tree) (r : Result Tree CsvFault) (x : R) → csv_trees.Reads view (Ok x) r → Gives view (csv_given r) (Ok x)
+pub csv-gives : {R : Type 0} (view : R → Tree) (r : Result Tree CsvFault) (x : R) → r ≡ Ok (view x) → Gives view (csv_given r) (Ok x)
 csv-gives view r x h = subst (λ y. Gives view (csv_given y) (Ok x)) (sym h) refl
 
-refused : {R : Type 0} (view : R → Tree) (r : Result Tree CsvFault) (e : CsvFault) (w : Why) → r ≡ Err e → w ≡ csv_why e → Gives view (csv_given r) (Err w)
-refused view r e w h i = subst (λ y. Gives view (csv_given y) (Err w)) (sym h) i
-
 -- one that is refused
-pub csv-withholds : {R : Type 0} (view : R → Tree) (r : Result Tree CsvFault) (e : CsvFault) (w : Why) → csv_trees.Reads view (Err e) r → (e ≡ csv.Memory → ⊥) → w ≡ csv_why e → Gives view (csv_given r) (Err w)
-csv-withholds view r csv.NoHeader w h n i = refused view r csv.NoHeader w h i
-csv-withholds view r (csv.NotUtf8 k) w h n i = refused view r (csv.NotUtf8 k) w h i
-csv-withholds view r csv.LabelTooLong w h n i = refused view r csv.LabelTooLong w h i
-csv-withholds view r (csv.RepeatedHeader k) w h n i = refused view r (csv.RepeatedHeader k) w h i
-csv-withholds view r csv.NoColumn w h n i = refused view r csv.NoColumn w h i
-csv-withholds view r (csv.Ragged k) w h n i = refused view r (csv.Ragged k) w h i
-csv-withholds view r csv.TextTooLong w h n i = refused view r csv.TextTooLong w h i
-csv-withholds view r (csv.RepeatedKey k) w h n i = refused view r (csv.RepeatedKey k) w h i
-csv-withholds view r csv.TooMany w h n i = refused view r csv.TooMany w h i
-csv-withholds view r csv.TooBig w h n i = refused view r csv.TooBig w h i
-csv-withholds view r csv.Memory w h n i = absurd (n refl)
+pub csv-withholds : {R : Type 0} (view : R → Tree) (r : Result Tree CsvFault) (e : CsvFault) (w : Why) → (e ≡ csv.Memory) ⊎ (r ≡ Err e) → (e ≡ csv.Memory → ⊥) → w ≡ csv_why e → Gives view (csv_given r) (Err w)
+csv-withholds view r e w (inl m) n i = absurd (n m)
+csv-withholds view r e w (inr h) n i = subst (λ y. Gives view (csv_given y) (Err w)) (sym h) i
 
 -- ---- files
 

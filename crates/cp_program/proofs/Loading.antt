@@ -12,8 +12,8 @@ use Rattle.cp_model.specs.Tree.{Tree, IsTree, Source, source}
 use Rattle.cp_model.specs.Past.{tree_of}
 use Rattle.cp_model.specs.History.{State, load, loaded, then_entry, CanLoad, CanFollow}
 use Rattle.cp_model.proofs.Histories.{replay-snoc, legal-snoc}
-use Rattle.cp_lang.specs.declared.stmt.Load.{Load}
-use Rattle.cp_lang.specs.declared.stmt.Stmt.TheVariants as stmt
+use Rattle.cp_lang.specs.declared.syntax_tree.Load.{Load}
+use Rattle.cp_lang.specs.declared.syntax_tree.Stmt.TheVariants as stmt
 use Rattle.cp_reply.specs.declared.reply.Of.TheVariants as of
 use Rattle.cp_reply.specs.declared.reply.Why.{Why}
 use Rattle.cp_reply.specs.declared.reply.Why.TheVariants as why

@@ -13,9 +13,9 @@ use Rattle.cp_outside.specs.FileReads.{FileTable}
 use Rattle.cp_outside.specs.Sinks.{TakesPart}
 use Rattle.std.proofs.KnownBytes.{Appends-nil, Appends-trans}
 use Rattle.cp_lang.specs.declared.cut.Cut.{Cut}
-use Rattle.cp_lang.specs.Cuts.{Scan, scan_byte, scanned, rest_of}
+use Rattle.cp_lang.specs.Cuts.{Scan, scan_byte, scan_bytes, rest_of}
 use Rattle.cp_lang.proofs.Pieces.{scan-append, cuts-append}
-use Rattle.cp_lang.specs.Held.{Held, held_of, byte_cuts, byte_held}
+use Rattle.cp_lang.specs.CutterState.{CutterState, held_of, byte_cuts, byte_held}
 use Rattle.cp_lang.proofs.Bytewise.{byte_cuts-is, byte_held-is}
 use Rattle.cp_reply.specs.Lines.{lines}
 use Rattle.cp_reply.specs.declared.reply.Reply.{Reply}
@@ -80,11 +80,11 @@ abbrev pub after_reply : {R : Type 0} → Kept R → Database R → Kept R
 after_reply k d = record { alloc = k.alloc; cutter = k.cutter; database = d; text = k.text; refused = k.refused }
 
 -- what is kept where the cutter is this
-abbrev pub after_cutter : {R : Type 0} → Kept R → Held → Kept R
+abbrev pub after_cutter : {R : Type 0} → Kept R → CutterState → Kept R
 after_cutter k h = record { alloc = k.alloc; cutter = h; database = k.database; text = k.text; refused = k.refused }
 
 -- what the code keeps follows the scan
-pub follows-byte : {R : Type 0} (view : R → Tree) (k : Kept R) (s : Seen) (x : ℕ) (h : Held) → Follows view k s → h ≡ byte_held k.cutter x → h ≡ held_of (scan_byte s.scan x).scan
+pub follows-byte : {R : Type 0} (view : R → Tree) (k : Kept R) (s : Seen) (x : ℕ) (h : CutterState) → Follows view k s → h ≡ byte_held k.cutter x → h ≡ held_of (scan_byte s.scan x).scan
 follows-byte view k s x h f e = e ∙ ap (λ z. byte_held z x) f.0 ∙ byte_held-is s.scan x
 
 -- behind a byte too it stands where some session does
@@ -112,20 +112,20 @@ module _ (files : FileTable) where
   -- bytes are played in any pieces
   pub plays-append : (s : Seen) (xs ys : List ℕ) → plays files s (xs ++ ys) ≡ joined (plays files s xs) (plays files (after_play files s xs) ys)
   unfolding plays after_play
-  plays-append s xs ys = ap (λ c. told (replies_to (setting files) s.session c)) (cuts-append s.scan xs ys) ∙ cuts-then s.session (scanned s.scan xs).cuts (scanned (scanned s.scan xs).scan ys).cuts
+  plays-append s xs ys = ap (λ c. told (replies_to (setting files) s.session c)) (cuts-append s.scan xs ys) ∙ cuts-then s.session (scan_bytes s.scan xs).cuts (scan_bytes (scan_bytes s.scan xs).scan ys).cuts
 
   -- what is seen behind them is the same
   pub after-append : (s : Seen) (xs ys : List ℕ) → after_play files s (xs ++ ys) ≡ after_play files (after_play files s xs) ys
   unfolding after_play seen
   after-append s xs ys =
-      ap (λ c. seen c (session_after (setting files) s.session (scanned s.scan (xs ++ ys)).cuts)) (scan-append s.scan xs ys)
-      ∙ ap (seen (scanned (scanned s.scan xs).scan ys).scan)
-      (ap (session_after (setting files) s.session) (cuts-append s.scan xs ys) ∙ session_after-append (setting files) s.session (scanned s.scan xs).cuts (scanned (scanned s.scan xs).scan ys).cuts)
+      ap (λ c. seen c (session_after (setting files) s.session (scan_bytes s.scan (xs ++ ys)).cuts)) (scan-append s.scan xs ys)
+      ∙ ap (seen (scan_bytes (scan_bytes s.scan xs).scan ys).scan)
+      (ap (session_after (setting files) s.session) (cuts-append s.scan xs ys) ∙ session_after-append (setting files) s.session (scan_bytes s.scan xs).cuts (scan_bytes (scan_bytes s.scan xs).scan ys).cuts)
 
   -- what all the rest writes is what the bytes write, and then the cut at their end
   pub all-closes : (s : Seen) (xs : List ℕ) → plays_all files s xs ≡ joined (plays files s xs) (closes files (after_play files s xs))
   unfolding plays plays_all after_play closes
-  all-closes s xs = cuts-then s.session (scanned s.scan xs).cuts (rest_of (scanned s.scan xs).scan)
+  all-closes s xs = cuts-then s.session (scan_bytes s.scan xs).cuts (rest_of (scan_bytes s.scan xs).scan)
 
   joined-assoc : (d e f : Ended) → joined (joined d e) f ≡ joined d (joined e f)
   unfolding ended
@@ -142,12 +142,12 @@ module _ (files : FileTable) where
 
   -- no byte writes nothing
   pub plays-none : (s : Seen) → (plays files s []).out ≡ []
-  unfolding plays scanned replies_to
+  unfolding plays scan_bytes replies_to
   plays-none s = refl
 
   -- at the end of the input
   pub all-none : (s : Seen) → plays_all files s [] ≡ closes files s
-  unfolding plays_all closes scanned
+  unfolding plays_all closes scan_bytes
   all-none s = refl
 
   -- ---- cuts
@@ -184,7 +184,7 @@ module _ (files : FileTable) where
 
   -- one byte and the cut that ends with it
   pub plays-one : (s : Seen) (x : ℕ) → (plays files s (x ∷ []) ≡ cuts_play files s (byte_cuts (held_of s.scan) x)) × (after_play files s (x ∷ []) ≡ after_cuts files (record { scan = (scan_byte s.scan x).scan; session = s.session }) (byte_cuts (held_of s.scan) x))
-  unfolding plays after_play scanned seen
+  unfolding plays after_play scan_bytes seen
   plays-one s x = (
     ap (λ c. told (replies_to (setting files) s.session c)) one,
     ap (λ c. seen (scan_byte s.scan x).scan (session_after (setting files) s.session c)) one,
@@ -216,7 +216,7 @@ module _ (files : FileTable) where
 
   -- no byte is played at once
   pub goes-none : {R : Type 0} (view : R → Tree) (s : Seen) (k : Kept R) (a : Option (List ℕ)) → Follows view k s → Goes view (plays files s []) (after_play files s []) k k a a (Ok tt)
-  unfolding plays after_play scanned replies_to session_after
+  unfolding plays after_play scan_bytes replies_to session_after
   goes-none view s k a h = (h, or-false k.refused, Appends-nil a)
 
   -- bytes, and then others

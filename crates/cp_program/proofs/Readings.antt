@@ -4,9 +4,9 @@ use Rattle.std.specs.Prelude.{◌⊎◌}
 use Rattle.cp_path.specs.declared.fault.PathFault.{PathFault}
 use Rattle.cp_lang.specs.Lexer.{tokens_of, first_offset}
 use Rattle.cp_lang.specs.Grammar.{bytes_reading}
-use Rattle.cp_lang.specs.declared.stmt.Stmt.{Stmt}
-use Rattle.cp_lang.specs.declared.stmt.StmtFault.{StmtFault}
-use Rattle.cp_lang.specs.declared.stmt.StmtFault.TheVariants as fault
+use Rattle.cp_lang.specs.declared.syntax_tree.Stmt.{Stmt}
+use Rattle.cp_lang.specs.declared.syntax_tree.StmtFault.{StmtFault}
+use Rattle.cp_lang.specs.declared.syntax_tree.StmtFault.TheVariants as fault
 use Rattle.cp_reply.specs.declared.reply.Why.TheVariants as why
 use Rattle.cp_session.specs.Session.{says, unread}
 use Rattle.cp_program.specs.Job.{is_run, read_as, reading}

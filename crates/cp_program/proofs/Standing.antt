@@ -9,7 +9,7 @@ use Rattle.cp_model.specs.History.{begun, replay}
 use Rattle.cp_model.proofs.Histories.{legal-tree}
 use Rattle.cp_model.proofs.Contents.{tree_of-aged}
 use Rattle.cp_model.specs.declared.kind.Kind.TheVariants as kind
-use Rattle.cp_lang.specs.declared.stmt.Stmt.{Stmt}
+use Rattle.cp_lang.specs.declared.syntax_tree.Stmt.{Stmt}
 use Rattle.cp_reply.specs.declared.reply.Reply.{Reply}
 use Rattle.cp_session.specs.Session.{Session, Opened, closed, with_opened, says, turn_of, turn_by, turn_on}
 use Rattle.cp_engine.specs.Loaded.{sources_in}

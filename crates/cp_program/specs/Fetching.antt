@@ -7,7 +7,7 @@ use Rattle.cp_outside.specs.FileReads.{FileTable}
 use Rattle.cp_model.specs.Tree.{Tree}
 use Rattle.cp_model.specs.declared.query.Form.{Form}
 use Rattle.cp_model.specs.declared.query.Form.TheVariants.{Json, Csv}
-use Rattle.cp_lang.specs.declared.stmt.Load.{Load}
+use Rattle.cp_lang.specs.declared.syntax_tree.Load.{Load}
 use Rattle.cp_json.specs.JsonTrees.{json_tree}
 use Rattle.cp_json.specs.declared.fault.JsonFault.{JsonFault}
 use Rattle.cp_json.specs.declared.fault.JsonFault.TheVariants as json

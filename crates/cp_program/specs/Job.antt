@@ -10,11 +10,11 @@ use Rattle.cp_model.specs.declared.query.Form.TheVariants.{Json}
 use Rattle.cp_lang.specs.Cuts.{cuts_in, cuts_of}
 use Rattle.cp_lang.specs.Lexer.{tokens_of, first_offset}
 use Rattle.cp_lang.specs.Grammar.{bytes_reading}
-use Rattle.cp_lang.specs.declared.stmt.Stmt.{Stmt}
-use Rattle.cp_lang.specs.declared.stmt.Stmt.TheVariants as stmt
-use Rattle.cp_lang.specs.declared.stmt.Load.{Load}
-use Rattle.cp_lang.specs.declared.stmt.StmtFault.{StmtFault}
-use Rattle.cp_lang.specs.declared.stmt.StmtFault.TheVariants as fault
+use Rattle.cp_lang.specs.declared.syntax_tree.Stmt.{Stmt}
+use Rattle.cp_lang.specs.declared.syntax_tree.Stmt.TheVariants as stmt
+use Rattle.cp_lang.specs.declared.syntax_tree.Load.{Load}
+use Rattle.cp_lang.specs.declared.syntax_tree.StmtFault.{StmtFault}
+use Rattle.cp_lang.specs.declared.syntax_tree.StmtFault.TheVariants as fault
 use Rattle.cp_query.specs.Answered.{is_answered}
 use Rattle.cp_reply.specs.Lines.{lines}
 use Rattle.cp_reply.specs.declared.reply.Of.TheVariants as of

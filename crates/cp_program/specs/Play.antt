@@ -1,6 +1,6 @@
 -- A session between two bytes of its input, and what the next bytes bring.
 use Rattle.std.specs.Prelude.{ℕ, List, ◌++◌}
-use Rattle.cp_lang.specs.Cuts.{Scan, scan_start, scanned, rest_of}
+use Rattle.cp_lang.specs.Cuts.{Scan, scan_start, scan_bytes, rest_of}
 use Rattle.cp_session.specs.Session.{Session, replies_to, session_after}
 use Rattle.cp_model.specs.Tree.{Tree}
 use Rattle.cp_outside.specs.FileReads.{FileTable}
@@ -17,11 +17,11 @@ start t = record { scan = scan_start; session = begun_session t }
 
 -- what the cuts that end in the next bytes write
 unfoldable pub plays : FileTable → Seen → List ℕ → Ended
-plays files s bytes = told (replies_to (setting files) s.session (scanned s.scan bytes).cuts)
+plays files s bytes = told (replies_to (setting files) s.session (scan_bytes s.scan bytes).cuts)
 
 -- what is seen then
 unfoldable pub after_play : FileTable → Seen → List ℕ → Seen
-after_play files s bytes = record { scan = (scanned s.scan bytes).scan; session = session_after (setting files) s.session (scanned s.scan bytes).cuts }
+after_play files s bytes = record { scan = (scan_bytes s.scan bytes).scan; session = session_after (setting files) s.session (scan_bytes s.scan bytes).cuts }
 
 -- what the cut at the end of the input writes
 unfoldable pub closes : FileTable → Seen → Ended
@@ -29,4 +29,4 @@ closes files s = told (replies_to (setting files) s.session (rest_of s.scan))
 
 -- what all the rest of an input writes
 unfoldable pub plays_all : FileTable → Seen → List ℕ → Ended
-plays_all files s bytes = told (replies_to (setting files) s.session ((scanned s.scan bytes).cuts ++ rest_of (scanned s.scan bytes).scan))
+plays_all files s bytes = told (replies_to (setting files) s.session ((scan_bytes s.scan bytes).cuts ++ rest_of (scan_bytes s.scan bytes).scan))

@@ -6,9 +6,9 @@ use Rattle.std.specs.Io.KnownBytes.{Appends, Consumes}
 use Rattle.cp_outside.specs.Causes.{Rose}
 use Rattle.cp_outside.specs.FileReads.{FileTable}
 use Rattle.cp_outside.specs.Sinks.{TakesPart}
-use Rattle.cp_lang.specs.Held.{held_of}
+use Rattle.cp_lang.specs.CutterState.{held_of}
 use Rattle.cp_lang.specs.declared.cut.Cut.{Cut}
-use Rattle.cp_lang.specs.declared.stmt.Stmt.{Stmt}
+use Rattle.cp_lang.specs.declared.syntax_tree.Stmt.{Stmt}
 use Rattle.cp_lang.specs.Written.{IsWrittenStmt}
 use Rattle.cp_reply.specs.declared.reply.Why.{Why}
 use Rattle.cp_session.specs.Session.{says, unread, replies_to, session_after}

@@ -1,7 +1,7 @@
 -- When a tree into which a subtree is put stays within the limits.
 use Rattle.cp_model.specs.declared.limits.TheConstants.{NODES_MAX, WEIGHT_MAX}
 use Rattle.cp_path.specs.declared.limits.TheConstants.{LABELS_MAX, LABEL_MAX, LOC_MAX}
-use Rattle.std.specs.Prelude.{◌≡◌, ℕ, ◌+◌, ◌≤◌, true, false, cond, ◌||◌, nat_lt, List, [], ◌∷◌, ◌++◌, length, max, sum_by, is_some, refl}
+use Rattle.std.specs.Prelude.{◌-◌, ◌≡◌, ℕ, ◌+◌, ◌≤◌, true, false, cond, ◌||◌, nat_lt, List, [], ◌∷◌, ◌++◌, length, max, sum_by, is_some, refl}
 use Rattle.std.proofs.Common.{sym, ap, ◌∙◌, T, arith, length-append}
 use Rattle.std.proofs.lemmas.List.Sums.{sum_by-append}
 use Rattle.std.proofs.lemmas.Bool.Decides.{nat_tests}
@@ -43,7 +43,7 @@ tree-fits t p es h d s u l n w f = record {
 }
 
 -- few labels and short ones are within the limits
-pub within-limit : (q : Path) → length q ≤ LABELS_MAX → path_size q ≤ 1023 → over_limit (at_target q) ≡ false
+pub within-limit : (q : Path) → length q ≤ LABELS_MAX → path_size q ≤ LOC_MAX - 1 → over_limit (at_target q) ≡ false
 within-limit q few short =
     let a : nat_lt LABELS_MAX (length q) ≡ false = grind (arith, nat_tests) in
     let small : size (at_target q) ≤ LOC_MAX = omega (arith, short) in
@@ -61,7 +61,7 @@ at_most_greatest f (e ∷ es) r i =
 
 -- a whole tree put under a node leaves a tree, where its reach and that of the place are within the limits together
 pub reach-fits : (t : Tree) (p : Path) (es : List (Path × Content)) (z : Reach) → z ≡ reach_of es → IsTree t → AreRows es → T (is_sorted path_cmp es) → IsUnderNode t p → last_bytes p ≤ LABEL_MAX → keyed.len t + z.nodes ≤ NODES_MAX →
-    weight t + last_bytes p + z.inner ≤ WEIGHT_MAX → length p + z.depth ≤ LABELS_MAX → path_size p + z.size ≤ 1023 → IsTree (replaced p es t)
+    weight t + last_bytes p + z.inner ≤ WEIGHT_MAX → length p + z.depth ≤ LABELS_MAX → path_size p + z.size ≤ LOC_MAX - 1 → IsTree (replaced p es t)
 unfolding reach_of
 reach-fits t p es z e h d s u l n w deep large =
     tree-fits t p es h d s u l (omega (arith, n, ap (λ r. r.nodes) e)) (omega (arith, w, ap (λ r. r.inner) e)) (λ r i.

@@ -1,5 +1,5 @@
 -- A root alone, and a leaf added below a node: when these are trees, and what a leaf adds.
-use Rattle.cp_model.specs.declared.limits.TheConstants.{NODES_MAX, WEIGHT_MAX}
+use Rattle.cp_model.specs.declared.limits.TheConstants.{NODES_MAX, PLACE_WEIGHT, WEIGHT_MAX}
 use Rattle.cp_path.specs.declared.limits.TheConstants.{LABEL_MAX, TEXT_MAX}
 use Rattle.std.specs.Prelude.{◌≡◌, ◌+◌, ◌≤◌, true, false, cond, [], ◌∷◌, ◌++◌, length, sum_by, is_some, refl}
 use Rattle.std.proofs.Common.{sym, ap, subst, ◌∙◌, arith}
@@ -60,7 +60,7 @@ module _ (c : Content) where
   unfolding keyed.len keyed.entries
   single-len = ap length (entries-single c)
 
-  pub single-weight : weight (single c) ≡ 16 + text_bytes c
+  pub single-weight : weight (single c) ≡ PLACE_WEIGHT + text_bytes c
   unfolding weight
   single-weight = ap (sum_by weight_of) (entries-single c) ∙ omega (arith, sum_by-cons weight_of ([], c) [])
 
@@ -99,7 +99,7 @@ leaf-insert t p c h n = same_map (replaced p (root_entries c) t) (keyed.insert t
 
 -- a leaf leaves a tree, where there is room and its place is within the limits
 pub leaf-fits : (t : Tree) (p : Path) (a : Label) (c : Content) → IsTree t → keyed.get t p ≡ Some Node → over_limit (at_target (child p a)) ≡ false → length a ≤ LABEL_MAX → text_bytes c ≤ TEXT_MAX → IsNumber c →
-    keyed.len t + 1 ≤ NODES_MAX → weight t + 16 + length a + text_bytes c ≤ WEIGHT_MAX → IsTree (replaced (child p a) (root_entries c) t)
+    keyed.len t + 1 ≤ NODES_MAX → weight t + PLACE_WEIGHT + length a + text_bytes c ≤ WEIGHT_MAX → IsTree (replaced (child p a) (root_entries c) t)
 leaf-fits t p a c h n near short s whole l w =
     tree-fits t (child p a) (root_entries c) h (alone-rows c s whole) tt (under-child t p a n) (omega (arith, last_bytes_child p a, short)) (omega (arith, l)) (omega (arith, w, last_bytes_child p a, sum_by-cons weight_of ([], c) [])) within
   where

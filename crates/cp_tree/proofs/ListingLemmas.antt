@@ -63,11 +63,6 @@ module _ {X : Type 0} where
   moved-below_label p a [] = refl
   moved-below_label p a (e ∷ es) = λ i. (sym (append_assoc p (a ∷ []) e.0) i, e.1) ∷ moved-below_label p a es i
 
-  -- the rows below edges and further edges
-  pub child_rows-append : (es fs : List (Label × Keyed X)) → child_rows (es ++ fs) ≡ child_rows es ++ child_rows fs
-  child_rows-append [] fs = refl
-  child_rows-append (e ∷ es) fs = ap (λ z. below_label e.0 (keyed.entries e.1) ++ z) (child_rows-append es fs) ∙ sym (append_assoc (below_label e.0 (keyed.entries e.1)) (child_rows es) (child_rows fs))
-
   -- the rows of a tree at a place: that of its root, and those below its edges
   pub moved-branch : (p : Path) (x : X) (es : List (Label × Keyed X)) → T (is_sorted text_cmp es) → moved p (keyed.entries (branch x es)) ≡ (p, x) ∷ moved p (child_rows es)
   moved-branch p x es s = ap (moved p) (entries-branch x es s) ∙ moved-first p x (child_rows es)

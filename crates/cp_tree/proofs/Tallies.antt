@@ -1,4 +1,4 @@
--- Bounds of what is counted of the places of a tree.
+-- Bounds of numbers of the places of a tree within its limits.
 use Rattle.cp_path.specs.declared.limits.TheConstants.{LABELS_MAX, LOC_MAX}
 use Rattle.std.specs.Prelude.{◌≡◌, ℕ, ◌+◌, ◌-◌, ◌≤◌, ◌<◌, Bool, true, false, cond, ◌||◌, ◌==◌, nat_lt, List, [], ◌∷◌, ◌++◌, length, is_some, refl}
 use Rattle.std.proofs.Common.{ap, ◌∙◌, arith, length-append}
@@ -19,25 +19,6 @@ use Rattle.cp_model.specs.History.{IsLiteral}
 use Rattle.cp_model.proofs.Rooted.{rows-literal}
 use Rattle.cp_tree.proofs.Counted.{is_one, counted}
 use Rattle.cp_tree.specs.Rows.{greatest, deepest}
-
-module _ {X : Type 0} (f : X → ℕ) where
-  -- no more are counted than there are
-  pub counted_le : (k : ℕ) (xs : List X) → counted f k xs ≤ length xs
-  counted_le k [] = omega arith
-  counted_le k (x ∷ xs) = omega (arith, sum_by-cons (is_one f k) x xs, at_most_one (f x == k), counted_le k xs)
-    where
-      at_most_one : (b : Bool) → cond b 1 0 ≤ 1
-      at_most_one true = omega arith
-      at_most_one false = omega arith
-
-  -- none has a number above the greatest
-  pub counted_above : (k : ℕ) (xs : List X) → greatest f xs < k → counted f k xs ≡ 0
-  counted_above k [] h = refl
-  counted_above k (x ∷ xs) h = sum_by-cons (is_one f k) x xs ∙ ap (λ n. n + counted f k xs) (apart (f x == k) refl) ∙ omega (arith, counted_above k xs (omega arith))
-    where
-      apart : (b : Bool) → (f x == k) ≡ b → cond {A = ℕ} b 1 0 ≡ 0
-      apart true e = absurd (let is : f x ≡ k = grind (arith, nat_tests) in omega arith)
-      apart false e = refl
 
 -- a place within the limits has few labels
 pub few_labels : (q : Path) → over_limit (at_target q) ≡ false → length q ≤ LABELS_MAX

@@ -1,4 +1,5 @@
 -- Sums over a tree from those over the trees of its edges: its number of places and its weight.
+use Rattle.cp_model.specs.declared.limits.TheConstants.{PLACE_WEIGHT}
 use Rattle.std.specs.Prelude.{◌≡◌, ℕ, ◌+◌, ◌≤◌, true, false, cond, List, [], ◌∷◌, length, sum_by, is_some, refl}
 use Rattle.std.proofs.Common.{sym, ap, ◌∙◌, T, arith}
 use Rattle.std.proofs.lemmas.List.Sums.{sum_by-cons, sum_by-append}
@@ -73,6 +74,6 @@ weight_children [] t = refl
 weight_children (e ∷ es) t = omega (arith, weight_child e.0 e.1 t.0, weight_children es t.1)
 
 -- the weight of a tree from those of its edges' trees
-pub weight-branch : (x : Content) (es : List (Label × Tree)) → IsGood x es → weight (branch x es) ≡ 16 + text_bytes x + children_weight es
+pub weight-branch : (x : Content) (es : List (Label × Tree)) → IsGood x es → weight (branch x es) ≡ PLACE_WEIGHT + text_bytes x + children_weight es
 unfolding weight
 weight-branch x es g = total-branch weight_of x es g.sorted ∙ omega (arith, weight_children es g.trees)

@@ -19,7 +19,11 @@ entry_row e = record { path = e.0; content = e.1 }
 abbrev pub entries_in : List Row → List (Path × Content)
 entries_in rows = map (λ r. (r.path, r.content)) rows
 
--- a root alone, as entries
+-- the tree of these rows
+abbrev pub tree_of_rows : List Row → Tree
+tree_of_rows rows = keyed.from_entries (entries_in rows)
+
+-- the entries of a root alone
 abbrev pub root_entries : Content → List (Path × Content)
 root_entries c = ([], c) ∷ []
 
@@ -59,7 +63,3 @@ reach_of es = record { nodes = length es; inner = sum_by weight_of es; depth = g
 -- how far the subtree at p reaches
 abbrev pub reach_at : Tree → Path → Reach
 reach_at t p = reach_of (below p t)
-
--- the tree of these rows
-abbrev pub tree_of_rows : List Row → Tree
-tree_of_rows rows = keyed.from_entries (entries_in rows)

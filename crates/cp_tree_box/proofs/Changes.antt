@@ -1,4 +1,5 @@
 -- What a change of a tree does to what is counted of it.
+use Rattle.cp_model.specs.declared.limits.TheConstants.{PLACE_WEIGHT}
 use Rattle.cp_path.specs.declared.limits.TheConstants.{LABELS_MAX, LOC_MAX}
 use Rattle.std.specs.Prelude.{◌≡◌, ℕ, ◌+◌, ◌≤◌, Bool, true, false, ◌||◌, List, [], ◌∷◌, ◌++◌, length, max, sum_by, is_some, nat_lt, replicate, slice_index, zero, suc}
 use Rattle.std.proofs.Common.{sym, ap, subst, ◌∙◌, arith, refl}
@@ -111,7 +112,7 @@ counts_places t = sum_by-one t.list
 
 row_weight : (e : Path × Content) → row_counts weighs root_spot e ≡ weight_of e
 row_weight ([], c) = refl
-row_weight (a ∷ p, c) = ap (λ n. 16 + n + text_bytes c) (spot_last root_spot a p)
+row_weight (a ∷ p, c) = ap (λ n. PLACE_WEIGHT + n + text_bytes c) (spot_last root_spot a p)
 
 -- the weight
 pub counts_weight : (t : Tree) → tree_counts weighs root_spot t ≡ weight t

@@ -54,10 +54,6 @@ module _ (m : Tree) (x : Content) (es : List (Label × Tree)) (view : branch x e
   pub counts_root : (j : Gauge) → tree_counts j s m ≡ place_counts j s x + children_total (row_counts j s) es
   counts_root j = ap (tree_counts j s) (sym view) ∙ total-branch (row_counts j s) x es g.sorted
 
-  -- so the root counts for no more
-  pub root_counts : (j : Gauge) → place_counts j s x ≤ tree_counts j s m
-  root_counts j = omega (arith, counts_root j)
-
   module _ (a : Label) (k : Tree) (f : lookup (is_at (text_cmp a)) es ≡ Some k) where
     found : find text_cmp a es ≡ Some k
     found = looked a es (Some k) (sym f)

@@ -1,7 +1,7 @@
 -- What a tree kept whole, with the numbers kept of it, answers and becomes.
 use Rattle.cp_model.specs.declared.limits.TheConstants.{NODES_MAX, WEIGHT_MAX}
 use Rattle.cp_path.specs.declared.limits.TheConstants.{TEXT_MAX}
-use Rattle.std.specs.Prelude.{◌≡◌, ℕ, ◌+◌, ◌≤◌, ◌<◌, ◌⊎◌, true, false, cond, ◌==◌, List, [], ◌∷◌, ◌++◌, map, length, sum_by, is_some, slice_index, IfSome, IfNone, Result, Ok, Err, OnOk}
+use Rattle.std.specs.Prelude.{◌^◌, ◌≡◌, ℕ, ◌+◌, ◌≤◌, ◌<◌, ◌⊎◌, true, false, cond, ◌==◌, List, [], ◌∷◌, ◌++◌, map, length, sum_by, is_some, slice_index, IfSome, IfNone, Result, Ok, Err, OnOk}
 use Rattle.std.proofs.Common.{sym, ap, subst, ◌∙◌, arith, refl}
 use Rattle.std.proofs.lemmas.List.Sums.{sum_by-cons}
 use Rattle.std.specs.List.{filter_map}
@@ -119,10 +119,10 @@ module _ (m : Tree) (t : IsTree m) where
           omega (arith, near.1, ap (λ z. z.size) (spot_append root_spot p q), spot_size (spot_at root_spot p) q, spot_size root_spot q),
         )
 
-    pub sub_places : tree_counts places root_spot n ≤ 4294967295
+    pub sub_places : tree_counts places root_spot n < 2 ^ 32
     sub_places = omega (arith, ap (tree_counts places root_spot) e, counts_without places m p, few_places)
 
-    pub sub_weight : tree_counts weighs root_spot n ≤ 4294967295
+    pub sub_weight : tree_counts weighs root_spot n < 2 ^ 32
     sub_weight = omega (arith, ap (tree_counts weighs root_spot) e, weighs_less (spot_at root_spot p) (keyed.entries (sub m p)), counts_without weighs m p, few_weight)
 
 -- ---- changes
@@ -160,7 +160,7 @@ no_counts_below j s m p t f = ap (sum_by (row_counts j s)) (entries-sub m p ∙ 
 
 module _ (t : Tally) (m n : Tree) (p : Path) (w : IsTree m) (is_tally : IsTallyOf t m) (fits : IsTree (replaced p (keyed.entries n) m)) where
   -- a new subtree fits what is kept
-  pub insert_room : is_there m p ≡ false → (k : Tree) → k ≡ n → (j : Gauge) → tally_counts t j + tree_counts j (spot_at root_spot p) k ≤ 4294967295
+  pub insert_room : is_there m p ≡ false → (k : Tree) → k ≡ n → (j : Gauge) → tally_counts t j + tree_counts j (spot_at root_spot p) k < 2 ^ 32
   insert_room f k e j = omega (arith, is_tally j, ap (tree_counts j (spot_at root_spot p)) e, counts_replaced j m n p, no_counts_below j (spot_at root_spot p) m p w f, small_counts (replaced p (keyed.entries n) m) fits j)
 
   -- with it, what is kept is that of the new tree
@@ -168,7 +168,7 @@ module _ (t : Tally) (m n : Tree) (p : Path) (w : IsTree m) (is_tally : IsTallyO
   inserted_tally f k e u h j = omega (arith, h j, is_tally j, ap (tree_counts j (spot_at root_spot p)) e, counts_replaced j m n p, no_counts_below j (spot_at root_spot p) m p w f)
 
   -- a subtree in place of another fits, with both
-  pub swap_room : (j : Gauge) → tally_counts t j + tree_counts j (spot_at root_spot p) n ≤ 4294967295
+  pub swap_room : (j : Gauge) → tally_counts t j + tree_counts j (spot_at root_spot p) n < 2 ^ 32
   swap_room j = omega (arith, is_tally j, counts_replaced j m n p, counts_without j m p, small_counts m w j, small_counts (replaced p (keyed.entries n) m) fits j)
 
   module _ (u : Tally) (k : Tree) (e : k ≡ sub m p) (h : (j : Gauge) → tally_counts u j ≡ tally_counts t j + tree_counts j (spot_at root_spot p) n) where
@@ -209,7 +209,7 @@ module _ (c d : Content) (h : text_bytes c ≤ TEXT_MAX) (whole : IsNumber c) (s
   single_near s k = subst (λ z. AreNear z m) (sym k) (near_tree m single_tree)
 
   module _ (t : Tally) (s : Spot) (k : s ≡ root_spot) (none : (j : Gauge) → tally_counts t j ≡ 0) where
-    pub single_room : (j : Gauge) → tally_counts t j + tree_counts j s m ≤ 4294967295
+    pub single_room : (j : Gauge) → tally_counts t j + tree_counts j s m < 2 ^ 32
     single_room j = omega (arith, none j, ap (λ z. tree_counts j z m) k, small_counts m single_tree j)
 
     pub single_tallied : (u : Tally) → ((j : Gauge) → tally_counts u j ≡ tally_counts t j + tree_counts j s m) → IsTallyOf u m

@@ -1,4 +1,5 @@
 -- What is counted of the places of a tree.
+use Rattle.cp_model.specs.declared.limits.TheConstants.{PLACE_WEIGHT}
 use Rattle.cp_path.specs.declared.limits.TheConstants.{LABELS_MAX, LOC_MAX}
 use Rattle.std.specs.Prelude.{◌-◌, ◌≡◌, ℕ, ◌+◌, ◌≤◌, true, cond, ◌==◌, [], ◌∷◌, length, max, slice_index}
 use Rattle.std.specs.Coded.{Coded-set, coded_ℕ}
@@ -44,7 +45,7 @@ pub data Gauge : Type 0 where
 -- what a place counts for
 abbrev pub place_counts : Gauge → Spot → Content → ℕ
 place_counts places s c = 1
-place_counts weighs s c = 16 + s.last + text_bytes c
+place_counts weighs s c = PLACE_WEIGHT + s.last + text_bytes c
 place_counts (deep k) s c = cond (s.depth == k) 1 0
 place_counts (large k) s c = cond (s.size == k) 1 0
 
@@ -56,14 +57,14 @@ row_counts g s e = place_counts g (spot_at s e.0) e.1
 abbrev pub tree_counts : Gauge → Spot → Tree → ℕ
 tree_counts g s m = total (row_counts g s) m
 
--- what is kept
+-- what a tally has
 abbrev pub tally_counts : Tally → Gauge → ℕ
 tally_counts t places = t.places
 tally_counts t weighs = t.weight
 tally_counts t (deep k) = slice_index t.depths.items k
 tally_counts t (large k) = slice_index t.sizes.items k
 
--- what is kept are the numbers of the tree
+-- what the tally has are the numbers of the tree
 abbrev pub IsTallyOf : Tally → Tree → Type 0
 IsTallyOf t m = (g : Gauge) → tally_counts t g ≡ tree_counts g root_spot m
 

@@ -1,4 +1,4 @@
-ghost use Rattle.std.specs.Prelude.{◌≡◌, ◌≤◌, ◌<◌, ◌+◌, ◌⊎◌, ℕ, IfOk, length, replicate, slice_index};
+ghost use Rattle.std.specs.Prelude.{◌^◌, ◌≡◌, ◌≤◌, ◌<◌, ◌+◌, ◌⊎◌, ℕ, IfOk, length, replicate, slice_index};
 ghost use Rattle.cp_model.specs.Tree.{text_bytes};
 ghost use Rattle.cp_tree_box.specs.Tallies.{IsNear, AreNear, Gauge, place_counts, tree_counts, tally_counts};
 
@@ -9,9 +9,6 @@ use cp_model::{Content, PLACE_WEIGHT};
 use cp_path::{LABELS_MAX, LOC_MAX, Value};
 use cp_tree::Reach;
 use std::alloc::{AllocError, Global};
-
-/// The greatest size that a place's labels have, with 1 for each.
-const SIZE_MAX: usize = 1023;
 
 /// The bytes of a text leaf.
 pub(crate) fn text_bytes(content: &Content) -> u64
@@ -50,13 +47,13 @@ impl Tally {
             places: 0,
             weight: 0,
             depths: Vec::from_elem(alloc, 0, LABELS_MAX + 1)?,
-            sizes: Vec::from_elem(alloc, 0, SIZE_MAX + 1)?,
+            sizes: Vec::from_elem(alloc, 0, LOC_MAX)?,
         })
     }
 
     fn add_one(&mut self, at: Spot, content: &Content)
         requires near { IsNear at }
-        requires room { (g : Gauge) → tally_counts self.old g + place_counts g at content.now ≤ 4294967295 }
+        requires room { (g : Gauge) → tally_counts self.old g + place_counts g at content.now < 2 ^ 32 }
         ensures { (g : Gauge) → tally_counts self.new g ≡ tally_counts self.old g + place_counts g at content.now }
     {
         self.places += 1;
@@ -79,7 +76,7 @@ impl Tally {
     /// With the places of a subtree at this place. Costs their number.
     pub(crate) fn add(&mut self, at: Spot, node: &BoxNode)
         requires near { AreNear at node.now }
-        requires room { (g : Gauge) → tally_counts self.old g + tree_counts g at node.now ≤ 4294967295 }
+        requires room { (g : Gauge) → tally_counts self.old g + tree_counts g at node.now < 2 ^ 32 }
         ensures { (g : Gauge) → tally_counts self.new g ≡ tally_counts self.old g + tree_counts g at node.now }
     {
         self.add_one(at, &node.content);
@@ -100,7 +97,7 @@ impl Tally {
         }
     }
 
-    /// How far the tree reaches. Costs 1,089 steps at most.
+    /// How far the tree reaches. Costs the numbers that are kept.
     pub(crate) fn reach(&self) -> Reach
         ensures nodes { result.nodes ≡ self.now.places }
         ensures inner { result.inner ≡ self.now.weight }

@@ -1,4 +1,5 @@
-ghost use Rattle.std.specs.Prelude.{◌≡◌, vec_len};
+ghost use Rattle.std.specs.Prelude.{◌≡◌, ◌+◌, vec_len};
+ghost use Rattle.cp_path.specs.declared.limits.TheConstants.{LABELS_MAX, LOC_MAX};
 
 /// The number of places of a tree, its weight, and how many of its places have each number of labels and each size.
 #[derive(Drop)]
@@ -7,6 +8,6 @@ pub(crate) struct Tally {
     pub(crate) weight: u64,
     pub(crate) depths: Vec<u32>,
     pub(crate) sizes: Vec<u32>,
-    ghost all_depths: { vec_len depths ≡ 65 },
-    ghost all_sizes: { vec_len sizes ≡ 1024 },
+    ghost all_depths: { vec_len depths ≡ LABELS_MAX + 1 },
+    ghost all_sizes: { vec_len sizes ≡ LOC_MAX },
 }

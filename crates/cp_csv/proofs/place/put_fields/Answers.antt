@@ -37,7 +37,7 @@ insert_leaf-requires-clause-fits g c =
     let step : fields_weight (drop i hs) (drop i fs) ≡ 16 + length h + length f + fields_weight (drop (i + 1) hs) (drop (i + 1) fs) = ap (λ z. fields_weight z (drop i fs)) label ∙ ap (fields_weight (h ∷ drop (i + 1) hs)) text in
     let short : length f ≤ 1048576 = text_so f (none_pass_at is_long_text fs i f c.requires.texts e) in
     let narrow : length h ≤ 255 = short_so h (none_left_pass is_long_label hs i h (drop (i + 1) hs) c.requires.headers label) in
-    let fits = leaf_fits t (c.args.row.now.label ∷ []) h (Leaf (Text f)) (g.met.R.TreeRep.is_tree c.loop-label.tree) inv.bare.node (omega arith) (omega (arith, c.requires.short)) narrow (omega (arith, short))
+    let fits = leaf_fits t (c.args.row.now.label ∷ []) h (Leaf (Text f)) (g.met.R.TreeRep.is_tree c.loop-label.tree) inv.bare.node (omega arith) (omega (arith, c.requires.short)) narrow (omega (arith, short)) tt
     (omega (arith, inv.few, ap length label)) (omega (arith, inv.light, step)) in
     let place : c.in_ok-place.place ≡ c.args.row.now.label ∷ [] = c.in_ok-place.ensures ∙ ap (λ r. child r c.args.row.now.label) c.root.ensures in
     rw (place, c.in_ok-leaf_of-in-Some.ensures) fits

@@ -42,7 +42,7 @@ insert_leaf-requires-clause-fits g c =
     let t = g.R.TreeRep.contents c.args.tree.now in
     let row = c.args.row.now.label in
     let tree = g.met.R.TreeRep.is_tree c.args.tree.now in
-    let fits = leaf_fits t [] row Node tree c.requires.root (omega arith) (omega arith) c.as_str.ensures.short (omega arith) (omega (arith, c.if-len-from.false, c.len.ensures, c.count.ensures, c.from.ensures, tree.within.nodes))
+    let fits = leaf_fits t [] row Node tree c.requires.root (omega arith) (omega arith) c.as_str.ensures.short (omega arith) tt (omega (arith, c.if-len-from.false, c.len.ensures, c.count.ensures, c.from.ensures, tree.within.nodes))
     (omega (arith, c.if-weight.false, c.weight.ensures, ap length c.as_str.ensures.text, tree.within.weighs)) in
     rw c.root-root.ensures fits
 

@@ -38,12 +38,12 @@ push_edges-returns-clause-ok t c =
 pub push_literal-returns-in-Leaf-clause-ok : goal.push_literal-returns-in-Leaf-clause-ok
 push_literal-returns-in-Leaf-clause-ok t c =
     let f = λ (e : Path × Content). record_below c.args.tid letter.I c.args.base.now e.0 None in
-    leaf-added f c.args.at c.args.literal.now c.in-Leaf.field-0 _ _ c.in-Leaf.is (record { behind = c.in_ok-push.ensures.ok })
+    leaf-added f c.args.at c.args.literal.now c.in-Leaf.field-0 _ _ c.in-Leaf.is (record { is = c.in_ok-push.ensures.ok })
 
 pub push_literal-returns-clause-ok : goal.push_literal-returns-clause-ok
 push_literal-returns-clause-ok t c =
     let f = λ (e : Path × Content). record_below c.args.tid letter.I c.args.base.now e.0 None in
-    node-added c.push_edges.result f c.args.at c.args.literal.now c.in-Node.below _ _ _ c.in-Node.is (record { behind = c.in_ok-push.ensures.ok }) c.push_edges.ensures.ok
+    node-added c.push_edges.result f c.args.at c.args.literal.now c.in-Node.below _ _ _ c.in-Node.is (record { is = c.in_ok-push.ensures.ok }) c.push_edges.ensures.ok
 
 pub push_edges-loop-edge-init : goal.push_edges-loop-edge-init
 push_edges-loop-edge-init t c =

@@ -1,4 +1,4 @@
-use Rattle.cp_lang.proofs.Held.{fed_none, fed_step, begins_same, begins_more}
+use Rattle.cp_lang.proofs.CutterLemmas.{fed_none, fed_step, begins_same, begins_more}
 use Rattle.cp_lang.proofs.cutter.Cutter.feed.Goals as goal
 
 pub loop-byte-init : goal.loop-byte-init

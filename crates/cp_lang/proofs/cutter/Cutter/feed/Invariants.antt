@@ -1,6 +1,6 @@
 use Rattle.std.proofs.Common.{take}
-use Rattle.cp_lang.specs.Held.{Begins}
-use Rattle.cp_lang.proofs.Held.{IsFed}
+use Rattle.cp_lang.specs.CutterState.{Begins}
+use Rattle.cp_lang.proofs.CutterLemmas.{IsFed}
 use Rattle.cp_lang.proofs.cutter.Cutter.feed.Given as goal
 
 abbrev pub invariant-loop-byte : goal.invariant-loop-byte

@@ -28,6 +28,6 @@ returns c =
     let some : 0 < length c.split_at.result.1.now = grind (arith, nat_tests) in
     let at = c.self.inside.at + c.spaces-skipped.result in
     sym c.self.view_is
-    ∙ tokens_next c.self.inside.at c.spaces-skipped.result c.self.inside.text.now c.split_at.result.1.now c.lexed.result.1.now
-    (c.spaces-skipped.ensures ∙ ap spaces c.as_bytes.ensures.value) c.split_at.ensures.back some c.lexed.ensures.rest
-    ∙ ap (λ s. token at s ∷ tokens_at (at + (length c.split_at.result.1.now - length c.lexed.result.1.now)) c.lexed.result.1.now) (sym c.lexed.ensures.shape)
+    ∙ tokens_next c.self.inside.at c.spaces-skipped.result c.self.inside.text.now c.split_at.result.1.now c.front_token.result.1.now
+    (c.spaces-skipped.ensures ∙ ap spaces c.as_bytes.ensures.value) c.split_at.ensures.back some c.front_token.ensures.rest
+    ∙ ap (λ s. token at s ∷ tokens_at (at + (length c.split_at.result.1.now - length c.front_token.result.1.now)) c.front_token.result.1.now) (sym c.front_token.ensures.shape)

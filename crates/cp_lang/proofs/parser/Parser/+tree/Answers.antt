@@ -5,7 +5,7 @@ use Rattle.cp_model.specs.Literals.{edge_rows}
 use Rattle.cp_model.specs.declared.literal.LitEdge.{LitEdge}
 use Rattle.cp_model.specs.declared.literal.Literal.TheVariants as literal
 use Rattle.cp_path.specs.Place.{Path}
-use Rattle.cp_lang.specs.Grammar.{Taken, Edges, goes, refused_or, tree, tree_colon, first_edge, next_edge, edge_end, placed}
+use Rattle.cp_lang.specs.Grammar.{Move, Edges, goes, refused_or, tree, tree_colon, first_edge, next_edge, edge_end, after_tree}
 use Rattle.cp_lang.specs.Parser.{reading, edge_reading, within}
 use Rattle.cp_lang.specs.Tokenized.{shape_of}
 use Rattle.cp_lang.proofs.Steps.{past, tree_joined, fails_past, first_close, first_label, next_label, tree_opens, tree_value, label_leads, deeper, at_tree_colon}
@@ -23,7 +23,7 @@ edges-loop-self-preserved t c = record {
 pub node-returns-then-is_empty_end-clause-reads : goal.node-returns-then-is_empty_end-clause-reads
 node-returns-then-is_empty_end-clause-reads t c = λ a ls h.
     first_close c.args.self.now c.token.new.self (shape_of c.in_ok-token.token.shape) c.in_ok-token.token.at c.is_empty_end.result a ls (c.in_ok-token.ensures.reads (first_edge (within a [] ls))) (c.is_empty_end.ensures (within a [] ls)) c.if-is_empty_end.true
-    ∙ ap (λ (xs : List LitEdge). reading c.token.new.self (placed a (literal.Node (edge_rows xs)) ls)) (sym c.new.ensures.items)
+    ∙ ap (λ (xs : List LitEdge). reading c.token.new.self (after_tree a (literal.Node (edge_rows xs)) ls)) (sym c.new.ensures.items)
 
 pub node-returns-in_err-edges-clause-reads : goal.node-returns-in_err-edges-clause-reads
 node-returns-in_err-edges-clause-reads t c = let p = err_from_is_err_and c.from_residual-in_err-edges.result c.from_residual-in_err-edges.ensures.1 in rw (p.1, p.2) (λ a ls h. past _ _ _ (first_label c.args.self.now c.token.new.self c.in_ok-token.token c.is_empty_end.result a ls (c.in_ok-token.ensures.reads (first_edge (within a [] ls))) (c.is_empty_end.ensures (within a [] ls)) c.if-is_empty_end.false ∙ ap (λ (es : Edges). edge_reading c.token.new.self c.in_ok-token.token a es ls) (sym c.new-edges.ensures.empty)) (c.in_err-edges.ensures.reads a ls h))
@@ -31,7 +31,7 @@ node-returns-in_err-edges-clause-reads t c = let p = err_from_is_err_and c.from_
 pub node-returns-clause-reads : goal.node-returns-clause-reads
 node-returns-clause-reads t c = λ a ls h.
     first_label c.args.self.now c.token.new.self c.in_ok-token.token c.is_empty_end.result a ls (c.in_ok-token.ensures.reads (first_edge (within a [] ls))) (c.is_empty_end.ensures (within a [] ls)) c.if-is_empty_end.false ∙ ap (λ (es : Edges). edge_reading c.token.new.self c.in_ok-token.token a es ls) (sym c.new-edges.ensures.empty) ∙ c.in_ok-edges.ensures.reads a ls h
-    ∙ ap (λ (rows : List (Path × Content)). reading c.edges.new.self (placed a (literal.Node rows) ls)) (sym c.in_ok-list_of.ensures)
+    ∙ ap (λ (rows : List (Path × Content)). reading c.edges.new.self (after_tree a (literal.Node rows) ls)) (sym c.in_ok-list_of.ensures)
 
 pub tree-returns-then-opens_node-clause-reads : goal.tree-returns-then-opens_node-clause-reads
 tree-returns-then-opens_node-clause-reads t c =
@@ -40,11 +40,11 @@ tree-returns-then-opens_node-clause-reads t c =
     c.node.ensures.reads
 
 pub tree-returns-in_err-value_of-clause-reads : goal.tree-returns-in_err-value_of-clause-reads
-tree-returns-in_err-value_of-clause-reads t c = let p = err_from_is_err_and c.from_residual-in_err-value_of.result c.from_residual-in_err-value_of.ensures.1 in rw (p.1, p.2) (λ a ls h. fails_past _ _ _ (reading c.token.new.self) _ (tree_value c.args.self.now c.token.new.self (shape_of c.in_ok-token.token.shape) c.in_ok-token.token.at c.opens_node.result a ls (c.in_ok-token.ensures.reads (tree a ls)) (c.opens_node.ensures a ls) c.if-opens_node.false) (c.in_err-value_of.ensures.reads (λ v. goes (placed a (literal.Leaf v) ls))))
+tree-returns-in_err-value_of-clause-reads t c = let p = err_from_is_err_and c.from_residual-in_err-value_of.result c.from_residual-in_err-value_of.ensures.1 in rw (p.1, p.2) (λ a ls h. fails_past _ _ _ (reading c.token.new.self) _ (tree_value c.args.self.now c.token.new.self (shape_of c.in_ok-token.token.shape) c.in_ok-token.token.at c.opens_node.result a ls (c.in_ok-token.ensures.reads (tree a ls)) (c.opens_node.ensures a ls) c.if-opens_node.false) (c.in_err-value_of.ensures.reads (λ v. goes (after_tree a (literal.Leaf v) ls))))
 
 pub tree-returns-clause-reads : goal.tree-returns-clause-reads
 tree-returns-clause-reads t c = λ a ls h.
-    tree_value c.args.self.now c.token.new.self (shape_of c.in_ok-token.token.shape) c.in_ok-token.token.at c.opens_node.result a ls (c.in_ok-token.ensures.reads (tree a ls)) (c.opens_node.ensures a ls) c.if-opens_node.false ∙ ap (λ (u : Taken). refused_or u c.in_ok-token.token.at (reading c.token.new.self)) (c.in_ok-value_of.ensures.reads (λ v. goes (placed a (literal.Leaf v) ls)))
+    tree_value c.args.self.now c.token.new.self (shape_of c.in_ok-token.token.shape) c.in_ok-token.token.at c.opens_node.result a ls (c.in_ok-token.ensures.reads (tree a ls)) (c.opens_node.ensures a ls) c.if-opens_node.false ∙ ap (λ (u : Move). refused_or u c.in_ok-token.token.at (reading c.token.new.self)) (c.in_ok-value_of.ensures.reads (λ v. goes (after_tree a (literal.Leaf v) ls)))
 
 pub edge-returns-in_err-label-clause-reads : goal.edge-returns-in_err-label-clause-reads
 edge-returns-in_err-label-clause-reads t c = let p = err_from_is_err_and c.from_residual.result c.from_residual.ensures.1 in rw (p.1, p.2) (λ a ls h. fails_past _ _ _ (reading c.args.self.now) _ refl (c.in_err-label.ensures.reads a ls h))

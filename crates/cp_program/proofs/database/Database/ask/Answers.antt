@@ -1,7 +1,7 @@
 use Rattle.std.proofs.Common.{sym, ap, subst, ◌∙◌, refl, Err}
 use Rattle.std.specs.declared.option.Option.TheVariants.{Some}
 use Rattle.cp_session.specs.Session.{says, turn_of}
-use Rattle.cp_lang.specs.declared.stmt.Stmt.TheVariants as stmt
+use Rattle.cp_lang.specs.declared.syntax_tree.Stmt.TheVariants as stmt
 use Rattle.cp_program.specs.Job.{setting}
 use Rattle.cp_program.specs.Databases.{Turned}
 use Rattle.cp_program.proofs.Standing.{stands-same, if-ok}

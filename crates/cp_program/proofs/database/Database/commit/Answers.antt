@@ -2,7 +2,7 @@ use Rattle.std.proofs.Common.{sym, ap, subst, ◌∙◌, ◌+◌, refl, Err}
 use Rattle.cp_model.specs.Past.{tree_of}
 use Rattle.cp_engine.specs.Transactions.{Finishes}
 use Rattle.cp_session.specs.Session.{Session, says, turn_of}
-use Rattle.cp_lang.specs.declared.stmt.Stmt.TheVariants as stmt
+use Rattle.cp_lang.specs.declared.syntax_tree.Stmt.TheVariants as stmt
 use Rattle.std.specs.declared.option.Option.TheVariants.{None, Some}
 use Rattle.cp_outside.specs.FileReads.{FileTable}
 use Rattle.cp_program.specs.Job.{setting}
