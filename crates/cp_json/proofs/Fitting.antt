@@ -1,7 +1,7 @@
 -- A value that nothing refuses can be made into a tree, which is the map of its value_places.
 use Rattle.cp_model.specs.declared.limits.TheConstants.{NODES_MAX, WEIGHT_MAX}
 use Rattle.cp_path.specs.declared.limits.TheConstants.{LABEL_MAX, LABELS_MAX, LOC_MAX, NAME_MAX, TEXT_MAX}
-use Rattle.std.proofs.Common.{◌≡◌, ◌≤◌, ℕ, Bool, true, false, cond, ◌||◌, List, [], ◌∷◌, length, sum_by, nat_lt, is_some, Result, Ok, Err, refl, sym, ap, ◌∙◌, arith, subst}
+use Rattle.std.proofs.Common.{◌≡◌, ◌≤◌, ℕ, Bool, true, false, cond, ◌||◌, List, [], ◌∷◌, length, sum_by, nat_lt, is_some, Result, Ok, Err, refl, sym, ap, ◌∙◌, arith}
 use Rattle.std.proofs.lemmas.Bool.{and_parts, or_parts}
 use Rattle.cp_model.proofs.Accepted.{at_most}
 use Rattle.std.proofs.lemmas.List.Sums.{sum_by-cons}

@@ -1,6 +1,6 @@
 -- The walk that looks for the earliest place without a value.
 use Rattle.cp_path.specs.declared.limits.TheConstants.{LABELS_MAX, LABEL_MAX}
-use Rattle.std.proofs.Common.{◌≡◌, ◌+◌, ℕ, Bool, true, false, not, cond, ◌&&◌, List, [], ◌∷◌, ◌++◌, length, ◌<◌, ◌≤◌, nat_lt, is_some, refl, sym, ap, ◌∙◌, arith, length-append, subst, ◌⊎◌, inl, inr}
+use Rattle.std.proofs.Common.{◌≡◌, Bool, true, false, not, cond, ◌&&◌, List, [], ◌∷◌, length, ◌<◌, ◌≤◌, nat_lt, is_some, refl, sym, ap, ◌∙◌, arith, length-append, ◌⊎◌, inl, inr}
 use Rattle.std.proofs.lemmas.Bool.{and_parts, or_parts}
 use Rattle.std.specs.List.{list_all, filter_map, find}
 use Rattle.std.specs.Ordering.{is_lt, ordering_reverse}
@@ -15,7 +15,7 @@ use Rattle.cp_model.proofs.Accepted.{at_most}
 use Rattle.cp_model.specs.Place.{Label, Path, child, path_cmp}
 use Rattle.cp_model.specs.Tree.{last_bytes}
 use Rattle.cp_model.proofs.SumsLemmas.{last_bytes_child}
-use Rattle.cp_json.specs.Places.{content_of, places_below, value_places}
+use Rattle.cp_json.specs.Places.{content_of, value_places}
 use Rattle.cp_json.specs.JsonTrees.{any_above, fraction_path, least_path, first_fraction}
 use Rattle.cp_json.specs.Walks.{walk_below}
 use Rattle.cp_json.specs.Growing.{earlier_of, with_place, IsNear, AreNear}
