@@ -15,7 +15,7 @@ use cp_model::Literal;
 use cp_path::{Label, Path};
 use std::alloc::{AllocError, Global};
 
-/// The subtree of `tree` at `place` becomes that of `other` at `from`. Costs the two subtrees.
+/// Puts the subtree of `other` at `from` in the place of that of `tree` at `place`. Costs the two subtrees.
 pub fn graft<R: TreeRep, O: TreeRep>(
     alloc: Global,
     tree: &mut R,

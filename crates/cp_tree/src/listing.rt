@@ -9,7 +9,7 @@ use cp_model::{Content, LitList, Literal, Row};
 use cp_path::{LABELS_MAX, Path, Value};
 use std::alloc::{AllocError, Global};
 
-/// A leaf with this value. Costs its bytes.
+/// Copies the value into a leaf. Costs its bytes.
 fn leaf_of(value: &Value) -> Result<Content, AllocError>
     ensures { IfOk result (λ c. c ≡ Leaf value.now) }
 {

@@ -25,7 +25,7 @@ fn add_row(alloc: Global, root: &mut BoxNode, row: &Row) -> Result<(), AllocErro
     }
 }
 
-/// The tree of these rows, which come in order. Costs a search among siblings for each of their labels.
+/// Builds the tree of these rows, which come in order. Costs a search among siblings for each of their labels.
 pub(crate) fn build(alloc: Global, rows: &[Row]) -> Result<BoxNode, AllocError>
     requires { IsLiteral (entries_in rows.now) }
     ensures { IfOk result (λ t. t ≡ tree_of_rows rows.now) }

@@ -44,7 +44,7 @@ impl Model for BoxNode {
     ghost size_decreases = { node_falls };
 }
 
-/// Costs the bytes of a text.
+/// Copies what stands at a place. Costs the bytes of a text.
 pub(crate) fn copy_content(content: &Content) -> Result<Content, AllocError>
     ensures { IfOk result (λ c. c ≡ content.now) }
 {
@@ -64,7 +64,7 @@ pub(crate) fn number_range(content: &Content)
 }
 
 impl BoxNode {
-    /// A root alone.
+    /// Makes a root alone.
     pub(crate) fn leaf(alloc: Global, content: Content) -> BoxNode
         ensures tree { result ≡ single content }
         ensures rooted { IsRooted result }
@@ -75,7 +75,7 @@ impl BoxNode {
         }
     }
 
-    /// The node at the place. Costs a search among siblings for each label.
+    /// Finds the node at the place. Costs a search among siblings for each label.
     pub(crate) fn find(&self, place: &[Label]) -> Option<&BoxNode>
         ensures there { IfSome result (λ n. n.now ≡ sub self.now place.now) }
         ensures rooted { IfSome result (λ n. IsRooted n.now) }
@@ -92,7 +92,7 @@ impl BoxNode {
         }
     }
 
-    /// The node at the label below the place.
+    /// Finds the node at the label below the place.
     pub(crate) fn find_child(&self, place: &[Label], label: &Label) -> Option<&BoxNode>
         ensures there { IfSome result (λ n. n.now ≡ sub self.now (child place.now label.now)) }
         ensures rooted { IfSome result (λ n. IsRooted n.now) }
@@ -129,7 +129,7 @@ impl BoxNode {
         }
     }
 
-    /// The subtree at `place` becomes `new`, and is given back.
+    /// Replaces the subtree at `place` by `new`, and gives it back.
     pub(crate) fn swap(&mut self, place: &[Label], new: BoxNode) -> BoxNode
         requires there { is_there self.old place.now ≡ true }
         requires rooted { IsRooted new }
@@ -165,6 +165,7 @@ impl BoxNode {
         }
     }
 
+    /// Says whether it is a node, and no leaf.
     pub(crate) fn is_node(&self) -> bool
         ensures { result ≡ is_node (get self.now []) }
     {
@@ -174,7 +175,7 @@ impl BoxNode {
         }
     }
 
-    /// The labels below, in order. Costs their bytes.
+    /// Lists the labels below, in order. Costs their bytes.
     pub(crate) fn labels(&self, alloc: Global) -> Result<Vec<Label>, AllocError>
         ensures { IfOk result (λ v. v.items ≡ labels_at self.now []) }
     {
@@ -185,7 +186,7 @@ impl BoxNode {
         Ok(labels)
     }
 
-    /// Costs the places and their labels.
+    /// Makes an equal node. Costs the places and their labels.
     pub(crate) fn copy(&self, alloc: Global) -> Result<BoxNode, AllocError>
         ensures { IfOk result (λ t. t ≡ self.now) }
     {
@@ -197,7 +198,7 @@ impl BoxNode {
         Ok(BoxNode { content, children })
     }
 
-    /// The rows of the node at the place `at`, in order.
+    /// Adds the rows of the node, which stands at the place `at`, in order.
     pub(crate) fn rows_into(
         &self,
         alloc: Global,

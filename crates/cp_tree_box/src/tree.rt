@@ -32,7 +32,7 @@ pub struct BoxTree {
 }
 
 impl BoxTree {
-    /// A new subtree at a new label.
+    /// Adds a subtree at a new label.
     fn insert(&mut self, place: &[Label], label: &Label, new: BoxNode) -> Result<(), AllocError>
         requires node { get self.old.root place.now ≡ Some Node }
         requires free { is_there self.old.root (child place.now label.now) ≡ false }
@@ -50,7 +50,7 @@ impl BoxTree {
         Ok(())
     }
 
-    /// The subtree at the place becomes `new`.
+    /// Replaces the subtree at the place by `new`.
     fn swap(&mut self, place: &[Label], new: BoxNode)
         requires there { is_there self.old.root place.now ≡ true }
         requires rooted { IsRooted new }
@@ -63,7 +63,7 @@ impl BoxTree {
         self.tally.subtract(at, &old);
     }
 
-    /// The node at a place that is there.
+    /// Finds the node at a place that is there.
     fn node(&self, place: &[Label]) -> &BoxNode
         requires { is_there self.now.root place.now ≡ true }
         ensures at { result.now ≡ sub self.now.root place.now }
@@ -109,12 +109,12 @@ impl TreeRep for BoxTree {
         }
     }
 
-    /// Costs the labels.
+    /// Lists the labels below a node. Costs their bytes.
     fn labels_of(&self, alloc: Global, place: &Path) -> Result<Vec<Label>, AllocError> {
         self.node(place.labels()).labels(alloc)
     }
 
-    /// Costs the subtree, but 1,089 steps at most at the root.
+    /// Measures the subtree at the place. Costs the subtree, and at the root the numbers that are kept.
     fn reach(&self, place: &Path) -> Reach {
         if place.labels().is_empty() {
             return self.tally.reach();
