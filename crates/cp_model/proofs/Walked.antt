@@ -17,7 +17,7 @@ use Rattle.cp_model.specs.Tree.{Tree, IsTree}
 use Rattle.cp_model.specs.Step.{Working, done, step}
 use Rattle.cp_model.specs.Past.{AgedTree, Aged, tree_of, past_of, past_at, loses_child, is_child, settle}
 use Rattle.cp_model.specs.Rows.{same, from, Reading, left, gone, effect, effect_at}
-use Rattle.cp_model.specs.History.{State, rows_of, read, with_tid, settled, begun, AreWritten}
+use Rattle.cp_model.specs.History.{State, rows_of, read, with_tid, after_settling, start_state, AreWritten}
 use Rattle.cp_model.proofs.Lookups.{get-mapped, there-mapped}
 use Rattle.cp_model.proofs.Contents.{tree_of-settle}
 use Rattle.cp_model.proofs.Kept.{tree-step}
@@ -52,8 +52,8 @@ pub record IsWalked (s : State) : Type 0 where
   pub later : (t : ℕ) → s.now < t → rows_at s.rows t ≡ []
 
 -- a history begins walked
-pub walked-begun : (k : Kind) (t : Tree) → IsWalked (begun k t)
-unfolding begun rows_at
+pub walked-begun : (k : Kind) (t : Tree) → IsWalked (start_state k t)
+unfolding start_state rows_at
 walked-begun k t = record { walks = λ p _. sym (ap past_of (get-mapped (λ _ c. first c) t p) ∙ no_past (keyed.get t p)); later = λ u _. refl }
   where
     first : Content → Aged
@@ -94,16 +94,16 @@ module _ (kd : Kind) (rs : List Record) (n : ℕ) (a : AgedTree) (w : Working) w
       ∙ sym (past_settled (n + 1) a w p x.0 x.1)
 
 -- a step that is done keeps a state sound
-pub sound-settled : (s : State) (ops : List Op) (k : ℕ) (w : Working) → IsSound s → AreWritten ops → step (tree_of s.tree) s.sources ops ≡ done k w → IsSound (settled s w)
-unfolding settled
+pub sound-settled : (s : State) (ops : List Op) (k : ℕ) (w : Working) → IsSound s → AreWritten ops → step (tree_of s.tree) s.sources ops ≡ done k w → IsSound (after_settling s w)
+unfolding after_settling
 sound-settled s ops k w h a e = record {
   tree = subst IsTree (sym (tree_of-settle (s.now + 1) s.tree w)) (tree-step (tree_of s.tree) s.sources ops k w h.tree (trees-sources s.sources h.sources) a e);
   sources = h.sources;
 }
 
 -- a step that is done keeps a state walked
-pub walked-settled : (s : State) (ops : List Op) (k : ℕ) (w : Working) → IsSound s → IsWalked s → AreWritten ops → step (tree_of s.tree) s.sources ops ≡ done k w → IsWalked (settled s w)
-unfolding settled
+pub walked-settled : (s : State) (ops : List Op) (k : ℕ) (w : Working) → IsSound s → IsWalked s → AreWritten ops → step (tree_of s.tree) s.sources ops ≡ done k w → IsWalked (after_settling s w)
+unfolding after_settling
 walked-settled s ops k w h b a e =
     let origins = sound-step (tree_of s.tree) s.sources ops k w h.tree h.sources e in
     record {

@@ -30,12 +30,12 @@ mark_by op.D q = D
 mark_by op.K q = K
 
 -- the record as a row, if it is of step t
-abbrev pub row_of : ℕ → Record → Option (Path × Mark)
-row_of t r = if r.tid == t then Some (r.loc.path, mark_by r.op r.src) else None
+abbrev pub row_in_step : ℕ → Record → Option (Path × Mark)
+row_in_step t r = if r.tid == t then Some (r.loc.path, mark_by r.op r.src) else None
 
 -- the rows of step t among the records
 unfoldable pub rows_at : List Record → ℕ → List (Path × Mark)
-rows_at rs t = filter_map (row_of t) rs
+rows_at rs t = filter_map (row_in_step t) rs
 
 -- what the records say that step t did to each place
 abbrev pub reads : Kind → List Record → ℕ → Path → Reading

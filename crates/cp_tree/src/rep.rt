@@ -3,7 +3,7 @@ ghost use Rattle.std.specs.Prelude.{◌≡◌, ◌≤◌, true, false, List, map
 ghost use Rattle.std.specs.declared.option.Option.TheVariants.{None, Some};
 ghost use Rattle.cp_model.specs.Place.{child};
 ghost use Rattle.cp_model.specs.Keyed.{get, len};
-ghost use Rattle.cp_model.specs.Subtrees.{below, without, replaced, is_there};
+ghost use Rattle.cp_model.specs.Subtrees.{below, without, with_subtree, is_there};
 ghost use Rattle.cp_model.specs.Tree.{Tree, IsTree, is_node, weight, text_bytes};
 ghost use Rattle.cp_model.specs.History.{IsLiteral};
 ghost use Rattle.cp_model.specs.declared.row.Content.TheVariants.{Node};
@@ -62,8 +62,8 @@ pub trait TreeRep: Drop {
     ) -> Result<(), AllocError>
         requires node { get (contents self.old) place.now ≡ Some Node }
         requires free { is_there (contents self.old) (child place.now label.now) ≡ false }
-        requires fits { IsTree (replaced (child place.now label.now) (root_entries content.now) (contents self.old)) }
-        ensures ok { OnOk result (contents self.new ≡ replaced (child place.now label.now) (root_entries content.now) (contents self.old)) }
+        requires fits { IsTree (with_subtree (child place.now label.now) (root_entries content.now) (contents self.old)) }
+        ensures ok { OnOk result (contents self.new ≡ with_subtree (child place.now label.now) (root_entries content.now) (contents self.old)) }
         ensures err { OnErr result (contents self.new ≡ contents self.old) };
 
     /// Adds a whole tree below a node, given as its rows in order of places, from its root.
@@ -77,8 +77,8 @@ pub trait TreeRep: Drop {
         requires node { get (contents self.old) place.now ≡ Some Node }
         requires free { is_there (contents self.old) (child place.now label.now) ≡ false }
         requires rows { IsLiteral (entries_in rows.now) }
-        requires fits { IsTree (replaced (child place.now label.now) (entries_in rows.now) (contents self.old)) }
-        ensures ok { OnOk result (contents self.new ≡ replaced (child place.now label.now) (entries_in rows.now) (contents self.old)) }
+        requires fits { IsTree (with_subtree (child place.now label.now) (entries_in rows.now) (contents self.old)) }
+        ensures ok { OnOk result (contents self.new ≡ with_subtree (child place.now label.now) (entries_in rows.now) (contents self.old)) }
         ensures err { OnErr result (contents self.new ≡ contents self.old) };
 
     /// Takes out what stands at the label below the place, and all below it.
@@ -91,16 +91,16 @@ pub trait TreeRep: Drop {
     fn put_rows(&mut self, alloc: Global, place: &Path, rows: &[Row]) -> Result<(), AllocError>
         requires there { is_there (contents self.old) place.now ≡ true }
         requires rows { IsLiteral (entries_in rows.now) }
-        requires fits { IsTree (replaced place.now (entries_in rows.now) (contents self.old)) }
-        ensures ok { OnOk result (contents self.new ≡ replaced place.now (entries_in rows.now) (contents self.old)) }
+        requires fits { IsTree (with_subtree place.now (entries_in rows.now) (contents self.old)) }
+        ensures ok { OnOk result (contents self.new ≡ with_subtree place.now (entries_in rows.now) (contents self.old)) }
         ensures err { OnErr result (contents self.new ≡ contents self.old) };
 
     /// Replaces the subtree at `place` by a copy of the one at `from` as it was before. One may lie inside the other.
     fn copy_inside(&mut self, alloc: Global, from: &Path, place: &Path) -> Result<(), AllocError>
         requires from { is_there (contents self.old) from.now ≡ true }
         requires there { is_there (contents self.old) place.now ≡ true }
-        requires fits { IsTree (replaced place.now (below from.now (contents self.old)) (contents self.old)) }
-        ensures ok { OnOk result (contents self.new ≡ replaced place.now (below from.now (contents self.old)) (contents self.old)) }
+        requires fits { IsTree (with_subtree place.now (below from.now (contents self.old)) (contents self.old)) }
+        ensures ok { OnOk result (contents self.new ≡ with_subtree place.now (below from.now (contents self.old)) (contents self.old)) }
         ensures err { OnErr result (contents self.new ≡ contents self.old) };
 
     /// Lists the rows of the subtree at the place, in order, with their paths taken from the place on.

@@ -2,7 +2,7 @@ ghost use Rattle.std.specs.Prelude.{◌≡◌, [], ◌++◌, true, map, IfOk, On
 ghost use Rattle.std.specs.declared.option.Option.TheVariants.{None, Some};
 ghost use Rattle.cp_model.specs.Place.{child};
 ghost use Rattle.cp_model.specs.Keyed.{get, entries};
-ghost use Rattle.cp_model.specs.Subtrees.{moved, without, replaced, is_there};
+ghost use Rattle.cp_model.specs.Subtrees.{entries_under, without, with_subtree, is_there};
 ghost use Rattle.cp_model.specs.Tree.{IsRooted, IsNumber, is_node};
 ghost use Rattle.cp_model.specs.declared.row.Content.TheVariants.{Node};
 ghost use Rattle.cp_tree.specs.Branch.{sub};
@@ -113,7 +113,7 @@ impl BoxNode {
     ) -> Result<(), AllocError>
         requires node { get self.old place.now ≡ Some Node }
         requires rooted { IsRooted new }
-        ensures ok { OnOk result (self.new ≡ replaced (child place.now label) (entries new) self.old) }
+        ensures ok { OnOk result (self.new ≡ with_subtree (child place.now label) (entries new) self.old) }
         ensures err { OnErr result (self.new ≡ self.old) }
         ensures whole { IsRooted self.new }
     {
@@ -133,7 +133,7 @@ impl BoxNode {
     pub(crate) fn swap(&mut self, place: &[Label], new: BoxNode) -> BoxNode
         requires there { is_there self.old place.now ≡ true }
         requires rooted { IsRooted new }
-        ensures changed { self.new ≡ replaced place.now (entries new) self.old }
+        ensures changed { self.new ≡ with_subtree place.now (entries new) self.old }
         ensures back { result ≡ sub self.old place.now }
         ensures whole { IsRooted self.new }
     {
@@ -205,7 +205,7 @@ impl BoxNode {
         at: &mut Vec<Label>,
         out: &mut Vec<Row>,
     ) -> Result<(), AllocError>
-        ensures rows { OnOk result (out.new.items ≡ out.old.items ++ map entry_row (moved at.old.items (entries self.now))) }
+        ensures rows { OnOk result (out.new.items ≡ out.old.items ++ map entry_row (entries_under at.old.items (entries self.now))) }
         ensures same_place { OnOk result (at.new.items ≡ at.old.items) }
     {
         let content = copy_content(&self.content)?;

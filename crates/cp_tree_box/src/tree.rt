@@ -2,7 +2,7 @@ ghost use Rattle.std.specs.Prelude.{◌≡◌, true, false, OnOk, OnErr};
 ghost use Rattle.std.specs.declared.option.Option.TheVariants.{Some};
 ghost use Rattle.cp_model.specs.Place.{child};
 ghost use Rattle.cp_model.specs.Keyed.{get, entries};
-ghost use Rattle.cp_model.specs.Subtrees.{is_there, replaced};
+ghost use Rattle.cp_model.specs.Subtrees.{is_there, with_subtree};
 ghost use Rattle.cp_model.specs.Tree.{IsRooted, IsTree};
 ghost use Rattle.cp_model.specs.declared.row.Content.TheVariants.{Node};
 ghost use Rattle.cp_tree.proofs.Alike.{IsTree-prop};
@@ -37,8 +37,8 @@ impl BoxTree {
         requires node { get self.old.root place.now ≡ Some Node }
         requires free { is_there self.old.root (child place.now label.now) ≡ false }
         requires rooted { IsRooted new }
-        requires fits { IsTree (replaced (child place.now label.now) (entries new) self.old.root) }
-        ensures ok { OnOk result (self.new.root ≡ replaced (child place.now label.now) (entries new) self.old.root) }
+        requires fits { IsTree (with_subtree (child place.now label.now) (entries new) self.old.root) }
+        ensures ok { OnOk result (self.new.root ≡ with_subtree (child place.now label.now) (entries new) self.old.root) }
         ensures err { OnErr result (self.new.root ≡ self.old.root) }
     {
         let at = Spot::root().below(place).child(label);
@@ -54,8 +54,8 @@ impl BoxTree {
     fn swap(&mut self, place: &[Label], new: BoxNode)
         requires there { is_there self.old.root place.now ≡ true }
         requires rooted { IsRooted new }
-        requires fits { IsTree (replaced place.now (entries new) self.old.root) }
-        ensures { self.new.root ≡ replaced place.now (entries new) self.old.root }
+        requires fits { IsTree (with_subtree place.now (entries new) self.old.root) }
+        ensures { self.new.root ≡ with_subtree place.now (entries new) self.old.root }
     {
         let at = Spot::root().below(place);
         self.tally.add(at, &new);
