@@ -17,7 +17,7 @@ use Rattle.cp_model.specs.Tree.{Tree, IsTree}
 use Rattle.cp_model.specs.Step.{Working, done, step}
 use Rattle.cp_model.specs.Past.{AgedTree, Aged, tree_of, past_of, past_at, loses_child, is_child, settle}
 use Rattle.cp_model.specs.Rows.{same, from, Reading, left, gone, effect, effect_at}
-use Rattle.cp_model.specs.History.{State, rows_of, read, with_tid, after_settling, start_state, AreWritten}
+use Rattle.cp_model.specs.History.{State, rows_of, read_rows, with_tid, after_settling, start_state, AreWritten}
 use Rattle.cp_model.proofs.Lookups.{get-mapped, there-mapped}
 use Rattle.cp_model.proofs.Contents.{tree_of-settle}
 use Rattle.cp_model.proofs.Kept.{tree-step}
@@ -69,7 +69,7 @@ module _ (kd : Kind) (rs : List Record) (n : ℕ) (a : AgedTree) (w : Working) w
 
   older : (p : Path) → walked (reads kd more) (loses more) n p ≡ walked (reads kd rs) (loses rs) n p
   older = walked-alike (reads kd more) (reads kd rs) (loses more) (loses rs) n
-      (λ t p h. ap (λ xs. read kd (λ r. look r xs) p) (rows_before rs n (rows_of kd (tree_of a) w) t h))
+      (λ t p h. ap (λ xs. read_rows kd (λ r. look r xs) p) (rows_before rs n (rows_of kd (tree_of a) w) t h))
       (λ t p h. ap (λ xs. list_any (λ r. is_child p r.0 && is_D r.1) xs) (rows_before rs n (rows_of kd (tree_of a) w) t h))
 
   -- after one step more the records walk back to the settled pasts
@@ -85,7 +85,7 @@ module _ (kd : Kind) (rs : List Record) (n : ℕ) (a : AgedTree) (w : Working) w
       let at : effect_at w p ≡ Some e = ap (option_map (λ x. effect p x.origin)) x.1 in
       walked-more (reads kd more) (loses more) n p
       ∙ ap (walk_on (walked (reads kd more) (loses more) n) (n + 1) p (loses more (n + 1) p))
-      (ap (λ xs. read kd (λ r. look r xs) p) (rows_now rs n (rows_of kd (tree_of a) w) none) ∙ read-rows_of kd (tree_of a) w ok p e at)
+      (ap (λ xs. read_rows kd (λ r. look r xs) p) (rows_now rs n (rows_of kd (tree_of a) w) none) ∙ read-rows_of kd (tree_of a) w ok p e at)
       ∙ walk_same (walked (reads kd more) (loses more) n) (past_at a) (n + 1) p (loses more (n + 1) p) (loses_child a w p) e
       (λ k. older p ∙ walks p (there p (at ∙ ap (λ d. Some d) k)))
       (λ k. ap (λ xs. list_any (λ r. is_child p r.0 && is_D r.1) xs) (rows_now rs n (rows_of kd (tree_of a) w) none) ∙ losses-rows_of kd a w p (at ∙ ap (λ d. Some d) k))

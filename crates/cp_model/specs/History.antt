@@ -52,11 +52,11 @@ rows_of kind.H a w = reduced_rows a w
 rows_of kind.HT a w = reduced_rows a w
 
 -- what a reader of each kind makes of the rows of one step at a place
-abbrev pub read : Kind → (Path → Option Mark) → Path → Reading
-read kind.N f p = read_full f p
-read kind.T f p = read_full f p
-read kind.H f p = read_reduced f p
-read kind.HT f p = read_reduced f p
+abbrev pub read_rows : Kind → (Path → Option Mark) → Path → Reading
+read_rows kind.N f p = read_full f p
+read_rows kind.T f p = read_full f p
+read_rows kind.H f p = read_reduced f p
+read_rows kind.HT f p = read_reduced f p
 
 -- ---- records
 

@@ -14,7 +14,7 @@ use Rattle.cp_model.specs.Tree.{Tree, IsTree, Source, weight, weight_of, tree_af
 use Rattle.cp_model.specs.Step.{Working, contents, apply_op, step, done, Origin, new, was, Worked}
 use Rattle.cp_model.specs.Past.{AgedTree, tree_of, past_at, loses_child, is_child}
 use Rattle.cp_model.specs.Rows.{Effect, same, left, effect_at}
-use Rattle.cp_model.specs.History.{Entry, State, replay, IsLegal, IsWritten, AreWritten, read, rows_of, IsSource}
+use Rattle.cp_model.specs.History.{Entry, State, replay, IsLegal, IsWritten, AreWritten, read_rows, rows_of, IsSource}
 use Rattle.cp_model.specs.Records.{is_D, reads, loses}
 use Rattle.cp_model.specs.Leaps.{leap_back}
 use Rattle.cp_model.specs.declared.kind.Kind.{Kind}
@@ -89,7 +89,7 @@ HistoriesAreSound = (h : List Entry) (s : State) → IsLegal h → replay h ≡ 
 -- in each kind the rows of a step read as its effects, and the rows D at children of a place that stayed are its losses
 pub record RowsReadAsEffects : Type 0 where
   pub effects : (k : Kind) (t : Tree) (ss : List Source) (ops : List Op) (n : ℕ) (w : Working) → IsTree t → AreSources ss → AreWritten ops → step t ss ops ≡ done n w
-      → (p : Path) (e : Effect) → effect_at w p ≡ Some e → read k (λ r. look r (rows_of k t w)) p ≡ left e
+      → (p : Path) (e : Effect) → effect_at w p ≡ Some e → read_rows k (λ r. look r (rows_of k t w)) p ≡ left e
   pub losses : (k : Kind) (a : AgedTree) (w : Working) (p : Path) → effect_at w p ≡ Some same → list_any (λ r. is_child p r.0 && is_D r.1) (rows_of k (tree_of a) w) ≡ loses_child a w p
 
 -- the records of a legal history, followed back from its last step, give each place the past of the replay

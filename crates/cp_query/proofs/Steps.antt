@@ -23,7 +23,7 @@ use Rattle.cp_model.proofs.LeapsLemmas.{Says, last-says}
 use Rattle.cp_model.specs.Records.{reads}
 use Rattle.cp_model.specs.Answers.{segment, after_segment, alone, trace_from_events, src_of, copy_tid}
 use Rattle.cp_store.specs.declared.change.Change.{Change}
-use Rattle.cp_store.specs.Changes.{seen, change_at}
+use Rattle.cp_store.specs.Changes.{change_told, change_at}
 use Rattle.cp_query.specs.declared.walk.Walk.{Walk}
 use Rattle.cp_query.specs.declared.walk.Leg.{Leg}
 use Rattle.cp_query.specs.declared.walk.Came.{Came}
@@ -35,13 +35,13 @@ use Rattle.cp_query.specs.Legs.{inserted_by, copied_by, leg_with, leg_by, leg, t
 -- ---- a look-up
 
 -- a step that changed a place isn't before the first
-pub seen-tid : (E : Readings) (t : ℕ) (p : Path) (o : Option Change) → seen o ≡ last E t p → IfSome o (λ c. 0 < c.tid)
+pub seen-tid : (E : Readings) (t : ℕ) (p : Path) (o : Option Change) → change_told o ≡ last E t p → IfSome o (λ c. 0 < c.tid)
 unfolding Says
 seen-tid E t p None e = tt
 seen-tid E t p (Some c) e = (subst (Says E t p) (sym e) (last-says E t p)).0
 
 -- a place of T is looked up by its path
-pub found-leg : (k : Kind) (rs : List Record) (w : Walk) (o : Option Change) → in_target w.at ≡ true → seen o ≡ change_at k rs w.high w.at → seen o ≡ last (reads k rs) w.high w.at.path
+pub found-leg : (k : Kind) (rs : List Record) (w : Walk) (o : Option Change) → in_target w.at ≡ true → change_told o ≡ change_at k rs w.high w.at → change_told o ≡ last (reads k rs) w.high w.at.path
 unfolding change_at
 found-leg k rs w o h e = e ∙ ap (λ b. if b then last (reads k rs) w.high w.at.path else None) h
 
