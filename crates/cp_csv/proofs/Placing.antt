@@ -16,7 +16,7 @@ use Rattle.cp_path.specs.PathOrder.{path_eq_equiv}
 use Rattle.cp_model.proofs.KeyedLemmas.{get-insert}
 use Rattle.cp_model.specs.Keyed as keyed
 use Rattle.cp_model.specs.Keyed.{look}
-use Rattle.cp_model.specs.Subtrees.{is_there, replaced}
+use Rattle.cp_model.specs.Subtrees.{is_there, with_subtree}
 use Rattle.cp_model.specs.Tree.{Tree, IsTree, IsRooted, weight, text_bytes, IsNumber}
 use Rattle.cp_model.proofs.SumsLemmas.{len_insert_new, weight_insert_new}
 use Rattle.cp_tree.specs.Rows.{root_entries, path_size, single}
@@ -36,7 +36,7 @@ use Rattle.cp_csv.proofs.Lists.{none_pass}
 
 -- a leaf below the root, or below a child of it, leaves a tree where there is room
 pub leaf_fits : (t : Tree) (p : Path) (a : Label) (c : Content) → IsTree t → keyed.get t p ≡ Some Node → length p ≤ 1 → path_size p ≤ 256 → length a ≤ LABEL_MAX → text_bytes c ≤ TEXT_MAX → IsNumber c →
-    keyed.len t + 1 ≤ NODES_MAX → weight t + 16 + length a + text_bytes c ≤ WEIGHT_MAX → IsTree (replaced (child p a) (root_entries c) t)
+    keyed.len t + 1 ≤ NODES_MAX → weight t + 16 + length a + text_bytes c ≤ WEIGHT_MAX → IsTree (with_subtree (child p a) (root_entries c) t)
 leaf_fits t p a c h n deep large s x whole l w =
     leaf-fits t p a c h n (within-limit (child p a) (omega (arith, deep, length-append p (a ∷ []))) (omega (arith, large, s, sum_by-append (λ (a : Label). length a + 1) p (a ∷ [])))) s x whole l w
 
@@ -95,7 +95,7 @@ pub record IsPut (t1 t : Tree) (row h : Label) (f : List ℕ) (hs : List Label) 
   pub count : keyed.len t1 ≡ keyed.len t + 1
   pub weighs : weight t1 ≡ weight t + 16 + length h + length f
 
-pub next_put : (t1 t : Tree) (row h : Label) (f : List ℕ) (hs : List Label) → IsTree t → IsEmptyRow t row (h ∷ hs) → t1 ≡ replaced (row ∷ h ∷ []) (root_entries (Leaf (Text f))) t → IsPut t1 t row h f hs
+pub next_put : (t1 t : Tree) (row h : Label) (f : List ℕ) (hs : List Label) → IsTree t → IsEmptyRow t row (h ∷ hs) → t1 ≡ with_subtree (row ∷ h ∷ []) (root_entries (Leaf (Text f))) t → IsPut t1 t row h f hs
 next_put t1 t row h f hs tree bare e =
     let c : Content = Leaf (Text f) in
     let none = next_free t row h hs bare c in

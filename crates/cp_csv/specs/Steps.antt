@@ -60,7 +60,7 @@ pub record IsOpen (it : ByteRecordsIntoIter (Bor (List ℕ))) : Type 0 where
 
 -- ---- refusals
 
--- the answer is the refusal, if there is one, but for want of memory
+-- the answer is the refusal, if there is one, or memory ran out
 abbrev pub Tells : {X : Type 0} → Result X CsvFault → Option CsvFault → Type 0
 Tells (Ok x) o = o ≡ None
 Tells (Err e) o = (e ≡ Memory) ⊎ (o ≡ Some e)

@@ -21,7 +21,7 @@ pub(crate) fn records_of<'a>(alloc: Global, bytes: &'a [u8]) -> ByteRecordsIntoI
 }
 
 /// What a failed read comes to. Memory had no room; that a slice fails to be read never comes, though the contract of
-/// `csv` can't tell so, and counts as want of memory.
+/// `csv` can't tell so, and counts as memory that ran out.
 fn failed(error: Error) -> CsvFault
     requires { IsIoOrMemory (error_kind error) }
     ensures { result ≡ Memory }

@@ -8,9 +8,9 @@ use Rattle.cp_model.specs.declared.literal.Literal.{Literal}
 use Rattle.cp_model.specs.declared.op.Op.{Op}
 use Rattle.cp_model.specs.declared.op.Op.TheVariants.{Ins, Del, Copy}
 use Rattle.cp_model.specs.Place.{Label, child, in_target, option_map}
-use Rattle.cp_model.specs.Subtrees.{below, replaced, without, is_there}
+use Rattle.cp_model.specs.Subtrees.{below, with_subtree, without, is_there}
 use Rattle.cp_model.specs.Literals.{literal_rows}
-use Rattle.cp_model.specs.Tree.{Tree, Source, source, database, IsTree, refusal, changed, taken, reaches_over}
+use Rattle.cp_model.specs.Tree.{Tree, Source, source, database, IsTree, refusal, tree_after, subtree_at, reaches_over}
 use Rattle.cp_model.specs.History.{IsWritten}
 use Rattle.cp_model.proofs.Accepted.{ins_accepted, copy_accepted}
 use Rattle.cp_model.specs.Laws.{AreTrees}
@@ -23,21 +23,21 @@ pub accepts : (ss : List Source) (t : Tree) (op o : Op) → op ≡ o → refusal
 accepts ss t op o e n = ap (λ o. refusal ss t o) (sym e) ∙ n
 
 -- an insertion puts the literal under its label
-pub ins-changed : (ss : List Source) (t : Tree) (p : Loc) (a : Label) (l : Literal) → changed ss t (Ins p a l) ≡ replaced (child p.path a) (literal_rows l) t
-unfolding changed
-ins-changed ss t p a l = λ _. replaced (child p.path a) (literal_rows l) t
+pub ins-changed : (ss : List Source) (t : Tree) (p : Loc) (a : Label) (l : Literal) → tree_after ss t (Ins p a l) ≡ with_subtree (child p.path a) (literal_rows l) t
+unfolding tree_after
+ins-changed ss t p a l = λ _. with_subtree (child p.path a) (literal_rows l) t
 
 -- a deletion drops what is at the label
-pub del-changed : (ss : List Source) (t : Tree) (p : Loc) (a : Label) → changed ss t (Del a p) ≡ without (child p.path a) t
-unfolding changed
+pub del-changed : (ss : List Source) (t : Tree) (p : Loc) (a : Label) → tree_after ss t (Del a p) ≡ without (child p.path a) t
+unfolding tree_after
 del-changed ss t p a = λ _. without (child p.path a) t
 
 -- a copy puts the subtree of the tree that it names
-pub copy-changed : (ss : List Source) (t u : Tree) (q p : Loc) → database ss t q ≡ Some u → changed ss t (Copy q p) ≡ replaced p.path (below q.path u) t
-unfolding changed
-copy-changed ss t u q p e = ap (λ o. replaced p.path (taken o q.path) t) e
+pub copy-changed : (ss : List Source) (t u : Tree) (q p : Loc) → database ss t q ≡ Some u → tree_after ss t (Copy q p) ≡ with_subtree p.path (below q.path u) t
+unfolding tree_after
+copy-changed ss t u q p e = ap (λ o. with_subtree p.path (subtree_at o q.path) t) e
 
-pub ins-tree : (ss : List Source) (t : Tree) (p : Loc) (a : Label) (l : Literal) → IsTree t → AreTrees ss → IsWritten (Ins p a l) → refusal ss t (Ins p a l) ≡ None → IsTree (replaced (child p.path a) (literal_rows l) t)
+pub ins-tree : (ss : List Source) (t : Tree) (p : Loc) (a : Label) (l : Literal) → IsTree t → AreTrees ss → IsWritten (Ins p a l) → refusal ss t (Ins p a l) ≡ None → IsTree (with_subtree (child p.path a) (literal_rows l) t)
 ins-tree ss t p a l h k w n = subst IsTree (ins-changed ss t p a l) (tree-changed ss t (Ins p a l) h k w n)
 
 -- a copy that isn't refused: what is copied is there, reaches over no limit, and leaves a tree
@@ -45,7 +45,7 @@ pub record IsCopied (t u : Tree) (q p : Loc) : Type 0 where
   pub there : is_there t p.path ≡ true
   pub origin : is_there u q.path ≡ true
   pub places : reaches_over p (below q.path u) ≡ false
-  pub fits : IsTree (replaced p.path (below q.path u) t)
+  pub fits : IsTree (with_subtree p.path (below q.path u) t)
 
 -- a copy that isn't refused is one from the tree that it names
 pub copy-copied : (ss : List Source) (t u : Tree) (q p : Loc) → IsTree t → AreTrees ss → refusal ss t (Copy q p) ≡ None → database ss t q ≡ Some u → IsCopied t u q p
@@ -72,8 +72,8 @@ pub never-sourceless : (ss : List Source) (t : Tree) (q p : Loc) → refusal ss 
 never-sourceless ss t q p n e = let x = copy_accepted ss t q p n in let d : None ≡ Some x.tree = sym e ∙ x.is_tree in cc
 
 -- what an operation made of the tree is what it leads to
-pub made : {E : Type 0} (result : Result (Unit {0}) E) (ss : List Source) (t new end : Tree) (op o : Op) → op ≡ o → changed ss t o ≡ end → OnOk result (new ≡ end) → OnOk result (new ≡ changed ss t op)
-made (Ok u) ss t new end op o e c h = h ∙ sym c ∙ ap (λ o. changed ss t o) (sym e)
+pub made : {E : Type 0} (result : Result (Unit {0}) E) (ss : List Source) (t new end : Tree) (op o : Op) → op ≡ o → tree_after ss t o ≡ end → OnOk result (new ≡ end) → OnOk result (new ≡ tree_after ss t op)
+made (Ok u) ss t new end op o e c h = h ∙ sym c ∙ ap (λ o. tree_after ss t o) (sym e)
 made (Err x) ss t new end op o e c h = tt
 
 -- what came to one end came to an equal one

@@ -18,7 +18,7 @@ use Rattle.cp_model.specs.declared.literal.Literal.TheVariants as literal
 use Rattle.cp_model.specs.declared.refusal.Refusal.TheVariants.{TooMany, TooBig}
 use Rattle.cp_model.specs.Keyed as keyed
 use Rattle.cp_model.specs.Keyed.{look}
-use Rattle.cp_model.specs.Subtrees.{below, moved, replaced, is_there}
+use Rattle.cp_model.specs.Subtrees.{below, entries_under, with_subtree, is_there}
 use Rattle.cp_model.specs.Literals.{literal_rows, rows_under}
 use Rattle.cp_model.specs.History.{IsLiteral}
 use Rattle.cp_model.proofs.Sorted.{sorted-below}
@@ -109,13 +109,13 @@ ins-over p a l =
     by_rows (literal.Node es) = over-reached p (a ∷ [], Node) (rows_under a es)
 
 pub under_weight : (a : Label) (es : List (Path × Content)) → T (is_sorted path_cmp es) → is_some (look [] es) ≡ true → sum_by weight_of (rows_under a es) ≡ length a + sum_by weight_of es
-unfolding moved
+unfolding entries_under
 under_weight a es h i = weight-moved (a ∷ []) es h i
 
 -- the numbers after an insertion at a free label
 pub ins-numbers : (t : Tree) (p : Path) (a : Label) (l : Literal) → IsTree t → IsLiteral (literal_rows l) → is_there t (child p a) ≡ false →
-    (keyed.len (replaced (child p a) (literal_rows l) t) ≡ keyed.len t + length (rows_under a (literal_rows l)))
-    × (weight (replaced (child p a) (literal_rows l) t) ≡ weight t + sum_by weight_of (rows_under a (literal_rows l)))
+    (keyed.len (with_subtree (child p a) (literal_rows l) t) ≡ keyed.len t + length (rows_under a (literal_rows l)))
+    × (weight (with_subtree (child p a) (literal_rows l) t) ≡ weight t + sum_by weight_of (rows_under a (literal_rows l)))
 ins-numbers t p a l h w n =
     let rows = literal_rows l in
     let closed = closed-tree t h.rooted in
@@ -128,11 +128,11 @@ ins-numbers t p a l h w n =
 
 -- why an insertion at a free label is over a limit of trees, if it is
 pub ins-limits : (t : Tree) (p : Path) (a : Label) (l : Literal) → IsTree t → IsLiteral (literal_rows l) → is_there t (child p a) ≡ false →
-    first_case (limits_of (replaced (child p a) (literal_rows l) t)) ≡ limit_passed (keyed.len t + (literal_reach a l).nodes) (weight t + (literal_reach a l).inner)
+    first_case (limits_of (with_subtree (child p a) (literal_rows l) t)) ≡ limit_passed (keyed.len t + (literal_reach a l).nodes) (weight t + (literal_reach a l).inner)
 unfolding reach_of
 ins-limits t p a l h w n =
     let both = ins-numbers t p a l h w n in
-    ap (λ k. limit_passed k (weight (replaced (child p a) (literal_rows l) t))) both.0
+    ap (λ k. limit_passed k (weight (with_subtree (child p a) (literal_rows l) t))) both.0
     ∙ ap (limit_passed (keyed.len t + length (rows_under a (literal_rows l)))) both.1
     ∙ sym (limit-capped (keyed.len t) (length (rows_under a (literal_rows l))) (weight t) (sum_by weight_of (rows_under a (literal_rows l))))
 
@@ -151,8 +151,8 @@ copy-reaches u q p r b h e o = copy-over u q p h ∙ ap (λ r. over_by p r.depth
 
 -- the numbers after a copy of what u has at q
 pub copy-numbers : (t u : Tree) (q p : Path) → is_there u q ≡ true → is_there t p ≡ true →
-    (keyed.len (replaced p (below q u) t) + (reach_at t p).nodes ≡ keyed.len t + (reach_at u q).nodes)
-    × (weight (replaced p (below q u) t) + (reach_at t p).inner ≡ weight t + (reach_at u q).inner)
+    (keyed.len (with_subtree p (below q u) t) + (reach_at t p).nodes ≡ keyed.len t + (reach_at u q).nodes)
+    × (weight (with_subtree p (below q u) t) + (reach_at t p).inner ≡ weight t + (reach_at u q).inner)
 unfolding reach_of
 copy-numbers t u q p h i =
     (len-replaced p (below q u) t (sorted-below q u), weight-swapped p (below q u) t (sorted-below q u) (root-below u q h) i)
@@ -165,17 +165,17 @@ reach-within t p h =
 
 -- why a tree is over a limit after a copy of what u has at q, if it is
 pub copy-limits : (t u : Tree) (q p : Path) → is_there u q ≡ true → is_there t p ≡ true →
-    first_case (limits_of (replaced p (below q u) t)) ≡ limit_passed (keyed.len t - (reach_at t p).nodes + (reach_at u q).nodes) (weight t - (reach_at t p).inner + (reach_at u q).inner)
+    first_case (limits_of (with_subtree p (below q u) t)) ≡ limit_passed (keyed.len t - (reach_at t p).nodes + (reach_at u q).nodes) (weight t - (reach_at t p).inner + (reach_at u q).inner)
 copy-limits t u q p h i =
     let both = copy-numbers t u q p h i in
     let most = reach-within t p i in
-    let nodes : keyed.len (replaced p (below q u) t) ≡ keyed.len t - (reach_at t p).nodes + (reach_at u q).nodes = omega (arith, both.0, most.0) in
-    let weighs : weight (replaced p (below q u) t) ≡ weight t - (reach_at t p).inner + (reach_at u q).inner = omega (arith, both.1, most.1) in
-    ap (λ n. limit_passed n (weight (replaced p (below q u) t))) nodes ∙ ap (limit_passed (keyed.len t - (reach_at t p).nodes + (reach_at u q).nodes)) weighs
+    let nodes : keyed.len (with_subtree p (below q u) t) ≡ keyed.len t - (reach_at t p).nodes + (reach_at u q).nodes = omega (arith, both.0, most.0) in
+    let weighs : weight (with_subtree p (below q u) t) ≡ weight t - (reach_at t p).inner + (reach_at u q).inner = omega (arith, both.1, most.1) in
+    ap (λ n. limit_passed n (weight (with_subtree p (below q u) t))) nodes ∙ ap (limit_passed (keyed.len t - (reach_at t p).nodes + (reach_at u q).nodes)) weighs
 
 -- the same, of numbers that were told
 pub copy-passed : (t u : Tree) (q p : Path) (n w : ℕ) (old new : Reach) → is_there u q ≡ true → is_there t p ≡ true → n ≡ keyed.len t → w ≡ weight t → old ≡ reach_at t p → new ≡ reach_at u q →
-    limit_passed (n - old.nodes + new.nodes) (w - old.inner + new.inner) ≡ first_case (limits_of (replaced p (below q u) t))
+    limit_passed (n - old.nodes + new.nodes) (w - old.inner + new.inner) ≡ first_case (limits_of (with_subtree p (below q u) t))
 copy-passed t u q p n w old new h i a b c d =
     ap (λ n. limit_passed (n - old.nodes + new.nodes) (w - old.inner + new.inner)) a
     ∙ ap (λ w. limit_passed (keyed.len t - old.nodes + new.nodes) (w - old.inner + new.inner)) b
@@ -184,7 +184,7 @@ copy-passed t u q p n w old new h i a b c d =
     ∙ sym (copy-limits t u q p h i)
 
 -- what is inserted weighs no more than a tree may
-pub literal-small : (t : Tree) (p : Loc) (a : Label) (l : Literal) → IsTree t → IsLiteral (literal_rows l) → is_there t (child p.path a) ≡ false → weight (replaced (child p.path a) (literal_rows l) t) ≤ WEIGHT_MAX → sum_by weight_of (literal_rows l) ≤ WEIGHT_MAX
+pub literal-small : (t : Tree) (p : Loc) (a : Label) (l : Literal) → IsTree t → IsLiteral (literal_rows l) → is_there t (child p.path a) ≡ false → weight (with_subtree (child p.path a) (literal_rows l) t) ≤ WEIGHT_MAX → sum_by weight_of (literal_rows l) ≤ WEIGHT_MAX
 literal-small t p a l h w n m =
     let rows = literal_rows l in
     omega (arith, m, (ins-numbers t p.path a l h w n).1, under_weight a rows w.sorted (rows-literal rows w).root)

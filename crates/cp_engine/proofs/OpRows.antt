@@ -7,10 +7,10 @@ use Rattle.cp_path.specs.declared.loc.Loc.{Loc}
 use Rattle.cp_model.specs.Place.{Label, Path, child, below_place, place_eq}
 use Rattle.cp_path.proofs.Same.{place_eq-same, place_eq-refl}
 use Rattle.cp_model.specs.Keyed.{look}
-use Rattle.cp_model.specs.Subtrees.{below, is_there, moved}
+use Rattle.cp_model.specs.Subtrees.{below, is_there, entries_under}
 use Rattle.cp_model.specs.Literals.{literal_rows}
 use Rattle.cp_model.specs.History.{with_tid}
-use Rattle.cp_model.specs.Tree.{Tree, Source, database, taken, IsTree, refusal, reaches_over}
+use Rattle.cp_model.specs.Tree.{Tree, Source, database, subtree_at, IsTree, refusal, reaches_over}
 use Rattle.cp_model.proofs.Accepted.{ins_accepted}
 use Rattle.cp_model.specs.declared.row.Content.{Content}
 use Rattle.cp_model.specs.declared.row.Row.{Row}
@@ -23,44 +23,44 @@ use Rattle.cp_model.specs.declared.record.RecOp.TheVariants as letter
 use Rattle.cp_record.specs.Bytes.{record_below}
 use Rattle.cp_tree.specs.Rows.{entry_row, greatest, deepest}
 use Rattle.cp_engine.specs.Held.{Appended}
-use Rattle.cp_engine.specs.RowsAlone.{behind, op_rows}
+use Rattle.cp_engine.specs.RowsAlone.{marks_below, op_rows}
 use Rattle.cp_engine.proofs.Depths.{deepest-within, deepest-rows, below-within}
 use Rattle.cp_engine.proofs.RowsAloneLemmas.{root-below}
 use Rattle.cp_engine.proofs.Recorded.{appended-none}
 
-made_rows : (tid : ℕ) (base : Path) (es : List (Path × Content)) → map (λ (e : Path × Content). record_below tid letter.I base e.0 None) (moved [] es) ≡ with_tid tid (behind base (λ _. mark.Made) es)
-unfolding moved
+made_rows : (tid : ℕ) (base : Path) (es : List (Path × Content)) → map (λ (e : Path × Content). record_below tid letter.I base e.0 None) (entries_under [] es) ≡ with_tid tid (marks_below base (λ _. mark.Made) es)
+unfolding entries_under
 made_rows tid base [] = refl
 made_rows tid base (e ∷ es) = ap (λ rs. record_below tid letter.I base e.0 None ∷ rs) (made_rows tid base es)
 
-gone_rows : (tid : ℕ) (base : Path) (es : List (Path × Content)) → map (λ (r : Row). record_below tid letter.D base r.path None) (map entry_row es) ≡ with_tid tid (behind base (λ _. mark.Gone) es)
+gone_rows : (tid : ℕ) (base : Path) (es : List (Path × Content)) → map (λ (r : Row). record_below tid letter.D base r.path None) (map entry_row es) ≡ with_tid tid (marks_below base (λ _. mark.Gone) es)
 gone_rows tid base [] = refl
 gone_rows tid base (e ∷ es) = ap (λ rs. record_below tid letter.D base e.0 None ∷ rs) (gone_rows tid base es)
 
 copied_rows : (tid : ℕ) (base : Path) (q : Loc) (es : List (Path × Content)) →
-    map (λ (r : Row). record_below tid letter.C base r.path (Some q)) (map entry_row es) ≡ with_tid tid (behind base (λ s. mark.Copied (below_place q s)) es)
+    map (λ (r : Row). record_below tid letter.C base r.path (Some q)) (map entry_row es) ≡ with_tid tid (marks_below base (λ s. mark.Copied (below_place q s)) es)
 copied_rows tid base q [] = refl
 copied_rows tid base q (e ∷ es) = ap (λ rs. record_below tid letter.C base e.0 (Some q) ∷ rs) (copied_rows tid base q es)
 
 -- ---- what the rows of each operation are
 
-ins_is : (tid : ℕ) (ss : List Source) (t : Tree) (p : Loc) (a : Label) (l : Literal) → with_tid tid (behind (child p.path a) (λ _. mark.Made) (literal_rows l)) ≡ with_tid tid (op_rows ss t (Ins p a l))
+ins_is : (tid : ℕ) (ss : List Source) (t : Tree) (p : Loc) (a : Label) (l : Literal) → with_tid tid (marks_below (child p.path a) (λ _. mark.Made) (literal_rows l)) ≡ with_tid tid (op_rows ss t (Ins p a l))
 unfolding op_rows
 ins_is tid ss t p a l = refl
 
-del_is : (tid : ℕ) (ss : List Source) (t : Tree) (p : Loc) (a : Label) → with_tid tid (behind (child p.path a) (λ _. mark.Gone) (below (child p.path a) t)) ≡ with_tid tid (op_rows ss t (Del a p))
+del_is : (tid : ℕ) (ss : List Source) (t : Tree) (p : Loc) (a : Label) → with_tid tid (marks_below (child p.path a) (λ _. mark.Gone) (below (child p.path a) t)) ≡ with_tid tid (op_rows ss t (Del a p))
 unfolding op_rows
 del_is tid ss t p a = refl
 
 itself_is : (ss : List Source) (t : Tree) (q p : Loc) → place_eq q p ≡ true → op_rows ss t (Copy q p) ≡ []
 unfolding op_rows
-itself_is ss t q p e = ap (λ b. if b then [] else behind p.path (λ s. mark.Copied (below_place q s)) (taken (database ss t q) q.path)) e
+itself_is ss t q p e = ap (λ b. if b then [] else marks_below p.path (λ s. mark.Copied (below_place q s)) (subtree_at (database ss t q) q.path)) e
 
-elsewhere_is : (ss : List Source) (t u : Tree) (q p : Loc) → place_eq q p ≡ false → database ss t q ≡ Some u → op_rows ss t (Copy q p) ≡ behind p.path (λ s. mark.Copied (below_place q s)) (below q.path u)
+elsewhere_is : (ss : List Source) (t u : Tree) (q p : Loc) → place_eq q p ≡ false → database ss t q ≡ Some u → op_rows ss t (Copy q p) ≡ marks_below p.path (λ s. mark.Copied (below_place q s)) (below q.path u)
 unfolding op_rows
 elsewhere_is ss t u q p e d =
-    ap (λ b. if b then [] else behind p.path (λ s. mark.Copied (below_place q s)) (taken (database ss t q) q.path)) e
-    ∙ ap (λ o. behind p.path (λ s. mark.Copied (below_place q s)) (taken o q.path)) d
+    ap (λ b. if b then [] else marks_below p.path (λ s. mark.Copied (below_place q s)) (subtree_at (database ss t q) q.path)) e
+    ∙ ap (λ o. marks_below p.path (λ s. mark.Copied (below_place q s)) (subtree_at o q.path)) d
 
 -- ---- insertions
 
@@ -82,13 +82,13 @@ made-within base root p a d e r h = omega (arith, ap length e, ap length r)
 
 -- the records of what is inserted
 pub ins-added : {E : Type 0} (result : Result (Unit {0}) E) (tid : ℕ) (base root p : Path) (a : Label) (es : List (Path × Content)) (x y : List Record) → base ≡ child p a → root ≡ [] →
-    OnOk result (Appended x y (map (λ (e : Path × Content). record_below tid letter.I base e.0 None) (moved root es))) → OnOk result (Appended x y (with_tid tid (behind (child p a) (λ _. mark.Made) es)))
+    OnOk result (Appended x y (map (λ (e : Path × Content). record_below tid letter.I base e.0 None) (entries_under root es))) → OnOk result (Appended x y (with_tid tid (marks_below (child p a) (λ _. mark.Made) es)))
 ins-added result tid base root p a es x y e r h =
     subst (λ rs. OnOk result (Appended x y rs))
-    (ap (λ q. map (λ (e : Path × Content). record_below tid letter.I base e.0 None) (moved q es)) r ∙ made_rows tid base es ∙ ap (λ q. with_tid tid (behind q (λ _. mark.Made) es)) e) h
+    (ap (λ q. map (λ (e : Path × Content). record_below tid letter.I base e.0 None) (entries_under q es)) r ∙ made_rows tid base es ∙ ap (λ q. with_tid tid (marks_below q (λ _. mark.Made) es)) e) h
 
 pub ins-rows : {E : Type 0} (result : Result (Unit {0}) E) (tid : ℕ) (ss : List Source) (t : Tree) (p : Loc) (a : Label) (l : Literal) (op : Op) (x y : List Record) → op ≡ Ins p a l →
-    OnOk result (Appended x y (with_tid tid (behind (child p.path a) (λ _. mark.Made) (literal_rows l)))) → OnOk result (Appended x y (with_tid tid (op_rows ss t op)))
+    OnOk result (Appended x y (with_tid tid (marks_below (child p.path a) (λ _. mark.Made) (literal_rows l)))) → OnOk result (Appended x y (with_tid tid (op_rows ss t op)))
 ins-rows result tid ss t p a l op x y e h = subst (λ rs. OnOk result (Appended x y rs)) (ins_is tid ss t p a l ∙ ap (λ o. with_tid tid (op_rows ss t o)) (sym e)) h
 
 -- ---- deletions
@@ -105,7 +105,7 @@ pub del-added : {E : Type 0} (result : Result (Unit {0}) E) (tid : ℕ) (ss : Li
     OnOk result (Appended x y (map (λ (r : Row). record_below tid letter.D base r.path None) list)) → OnOk result (Appended x y (with_tid tid (op_rows ss t (Del a p))))
 del-added result tid ss t base p a list x y e k h =
     subst (λ rs. OnOk result (Appended x y rs))
-    (ap (map (λ (r : Row). record_below tid letter.D base r.path None)) k ∙ gone_rows tid base (below base t) ∙ ap (λ q. with_tid tid (behind q (λ _. mark.Gone) (below q t))) e ∙ del_is tid ss t p a) h
+    (ap (map (λ (r : Row). record_below tid letter.D base r.path None)) k ∙ gone_rows tid base (below base t) ∙ ap (λ q. with_tid tid (marks_below q (λ _. mark.Gone) (below q t))) e ∙ del_is tid ss t p a) h
 
 -- ---- copies
 
@@ -116,7 +116,7 @@ copy-within u q p list i n k = omega (arith, ap (greatest (λ (r : Row). length 
 -- the records of what is copied
 pub subtree-added : {E : Type 0} (result : Result (Unit {0}) E) (tid : ℕ) (u : Tree) (q p : Loc) (list : List Row) (x y : List Record) → list ≡ map entry_row (below q.path u) →
     OnOk result (Appended x y (map (λ (r : Row). record_below tid letter.C p.path r.path (Some q)) list)) →
-    OnOk result (Appended x y (with_tid tid (behind p.path (λ s. mark.Copied (below_place q s)) (below q.path u))))
+    OnOk result (Appended x y (with_tid tid (marks_below p.path (λ s. mark.Copied (below_place q s)) (below q.path u))))
 subtree-added result tid u q p list x y k h =
     subst (λ rs. OnOk result (Appended x y rs)) (ap (map (λ (r : Row). record_below tid letter.C p.path r.path (Some q))) k ∙ copied_rows tid p.path q (below q.path u)) h
 
@@ -126,7 +126,7 @@ copy-itself tid ss t q p x e = subst (λ rs. Appended x x (with_tid tid rs)) (sy
 
 -- the records of a copy onto another place
 pub copy-added : {E : Type 0} (result : Result (Unit {0}) E) (tid : ℕ) (ss : List Source) (t u : Tree) (q p : Loc) (x y : List Record) → ¬ (q ≡ p) → database ss t q ≡ Some u →
-    OnOk result (Appended x y (with_tid tid (behind p.path (λ s. mark.Copied (below_place q s)) (below q.path u)))) → OnOk result (Appended x y (with_tid tid (op_rows ss t (Copy q p))))
+    OnOk result (Appended x y (with_tid tid (marks_below p.path (λ s. mark.Copied (below_place q s)) (below q.path u)))) → OnOk result (Appended x y (with_tid tid (op_rows ss t (Copy q p))))
 copy-added result tid ss t u q p x y d e h =
     subst (λ rs. OnOk result (Appended x y (with_tid tid rs))) (sym (elsewhere_is ss t u q p (other (place_eq q p) (λ e. d (place_eq-same q p e))) e)) h
   where

@@ -16,7 +16,7 @@ use Rattle.cp_model.specs.Tree.{weight_of, text_bytes}
 use Rattle.cp_tree.specs.Rows.{path_size, greatest, reach_of}
 use Rattle.cp_tree.proofs.Counted.{greatest-append}
 use Rattle.cp_tree.specs.declared.reach.Reach.{Reach}
-use Rattle.cp_engine.specs.Reaching.{capped, joined, alone_at, literal_reach}
+use Rattle.cp_engine.specs.Reaching.{capped_reach, reach_with, alone_at, literal_reach}
 
 -- reaches with the same numbers are the same
 same-reach : (r s : Reach) → r.nodes ≡ s.nodes → r.inner ≡ s.inner → r.depth ≡ s.depth → r.size ≡ s.size → r ≡ s
@@ -29,7 +29,7 @@ max_join : (c k d a b : ℕ) → min (max d (k + max a b)) c ≡ min (max (min (
 max_join c k d a b = omega arith
 
 -- rows in two parts are joined one part after the other
-joined-append : (k : ℕ) (r : Reach) (xs ys : List (Path × Content)) → joined k r (reach_of (xs ++ ys)) ≡ joined k (joined k r (capped (reach_of xs))) (reach_of ys)
+joined-append : (k : ℕ) (r : Reach) (xs ys : List (Path × Content)) → reach_with k r (reach_of (xs ++ ys)) ≡ reach_with k (reach_with k r (capped_reach (reach_of xs))) (reach_of ys)
 unfolding reach_of
 joined-append k r xs ys = same-reach _ _
     (ap (λ n. min (r.nodes + n) 1048577) (length-append xs ys) ∙ sum_join 1048577 r.nodes (length xs) (length ys))
@@ -47,7 +47,7 @@ pub record IsReach (k : ℕ) (r : Reach) : Type 0 where
   pub size : r.size ≤ 1025
 
 -- no rows add nothing
-joined-none : (k : ℕ) (r : Reach) → IsReach k r → joined k r (reach_of []) ≡ r
+joined-none : (k : ℕ) (r : Reach) → IsReach k r → reach_with k r (reach_of []) ≡ r
 unfolding reach_of
 joined-none k r h = same-reach _ _ (omega arith) (omega arith) (omega arith) (omega arith)
 
@@ -72,7 +72,7 @@ size_under a [] = omega arith
 size_under a (e ∷ es) = omega (arith, size_under a es, sum_by-cons (λ a. length a + 1) a e.0)
 
 -- a node and the rows below it
-pub joined-node : (a : Label) (es : List LitEdge) → joined (length a + 1) (alone_at (length a) 0) (reach_of (edge_rows es)) ≡ literal_reach a (literal.Node (edge_rows es))
+pub joined-node : (a : Label) (es : List LitEdge) → reach_with (length a + 1) (alone_at (length a) 0) (reach_of (edge_rows es)) ≡ literal_reach a (literal.Node (edge_rows es))
 unfolding reach_of
 joined-node a es = same-reach _ _
     (let n : length (rows_under a (edge_rows es)) ≡ length (edge_rows es) = length-map (edge_rows es) (λ r. (a ∷ r.0, r.1)) in omega arith)
@@ -90,19 +90,19 @@ pub reach-alone : (n m : ℕ) → n ≤ LABEL_MAX → IsReach (n + 1) (alone_at 
 reach-alone n m h = record { nodes = omega arith; inner = omega arith; depth_least = omega arith; depth = omega arith; size_least = omega arith; size = omega arith }
 
 -- with more rows
-pub reach-joined : (k : ℕ) (r s : Reach) → IsReach k r → IsReach k (joined k r s)
+pub reach-joined : (k : ℕ) (r s : Reach) → IsReach k r → IsReach k (reach_with k r s)
 reach-joined k r s h = record { nodes = omega arith; inner = omega arith; depth_least = omega arith; depth = omega arith; size_least = omega arith; size = omega arith }
 
 -- the edges from the next one on, after it
 pub joined-edge : (k : ℕ) (r s all : Reach) (e : LitEdge) (es fs : List LitEdge) → fs ≡ e ∷ es → s ≡ literal_reach e.label e.tree →
-    joined k r (reach_of (edge_rows fs)) ≡ all → joined k (joined k r s) (reach_of (edge_rows es)) ≡ all
+    reach_with k r (reach_of (edge_rows fs)) ≡ all → reach_with k (reach_with k r s) (reach_of (edge_rows es)) ≡ all
 joined-edge k r s all e es fs split is h =
-    ap (λ x. joined k (joined k r x) (reach_of (edge_rows es))) is
+    ap (λ x. reach_with k (reach_with k r x) (reach_of (edge_rows es))) is
     ∙ sym (joined-append k r (rows_under e.label (literal_rows e.tree)) (edge_rows es))
-    ∙ sym (ap (λ x. joined k r (reach_of (edge_rows x))) split)
+    ∙ sym (ap (λ x. reach_with k r (reach_of (edge_rows x))) split)
     ∙ h
 
 -- after the last edge
-pub joined-edges : (k : ℕ) (r all : Reach) (i : ℕ) (es : List LitEdge) → length es ≤ i → IsReach k r → joined k r (reach_of (edge_rows (drop i es))) ≡ all → r ≡ all
+pub joined-edges : (k : ℕ) (r all : Reach) (i : ℕ) (es : List LitEdge) → length es ≤ i → IsReach k r → reach_with k r (reach_of (edge_rows (drop i es))) ≡ all → r ≡ all
 joined-edges k r all i es h w e =
-    sym (joined-none k r w) ∙ sym (ap (λ x. joined k r (reach_of (edge_rows x))) (drop_of_length-le es h)) ∙ e
+    sym (joined-none k r w) ∙ sym (ap (λ x. reach_with k r (reach_of (edge_rows x))) (drop_of_length-le es h)) ∙ e

@@ -19,73 +19,73 @@ use Rattle.cp_path.specs.PathOrder.{path_total, path_eq_equiv}
 use Rattle.cp_model.specs.Keyed as keyed
 use Rattle.cp_model.specs.Keyed.{look}
 use Rattle.cp_model.proofs.KeyedLemmas.{look-find}
-use Rattle.cp_model.specs.Subtrees.{is_there, below, moved, without, replaced, with_values, mapped}
+use Rattle.cp_model.specs.Subtrees.{is_there, below, entries_under, without, with_subtree, with_values, map_values}
 use Rattle.cp_model.specs.Literals.{literal_rows}
-use Rattle.cp_model.specs.Tree.{Tree, Source, source, database, taken, IsTree, IsRooted, refusal}
+use Rattle.cp_model.specs.Tree.{Tree, Source, source, database, subtree_at, IsTree, IsRooted, refusal}
 use Rattle.cp_model.specs.declared.origin.Origin.TheVariants.{New as new, Was as was}
 use Rattle.cp_model.specs.declared.record.RowMark.{RowMark as Mark}
 use Rattle.cp_model.specs.declared.record.RowMark.TheVariants.{Made as I, Copied as C, Gone as D}
-use Rattle.cp_model.specs.Step.{Worked, Working, opened, as_new, from_source, carried, applied}
+use Rattle.cp_model.specs.Step.{Worked, Working, open_tree, as_new, from_source, entries_to_copy, apply_op}
 use Rattle.cp_model.specs.declared.effect.Effect.{Effect}
 use Rattle.cp_model.specs.declared.effect.Effect.TheVariants.{Same as same, From as from}
-use Rattle.cp_model.specs.Rows.{effect, effect_at, full_mark, is_same, nearest_is_same, same_above, lost_below_same, full_here, marked, all_paths, full_rows}
+use Rattle.cp_model.specs.Rows.{effect, effect_at, full_mark, is_same, nearest_is_same, same_above, lost_below_same, full_here, rows_with_marks, all_paths, full_rows}
 use Rattle.cp_model.specs.History.{IsWritten}
 use Rattle.cp_model.proofs.Strips.{strip_is, strip-append, append-nil, nearest-below}
-use Rattle.cp_model.specs.Laws.{placed}
+use Rattle.cp_model.specs.Laws.{at_rest_or}
 use Rattle.cp_model.proofs.Lookups.{find-moved, find-below, find-with_values, get-without, get-replaced, get-mapped}
 use Rattle.cp_model.proofs.Sorted.{path_cmp-append, parts_of, all_of, sorted-entries, sorted-below}
 use Rattle.cp_model.proofs.Accepted.{InsAccepted, ins_accepted, DelAccepted, del_accepted, copy_accepted}
 use Rattle.cp_model.proofs.Marks.{find-full_rows}
 use Rattle.cp_tree.proofs.Leaves.{nothing-below}
-use Rattle.cp_engine.specs.RowsAlone.{behind, op_rows}
+use Rattle.cp_engine.specs.RowsAlone.{marks_below, op_rows}
 
 -- ---- rows that rise
 
 module _ {X : Type 0} where
-  below_marked : (f : Path → Option Mark) (k : Path) (es : List (Path × X)) → T (below_all path_cmp k es) → T (below_all path_cmp k (marked f (map (λ e. e.0) es)))
+  below_marked : (f : Path → Option Mark) (k : Path) (es : List (Path × X)) → T (below_all path_cmp k es) → T (below_all path_cmp k (rows_with_marks f (map (λ e. e.0) es)))
   below_marked f k [] h = tt
   below_marked f k (e ∷ es) h =
       let parts = parts_of (is_lt (path_cmp k e.0)) (below_all path_cmp k es) h in
       let rest = below_marked f k es parts.1 in
-      elim (f e.0) as (λ o. T (below_all path_cmp k (cons_option (option_map (λ m. (e.0, m)) o) (marked f (map (λ e. e.0) es))))) [
+      elim (f e.0) as (λ o. T (below_all path_cmp k (cons_option (option_map (λ m. (e.0, m)) o) (rows_with_marks f (map (λ e. e.0) es))))) [
         | None ↦ rest
-        | Some m ↦ all_of (is_lt (path_cmp k e.0)) (below_all path_cmp k (marked f (map (λ e. e.0) es))) parts.0 rest
+        | Some m ↦ all_of (is_lt (path_cmp k e.0)) (below_all path_cmp k (rows_with_marks f (map (λ e. e.0) es))) parts.0 rest
       ]
 
   -- marks at paths that rise are rows that rise
-  pub sorted-marked : (f : Path → Option Mark) (es : List (Path × X)) → T (is_sorted path_cmp es) → T (is_sorted path_cmp (marked f (map (λ e. e.0) es)))
+  pub sorted-marked : (f : Path → Option Mark) (es : List (Path × X)) → T (is_sorted path_cmp es) → T (is_sorted path_cmp (rows_with_marks f (map (λ e. e.0) es)))
   sorted-marked f [] h = tt
   sorted-marked f (e ∷ es) h =
       let parts = parts_of (below_all path_cmp e.0 es) (is_sorted path_cmp es) h in
       let rest = sorted-marked f es parts.1 in
-      elim (f e.0) as (λ o. T (is_sorted path_cmp (cons_option (option_map (λ m. (e.0, m)) o) (marked f (map (λ e. e.0) es))))) [
+      elim (f e.0) as (λ o. T (is_sorted path_cmp (cons_option (option_map (λ m. (e.0, m)) o) (rows_with_marks f (map (λ e. e.0) es))))) [
         | None ↦ rest
-        | Some m ↦ all_of (below_all path_cmp e.0 (marked f (map (λ e. e.0) es))) (is_sorted path_cmp (marked f (map (λ e. e.0) es))) (below_marked f e.0 es parts.0) rest
+        | Some m ↦ all_of (below_all path_cmp e.0 (rows_with_marks f (map (λ e. e.0) es))) (is_sorted path_cmp (rows_with_marks f (map (λ e. e.0) es))) (below_marked f e.0 es parts.0) rest
       ]
 
-  below_behind : (p : Path) (f : Path → Mark) (k : Path) (es : List (Path × X)) → T (below_all path_cmp k es) → T (below_all path_cmp (p ++ k) (behind p f es))
+  below_behind : (p : Path) (f : Path → Mark) (k : Path) (es : List (Path × X)) → T (below_all path_cmp k es) → T (below_all path_cmp (p ++ k) (marks_below p f es))
   below_behind p f k [] h = tt
   below_behind p f k (e ∷ es) h =
       let parts = parts_of (is_lt (path_cmp k e.0)) (below_all path_cmp k es) h in
-      all_of (is_lt (path_cmp (p ++ k) (p ++ e.0))) (below_all path_cmp (p ++ k) (behind p f es)) (subst (λ o. T (is_lt o)) (sym (path_cmp-append p k e.0)) parts.0) (below_behind p f k es parts.1)
+      all_of (is_lt (path_cmp (p ++ k) (p ++ e.0))) (below_all path_cmp (p ++ k) (marks_below p f es)) (subst (λ o. T (is_lt o)) (sym (path_cmp-append p k e.0)) parts.0) (below_behind p f k es parts.1)
 
   -- entries that rise, rise behind p
-  pub sorted-behind : (p : Path) (f : Path → Mark) (es : List (Path × X)) → T (is_sorted path_cmp es) → T (is_sorted path_cmp (behind p f es))
+  pub sorted-behind : (p : Path) (f : Path → Mark) (es : List (Path × X)) → T (is_sorted path_cmp es) → T (is_sorted path_cmp (marks_below p f es))
   sorted-behind p f [] h = tt
   sorted-behind p f (e ∷ es) h =
       let parts = parts_of (below_all path_cmp e.0 es) (is_sorted path_cmp es) h in
-      all_of (below_all path_cmp (p ++ e.0) (behind p f es)) (is_sorted path_cmp (behind p f es)) (below_behind p f e.0 es parts.0) (sorted-behind p f es parts.1)
+      all_of (below_all path_cmp (p ++ e.0) (marks_below p f es)) (is_sorted path_cmp (marks_below p f es)) (below_behind p f e.0 es parts.0) (sorted-behind p f es parts.1)
 
-  behind_moved : (p : Path) (f : Path → Mark) (es : List (Path × X)) → behind p f es ≡ moved p (with_values (λ s _. f s) es)
-  unfolding moved
+  behind_moved : (p : Path) (f : Path → Mark) (es : List (Path × X)) → marks_below p f es ≡ entries_under p (with_values (λ s _. f s) es)
+  unfolding entries_under
   behind_moved p f [] = refl
   behind_moved p f (e ∷ es) = ap (λ rs. (p ++ e.0, f e.0) ∷ rs) (behind_moved p f es)
 
   -- rows behind p answer by what follows p
-  pub find-behind : (p : Path) (f : Path → Mark) (r : Path) (es : List (Path × X)) → look r (behind p f es) ≡ placed (strip p r) (λ s. option_map (λ _. f s) (look s es)) None
+  pub find-behind : (p : Path) (f : Path → Mark) (r : Path) (es : List (Path × X)) → look r (marks_below p f es) ≡ at_rest_or (strip p r) (λ s. option_map (λ _. f s) (look s es)) None
   find-behind p f r es =
       ap (look r) (behind_moved p f es) ∙ find-moved p r (with_values (λ s _. f s) es)
-      ∙ elim (strip p r) as (λ o. placed o (λ s. look s (with_values (λ s _. f s) es)) None ≡ placed o (λ s. option_map (λ _. f s) (look s es)) None) [
+      ∙ elim (strip p r) as (λ o. at_rest_or o (λ s. look s (with_values (λ s _. f s) es)) None ≡ at_rest_or o (λ s. option_map (λ _. f s) (look s es)) None) [
         | None ↦ refl
         | Some s ↦ find-with_values (λ s _. f s) s es
       ]
@@ -93,7 +93,7 @@ module _ {X : Type 0} where
 -- the full rows of a step rise
 pub sorted-full_rows : (a : Tree) (w : Working) → T (is_sorted path_cmp (full_rows a w))
 unfolding all_paths
-sorted-full_rows a w = sorted-marked (full_here a w) (keyed.entries (keyed.put_all (with_values (λ _ _. true) (keyed.entries w)) (mapped (λ _ _. true) a))) (sorted-entries _)
+sorted-full_rows a w = sorted-marked (full_here a w) (keyed.entries (keyed.put_all (with_values (λ _ _. true) (keyed.entries w)) (map_values (λ _ _. true) a))) (sorted-entries _)
 
 -- rows that rise and answer alike are the same
 pub same_rows : {X : Type 0} (es fs : List (Path × X)) → T (is_sorted path_cmp es) → T (is_sorted path_cmp fs) → ((r : Path) → look r es ≡ look r fs) → es ≡ fs
@@ -117,7 +117,7 @@ effect_itself : (r : Path) → effect r (was (at_target r)) ≡ same
 effect_itself r = ap (λ b. if b then same else from (at_target r)) (place_eq-refl (at_target r))
 
 -- a place that is as it was at the start of the step has no row
-untouched : (t : Tree) (w : Working) (r : Path) → keyed.get w r ≡ keyed.get (opened t) r → full_here t w r ≡ None
+untouched : (t : Tree) (w : Working) (r : Path) → keyed.get w r ≡ keyed.get (open_tree t) r → full_here t w r ≡ None
 untouched t w r e =
     here_by t w r (option_map (itself r) (keyed.get t r)) (e ∙ get-mapped itself t r)
     ∙ elim (keyed.get t r) as (λ o. keyed.get t r ≡ o → mark_at t w r (option_map (λ x. effect r x.origin) (option_map (itself r) o)) ≡ None) [
@@ -170,8 +170,8 @@ same-suffix a b s =
     ] refl
 
 -- what the entries put in place of a subtree leave at a place
-put_at : (k r : Path) (es : List (Path × Worked)) (w : Working) (o : Option Path) → strip k r ≡ o → keyed.get (replaced k es w) r ≡ placed o (λ s. look s es) (keyed.get w r)
-put_at k r es w o e = get-replaced k es w r ∙ ap (λ o. placed o (λ s. look s es) (keyed.get w r)) e
+put_at : (k r : Path) (es : List (Path × Worked)) (w : Working) (o : Option Path) → strip k r ≡ o → keyed.get (with_subtree k es w) r ≡ at_rest_or o (λ s. look s es) (keyed.get w r)
+put_at k r es w o e = get-replaced k es w r ∙ ap (λ o. at_rest_or o (λ s. look s es) (keyed.get w r)) e
 
 -- the mark of what stands this far below a place after a copy onto it
 abbrev mark_copy : Loc → Loc → Path → Option Content → Option Mark
@@ -179,30 +179,30 @@ mark_copy q p s o = if place_eq q p then None else option_map (λ _. C (below_pl
 
 module _ (t : Tree) (p : Loc) (a : Label) (l : Literal) (h : IsRooted t) (x : InsAccepted t p a l) where
   abbrev after_ins : Working
-  after_ins = replaced (child p.path a) (as_new (literal_rows l)) (opened t)
+  after_ins = with_subtree (child p.path a) (as_new (literal_rows l)) (open_tree t)
 
   inserted : (r s : Path) → strip (child p.path a) r ≡ Some s → (o : Option Content) → look s (literal_rows l) ≡ o → full_here t after_ins r ≡ option_map (λ _. I) o
   inserted r s k (Some c) e =
       here_by t after_ins r (Some (record { content = c; origin = new }))
-      (put_at (child p.path a) r (as_new (literal_rows l)) (opened t) (Some s) k ∙ find-with_values (λ _ c. record { content = c; origin = new }) s (literal_rows l) ∙ ap (option_map (λ c. record { content = c; origin = new })) e)
+      (put_at (child p.path a) r (as_new (literal_rows l)) (open_tree t) (Some s) k ∙ find-with_values (λ _ c. record { content = c; origin = new }) s (literal_rows l) ∙ ap (option_map (λ c. record { content = c; origin = new })) e)
   inserted r s k None e =
       absent t after_ins r
-      (put_at (child p.path a) r (as_new (literal_rows l)) (opened t) (Some s) k ∙ find-with_values (λ _ c. record { content = c; origin = new }) s (literal_rows l) ∙ ap (option_map (λ c. record { content = c; origin = new })) e)
+      (put_at (child p.path a) r (as_new (literal_rows l)) (open_tree t) (Some s) k ∙ find-with_values (λ _ c. record { content = c; origin = new }) s (literal_rows l) ∙ ap (option_map (λ c. record { content = c; origin = new })) e)
       (ap (keyed.get t) (strip_is (child p.path a) r s k) ∙ nothing-below t (child p.path a) s h x.free)
 
-  here_ins : (r : Path) → full_here t after_ins r ≡ placed (strip (child p.path a) r) (λ s. option_map (λ _. I) (look s (literal_rows l))) None
+  here_ins : (r : Path) → full_here t after_ins r ≡ at_rest_or (strip (child p.path a) r) (λ s. option_map (λ _. I) (look s (literal_rows l))) None
   here_ins r =
-      elim (strip (child p.path a) r) as (λ o. strip (child p.path a) r ≡ o → full_here t after_ins r ≡ placed o (λ s. option_map (λ _. I) (look s (literal_rows l))) None) [
-        | None ↦ λ k. untouched t after_ins r (put_at (child p.path a) r (as_new (literal_rows l)) (opened t) None k)
+      elim (strip (child p.path a) r) as (λ o. strip (child p.path a) r ≡ o → full_here t after_ins r ≡ at_rest_or o (λ s. option_map (λ _. I) (look s (literal_rows l))) None) [
+        | None ↦ λ k. untouched t after_ins r (put_at (child p.path a) r (as_new (literal_rows l)) (open_tree t) None k)
         | Some s ↦ λ k. inserted r s k (look s (literal_rows l)) refl
       ] refl
 
 module _ (t : Tree) (p : Loc) (a : Label) (x : DelAccepted t p a) where
   abbrev after_del : Working
-  after_del = without (child p.path a) (opened t)
+  after_del = without (child p.path a) (open_tree t)
 
-  dropped : (r : Path) (o : Option Path) → strip (child p.path a) r ≡ o → keyed.get after_del r ≡ placed o (λ _. None) (keyed.get (opened t) r)
-  dropped r o e = get-without (child p.path a) (opened t) r ∙ ap (λ o. placed o (λ _. None) (keyed.get (opened t) r)) e
+  dropped : (r : Path) (o : Option Path) → strip (child p.path a) r ≡ o → keyed.get after_del r ≡ at_rest_or o (λ _. None) (keyed.get (open_tree t) r)
+  dropped r o e = get-without (child p.path a) (open_tree t) r ∙ ap (λ o. at_rest_or o (λ _. None) (keyed.get (open_tree t) r)) e
 
   left : effect_at after_del p.path ≡ Some same
   left =
@@ -236,9 +236,9 @@ module _ (t : Tree) (p : Loc) (a : Label) (x : DelAccepted t p a) where
       gone_or None = refl
       gone_or (Some c) = refl
 
-  here_del : (r : Path) → full_here t after_del r ≡ placed (strip (child p.path a) r) (λ s. option_map (λ _. D) (look s (below (child p.path a) t))) None
+  here_del : (r : Path) → full_here t after_del r ≡ at_rest_or (strip (child p.path a) r) (λ s. option_map (λ _. D) (look s (below (child p.path a) t))) None
   here_del r =
-      elim (strip (child p.path a) r) as (λ o. strip (child p.path a) r ≡ o → full_here t after_del r ≡ placed o (λ s. option_map (λ _. D) (look s (below (child p.path a) t))) None) [
+      elim (strip (child p.path a) r) as (λ o. strip (child p.path a) r ≡ o → full_here t after_del r ≡ at_rest_or o (λ s. option_map (λ _. D) (look s (below (child p.path a) t))) None) [
         | None ↦ λ k. untouched t after_del r (dropped r None k)
         | Some s ↦ λ k. deleted r s k
       ] refl
@@ -250,10 +250,10 @@ copied_from q s c = record { content = c; origin = was (below_place q s) }
 module _ (t : Tree) (q p : Loc) (es : List (Path × Content)) (ws : List (Path × Worked)) (carries : (s : Path) → look s ws ≡ option_map (copied_from q s) (look s es)) (root : is_some (look [] es) ≡ true)
     (moves : (s : Path) → effect (p.path ++ s) (was (below_place q s)) ≡ (if place_eq q p then same else from (below_place q s))) (stays : place_eq q p ≡ true → (s : Path) → keyed.get t (p.path ++ s) ≡ look s es) where
   abbrev after_copy : Working
-  after_copy = replaced p.path ws (opened t)
+  after_copy = with_subtree p.path ws (open_tree t)
 
   at_copy : (r s : Path) → strip p.path r ≡ Some s → keyed.get after_copy r ≡ option_map (copied_from q s) (look s es)
-  at_copy r s k = put_at p.path r ws (opened t) (Some s) k ∙ carries s
+  at_copy r s k = put_at p.path r ws (open_tree t) (Some s) k ∙ carries s
 
   effect_copy : (s : Path) → effect_at after_copy (p.path ++ s) ≡ option_map (λ _. if place_eq q p then same else from (below_place q s)) (look s es)
   effect_copy s =
@@ -297,10 +297,10 @@ module _ (t : Tree) (q p : Loc) (es : List (Path × Content)) (ws : List (Path �
       never true = refl
       never false = refl
 
-  here_copy : (r : Path) → full_here t after_copy r ≡ placed (strip p.path r) (λ s. mark_copy q p s (look s es)) None
+  here_copy : (r : Path) → full_here t after_copy r ≡ at_rest_or (strip p.path r) (λ s. mark_copy q p s (look s es)) None
   here_copy r =
-      elim (strip p.path r) as (λ o. strip p.path r ≡ o → full_here t after_copy r ≡ placed o (λ s. mark_copy q p s (look s es)) None) [
-        | None ↦ λ k. untouched t after_copy r (put_at p.path r ws (opened t) None k)
+      elim (strip p.path r) as (λ o. strip p.path r ≡ o → full_here t after_copy r ≡ at_rest_or o (λ s. mark_copy q p s (look s es)) None) [
+        | None ↦ λ k. untouched t after_copy r (put_at p.path r ws (open_tree t) None k)
         | Some s ↦ λ k. ap (full_here t after_copy) (strip_is p.path r s k) ∙ copied s (look s es) refl
       ] refl
 
@@ -325,17 +325,17 @@ module _ (t : Tree) (q p : Loc) (i : in_target q ≡ true) (j : in_target p ≡ 
       ∙ ap (λ b. if b then same else from (at_target (q.path ++ s))) (same_place s)
       ∙ ap (λ r. if place_eq q p then same else from r) (place s)
 
-  carries_inside : (s : Path) → look s (below q.path (opened t)) ≡ option_map (copied_from q s) (look s (below q.path t))
+  carries_inside : (s : Path) → look s (below q.path (open_tree t)) ≡ option_map (copied_from q s) (look s (below q.path t))
   carries_inside s =
-      find-below q.path s (opened t) ∙ get-mapped itself t (q.path ++ s)
+      find-below q.path s (open_tree t) ∙ get-mapped itself t (q.path ++ s)
       ∙ ap (λ r. option_map (λ (c : Content). record { content = c; origin = was r }) (keyed.get t (q.path ++ s))) (place s)
       ∙ ap (option_map (copied_from q s)) (sym (find-below q.path s t))
 
   stays_inside : place_eq q p ≡ true → (s : Path) → keyed.get t (p.path ++ s) ≡ look s (below q.path t)
   stays_inside b s = ap (λ (r : Loc). keyed.get t (r.path ++ s)) (sym (place_eq-same q p b)) ∙ sym (find-below q.path s t)
 
-  here_inside : (r : Path) → full_here t (replaced p.path (below q.path (opened t)) (opened t)) r ≡ placed (strip p.path r) (λ s. mark_copy q p s (look s (below q.path t))) None
-  here_inside = here_copy t q p (below q.path t) (below q.path (opened t)) carries_inside (root-below t q.path origin) moves_inside stays_inside
+  here_inside : (r : Path) → full_here t (with_subtree p.path (below q.path (open_tree t)) (open_tree t)) r ≡ at_rest_or (strip p.path r) (λ s. mark_copy q p s (look s (below q.path t))) None
+  here_inside = here_copy t q p (below q.path t) (below q.path (open_tree t)) carries_inside (root-below t q.path origin) moves_inside stays_inside
 
 -- a copy from a source with the tree u
 module _ (t u : Tree) (q p : Loc) (i : in_target q ≡ false) (j : in_target p ≡ true) (origin : is_there u q.path ≡ true) where
@@ -350,33 +350,33 @@ module _ (t u : Tree) (q p : Loc) (i : in_target q ≡ false) (j : in_target p �
   carries_loaded : (s : Path) → look s (from_source q (below q.path u)) ≡ option_map (copied_from q s) (look s (below q.path u))
   carries_loaded s = find-with_values (copied_from q) s (below q.path u)
 
-  here_loaded : (r : Path) → full_here t (replaced p.path (from_source q (below q.path u)) (opened t)) r ≡ placed (strip p.path r) (λ s. mark_copy q p s (look s (below q.path u))) None
+  here_loaded : (r : Path) → full_here t (with_subtree p.path (from_source q (below q.path u)) (open_tree t)) r ≡ at_rest_or (strip p.path r) (λ s. mark_copy q p s (look s (below q.path u))) None
   here_loaded =
       here_copy t q p (below q.path u) (from_source q (below q.path u)) carries_loaded (root-below u q.path origin) moves_loaded
       (λ b. let n = other_place in absurd (cc))
 
 -- what an operation that isn't refused copies onto a place, its rows say
 here_copied : (ss : List Source) (t u : Tree) (q p : Loc) (b : Bool) → in_target q ≡ b → cond b (Some t) (source ss q.db) ≡ Some u → in_target p ≡ true → is_there u q.path ≡ true → (r : Path) →
-    full_here t (replaced p.path (carried ss (opened t) q b) (opened t)) r ≡ placed (strip p.path r) (λ s. mark_copy q p s (look s (taken (cond b (Some t) (source ss q.db)) q.path))) None
+    full_here t (with_subtree p.path (entries_to_copy ss (open_tree t) q b) (open_tree t)) r ≡ at_rest_or (strip p.path r) (λ s. mark_copy q p s (look s (subtree_at (cond b (Some t) (source ss q.db)) q.path))) None
 here_copied ss t u q p true i e j o r = let k : t ≡ u = cc in here_inside t q p i j (ap (λ u. is_there u q.path) k ∙ o) r
 here_copied ss t u q p false i e j o r =
-    ap (λ o. full_here t (replaced p.path (from_source q (taken o q.path)) (opened t)) r) e
+    ap (λ o. full_here t (with_subtree p.path (from_source q (subtree_at o q.path)) (open_tree t)) r) e
     ∙ here_loaded t u q p i j o r
-    ∙ sym (ap (λ o. placed (strip p.path r) (λ s. mark_copy q p s (look s (taken o q.path))) None) e)
+    ∙ sym (ap (λ o. at_rest_or (strip p.path r) (λ s. mark_copy q p s (look s (subtree_at o q.path))) None) e)
 
-find_copy : (ss : List Source) (t : Tree) (q p : Loc) (r : Path) → look r (op_rows ss t (Copy q p)) ≡ placed (strip p.path r) (λ s. mark_copy q p s (look s (taken (database ss t q) q.path))) None
+find_copy : (ss : List Source) (t : Tree) (q p : Loc) (r : Path) → look r (op_rows ss t (Copy q p)) ≡ at_rest_or (strip p.path r) (λ s. mark_copy q p s (look s (subtree_at (database ss t q) q.path))) None
 unfolding op_rows
-find_copy ss t q p r = by (taken (database ss t q) q.path)
+find_copy ss t q p r = by (subtree_at (database ss t q) q.path)
   where
-    by : (es : List (Path × Content)) → look r (if place_eq q p then [] else behind p.path (λ s. C (below_place q s)) es) ≡ placed (strip p.path r) (λ s. mark_copy q p s (look s es)) None
+    by : (es : List (Path × Content)) → look r (if place_eq q p then [] else marks_below p.path (λ s. C (below_place q s)) es) ≡ at_rest_or (strip p.path r) (λ s. mark_copy q p s (look s es)) None
     by es =
-        elim (place_eq q p) as (λ b. look r (if b then [] else behind p.path (λ s. C (below_place q s)) es) ≡ placed (strip p.path r) (λ s. if b then None else option_map (λ _. C (below_place q s)) (look s es)) None) [
-          | true ↦ elim (strip p.path r) as (λ o. ◌≡◌ {A = Option Mark} None (placed o (λ _. None) None)) [ None ↦ refl | Some s ↦ refl ]
+        elim (place_eq q p) as (λ b. look r (if b then [] else marks_below p.path (λ s. C (below_place q s)) es) ≡ at_rest_or (strip p.path r) (λ s. if b then None else option_map (λ _. C (below_place q s)) (look s es)) None) [
+          | true ↦ elim (strip p.path r) as (λ o. ◌≡◌ {A = Option Mark} None (at_rest_or o (λ _. None) None)) [ None ↦ refl | Some s ↦ refl ]
           | false ↦ find-behind p.path (λ s. C (below_place q s)) r es
         ]
 
 -- what is taken of a tree rises
-sorted-taken : (o : Option Tree) (q : Path) → T (is_sorted path_cmp (taken o q))
+sorted-taken : (o : Option Tree) (q : Path) → T (is_sorted path_cmp (subtree_at o q))
 sorted-taken None q = tt
 sorted-taken (Some t) q = sorted-below q t
 
@@ -386,14 +386,14 @@ unfolding op_rows
 sorted-op_rows ss t (Ins p a l) h = sorted-behind (child p.path a) (λ _. I) (literal_rows l) h.1.sorted
 sorted-op_rows ss t (Del a p) h = sorted-behind (child p.path a) (λ _. D) (below (child p.path a) t) (sorted-below (child p.path a) t)
 sorted-op_rows ss t (Copy q p) h =
-    elim (place_eq q p) as (λ b. T (is_sorted path_cmp (if b then [] else behind p.path (λ s. C (below_place q s)) (taken (database ss t q) q.path)))) [
+    elim (place_eq q p) as (λ b. T (is_sorted path_cmp (if b then [] else marks_below p.path (λ s. C (below_place q s)) (subtree_at (database ss t q) q.path)))) [
       | true ↦ tt
-      | false ↦ sorted-behind p.path (λ s. C (below_place q s)) (taken (database ss t q) q.path) (sorted-taken (database ss t q) q.path)
+      | false ↦ sorted-behind p.path (λ s. C (below_place q s)) (subtree_at (database ss t q) q.path) (sorted-taken (database ss t q) q.path)
     ]
 
 -- what one operation that isn't refused does to a place, its rows say
-pub here-alone : (ss : List Source) (t : Tree) (op : Op) → IsTree t → refusal ss t op ≡ None → (r : Path) → full_here t (applied ss (opened t) op) r ≡ look r (op_rows ss t op)
-unfolding applied op_rows
+pub here-alone : (ss : List Source) (t : Tree) (op : Op) → IsTree t → refusal ss t op ≡ None → (r : Path) → full_here t (apply_op ss (open_tree t) op) r ≡ look r (op_rows ss t op)
+unfolding apply_op op_rows
 here-alone ss t (Ins p a l) h n r = here_ins t p a l h.rooted (ins_accepted ss t p a l n) r ∙ sym (find-behind (child p.path a) (λ _. I) r (literal_rows l))
 here-alone ss t (Del a p) h n r = here_del t p a (del_accepted ss t p a n) r ∙ sym (find-behind (child p.path a) (λ _. D) r (below (child p.path a) t))
 here-alone ss t (Copy q p) h n r =
@@ -402,7 +402,7 @@ here-alone ss t (Copy q p) h n r =
     ∙ sym (find_copy ss t q p r)
 
 -- the full rows of a step of one operation that isn't refused are the operation's rows
-pub rows-alone : (ss : List Source) (t : Tree) (op : Op) → IsTree t → IsWritten op → refusal ss t op ≡ None → full_rows t (applied ss (opened t) op) ≡ op_rows ss t op
+pub rows-alone : (ss : List Source) (t : Tree) (op : Op) → IsTree t → IsWritten op → refusal ss t op ≡ None → full_rows t (apply_op ss (open_tree t) op) ≡ op_rows ss t op
 rows-alone ss t op h i n =
-    same_rows (full_rows t (applied ss (opened t) op)) (op_rows ss t op) (sorted-full_rows t (applied ss (opened t) op)) (sorted-op_rows ss t op i)
-    (λ r. find-full_rows t (applied ss (opened t) op) r ∙ here-alone ss t op h n r)
+    same_rows (full_rows t (apply_op ss (open_tree t) op)) (op_rows ss t op) (sorted-full_rows t (apply_op ss (open_tree t) op)) (sorted-op_rows ss t op i)
+    (λ r. find-full_rows t (apply_op ss (open_tree t) op) r ∙ here-alone ss t op h n r)

@@ -3,8 +3,8 @@ use Rattle.cp_model.specs.declared.limits.TheConstants.{OPS_MAX}
 use Rattle.std.specs.Prelude.{ℕ, ◌+◌, ◌≡◌, ◌==◌, List, [], ◌∷◌, ◌++◌, length, fold, if◌then◌else◌, ⊤}
 use Rattle.std.specs.declared.option.Option.{Option}
 use Rattle.std.specs.declared.option.Option.TheVariants.{None, Some}
-use Rattle.cp_model.specs.Tree.{Tree, Source, refusal, changed}
-use Rattle.cp_model.specs.Step.{opened, applied}
+use Rattle.cp_model.specs.Tree.{Tree, Source, refusal, tree_after}
+use Rattle.cp_model.specs.Step.{open_tree, apply_op}
 use Rattle.cp_model.specs.Rows.{full_rows}
 use Rattle.cp_model.specs.History.{with_tid}
 use Rattle.cp_model.specs.declared.op.Op.{Op}
@@ -13,28 +13,28 @@ use Rattle.cp_model.specs.declared.refusal.Refusal.{Refusal}
 use Rattle.cp_model.specs.declared.refusal.Refusal.TheVariants.{TooManyOps}
 
 -- where the steps so far have led: the tree, the Tid that is next, and their records
-pub record Passed : Type 0 where
+pub record Stage : Type 0 where
   pub tree : Tree
   pub next : ℕ
   pub records : List Record
 
 -- the full rows of a step of one operation, from this tree
 abbrev pub rows_alone : List Source → Tree → Op → List Record → ℕ → List Record
-rows_alone ss t op rs n = rs ++ with_tid n (full_rows t (applied ss (opened t) op))
+rows_alone ss t op rs n = rs ++ with_tid n (full_rows t (apply_op ss (open_tree t) op))
 
 -- one step more
-unfoldable pub pass : List Source → Passed → Op → Passed
-pass ss x op = record { tree = changed ss x.tree op; next = x.next + 1; records = rows_alone ss x.tree op x.records x.next }
+unfoldable pub next_stage : List Source → Stage → Op → Stage
+next_stage ss x op = record { tree = tree_after ss x.tree op; next = x.next + 1; records = rows_alone ss x.tree op x.records x.next }
 
 -- the operations in order, from the tree t with these sources, the first with the Tid n
-unfoldable pub passed : List Source → Tree → ℕ → List Op → Passed
-passed ss t n ops = fold (pass ss) (record { tree = t; next = n; records = [] }) ops
+unfoldable pub stage_after : List Source → Tree → ℕ → List Op → Stage
+stage_after ss t n ops = fold (next_stage ss) (record { tree = t; next = n; records = [] }) ops
 
 -- the refusal of an operation behind those that are held, if there is one
 abbrev pub refusal_behind : List Source → Tree → ℕ → List Op → Op → Option Refusal
-refusal_behind ss t n ops op = if length ops == OPS_MAX then Some TooManyOps else refusal ss (passed ss t n ops).tree op
+refusal_behind ss t n ops op = if length ops == OPS_MAX then Some TooManyOps else refusal ss (stage_after ss t n ops).tree op
 
 -- none of the operations is refused, each behind those before it
 abbrev pub AllAccepted : List Source → Tree → List Op → Type 0
 AllAccepted ss t [] = ⊤
-AllAccepted ss t (op ∷ ops) = (refusal ss t op ≡ None) × AllAccepted ss (changed ss t op) ops
+AllAccepted ss t (op ∷ ops) = (refusal ss t op ≡ None) × AllAccepted ss (tree_after ss t op) ops

@@ -5,16 +5,16 @@ use Rattle.cp_model.specs.declared.op.Op.TheVariants.{Ins, Del, Copy}
 use Rattle.cp_model.specs.Place.{Path, place_eq, child, below_place}
 use Rattle.cp_model.specs.Subtrees.{below}
 use Rattle.cp_model.specs.Literals.{literal_rows}
-use Rattle.cp_model.specs.Tree.{Tree, Source, database, taken}
+use Rattle.cp_model.specs.Tree.{Tree, Source, database, subtree_at}
 use Rattle.cp_model.specs.declared.record.RowMark.{RowMark as Mark}
 use Rattle.cp_model.specs.declared.record.RowMark.TheVariants.{Made as I, Copied as C, Gone as D}
 
 -- a row behind p for each entry, of what follows p
-abbrev pub behind : {X : Type 0} → Path → (Path → Mark) → List (Path × X) → List (Path × Mark)
-behind p f es = map (λ e. (p ++ e.0, f e.0)) es
+abbrev pub marks_below : {X : Type 0} → Path → (Path → Mark) → List (Path × X) → List (Path × Mark)
+marks_below p f es = map (λ e. (p ++ e.0, f e.0)) es
 
 -- the full rows of one operation: what is inserted, what is gone, or what each place is a copy of
 unfoldable pub op_rows : List Source → Tree → Op → List (Path × Mark)
-op_rows ss t (Ins p a l) = behind (child p.path a) (λ _. I) (literal_rows l)
-op_rows ss t (Del a p) = behind (child p.path a) (λ _. D) (below (child p.path a) t)
-op_rows ss t (Copy q p) = if place_eq q p then [] else behind p.path (λ s. C (below_place q s)) (taken (database ss t q) q.path)
+op_rows ss t (Ins p a l) = marks_below (child p.path a) (λ _. I) (literal_rows l)
+op_rows ss t (Del a p) = marks_below (child p.path a) (λ _. D) (below (child p.path a) t)
+op_rows ss t (Copy q p) = if place_eq q p then [] else marks_below p.path (λ s. C (below_place q s)) (subtree_at (database ss t q) q.path)

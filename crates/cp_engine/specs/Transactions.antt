@@ -8,7 +8,7 @@ use Rattle.cp_model.specs.declared.op.Op.{Op}
 use Rattle.cp_model.specs.declared.refusal.Cause.{Cause}
 use Rattle.cp_model.specs.declared.refusal.Cause.TheVariants.{Refused, Unread}
 use Rattle.cp_record.specs.Bytes.{commit_length}
-use Rattle.cp_engine.specs.Passed.{passed, refusal_behind, AllAccepted}
+use Rattle.cp_engine.specs.Passed.{stage_after, refusal_behind, AllAccepted}
 use Rattle.cp_engine.specs.declared.txn.Txn.{Txn}
 use Rattle.cp_engine.specs.declared.txn.Step.{Step}
 use Rattle.cp_engine.specs.declared.state.TxnState.{TxnState}
@@ -29,14 +29,14 @@ state_of (going ops) = state.Going (length ops)
 state_of (failed n c) = state.Failed n c
 
 -- a text that can't be read counts as the next operation
-abbrev pub spoiled : Progress → Progress
-spoiled (going ops) = failed (length ops + 1) Unread
-spoiled (failed n c) = failed n c
+abbrev pub after_unread : Progress → Progress
+after_unread (going ops) = failed (length ops + 1) Unread
+after_unread (failed n c) = failed n c
 
 -- the number of operations that are given up
-abbrev pub given_up : Progress → ℕ
-given_up (going ops) = length ops
-given_up (failed n c) = n - 1
+abbrev pub held_count : Progress → ℕ
+held_count (going ops) = length ops
+held_count (failed n c) = n - 1
 
 -- the transaction holds these operations, which lead from the tree t with these sources, the first with the Tid n
 pub record IsGoing {R : Type 0} (view : R → Tree) (x : Txn R) (ss : List Source) (t : Tree) (n : ℕ) (ops : List Op) : Type 0 where
@@ -47,8 +47,8 @@ pub record IsGoing {R : Type 0} (view : R → Tree) (x : Txn R) (ss : List Sourc
   pub accepted : AllAccepted ss t ops
   pub held : x.ops ≡ ops
   pub tid : x.first ≡ n
-  pub tree : view x.tree ≡ (passed ss t n ops).tree
-  pub rows : x.rows ≡ (passed ss t n ops).records
+  pub tree : view x.tree ≡ (stage_after ss t n ops).tree
+  pub rows : x.rows ≡ (stage_after ss t n ops).records
   pub failure : x.failure ≡ None
 
 -- the transaction stands where this progress was made from the tree t
@@ -71,17 +71,17 @@ Applies view ss t n (failed k c) op new (Err denied.Memory) = ⊥
 pub record IsStep {R : Type 0} (view : R → Tree) (ss : List Source) (t : Tree) (n : ℕ) (ops : List Op) (limit : ℕ) (x : Step R) : Type 0 where
   pub some : 1 ≤ length ops
   pub held : x.ops ≡ ops
-  pub tree : view x.tree ≡ (passed ss t n ops).tree
-  pub rows : x.rows ≡ (passed ss t n ops).records
+  pub tree : view x.tree ≡ (stage_after ss t n ops).tree
+  pub rows : x.rows ≡ (stage_after ss t n ops).records
   pub tids : x.tids ≡ length ops
-  pub small : commit_length ops (passed ss t n ops).records ≤ limit
+  pub small : commit_length ops (stage_after ss t n ops).records ≤ limit
 
 -- the step that a transaction makes, or why it makes none
 abbrev pub Finishes : {R : Type 0} → (R → Tree) → List Source → Tree → ℕ → Progress → ℕ → Result (Step R) FinishFault → Type 0
 Finishes view ss t n (going ops) limit (Ok x) = IsStep view ss t n ops limit x
 Finishes view ss t n (going ops) limit (Err unfinished.Empty) = ops ≡ []
 Finishes view ss t n (going ops) limit (Err (unfinished.Failed k c)) = ⊥
-Finishes view ss t n (going ops) limit (Err unfinished.TooLarge) = (1 ≤ length ops) × (limit < commit_length ops (passed ss t n ops).records) × (commit_length ops (passed ss t n ops).records < 2 ^ 64)
+Finishes view ss t n (going ops) limit (Err unfinished.TooLarge) = (1 ≤ length ops) × (limit < commit_length ops (stage_after ss t n ops).records) × (commit_length ops (stage_after ss t n ops).records < 2 ^ 64)
 Finishes view ss t n (going ops) limit (Err unfinished.Memory) = 1 ≤ length ops
 Finishes view ss t n (failed k c) limit (Ok x) = ⊥
 Finishes view ss t n (failed k c) limit (Err unfinished.Empty) = ⊥

@@ -1,7 +1,7 @@
 ghost use Rattle.std.specs.Prelude.{◌≡◌, OnOk, OnErr};
 ghost use Rattle.std.specs.declared.option.Option.TheVariants.{None};
 ghost use Rattle.cp_model.specs.History.{IsWritten};
-ghost use Rattle.cp_model.specs.Tree.{refusal, changed};
+ghost use Rattle.cp_model.specs.Tree.{refusal, tree_after};
 ghost use Rattle.cp_model.specs.declared.op.Op.TheVariants.{Copy};
 ghost use Rattle.cp_engine.specs.Loaded.{sources_in};
 
@@ -20,7 +20,7 @@ pub(crate) fn change<R: TreeRep, S: TreeRep>(
 ) -> Result<(), AllocError>
     requires written { IsWritten op.now }
     requires accepted { refusal (sources_in S.contents sources.now) (R.contents tree.old) op.now ≡ None }
-    ensures ok { OnOk result (R.contents tree.new ≡ changed (sources_in S.contents sources.now) (R.contents tree.old) op.now) }
+    ensures ok { OnOk result (R.contents tree.new ≡ tree_after (sources_in S.contents sources.now) (R.contents tree.old) op.now) }
     ensures err { OnErr result (R.contents tree.new ≡ R.contents tree.old) }
 {
     match op {
@@ -43,7 +43,7 @@ fn copy_onto<R: TreeRep, S: TreeRep>(
     into: &Loc,
 ) -> Result<(), AllocError>
     requires accepted { refusal (sources_in S.contents sources.now) (R.contents tree.old) (Copy from.now into.now) ≡ None }
-    ensures ok { OnOk result (R.contents tree.new ≡ changed (sources_in S.contents sources.now) (R.contents tree.old) (Copy from.now into.now)) }
+    ensures ok { OnOk result (R.contents tree.new ≡ tree_after (sources_in S.contents sources.now) (R.contents tree.old) (Copy from.now into.now)) }
     ensures err { OnErr result (R.contents tree.new ≡ R.contents tree.old) }
 {
     if from.db.is_target() {

@@ -7,7 +7,7 @@ ghost use Rattle.cp_model.specs.Literals.{literal_rows};
 ghost use Rattle.cp_model.specs.declared.op.Op.TheVariants.{Ins, Del, Copy};
 ghost use Rattle.cp_model.specs.declared.row.Content.TheVariants.{Leaf};
 ghost use Rattle.cp_engine.specs.Loaded.{sources_in};
-ghost use Rattle.cp_engine.specs.Reaching.{joined, alone_at, literal_reach, over_by, limit_passed, copied_cases};
+ghost use Rattle.cp_engine.specs.Reaching.{reach_with, alone_at, literal_reach, over_by, limit_passed, copied_cases};
 
 use crate::sources::Sources;
 use cp_model::{Literal, NODES_MAX, Op, PLACE_WEIGHT, Refusal, WEIGHT_MAX};
@@ -174,7 +174,7 @@ fn joined(label: &Label, all: Reach, below: Reach) -> Reach
     requires inner { all.inner + below.inner < 2 ^ 64 }
     requires depth { below.depth ≤ LABELS_MAX + 1 }
     requires size { below.size ≤ LOC_MAX + 1 }
-    ensures { result ≡ joined (length label.now + 1) all below }
+    ensures { result ≡ reach_with (length label.now + 1) all below }
 {
     let step = label.as_str().len() as u32 + 1;
     Reach {

@@ -2,7 +2,7 @@
 ghost use Rattle.std.specs.Prelude.{◌≡◌, true, false, ◌≤◌, ◌<◌, ◌+◌, List, length, map, OnOk, OnErr, IfOk};
 ghost use Rattle.std.specs.declared.option.Option.TheVariants.{None, Some};
 ghost use Rattle.cp_model.specs.Place.{child, below_place};
-ghost use Rattle.cp_model.specs.Subtrees.{below, is_there, moved};
+ghost use Rattle.cp_model.specs.Subtrees.{below, is_there, entries_under};
 ghost use Rattle.cp_model.specs.Literals.{literal_rows};
 ghost use Rattle.cp_model.specs.History.{with_tid};
 ghost use Rattle.cp_model.specs.Tree.{Source, refusal, reaches_over};
@@ -12,7 +12,7 @@ ghost use Rattle.cp_record.specs.Bytes.{record_below};
 ghost use Rattle.cp_tree.specs.Rows.{greatest};
 ghost use Rattle.cp_engine.specs.Held.{Appended, Grown, Restored};
 ghost use Rattle.cp_engine.specs.Loaded.{sources_in};
-ghost use Rattle.cp_engine.specs.RowsAlone.{behind, op_rows};
+ghost use Rattle.cp_engine.specs.RowsAlone.{marks_below, op_rows};
 ghost use Rattle.cp_model.specs.declared.record.RowMark.TheVariants as mark;
 
 use crate::sources::Sources;
@@ -80,7 +80,7 @@ fn push_inserted(
     literal: &Literal,
 ) -> Result<(), AllocError>
     requires shallow { length (child into.now.path label.now) + greatest (λ e. length e.0) (literal_rows literal.now) ≤ LABELS_MAX }
-    ensures ok { OnOk result (Appended rows.old rows.new (with_tid tid (behind (child into.now.path label.now) (λ _. mark.Made) (literal_rows literal.now)))) }
+    ensures ok { OnOk result (Appended rows.old rows.new (with_tid tid (marks_below (child into.now.path label.now) (λ _. mark.Made) (literal_rows literal.now)))) }
     ensures err { OnErr result (Grown rows.old rows.new) }
 {
     let base = into.path.child(label)?;
@@ -142,7 +142,7 @@ fn push_subtree<O: TreeRep>(
 ) -> Result<(), AllocError>
     requires there { is_there (O.contents other.now) from.now.path ≡ true }
     requires places { reaches_over into.now (below from.now.path (O.contents other.now)) ≡ false }
-    ensures ok { OnOk result (Appended rows.old rows.new (with_tid tid (behind into.now.path (λ s. mark.Copied (below_place from.now s)) (below from.now.path (O.contents other.now))))) }
+    ensures ok { OnOk result (Appended rows.old rows.new (with_tid tid (marks_below into.now.path (λ s. mark.Copied (below_place from.now s)) (below from.now.path (O.contents other.now))))) }
     ensures err { OnErr result (Grown rows.old rows.new) }
 {
     let list = other.rows(alloc, &from.path)?;
@@ -159,7 +159,7 @@ fn push_literal(
     literal: &Literal,
 ) -> Result<(), AllocError>
     requires shallow { length base.now + (length at + greatest (λ e. length e.0) (literal_rows literal.now)) ≤ LABELS_MAX }
-    ensures ok { OnOk result (Appended rows.old rows.new (map (λ e. record_below tid letter.I base.now e.0 None) (moved at (literal_rows literal.now)))) }
+    ensures ok { OnOk result (Appended rows.old rows.new (map (λ e. record_below tid letter.I base.now e.0 None) (entries_under at (literal_rows literal.now)))) }
     ensures err { OnErr result (Grown rows.old rows.new) }
 {
     rows.push(tid, RecOp::I, base, &at, None)?;
@@ -179,7 +179,7 @@ fn push_edges(
     below: &LitList,
 ) -> Result<(), AllocError>
     requires shallow { length base.now + (length at.now + greatest (λ e. length e.0) below.now) ≤ LABELS_MAX }
-    ensures ok { OnOk result (Appended rows.old rows.new (map (λ e. record_below tid letter.I base.now e.0 None) (moved at.now below.now))) }
+    ensures ok { OnOk result (Appended rows.old rows.new (map (λ e. record_below tid letter.I base.now e.0 None) (entries_under at.now below.now))) }
     ensures err { OnErr result (Grown rows.old rows.new) }
 {
     for edge in &below.items {

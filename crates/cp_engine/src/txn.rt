@@ -7,8 +7,8 @@ ghost use Rattle.cp_model.specs.declared.record.Record.{Record};
 ghost use Rattle.cp_model.specs.declared.refusal.Refusal.TheVariants.{TooManyOps};
 ghost use Rattle.cp_record.specs.Bytes.{commit_length};
 ghost use Rattle.cp_engine.specs.Loaded.{sources_in};
-ghost use Rattle.cp_engine.specs.Passed.{passed};
-ghost use Rattle.cp_engine.specs.Transactions.{Progress, going, Stands, Applies, Finishes, IsGoing, state_of, spoiled, given_up};
+ghost use Rattle.cp_engine.specs.Passed.{stage_after};
+ghost use Rattle.cp_engine.specs.Transactions.{Progress, going, Stands, Applies, Finishes, IsGoing, state_of, after_unread, held_count};
 
 use crate::change::change;
 use crate::checks::check;
@@ -135,7 +135,7 @@ impl<R: TreeRep> Txn<R> {
 
     /// Counts a text that couldn't be read as the next operation, at which a going transaction fails.
     pub fn spoil(&mut self)
-        ensures { (ss : List Source) (t : Tree) (n : ℕ) (p : Progress) → Stands R.contents self.old ss t n p → Stands R.contents self.new ss t n (spoiled p) }
+        ensures { (ss : List Source) (t : Tree) (n : ℕ) (p : Progress) → Stands R.contents self.old ss t n p → Stands R.contents self.new ss t n (after_unread p) }
     {
         if self.failure.is_none() {
             self.fail(Cause::Unread);
@@ -144,7 +144,7 @@ impl<R: TreeRep> Txn<R> {
 
     /// The working tree.
     pub fn tree(&self) -> &R
-        ensures { (ss : List Source) (t : Tree) (n : ℕ) (ops : List Op) → Stands R.contents self.now ss t n (going ops) → R.contents result.now ≡ (passed ss t n ops).tree }
+        ensures { (ss : List Source) (t : Tree) (n : ℕ) (ops : List Op) → Stands R.contents self.now ss t n (going ops) → R.contents result.now ≡ (stage_after ss t n ops).tree }
     {
         &self.tree
     }
@@ -193,7 +193,7 @@ impl<R: TreeRep> Txn<R> {
 
     /// Gives the transaction up, and says how many accepted operations it held.
     pub fn abort(self) -> u32
-        ensures { (ss : List Source) (t : Tree) (n : ℕ) (p : Progress) → Stands R.contents self ss t n p → result ≡ given_up p }
+        ensures { (ss : List Source) (t : Tree) (n : ℕ) (p : Progress) → Stands R.contents self ss t n p → result ≡ held_count p }
     {
         match self.failure {
             Some(failure) => failure.number.saturating_sub(1),

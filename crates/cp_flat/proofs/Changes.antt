@@ -14,8 +14,8 @@ use Rattle.cp_store.specs.Changes.{reading_of}
 use Rattle.cp_store.specs.declared.change.What.{What}
 use Rattle.cp_store.specs.declared.change.What.TheVariants.{New, From, Gone}
 use Rattle.cp_rows.specs.declared.index.Step.{Step}
-use Rattle.cp_rows.specs.Steps.{row_of, mark_at, IsNewest}
-use Rattle.cp_flat.specs.Changes.{own, said, reading_if}
+use Rattle.cp_rows.specs.Steps.{row_number, mark_at, IsNewest}
+use Rattle.cp_flat.specs.Changes.{own, rows_tell, reading_if}
 
 -- no step has Tid 0
 pub last-zero : (E : Readings) (p : Path) → last E 0 p ≡ None
@@ -56,26 +56,26 @@ last-same E (suc u) p z h = ap (λ d. if tells_same d then last E u p else Some 
 
 module _ (rs : List Record) (m : List Step) (t : ℕ) (p : Path) where
   -- where no step has a position, nothing has changed
-  pub said_none : IsNewest m t None → last (said rs m) t p ≡ None
+  pub said_none : IsNewest m t None → last (rows_tell rs m) t p ≡ None
   unfolding IsNewest
-  said_none h = last-over (said rs m) 0 t p (omega arith) (λ u a b. ap (λ o. own (mark_at rs o)) (h u b)) ∙ last-zero (said rs m) p
+  said_none h = last-over (rows_tell rs m) 0 t p (omega arith) (λ u a b. ap (λ o. own (mark_at rs o)) (h u b)) ∙ last-zero (rows_tell rs m) p
 
   module _ (s : Step) (h : IsNewest m t (Some s)) where
     -- the newest step is one up to t, and has the position
-    pub said_at : (s.tid ≤ t) × (row_of m s.tid ≡ Some s.row)
+    pub said_at : (s.tid ≤ t) × (row_number m s.tid ≡ Some s.row)
     unfolding IsNewest
     said_at = (h.0, h.1)
 
-    over : last (said rs m) t p ≡ last (said rs m) s.tid p
+    over : last (rows_tell rs m) t p ≡ last (rows_tell rs m) s.tid p
     unfolding IsNewest
-    over = last-over (said rs m) s.tid t p h.0 (λ v a b. ap (λ o. own (mark_at rs o)) (h.2 v a b))
+    over = last-over (rows_tell rs m) s.tid t p h.0 (λ v a b. ap (λ o. own (mark_at rs o)) (h.2 v a b))
 
     -- the newest is no step
-    pub said_zero : s.tid ≡ 0 → last (said rs m) t p ≡ None
-    said_zero z = over ∙ ap (λ v. last (said rs m) v p) z ∙ last-zero (said rs m) p
+    pub said_zero : s.tid ≡ 0 → last (rows_tell rs m) t p ≡ None
+    said_zero z = over ∙ ap (λ v. last (rows_tell rs m) v p) z ∙ last-zero (rows_tell rs m) p
 
     module _ (x : Mark) (at : mark_at rs (Some s.row) ≡ Some x) (w : Option What) (is : reading_if w ≡ read_mark x []) (pos : 0 < s.tid) where
-      says : said rs m s.tid p ≡ reading_if w
+      says : rows_tell rs m s.tid p ≡ reading_if w
       says = ap (λ o. own (mark_at rs o)) said_at.1 ∙ ap own at ∙ sym is
 
       differs : (v : What) → tells_same (reading_of v) ≡ false
@@ -84,9 +84,9 @@ module _ (rs : List Record) (m : List Step) (t : ℕ) (p : Path) where
       differs Gone = refl
 
       -- what the newest row has done is the newest change
-      pub said_change : (v : What) → w ≡ Some v → last (said rs m) t p ≡ Some (s.tid, reading_of v)
-      said_change v e = over ∙ last-change (said rs m) s.tid p (reading_of v) pos (says ∙ ap reading_if e) (differs v)
+      pub said_change : (v : What) → w ≡ Some v → last (rows_tell rs m) t p ≡ Some (s.tid, reading_of v)
+      said_change v e = over ∙ last-change (rows_tell rs m) s.tid p (reading_of v) pos (says ∙ ap reading_if e) (differs v)
 
       -- where it has done nothing, the search goes on below
-      pub said_same : w ≡ None → last (said rs m) (s.tid - 1) p ≡ last (said rs m) t p
-      said_same e = sym (over ∙ last-same (said rs m) s.tid p pos (says ∙ ap reading_if e))
+      pub said_same : w ≡ None → last (rows_tell rs m) (s.tid - 1) p ≡ last (rows_tell rs m) t p
+      said_same e = sym (over ∙ last-same (rows_tell rs m) s.tid p pos (says ∙ ap reading_if e))

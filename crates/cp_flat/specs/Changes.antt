@@ -10,15 +10,15 @@ use Rattle.cp_model.specs.declared.record.Record.{Record}
 use Rattle.cp_store.specs.Changes.{reading_of}
 use Rattle.cp_store.specs.declared.change.What.{What}
 use Rattle.cp_rows.specs.declared.index.Step.{Step}
-use Rattle.cp_rows.specs.Steps.{row_of, mark_at}
+use Rattle.cp_rows.specs.Steps.{row_number, mark_at}
 
 -- what a row at the place itself tells of it
 abbrev pub own : Option Mark → Reading
 own o = read_nearest (option_map (λ m. (m, [])) o)
 
 -- what the rows say of a place that has these steps
-abbrev pub said : List Record → List Step → ℕ → Path → Reading
-said rs steps u p = own (mark_at rs (row_of steps u))
+abbrev pub rows_tell : List Record → List Step → ℕ → Path → Reading
+rows_tell rs steps u p = own (mark_at rs (row_number steps u))
 
 -- nothing done tells that the place is the same
 abbrev pub reading_if : Option What → Reading

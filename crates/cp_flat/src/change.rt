@@ -5,10 +5,10 @@ ghost use Rattle.cp_path.specs.Encoding.{counted_bytes};
 ghost use Rattle.cp_model.specs.Place.{Path, over_limit};
 ghost use Rattle.cp_model.specs.Rows.{read_mark};
 ghost use Rattle.cp_model.specs.Leaps.{last};
-ghost use Rattle.cp_store.specs.Changes.{seen};
+ghost use Rattle.cp_store.specs.Changes.{change_told};
 ghost use Rattle.cp_rows.specs.Rows.{IsKey};
 ghost use Rattle.cp_rows.specs.Steps.{steps_in};
-ghost use Rattle.cp_flat.specs.Changes.{said, reading_if};
+ghost use Rattle.cp_flat.specs.Changes.{rows_tell, reading_if};
 
 use cp_model::RowMark;
 use cp_path::{LABELS_MAX, LOC_MAX, Loc};
@@ -50,7 +50,7 @@ pub(crate) fn newest_change(
     t: u64,
 ) -> Result<Option<Change>, AllocError>
     requires { IsKey key.now }
-    ensures { IfOk result (λ c. (p : Path) → key.now ≡ flat_map counted_bytes p → seen c ≡ last (said rows.now.list (steps_in p 0 rows.now.list)) t p) }
+    ensures { IfOk result (λ c. (p : Path) → key.now ≡ flat_map counted_bytes p → change_told c ≡ last (rows_tell rows.now.list (steps_in p 0 rows.now.list)) t p) }
 {
     let mut high = t;
     while high > 0 {

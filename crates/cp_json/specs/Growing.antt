@@ -10,7 +10,7 @@ use Rattle.cp_model.specs.declared.row.Content.{Content}
 use Rattle.cp_model.specs.declared.row.Content.TheVariants.{Node}
 use Rattle.cp_model.specs.Place.{Label, Path, child, path_cmp}
 use Rattle.cp_model.specs.Keyed as keyed
-use Rattle.cp_model.specs.Subtrees.{replaced, is_there}
+use Rattle.cp_model.specs.Subtrees.{with_subtree, is_there}
 use Rattle.cp_model.specs.Tree.{Tree, IsTree, text_bytes}
 use Rattle.cp_tree.specs.Rows.{root_entries, single}
 use Rattle.cp_json.specs.Places.{content_of}
@@ -44,7 +44,7 @@ or_node o = unwrap_or o Node
 
 -- a leaf more
 abbrev pub with_leaf : Path → Option Content → Tree → Tree
-with_leaf p c t = replaced p (root_entries (or_node c)) t
+with_leaf p c t = with_subtree p (root_entries (or_node c)) t
 
 -- a value can be put at the child a of p as a leaf
 pub record CanPut (p : Path) (a : Label) (c : Option Content) (t : Tree) : Type 0 where

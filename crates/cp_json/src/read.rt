@@ -24,7 +24,7 @@ use serde_json::Value;
 use serde_json::error::Category;
 use std::alloc::{AllocError, Global};
 
-/// The bytes behind a byte order mark, if one stands in front.
+/// Drops a byte order mark, if one stands in front.
 fn without_mark(bytes: &[u8]) -> &[u8]
     ensures { result.now ≡ without_mark bytes.now }
 {
@@ -34,7 +34,7 @@ fn without_mark(bytes: &[u8]) -> &[u8]
     }
 }
 
-/// The value that the bytes are.
+/// Reads the value that the bytes are.
 #[tactic(auto, using(crate::proofs::Parsing::value_read, crate::proofs::Parsing::value_refused))]
 fn parsed(alloc: Global, text: &[u8]) -> Result<Value, JsonFault>
     ensures answers { Answers JsonFault.Memory (value_reading text.now) (result_map_both view (λ e. e) result) }
@@ -50,7 +50,7 @@ fn parsed(alloc: Global, text: &[u8]) -> Result<Value, JsonFault>
     }
 }
 
-/// The first limit that is passed, if one is.
+/// Finds the first limit that is passed, if one is.
 fn refusal(survey: Survey) -> Option<JsonFault>
     ensures { result ≡ first_case (survey_refusals survey) }
 {
@@ -75,7 +75,7 @@ fn refusal(survey: Survey) -> Option<JsonFault>
     None
 }
 
-/// The first number that isn't whole, which is looked for where there is one.
+/// Finds the first number that isn't whole, which is looked for where there is one.
 #[tactic(auto, using(crate::proofs::Looking::none_found))]
 fn fraction(alloc: Global, survey: Survey, value: &Value) -> Result<Option<Path>, AllocError>
     requires near { AreNear (view value.now) }
@@ -88,7 +88,7 @@ fn fraction(alloc: Global, survey: Survey, value: &Value) -> Result<Option<Path>
     first_fraction(alloc, value)
 }
 
-/// The tree of a value whose objects have each name once.
+/// Makes the tree of a value whose objects have each name once.
 fn tree_of_value<R: TreeRep>(alloc: Global, name: &Name, value: &Value) -> Result<R, JsonFault>
     requires ordered { IsOrdered (view value.now) }
     ensures answers { Answers JsonFault.Memory (tree_of_places name.now (value_places (view value.now))) (result_map_both R.contents (λ e. e) result) }
@@ -104,7 +104,7 @@ fn tree_of_value<R: TreeRep>(alloc: Global, name: &Name, value: &Value) -> Resul
     }
 }
 
-/// The tree of a JSON text that is loaded under `name`.
+/// Reads the tree of a JSON text that is loaded under `name`.
 ///
 /// An object is a node whose labels are its members' names, and of a repeated name the last value counts; an array is a
 /// node with the labels `0`, `1` and so on; all else is a leaf. One byte order mark in front is dropped.

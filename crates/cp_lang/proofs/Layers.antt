@@ -14,7 +14,7 @@ use Rattle.cp_path.specs.Text.{text_cmp, text_eq}
 use Rattle.cp_path.specs.Place.{Label, Path, label_eq, path_cmp, path_eq}
 use Rattle.cp_path.specs.PathOrder.{path_eq_equiv}
 use Rattle.cp_path.specs.Reading.{any_long}
-use Rattle.cp_path.specs.Laws.{IsWithin}
+use Rattle.cp_path.specs.Laws.{IsValueWithin}
 use Rattle.cp_path.specs.declared.value.Value.{Value}
 use Rattle.cp_path.specs.declared.value.Value.TheVariants as value
 use Rattle.cp_model.specs.Place.{or_else}
@@ -55,7 +55,7 @@ rows_of (g ∷ gs) = rows_under g.label g.rows ++ rows_of gs
 abbrev pub Layered : ℕ → Rows → Type 0
 Layered zero rows = ⊥
 Layered (suc d) [] = ⊥
-Layered (suc d) ((p, Leaf v) ∷ rows) = (p ≡ []) × (rows ≡ []) × IsWithin v
+Layered (suc d) ((p, Leaf v) ∷ rows) = (p ≡ []) × (rows ≡ []) × IsValueWithin v
 Layered (suc d) ((p, Node) ∷ rows) =
     (p ≡ []) × (rows_of (groups rows) ≡ rows) × Rising (groups rows) × Each (λ g. (length g.label ≤ LABEL_MAX) × Layered d g.rows) (groups rows)
 
@@ -303,7 +303,7 @@ no_row v ((a ∷ p, c) ∷ rows) t n =
     let bad : Some (Leaf v) ≡ Some Node = above-node (([], Leaf v) ∷ (a ∷ p, c) ∷ rows) a t p there in absurd (cc)
 
 -- a value is within its limits
-fit : (v : Value) → text_bytes (Leaf v) ≤ TEXT_MAX → IsNumber (Leaf v) → IsWithin v
+fit : (v : Value) → text_bytes (Leaf v) ≤ TEXT_MAX → IsNumber (Leaf v) → IsValueWithin v
 fit value.Null h n = tt
 fit value.False h n = tt
 fit value.True h n = tt

@@ -13,7 +13,7 @@ use Rattle.std.specs.FinMap.Entries.{is_sorted, below_all}
 use Rattle.cp_path.specs.Text.{text_cmp, text_eq}
 use Rattle.cp_path.specs.Place.{Label, Path, path_cmp, path_eq}
 use Rattle.cp_path.specs.Reading.{any_long}
-use Rattle.cp_path.specs.Laws.{IsWithin}
+use Rattle.cp_path.specs.Laws.{IsValueWithin}
 use Rattle.cp_path.specs.declared.value.Value.{Value}
 use Rattle.cp_path.specs.declared.value.Value.TheVariants as value
 use Rattle.cp_model.specs.Place.{or_else}
@@ -195,7 +195,7 @@ pub node-below : (k : ℕ) (es : Edges) → k ≤ 63 → AreEdges k es → IsBel
 node-below k es l h = record { written = node-written k es h; deep = (omega (arith, l), refl, tt, deep-edges k es h) }
 
 -- a value within its limits is a literal within them
-pub leaf-below : (k : ℕ) (v : Value) → k ≤ 63 → IsWithin v → IsBelow k (literal.Leaf v)
+pub leaf-below : (k : ℕ) (v : Value) → k ≤ 63 → IsValueWithin v → IsBelow k (literal.Leaf v)
 leaf-below k v l h = record {
   written = literal-rows (([], Leaf v) ∷ []) tt (record { root = refl; parents = parents; texts = texts; spelled = spelled });
   deep = (omega (arith, l), refl, number v h, tt);
@@ -205,7 +205,7 @@ leaf-below k v l h = record {
     parents [] a i = absurd (cc)
     parents (b ∷ r) a i = absurd (cc)
 
-    bytes : (v : Value) → IsWithin v → text_bytes (Leaf v) ≤ TEXT_MAX
+    bytes : (v : Value) → IsValueWithin v → text_bytes (Leaf v) ≤ TEXT_MAX
     bytes value.Null h = omega arith
     bytes value.False h = omega arith
     bytes value.True h = omega arith
@@ -216,7 +216,7 @@ leaf-below k v l h = record {
     texts [] c e = subst (λ d. text_bytes d ≤ TEXT_MAX) (same_content (Leaf v) c e) (bytes v h)
     texts (b ∷ r) c e = absurd (cc)
 
-    number : (v : Value) → IsWithin v → IsNumber (Leaf v)
+    number : (v : Value) → IsValueWithin v → IsNumber (Leaf v)
     number value.Null h = tt
     number value.False h = tt
     number value.True h = tt

@@ -12,7 +12,7 @@ use Rattle.cp_path.specs.Place.{Label, target, at_target}
 use Rattle.cp_path.specs.Reading.{SpellsValue}
 use Rattle.cp_path.specs.Words.{place_reading, label_reading, value_reading, string_reading}
 use Rattle.cp_path.proofs.WordLaws.{place_read, label_read}
-use Rattle.cp_path.specs.Laws.{IsWithin}
+use Rattle.cp_path.specs.Laws.{IsValueWithin}
 use Rattle.cp_path.proofs.ValueLaws.{value_read}
 use Rattle.cp_path.specs.declared.loc.Loc.{Loc}
 use Rattle.cp_path.specs.declared.value.Value.{Value}
@@ -220,7 +220,7 @@ new-leads (k ∷ ls) a l h = by (nat_le LABELS_MAX (suc (length ls))) (has_edge 
     by false true e f = tt
     by false false e f = let few = leb-false LABELS_MAX (suc (length ls)) e in ((l, omega (arith, few), f), h)
 
-spelled-within : (w : List ℕ) (v : Value) → SpellsValue w v → IsWithin v
+spelled-within : (w : List ℕ) (v : Value) → SpellsValue w v → IsValueWithin v
 spelled-within w value.Null h = tt
 spelled-within w value.False h = tt
 spelled-within w value.True h = tt

@@ -14,6 +14,7 @@ pub record CutterState : Type 0 where
   pub blank : Bool
   pub long : Bool
 
+-- longer than a statement may be
 abbrev pub is_long : List ℕ → Bool
 is_long text = nat_lt STATEMENT_MAX (length text)
 

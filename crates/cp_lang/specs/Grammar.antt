@@ -182,7 +182,7 @@ abbrev pub close_node : List Level → Move
 close_node [] = cant
 close_node (l ∷ ls) = goes (after_tree l.label (node l.edges) ls)
 
--- a label of the innermost node: not a second time, and not the 65th on its way
+-- a label of the innermost node: not a second time, and not behind as many labels as a way may have
 abbrev pub new_edge : List Level → Label → Move
 new_edge [] a = cant
 new_edge (l ∷ ls) a = if nat_le LABELS_MAX (length (l ∷ ls)) || has_edge a l.edges then cant else goes (tree_colon a (l ∷ ls))

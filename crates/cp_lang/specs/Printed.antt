@@ -1,5 +1,5 @@
 -- The text of a literal, edge by edge.
-use Rattle.std.specs.Prelude.{ℕ, ◌<◌, List, [], ◌∷◌, ◌++◌, map, length, codes, ⊤, ◌+◌}
+use Rattle.std.specs.Prelude.{ℕ, ◌<◌, List, [], ◌∷◌, ◌++◌, map, length, codes, ⊤}
 use Rattle.std.proofs.Common.{T}
 use Rattle.std.specs.FinMap.Entries.{is_sorted}
 use Rattle.cp_path.specs.Place.{Path, path_cmp}
@@ -8,7 +8,6 @@ use Rattle.cp_model.specs.Literals.{literal_rows}
 use Rattle.cp_model.specs.Trees.{groups, between, tree_at, Group}
 use Rattle.cp_model.specs.declared.row.Content.{Content}
 use Rattle.cp_model.specs.declared.literal.LitEdge.{LitEdge}
-use Rattle.cp_lang.specs.Grammar.{tree}
 
 -- ---- reading
 
@@ -18,6 +17,7 @@ group_text m g = label_text g.label ++ (codes " : " ++ tree_at m g.rows)
 
 -- ---- the levels
 
+-- the rows of a tree, each with its way
 abbrev pub Rows : Type 0
 Rows = List (Path × Content)
 

@@ -82,7 +82,7 @@ abbrev pub AreShort : ℕ → List (Path × Content) → Type 0
 AreShort n [] = ⊤
 AreShort n (r ∷ rows) = (length r.0 ≤ n) × (any_long r.0 ≡ false) × IsNumber r.1 × AreShort n rows
 
--- a literal tree below one label: siblings rise, texts are within their limit, and no way has more than 64 labels in all
+-- a literal tree below one label: siblings rise, texts are within their limit, and no way has more labels than a path may, with that one
 abbrev pub IsShortTree : Literal → Type 0
 IsShortTree t = IsLiteral (literal_rows t) × AreShort (LABELS_MAX - 1) (literal_rows t)
 

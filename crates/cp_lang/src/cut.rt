@@ -9,7 +9,7 @@ use cp_path::Bytes;
 pub enum Cut {
     /// The text before a statement's end; offsets count from its first byte.
     Text(Bytes),
-    /// A text of more than 1,048,576 bytes, which isn't kept.
+    /// A text longer than a statement may be, which isn't kept.
     TooLong,
     /// A text that the input's end cut off.
     Unfinished(Bytes),

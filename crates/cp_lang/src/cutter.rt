@@ -11,7 +11,7 @@ use std::marker::Model;
 use std::mem;
 
 /// Cuts input that comes in pieces into the texts of statements. Keeps the bytes since the last statement's end,
-/// 1,048,576 at most: of a longer text it keeps only whether it is white space alone.
+/// [`STATEMENT_MAX`] at most: of a longer text it keeps only whether it is white space alone.
 #[derive(Drop)]
 pub struct Cutter {
     alloc: Global,

@@ -397,7 +397,7 @@ fn has_edge(edges: &BTreeMap<Label, Literal>, label: &Label) -> bool
 }
 
 /// The label of one edge more below the `depth`th label on a way. A sibling's label can't stand again,
-/// and neither can a label that would be the 65th.
+/// and neither can a label behind [`LABELS_MAX`] others.
 fn edge_label<'a>(
     alloc: Global,
     token: Token<'a>,
@@ -418,7 +418,7 @@ fn edge_label<'a>(
 
 // ---- whole statements
 
-/// The loading of a CSV file.
+/// The loading of a CSV file, perhaps by a key column.
 fn csv_load(name: Name, file: Text, key: Option<Label>) -> Stmt
     ensures { result ≡ csv_load name file key }
 {

@@ -14,9 +14,9 @@ use Rattle.cp_model.specs.declared.refusal.Refusal.TheVariants.{TooDeep}
 use Rattle.cp_model.specs.Place.{Label, child, in_target, below_place}
 use Rattle.cp_model.specs.Cases.{first_case}
 use Rattle.cp_model.specs.Keyed as keyed
-use Rattle.cp_model.specs.Subtrees.{is_there, below, replaced}
+use Rattle.cp_model.specs.Subtrees.{is_there, below, with_subtree}
 use Rattle.cp_model.specs.Literals.{literal_rows}
-use Rattle.cp_model.specs.Tree.{Tree, Source, database, taken, refusal, cases_of, changed, is_node, reaches_over, limits_of, origin_there, IsWithin}
+use Rattle.cp_model.specs.Tree.{Tree, Source, database, subtree_at, refusal, cases_of, tree_after, is_node, reaches_over, limits_of, origin_there, IsWithin}
 
 -- no case applies
 abbrev pub AllFail : List (Bool × Refusal) → Type 0
@@ -58,11 +58,11 @@ pub record InsAccepted (t : Tree) (p : Loc) (a : Label) (l : Literal) : Type 0 w
   pub node : keyed.get t p.path ≡ Some Node
   pub free : keyed.get t (child p.path a) ≡ None
   pub places : reaches_over (below_place p (a ∷ [])) (literal_rows l) ≡ false
-  pub fits : IsWithin (replaced (child p.path a) (literal_rows l) t)
+  pub fits : IsWithin (with_subtree (child p.path a) (literal_rows l) t)
 
 -- an insertion that isn't refused meets no case of refusal
 pub ins_accepted : (ss : List Source) (t : Tree) (p : Loc) (a : Label) (l : Literal) → refusal ss t (Ins p a l) ≡ None → InsAccepted t p a l
-unfolding refusal cases_of changed
+unfolding refusal cases_of tree_after
 ins_accepted ss t p a l h =
     let all = none_applies (cases_of ss t (Ins p a l)) h in
     record {
@@ -95,17 +95,17 @@ pub record CopyAccepted (ss : List Source) (t : Tree) (q p : Loc) : Type 0 where
   pub is_tree : database ss t q ≡ Some tree
   pub origin : is_there tree q.path ≡ true
   pub places : reaches_over p (below q.path tree) ≡ false
-  pub fits : IsWithin (replaced p.path (below q.path tree) t)
+  pub fits : IsWithin (with_subtree p.path (below q.path tree) t)
 
 -- a copy that isn't refused meets no case of refusal
 pub copy_accepted : (ss : List Source) (t : Tree) (q p : Loc) → refusal ss t (Copy q p) ≡ None → CopyAccepted ss t q p
-unfolding refusal cases_of changed
+unfolding refusal cases_of tree_after
 copy_accepted ss t q p h =
     let all = none_applies (cases_of ss t (Copy q p)) h in
     of_tree (database ss t q) refl (not_false _ all.0) (not_false _ all.1.0) all.1.1
   where
     of_tree : (o : Option Tree) → database ss t q ≡ o → in_target p ≡ true → is_there t p.path ≡ true →
-        AllFail (origin_there o q.path ++ (reaches_over p (taken o q.path), TooDeep) ∷ limits_of (replaced p.path (taken o q.path) t)) → CopyAccepted ss t q p
+        AllFail (origin_there o q.path ++ (reaches_over p (subtree_at o q.path), TooDeep) ∷ limits_of (with_subtree p.path (subtree_at o q.path) t)) → CopyAccepted ss t q p
     of_tree None e i j all = let k = all.0 in absurd (cc)
     of_tree (Some s) e i j all =
         record { target = i; there = j; tree = s; is_tree = e; origin = not_false _ all.0; places = all.1.0; fits = record { nodes = at_most _ _ all.1.1.0; weighs = at_most _ _ all.1.1.1.0 } }

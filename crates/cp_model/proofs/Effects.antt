@@ -16,7 +16,7 @@ use Rattle.cp_model.specs.Tree.{Tree, Source, IsTree}
 use Rattle.cp_model.specs.Step.{Origin, new, was, Worked, Working, done, step}
 use Rattle.cp_model.specs.Past.{AgedTree, tree_of, loses_child, is_child}
 use Rattle.cp_model.specs.Rows.{Effect, same, from, left, effect, effect_at}
-use Rattle.cp_model.specs.History.{AreWritten, rows_of, read}
+use Rattle.cp_model.specs.History.{AreWritten, rows_of, read_rows}
 use Rattle.cp_model.proofs.Kept.{closed-step}
 use Rattle.cp_model.specs.Laws.{AreSources, Every, IsOrigin, Sound}
 use Rattle.cp_model.proofs.Histories.{trees-sources}
@@ -91,7 +91,7 @@ working-step t ss ops k w h s a e = record {
 }
 
 -- in every kind the rows of a step give at each place of its working tree the effect
-pub read-rows_of : (k : Kind) (a : Tree) (w : Working) → IsWorking w → (p : Path) (e : Effect) → effect_at w p ≡ Some e → read k (λ r. look r (rows_of k a w)) p ≡ left e
+pub read-rows_of : (k : Kind) (a : Tree) (w : Working) → IsWorking w → (p : Path) (e : Effect) → effect_at w p ≡ Some e → read_rows k (λ r. look r (rows_of k a w)) p ≡ left e
 read-rows_of kind.N a w ok p e h = read-full_rows a w p e h (ok.fits p e h)
 read-rows_of kind.T a w ok p e h = read-full_rows a w p e h (ok.fits p e h)
 read-rows_of kind.H a w ok p e h = read-reduced_rows a w ok p e h

@@ -16,7 +16,7 @@ use Rattle.cp_path.proofs.Same.{text_eq-same}
 use Rattle.cp_model.specs.Tree.{Tree, Source, source, IsTree}
 use Rattle.cp_model.specs.Step.{Working, contents, done, step}
 use Rattle.cp_model.specs.Past.{tree_of}
-use Rattle.cp_model.specs.History.{Entry, start, load, commit, State, steps_of, after_commit, begun, then_entry, replay, IsSource, CanCommit, CanFollow, IsLegal, IsLegalFrom}
+use Rattle.cp_model.specs.History.{Entry, start, load, commit, State, steps_of, after_commit, start_state, then_entry, replay, IsSource, CanCommit, CanFollow, IsLegal, IsLegalFrom}
 use Rattle.cp_model.proofs.Contents.{tree_of-aged}
 use Rattle.cp_model.proofs.Folds.{done_is}
 use Rattle.cp_model.specs.Laws.{AreTrees, AreSources, IsSound}
@@ -68,8 +68,8 @@ IsSoundIf None = ⊤
 IsSoundIf (Some s) = IsSound s
 
 -- a history begins sound
-pub sound-begun : (k : Kind) (t : Tree) → IsTree t → IsSound (begun k t)
-unfolding begun IsDistinct
+pub sound-begun : (k : Kind) (t : Tree) → IsTree t → IsSound (start_state k t)
+unfolding start_state IsDistinct
 sound-begun k t h = record {
   tree = subst IsTree (sym (tree_of-aged t)) h;
   sources = record { each = λ n u e. absurd (cc); few = omega arith; apart = tt };

@@ -14,13 +14,13 @@ use Rattle.cp_path.proofs.Same.{path_eq-same, text_eq-same}
 use Rattle.cp_model.specs.Keyed as keyed
 use Rattle.cp_model.specs.Keyed.{look}
 use Rattle.cp_model.specs.Closed.{Closed}
-use Rattle.cp_model.specs.Subtrees.{is_there, below, without, replaced}
+use Rattle.cp_model.specs.Subtrees.{is_there, below, without, with_subtree}
 use Rattle.cp_model.specs.Literals.{literal_rows}
-use Rattle.cp_model.specs.Tree.{Tree, Source, source, database, taken, refusal, changed, reaches_over, text_bytes, last_bytes, CanBeSpelled, IsWithin, IsRooted, IsTree}
+use Rattle.cp_model.specs.Tree.{Tree, Source, source, database, subtree_at, refusal, tree_after, reaches_over, text_bytes, last_bytes, CanBeSpelled, IsWithin, IsRooted, IsTree}
 use Rattle.cp_model.specs.Step.{Working, contents, done, step}
 use Rattle.cp_model.specs.History.{IsWritten, AreWritten}
 use Rattle.cp_model.proofs.Strips.{strip_is}
-use Rattle.cp_model.specs.Laws.{placed, AreTrees}
+use Rattle.cp_model.specs.Laws.{at_rest_or, AreTrees}
 use Rattle.cp_model.proofs.Lookups.{get-without, get-replaced}
 use Rattle.cp_model.proofs.SumsLemmas.{len-without, weight-without, last_bytes_child}
 use Rattle.cp_model.proofs.Accepted.{ins_accepted, copy_accepted}
@@ -46,9 +46,9 @@ none_passes {X = X} f (e ∷ es) n s x h =
 
 -- rows that reach over no limit leave the places within the limits
 pub places-replaced : (t : Tree) (p : Loc) (es : List (Path × Content)) → ((r : Path) → is_there t r ≡ true → over_limit (at_target r) ≡ false) →
-    in_target p ≡ true → reaches_over p es ≡ false → (r : Path) → is_there (replaced p.path es t) r ≡ true → over_limit (at_target r) ≡ false
+    in_target p ≡ true → reaches_over p es ≡ false → (r : Path) → is_there (with_subtree p.path es t) r ≡ true → over_limit (at_target r) ≡ false
 places-replaced t p es h i n r j =
-    elim (strip p.path r) as (λ o. strip p.path r ≡ o → is_some (placed o (λ s. look s es) (keyed.get t r)) ≡ true → over_limit (at_target r) ≡ false) [
+    elim (strip p.path r) as (λ o. strip p.path r ≡ o → is_some (at_rest_or o (λ s. look s es) (keyed.get t r)) ≡ true → over_limit (at_target r) ≡ false) [
       | None ↦ λ _ j. h r j
       | Some s ↦ λ k j. at s k (look s es) refl j
     ] refl (ap is_some (sym (get-replaced p.path es t r)) ∙ j)
@@ -62,18 +62,18 @@ places-replaced t p es h i n r j =
 
 -- texts within their limit put into a tree leave its texts within theirs
 pub texts-replaced : (t : Tree) (p : Path) (es : List (Path × Content)) → ((r : Path) (c : Content) → keyed.get t r ≡ Some c → text_bytes c ≤ TEXT_MAX) →
-    AreRows es → (r : Path) (c : Content) → keyed.get (replaced p es t) r ≡ Some c → text_bytes c ≤ TEXT_MAX
+    AreRows es → (r : Path) (c : Content) → keyed.get (with_subtree p es t) r ≡ Some c → text_bytes c ≤ TEXT_MAX
 texts-replaced t p es h d r c e =
-    elim (strip p r) as (λ o. placed o (λ s. look s es) (keyed.get t r) ≡ Some c → text_bytes c ≤ TEXT_MAX) [
+    elim (strip p r) as (λ o. at_rest_or o (λ s. look s es) (keyed.get t r) ≡ Some c → text_bytes c ≤ TEXT_MAX) [
       | None ↦ λ e. h r c e
       | Some s ↦ λ e. d.texts s c e
     ] (sym (get-replaced p es t r) ∙ e)
 
 -- what can be spelled, put into a tree at a place with a short label, leaves what can be spelled
 pub spelled-replaced : (t : Tree) (p : Path) (es : List (Path × Content)) → ((r : Path) (c : Content) → keyed.get t r ≡ Some c → CanBeSpelled r c) →
-    AreRows es → last_bytes p ≤ LABEL_MAX → (r : Path) (c : Content) → keyed.get (replaced p es t) r ≡ Some c → CanBeSpelled r c
+    AreRows es → last_bytes p ≤ LABEL_MAX → (r : Path) (c : Content) → keyed.get (with_subtree p es t) r ≡ Some c → CanBeSpelled r c
 spelled-replaced t p es h d l r c e =
-    elim (strip p r) as (λ o. strip p r ≡ o → placed o (λ s. look s es) (keyed.get t r) ≡ Some c → CanBeSpelled r c) [
+    elim (strip p r) as (λ o. strip p r ≡ o → at_rest_or o (λ s. look s es) (keyed.get t r) ≡ Some c → CanBeSpelled r c) [
       | None ↦ λ _ e. h r c e
       | Some s ↦ λ k e.
           let x : CanBeSpelled s c = d.spelled s c e in
@@ -90,7 +90,7 @@ label-there t p h i =
     ] refl i
 
 -- a whole tree within every limit put under a node leaves a tree
-pub tree-replaced : (t : Tree) (p : Loc) (es : List (Path × Content)) → IsTree t → AreRows es → IsUnderNode t p.path → last_bytes p.path ≤ LABEL_MAX → in_target p ≡ true → reaches_over p es ≡ false → IsWithin (replaced p.path es t) → IsTree (replaced p.path es t)
+pub tree-replaced : (t : Tree) (p : Loc) (es : List (Path × Content)) → IsTree t → AreRows es → IsUnderNode t p.path → last_bytes p.path ≤ LABEL_MAX → in_target p ≡ true → reaches_over p es ≡ false → IsWithin (with_subtree p.path es t) → IsTree (with_subtree p.path es t)
 tree-replaced t p es h d up l i n w = record {
   rooted = rooted-replaced t p.path es h.rooted d up;
   within = w;
@@ -102,7 +102,7 @@ tree-replaced t p es h d up l i n w = record {
 -- what is left of a tree is as it was
 pub left-without : (t : Tree) (p r : Path) (c : Content) → keyed.get (without p t) r ≡ Some c → keyed.get t r ≡ Some c
 left-without t p r c e =
-    elim (strip p r) as (λ o. placed o (λ _. None) (keyed.get t r) ≡ Some c → keyed.get t r ≡ Some c) [
+    elim (strip p r) as (λ o. at_rest_or o (λ _. None) (keyed.get t r) ≡ Some c → keyed.get t r ≡ Some c) [
       | None ↦ λ e. e
       | Some s ↦ λ e. absurd (cc)
     ] (sym (get-without p t r) ∙ e)
@@ -130,8 +130,8 @@ tree-database ss t q s h k e =
     ] e
 
 -- an operation that isn't refused changes a tree into a tree
-pub tree-changed : (ss : List Source) (t : Tree) (op : Op) → IsTree t → AreTrees ss → IsWritten op → refusal ss t op ≡ None → IsTree (changed ss t op)
-unfolding changed
+pub tree-changed : (ss : List Source) (t : Tree) (op : Op) → IsTree t → AreTrees ss → IsWritten op → refusal ss t op ≡ None → IsTree (tree_after ss t op)
+unfolding tree_after
 tree-changed ss t (Ins p a l) h k w n =
     let x = ins_accepted ss t p a l n in
     tree-replaced t (below_place p (a ∷ [])) (literal_rows l) h (rows-literal (literal_rows l) w.1) (under-child t p.path a x.node) (omega (arith, last_bytes_child p.path a, w.0)) x.target x.places x.fits
@@ -139,7 +139,7 @@ tree-changed ss t (Del a p) h k w n = tree-without t p.path a h
 tree-changed ss t (Copy q p) h k w n =
     let x = copy_accepted ss t q p n in
     let m : AreRows (below q.path x.tree) = rows-below x.tree q.path (tree-database ss t q x.tree h k x.is_tree) x.origin in
-    subst (λ o. IsTree (replaced p.path (taken o q.path) t)) (sym x.is_tree) (tree-replaced t p (below q.path x.tree) h m (under-there t p.path h.rooted x.there) (label-there t p.path h x.there) x.target x.places x.fits)
+    subst (λ o. IsTree (with_subtree p.path (subtree_at o q.path) t)) (sym x.is_tree) (tree-replaced t p (below q.path x.tree) h m (under-there t p.path h.rooted x.there) (label-there t p.path h x.there) x.target x.places x.fits)
 
 -- a step that is done ends with a tree
 pub tree-step : (t : Tree) (ss : List Source) (ops : List Op) (k : ℕ) (w : Working) → IsTree t → AreTrees ss → AreWritten ops → step t ss ops ≡ done k w → IsTree (contents w)

@@ -8,7 +8,7 @@ use Rattle.cp_model.specs.Place.{Path, in_target}
 use Rattle.cp_model.specs.Past.{Event, copied}
 use Rattle.cp_model.specs.Rows.{same, made, from, Reading, left, gone}
 use Rattle.cp_model.proofs.Walk.{walk_on, walked}
-use Rattle.cp_model.specs.Leaps.{Readings, tells_same, last, lost_at, losts, before, leap, leaped}
+use Rattle.cp_model.specs.Leaps.{Readings, tells_same, last, lost_at, losts, before, leap, leap_back}
 
 append_nil : {A : Type 0} (xs : List A) → xs ++ [] ≡ xs
 append_nil [] = refl
@@ -69,20 +69,20 @@ before-walk E L prev u p (left (from q)) n h = ap (λ xs. if in_target q then xs
 before-walk E L prev u p gone n h = refl
 
 -- going from change to change is the walk over every step
-pub leaped-walked : (E : Readings) (L : ℕ → Path → Bool) (n t : ℕ) (p : Path) → t < n → leaped E L n t p ≡ walked E L t p
-unfolding leaped leap Says
+pub leaped-walked : (E : Readings) (L : ℕ → Path → Bool) (n t : ℕ) (p : Path) → t < n → leap_back E L n t p ≡ walked E L t p
+unfolding leap_back leap Says
 leaped-walked E L zero t p h = absurd (omega arith)
 leaped-walked E L (suc n) t p h = by_last (last E t p) (last-says E t p) (λ u q le. leaped-walked E L n u q le)
   where
     from_change : (c : ℕ) (e : Reading) (u : ℕ) → c ≡ suc u → c ≤ t → e ≡ E c p → tells_same e ≡ false → ((v : ℕ) → c < v → v ≤ t → E v p ≡ left same) →
-        ((u : ℕ) (q : Path) → u < n → leaped E L n u q ≡ walked E L u q) → before (leaped E L n) c p e ++ losts L c t p ≡ walked E L t p
+        ((u : ℕ) (q : Path) → u < n → leap_back E L n u q ≡ walked E L u q) → before (leap_back E L n) c p e ++ losts L c t p ≡ walked E L t p
     from_change c e u k le at apart between ih =
-        ap (λ d. before (leaped E L n) d p e ++ losts L c t p) k
-        ∙ ap (λ xs. xs ++ losts L c t p) (before-walk E L (leaped E L n) u p e apart (λ q. let z : suc u - 1 ≡ u = omega arith in ap (λ v. leaped E L n v q) z ∙ ih u q (omega (arith, k, le, h)))
+        ap (λ d. before (leap_back E L n) d p e ++ losts L c t p) k
+        ∙ ap (λ xs. xs ++ losts L c t p) (before-walk E L (leap_back E L n) u p e apart (λ q. let z : suc u - 1 ≡ u = omega arith in ap (λ v. leap_back E L n v q) z ∙ ih u q (omega (arith, k, le, h)))
         ∙ ap (walk_on (walked E L u) (suc u) p (L (suc u) p)) (at ∙ ap (λ d. E d p) k)
         ∙ ap (λ d. walked E L d p) (sym k))
         ∙ sym (walked-over E L c t p le between)
 
-    by_last : (o : Option (ℕ × Reading)) → Says E t p o → ((u : ℕ) (q : Path) → u < n → leaped E L n u q ≡ walked E L u q) → leap (leaped E L n) L t p o ≡ walked E L t p
+    by_last : (o : Option (ℕ × Reading)) → Says E t p o → ((u : ℕ) (q : Path) → u < n → leap_back E L n u q ≡ walked E L u q) → leap (leap_back E L n) L t p o ≡ walked E L t p
     by_last None s ih = sym (walked-over E L 0 t p (omega arith) s)
     by_last (Some c) s ih = let pos : 0 < c.0 = s.0 in from_change c.0 c.1 (c.0 - 1) (omega (arith, pos)) s.1 s.2 s.3 s.4 ih

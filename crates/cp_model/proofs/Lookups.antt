@@ -10,8 +10,8 @@ use Rattle.cp_path.specs.PathOrder.{path_eq_equiv}
 use Rattle.cp_model.proofs.KeyedLemmas.{get-put_all, get-entries, get-empty, get-retain_keys}
 use Rattle.cp_model.specs.Keyed as keyed
 use Rattle.cp_model.specs.Keyed.{look, Keyed}
-use Rattle.cp_model.specs.Subtrees.{below, moved, without, replaced, entry_below, with_values, mapped}
-use Rattle.cp_model.specs.Laws.{placed}
+use Rattle.cp_model.specs.Subtrees.{below, entries_under, without, with_subtree, entry_below, with_values, map_values}
+use Rattle.cp_model.specs.Laws.{at_rest_or}
 
 -- equal paths are equal the other way round
 pub path_eq-sym : (p q : Path) → path_eq p q ≡ path_eq q p
@@ -67,33 +67,33 @@ module _ {X : Type 0} where
   unfolding below
   find-below q s m = find_below q s (keyed.entries m) ∙ sym (get-entries m (q ++ s))
 
-  moved_case : (o : Option Path) (k : Path) (x : X) (f : Path → Option X) → cond (rest_is o k) (Some x) (placed o f None) ≡ placed o (λ s. cond (path_eq s k) (Some x) (f s)) None
+  moved_case : (o : Option Path) (k : Path) (x : X) (f : Path → Option X) → cond (rest_is o k) (Some x) (at_rest_or o f None) ≡ at_rest_or o (λ s. cond (path_eq s k) (Some x) (f s)) None
   moved_case None k x f = refl
   moved_case (Some s) k x f = ap (λ b. cond b (Some x) (f s)) (path_eq-sym k s)
 
-  placed_none : (o : Option Path) → placed {X = X} o (λ _. None) None ≡ None
+  placed_none : (o : Option Path) → at_rest_or {X = X} o (λ _. None) None ≡ None
   placed_none None = refl
   placed_none (Some s) = refl
 
-  without_case : (o : Option Path) (v : Option X) → cond (not (is_some o)) v None ≡ placed o (λ _. None) v
+  without_case : (o : Option Path) (v : Option X) → cond (not (is_some o)) v None ≡ at_rest_or o (λ _. None) v
   without_case None v = refl
   without_case (Some s) v = refl
 
-  replaced_case : (o : Option Path) (f : Path → Option X) (v : Option X) → or_else (placed o f None) (placed o (λ _. None) v) ≡ placed o f v
+  replaced_case : (o : Option Path) (f : Path → Option X) (v : Option X) → or_else (at_rest_or o f None) (at_rest_or o (λ _. None) v) ≡ at_rest_or o f v
   replaced_case None f v = refl
   replaced_case (Some s) f v = or_none (f s)
 
   -- entries behind p answer by what follows p
-  pub find-moved : (p r : Path) (es : List (Path × X)) → look r (moved p es) ≡ placed (strip p r) (λ s. look s es) None
-  unfolding moved
+  pub find-moved : (p r : Path) (es : List (Path × X)) → look r (entries_under p es) ≡ at_rest_or (strip p r) (λ s. look s es) None
+  unfolding entries_under
   find-moved p r [] = sym (placed_none (strip p r))
   find-moved p r (e ∷ es) =
-      ap (λ b. cond b (Some e.1) (look r (moved p es))) (path_eq-sym r (p ++ e.0) ∙ path_eq-append p e.0 r)
+      ap (λ b. cond b (Some e.1) (look r (entries_under p es))) (path_eq-sym r (p ++ e.0) ∙ path_eq-append p e.0 r)
       ∙ ap (cond (rest_is (strip p r) e.0) (Some e.1)) (find-moved p r es)
       ∙ moved_case (strip p r) e.0 e.1 (λ s. look s es)
 
   -- without p there is nothing at or below p, and all else is as before
-  pub get-without : (p : Path) (m : Keyed X) (r : Path) → keyed.get (without p m) r ≡ placed (strip p r) (λ _. None) (keyed.get m r)
+  pub get-without : (p : Path) (m : Keyed X) (r : Path) → keyed.get (without p m) r ≡ at_rest_or (strip p r) (λ _. None) (keyed.get m r)
   unfolding without
   get-without p m r =
       get-retain_keys m (λ k. not (starts_with k p)) r
@@ -101,12 +101,12 @@ module _ {X : Type 0} where
       ∙ without_case (strip p r) (keyed.get m r)
 
   -- where the subtree at p is replaced, the entries answer at and below p, and all else is as before
-  pub get-replaced : (p : Path) (es : List (Path × X)) (m : Keyed X) (r : Path) → keyed.get (replaced p es m) r ≡ placed (strip p r) (λ s. look s es) (keyed.get m r)
-  unfolding replaced
+  pub get-replaced : (p : Path) (es : List (Path × X)) (m : Keyed X) (r : Path) → keyed.get (with_subtree p es m) r ≡ at_rest_or (strip p r) (λ s. look s es) (keyed.get m r)
+  unfolding with_subtree
   get-replaced p es m r =
-      get-put_all (moved p es) (without p m) r
+      get-put_all (entries_under p es) (without p m) r
       ∙ ap (λ o. or_else o (keyed.get (without p m) r)) (find-moved p r es)
-      ∙ ap (or_else (placed (strip p r) (λ s. look s es) None)) (get-without p m r)
+      ∙ ap (or_else (at_rest_or (strip p r) (λ s. look s es) None)) (get-without p m r)
       ∙ replaced_case (strip p r) (λ s. look s es) (keyed.get m r)
 
 module _ {X Y : Type 0} where
@@ -120,7 +120,7 @@ module _ {X Y : Type 0} where
       ] refl
 
   -- a mapped tree has at each path what is made of the old value there
-  pub get-mapped : (f : Path → X → Y) (m : Keyed X) (q : Path) → keyed.get (mapped f m) q ≡ option_map (f q) (keyed.get m q)
+  pub get-mapped : (f : Path → X → Y) (m : Keyed X) (q : Path) → keyed.get (map_values f m) q ≡ option_map (f q) (keyed.get m q)
   get-mapped f m q =
       get-put_all (with_values f (keyed.entries m)) keyed.empty q
       ∙ ap (λ o. or_else (look q (with_values f (keyed.entries m))) o) (get-empty q)
@@ -133,7 +133,7 @@ module _ {X Y : Type 0} where
   some_mapped f (Some x) = refl
 
   -- what is mapped is there where it was
-  pub there-mapped : (f : Path → X → Y) (m : Keyed X) (q : Path) → is_some (keyed.get (mapped f m) q) ≡ is_some (keyed.get m q)
+  pub there-mapped : (f : Path → X → Y) (m : Keyed X) (q : Path) → is_some (keyed.get (map_values f m) q) ≡ is_some (keyed.get m q)
   there-mapped f m q = ap is_some (get-mapped f m q) ∙ some_mapped (f q) (keyed.get m q)
 
 -- the rows of a literal are found in the tree that they make

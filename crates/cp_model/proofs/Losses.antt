@@ -10,7 +10,7 @@ use Rattle.cp_model.specs.Subtrees.{is_there}
 use Rattle.cp_model.specs.Tree.{Tree}
 use Rattle.cp_model.specs.Step.{Working, Origin, new, was}
 use Rattle.cp_model.specs.Past.{AgedTree, tree_of, loses_child, is_child, one_label}
-use Rattle.cp_model.specs.Rows.{same, from, Mark, D, effect, effect_at, effect_eq, full_mark, reduced_mark, given, nearest_is_same, same_above, lost_below_same, full_here, reduced_here, parent_there, marked, all_paths, full_rows, reduced_rows}
+use Rattle.cp_model.specs.Rows.{same, from, Mark, D, effect, effect_at, effect_eq, full_mark, reduced_mark, effect_given, nearest_is_same, same_above, lost_below_same, full_here, reduced_here, parent_there, rows_with_marks, all_paths, full_rows, reduced_rows}
 use Rattle.cp_model.proofs.Strips.{strip_is, nearest-snoc, nearest-here, further, parent-snoc}
 use Rattle.cp_model.proofs.Lookups.{there-mapped}
 use Rattle.cp_model.proofs.Reading.{there_effect}
@@ -23,11 +23,11 @@ abbrev pub holds_of : {A : Type 0} → (A → Bool) → Option A → Bool
 holds_of h None = false
 holds_of h (Some x) = h x
 
-any-marked : (g : Path → Mark → Bool) (f : Path → Option Mark) (qs : List Path) → list_any (λ r. g r.0 r.1) (marked f qs) ≡ list_any (λ q. holds_of (g q) (f q)) qs
+any-marked : (g : Path → Mark → Bool) (f : Path → Option Mark) (qs : List Path) → list_any (λ r. g r.0 r.1) (rows_with_marks f qs) ≡ list_any (λ q. holds_of (g q) (f q)) qs
 any-marked g f [] = refl
 any-marked g f (q ∷ qs) = one (f q) ∙ ap (λ b. holds_of (g q) (f q) || b) (any-marked g f qs)
   where
-    one : (o : Option Mark) → list_any (λ r. g r.0 r.1) (cons_option (option_map (λ m. (q, m)) o) (marked f qs)) ≡ (holds_of (g q) o || list_any (λ r. g r.0 r.1) (marked f qs))
+    one : (o : Option Mark) → list_any (λ r. g r.0 r.1) (cons_option (option_map (λ m. (q, m)) o) (rows_with_marks f qs)) ≡ (holds_of (g q) o || list_any (λ r. g r.0 r.1) (rows_with_marks f qs))
     one None = refl
     one (Some m) = refl
 
@@ -105,8 +105,8 @@ unfolding reduced_here
 lost_here_reduced a w p q e =
     elim (is_child p q) as (λ b. is_child p q ≡ b → holds_of (λ m. b && is_D m) (reduced_here a w q) ≡ (b && (is_there a q && not (is_there w q)))) [
       | false ↦ λ _. holds_never (reduced_here a w q)
-      | true ↦ λ h. elim (keyed.get w q) as (λ o. keyed.get w q ≡ o → holds_of is_D (elim (option_map (λ x. effect q x.origin) o) [ Some e ↦ if effect_eq e (given w q) then None else Some (reduced_mark e) | None ↦ if lost_below_same a w q && parent_there w (parent q) then Some D else None ]) ≡ (is_there a q && not (is_some o))) [
-        | Some x ↦ λ _. kept_or_not (effect_eq (effect q x.origin) (given w q)) _ (no_reduced_D q x.origin) ∙ elim (is_there a q) as (λ b. false ≡ (b && false)) [ true ↦ refl | false ↦ refl ]
+      | true ↦ λ h. elim (keyed.get w q) as (λ o. keyed.get w q ≡ o → holds_of is_D (elim (option_map (λ x. effect q x.origin) o) [ Some e ↦ if effect_eq e (effect_given w q) then None else Some (reduced_mark e) | None ↦ if lost_below_same a w q && parent_there w (parent q) then Some D else None ]) ≡ (is_there a q && not (is_some o))) [
+        | Some x ↦ λ _. kept_or_not (effect_eq (effect q x.origin) (effect_given w q)) _ (no_reduced_D q x.origin) ∙ elim (is_there a q) as (λ b. false ≡ (b && false)) [ true ↦ refl | false ↦ refl ]
         | None ↦ λ n.
             let l = child_is p q h in
             let above : same_above w q ≡ true = ap (same_above w) l.1 ∙ above_child w p l.0 e (ap (keyed.get w) (sym l.1) ∙ n) in

@@ -9,18 +9,18 @@ use Rattle.cp_path.proofs.Same.{path_eq-same}
 use Rattle.cp_model.proofs.KeyedLemmas.{get-put_all, get-entries, is_some-look}
 use Rattle.cp_model.specs.Keyed as keyed
 use Rattle.cp_model.specs.Keyed.{look, Keyed}
-use Rattle.cp_model.specs.Subtrees.{is_there, mapped, with_values}
+use Rattle.cp_model.specs.Subtrees.{is_there, map_values, with_values}
 use Rattle.cp_model.specs.Tree.{Tree}
 use Rattle.cp_model.specs.Step.{Worked, Working}
-use Rattle.cp_model.specs.Rows.{Mark, D, effect, full_mark, reduced_mark, effect_eq, given, same_above, lost_below_same, full_here, reduced_here, parent_there, marked, all_paths, full_rows, reduced_rows}
+use Rattle.cp_model.specs.Rows.{Mark, D, effect, full_mark, reduced_mark, effect_eq, effect_given, same_above, lost_below_same, full_here, reduced_here, parent_there, rows_with_marks, all_paths, full_rows, reduced_rows}
 use Rattle.cp_model.proofs.Lookups.{find-with_values, get-mapped}
 
 -- the row at p, if p is among the paths
-pub find-marked : (f : Path → Option Mark) (p : Path) (qs : List Path) → look p (marked f qs) ≡ cond (list_any (path_eq p) qs) (f p) None
+pub find-marked : (f : Path → Option Mark) (p : Path) (qs : List Path) → look p (rows_with_marks f qs) ≡ cond (list_any (path_eq p) qs) (f p) None
 find-marked f p [] = refl
 find-marked f p (q ∷ qs) =
     let rest = find-marked f p qs in
-    elim (path_eq p q) as (λ b. path_eq p q ≡ b → look p (marked f (q ∷ qs)) ≡ cond (b || list_any (path_eq p) qs) (f p) None) [
+    elim (path_eq p q) as (λ b. path_eq p q ≡ b → look p (rows_with_marks f (q ∷ qs)) ≡ cond (b || list_any (path_eq p) qs) (f p) None) [
       | true ↦ λ b. found f p q qs rest b (path_eq-same p q b)
       | false ↦ λ b. passed f p q qs b ∙ rest
     ] refl
@@ -29,18 +29,18 @@ find-marked f p (q ∷ qs) =
     none_of true o e = e
     none_of false o e = refl
 
-    found : (f : Path → Option Mark) (p q : Path) (qs : List Path) → look p (marked f qs) ≡ cond (list_any (path_eq p) qs) (f p) None → path_eq p q ≡ true → p ≡ q → look p (marked f (q ∷ qs)) ≡ f p
+    found : (f : Path → Option Mark) (p q : Path) (qs : List Path) → look p (rows_with_marks f qs) ≡ cond (list_any (path_eq p) qs) (f p) None → path_eq p q ≡ true → p ≡ q → look p (rows_with_marks f (q ∷ qs)) ≡ f p
     found f p q qs rest b keys =
-        elim (f q) as (λ o. f q ≡ o → look p (cons_option (option_map (λ m. (q, m)) o) (marked f qs)) ≡ f p) [
+        elim (f q) as (λ o. f q ≡ o → look p (cons_option (option_map (λ m. (q, m)) o) (rows_with_marks f qs)) ≡ f p) [
           | None ↦ λ e. rest ∙ none_of _ (f p) (ap f keys ∙ e) ∙ sym (ap f keys ∙ e)
-          | Some m ↦ λ e. ap (λ c. cond c (Some m) (look p (marked f qs))) b ∙ sym (ap f keys ∙ e)
+          | Some m ↦ λ e. ap (λ c. cond c (Some m) (look p (rows_with_marks f qs))) b ∙ sym (ap f keys ∙ e)
         ] refl
 
-    passed : (f : Path → Option Mark) (p q : Path) (qs : List Path) → path_eq p q ≡ false → look p (marked f (q ∷ qs)) ≡ look p (marked f qs)
+    passed : (f : Path → Option Mark) (p q : Path) (qs : List Path) → path_eq p q ≡ false → look p (rows_with_marks f (q ∷ qs)) ≡ look p (rows_with_marks f qs)
     passed f p q qs b =
-        elim (f q) as (λ o. look p (cons_option (option_map (λ m. (q, m)) o) (marked f qs)) ≡ look p (marked f qs)) [
+        elim (f q) as (λ o. look p (cons_option (option_map (λ m. (q, m)) o) (rows_with_marks f qs)) ≡ look p (rows_with_marks f qs)) [
           | None ↦ refl
-          | Some m ↦ ap (λ c. cond c (Some m) (look p (marked f qs))) b
+          | Some m ↦ ap (λ c. cond c (Some m) (look p (rows_with_marks f qs))) b
         ]
 
 some_or : {X : Type 0} (o p : Option X) → is_some (or_else o p) ≡ (is_some o || is_some p)
@@ -55,13 +55,13 @@ some_mapped f (Some x) = refl
 pub among-all_paths : (a : Tree) (w : Working) (p : Path) → list_any (path_eq p) (all_paths a w) ≡ (is_there w p || is_there a p)
 unfolding all_paths
 among-all_paths a w p =
-    let m : Keyed Bool = keyed.put_all (with_values (λ _ _. true) (keyed.entries w)) (mapped (λ _ _. true) a) in
+    let m : Keyed Bool = keyed.put_all (with_values (λ _ _. true) (keyed.entries w)) (map_values (λ _ _. true) a) in
     sym (is_some-look p (keyed.entries m))
     ∙ ap is_some (sym (get-entries m p) ∙ get-put_all _ _ p)
     ∙ some_or _ _
-    ∙ ap (λ o. is_some o || is_some (keyed.get (mapped (λ _ _. true) a) p)) (find-with_values (λ _ _. true) p (keyed.entries w))
-    ∙ ap (λ o. is_some (option_map (λ _. true) o) || is_some (keyed.get (mapped (λ _ _. true) a) p)) (sym (get-entries w p))
-    ∙ ap (λ b. b || is_some (keyed.get (mapped (λ _ _. true) a) p)) (some_mapped (λ _. true) (keyed.get w p))
+    ∙ ap (λ o. is_some o || is_some (keyed.get (map_values (λ _ _. true) a) p)) (find-with_values (λ _ _. true) p (keyed.entries w))
+    ∙ ap (λ o. is_some (option_map (λ _. true) o) || is_some (keyed.get (map_values (λ _ _. true) a) p)) (sym (get-entries w p))
+    ∙ ap (λ b. b || is_some (keyed.get (map_values (λ _ _. true) a) p)) (some_mapped (λ _. true) (keyed.get w p))
     ∙ ap (λ o. is_there w p || is_some o) (get-mapped (λ _ _. true) a p)
     ∙ ap (λ b. is_there w p || b) (some_mapped (λ _. true) (keyed.get a p))
 
@@ -88,6 +88,6 @@ find-reduced_rows a w p =
     wanted : Option Worked → Option Mark
     wanted o =
         elim (option_map (λ x. effect p x.origin) o) [
-          | Some e ↦ if effect_eq e (given w p) then None else Some (reduced_mark e)
+          | Some e ↦ if effect_eq e (effect_given w p) then None else Some (reduced_mark e)
           | None ↦ if lost_below_same a w p && parent_there w (parent p) then Some D else None
         ]

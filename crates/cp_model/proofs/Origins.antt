@@ -10,11 +10,11 @@ use Rattle.cp_model.specs.declared.op.Op.TheVariants.{Ins, Del, Copy}
 use Rattle.cp_model.specs.Place.{Path, strip, child, at_target, below_place, in_target, option_map}
 use Rattle.cp_model.specs.Keyed as keyed
 use Rattle.cp_model.specs.Keyed.{look}
-use Rattle.cp_model.specs.Subtrees.{is_there, below, without, replaced}
+use Rattle.cp_model.specs.Subtrees.{is_there, below, without, with_subtree}
 use Rattle.cp_model.specs.Literals.{literal_rows}
-use Rattle.cp_model.specs.Tree.{Tree, Source, source, taken, IsTree}
-use Rattle.cp_model.specs.Step.{Origin, new, was, Worked, Working, opened, as_new, from_source, carried, applied, done, then_op, step}
-use Rattle.cp_model.specs.Laws.{placed, AreSources, Every, Sound}
+use Rattle.cp_model.specs.Tree.{Tree, Source, source, subtree_at, IsTree}
+use Rattle.cp_model.specs.Step.{Origin, new, was, Worked, Working, open_tree, as_new, from_source, entries_to_copy, apply_op, done, then_op, step}
+use Rattle.cp_model.specs.Laws.{at_rest_or, AreSources, Every, Sound}
 use Rattle.cp_model.proofs.Lookups.{find-below, find-with_values, get-replaced, get-without, get-mapped}
 use Rattle.cp_model.proofs.Folds.{first-accepted}
 
@@ -25,15 +25,15 @@ module _ (P : Origin → Type 0) where
   -- what is left after a subtree is dropped has origins as before
   pub every-without : (w : Working) (k : Path) → Every P w → Every P (without k w)
   every-without w k h p x e =
-      elim (strip k p) as (λ o. placed o (λ _. None) (keyed.get w p) ≡ Some x → P x.origin) [
+      elim (strip k p) as (λ o. at_rest_or o (λ _. None) (keyed.get w p) ≡ Some x → P x.origin) [
         | None ↦ λ e. h p x e
         | Some s ↦ λ e. absurd (cc)
       ] (sym (get-without k w p) ∙ e)
 
   -- a subtree with such origins put into the tree leaves every origin such
-  pub every-replaced : (w : Working) (k : Path) (es : List (Path × Worked)) → ((s : Path) (x : Worked) → look s es ≡ Some x → P x.origin) → Every P w → Every P (replaced k es w)
+  pub every-replaced : (w : Working) (k : Path) (es : List (Path × Worked)) → ((s : Path) (x : Worked) → look s es ≡ Some x → P x.origin) → Every P w → Every P (with_subtree k es w)
   every-replaced w k es t h p x e =
-      elim (strip k p) as (λ o. placed o (λ s. look s es) (keyed.get w p) ≡ Some x → P x.origin) [
+      elim (strip k p) as (λ o. at_rest_or o (λ s. look s es) (keyed.get w p) ≡ Some x → P x.origin) [
         | None ↦ λ e. h p x e
         | Some s ↦ λ e. t s x e
       ] (sym (get-replaced k es w p) ∙ e)
@@ -53,7 +53,7 @@ module _ (P : Origin → Type 0) where
   abbrev pub Fit : List Source → Type 0
   Fit ss = (q : Loc) (t : Tree) (s : Path) → in_target q ≡ false → source ss q.db ≡ Some t → is_there t (q.path ++ s) ≡ true → P (was (below_place q s))
 
-  carried-every : (ss : List Source) (w : Working) (q : Loc) → Fit ss → Every P w → (b : Bool) → in_target q ≡ b → (s : Path) (x : Worked) → look s (carried ss w q b) ≡ Some x → P x.origin
+  carried-every : (ss : List Source) (w : Working) (q : Loc) → Fit ss → Every P w → (b : Bool) → in_target q ≡ b → (s : Path) (x : Worked) → look s (entries_to_copy ss w q b) ≡ Some x → P x.origin
   carried-every ss w q f h true i s x e = h (q.path ++ s) x (sym (find-below q.path s w) ∙ e)
   carried-every ss w q f h false i s x e = from (source ss q.db) refl e
     where
@@ -64,16 +64,16 @@ module _ (P : Origin → Type 0) where
       one t k None g e = absurd (cc)
       one t k (Some c) g e = subst P (same_origin (arrived s c) x e) (f q t s i k (ap is_some g))
 
-      from : (o : Option Tree) → source ss q.db ≡ o → look s (from_source q (taken o q.path)) ≡ Some x → P x.origin
+      from : (o : Option Tree) → source ss q.db ≡ o → look s (from_source q (subtree_at o q.path)) ≡ Some x → P x.origin
       from None k e = absurd (cc)
       from (Some t) k e = one t k (keyed.get t (q.path ++ s)) refl (sym (find-with_values arrived s (below q.path t) ∙ ap (option_map (arrived s)) (find-below q.path s t)) ∙ e)
 
   -- an operation leaves every origin such
-  pub every-applied : (ss : List Source) (w : Working) (op : Op) → P new → Fit ss → Every P w → Every P (applied ss w op)
-  unfolding applied
+  pub every-applied : (ss : List Source) (w : Working) (op : Op) → P new → Fit ss → Every P w → Every P (apply_op ss w op)
+  unfolding apply_op
   every-applied ss w (Ins p a l) n f h = every-replaced w (child p.path a) (as_new (literal_rows l)) (every-as_new (literal_rows l) n) h
   every-applied ss w (Del a p) n f h = every-without w (child p.path a) h
-  every-applied ss w (Copy q p) n f h = every-replaced w p.path (carried ss w q (in_target q)) (carried-every ss w q f h (in_target q) refl) h
+  every-applied ss w (Copy q p) n f h = every-replaced w p.path (entries_to_copy ss w q (in_target q)) (carried-every ss w q f h (in_target q) refl) h
 
   -- operations that are done leave every origin such
   pub every-fold : (ss : List Source) (ops : List Op) (j : ℕ) (w : Working) (k : ℕ) (v : Working) → P new → Fit ss → Every P w → fold (then_op ss) (done j w) ops ≡ done k v → Every P v
@@ -83,12 +83,12 @@ module _ (P : Origin → Type 0) where
       same_end w v h e = let d : w ≡ v = cc in subst (Every P) d h
   every-fold ss (op ∷ ops) j w k v n f h e =
       let x = first-accepted ss op ops j w k v e in
-      every-fold ss ops (j + 1) (applied ss w op) k v n f (every-applied ss w op n f h) x.1
+      every-fold ss ops (j + 1) (apply_op ss w op) k v n f (every-applied ss w op n f h) x.1
 
   -- what holds of new, of the places of the tree and of those of the sources holds of every origin after a step
   pub every-step : (t : Tree) (ss : List Source) (ops : List Op) (k : ℕ) (w : Working) → P new → ((p : Path) → is_there t p ≡ true → P (was (at_target p))) → Fit ss → step t ss ops ≡ done k w → Every P w
   unfolding step
-  every-step t ss ops k w n s f e = every-fold ss ops 0 (opened t) k w n f start e
+  every-step t ss ops k w n s f e = every-fold ss ops 0 (open_tree t) k w n f start e
     where
       open_at : Path → Content → Worked
       open_at p c = record { content = c; origin = was (at_target p) }
@@ -97,7 +97,7 @@ module _ (P : Origin → Type 0) where
       one p x None g e = absurd (cc)
       one p x (Some c) g e = subst P (same_origin (open_at p c) x e) (s p (ap is_some g))
 
-      start : Every P (opened t)
+      start : Every P (open_tree t)
       start p x e = one p x (keyed.get t p) refl (sym (get-mapped open_at t p) ∙ e)
 
 -- after a step every place is new, or from a place that the tree or a source had

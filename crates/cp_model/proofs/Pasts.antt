@@ -10,12 +10,12 @@ use Rattle.cp_model.specs.Place.{Path}
 use Rattle.cp_model.specs.Subtrees.{is_there}
 use Rattle.cp_model.specs.Step.{Working, done, step, is_done}
 use Rattle.cp_model.specs.Past.{tree_of, past_at}
-use Rattle.cp_model.specs.History.{Entry, start, load, commit, State, steps_of, each_alone, settled, after_outcome, after_step, after_commit, then_entry, replay, AreWritten, CanCommit, CanFollow, IsLegal, IsLegalFrom}
+use Rattle.cp_model.specs.History.{Entry, start, load, commit, State, steps_of, each_alone, after_settling, after_outcome, after_step, after_commit, then_entry, replay, AreWritten, CanCommit, CanFollow, IsLegal, IsLegalFrom}
 use Rattle.cp_model.proofs.Folds.{done_is}
 use Rattle.cp_model.proofs.Alone.{AreDone, done-steps_of}
 use Rattle.cp_model.specs.Laws.{IsSound}
 use Rattle.cp_model.proofs.Histories.{sound-begun, sound-then}
-use Rattle.cp_model.specs.Leaps.{leaped}
+use Rattle.cp_model.specs.Leaps.{leap_back}
 use Rattle.cp_model.proofs.LeapsLemmas.{leaped-walked}
 use Rattle.cp_model.specs.Records.{reads, loses}
 use Rattle.cp_model.proofs.Walked.{IsWalked, walked-begun, walked-settled, sound-settled}
@@ -36,7 +36,7 @@ written-steps_of kind.H ops a = written-each_alone ops a
 written-steps_of kind.T ops a = (a, tt)
 written-steps_of kind.HT ops a = (a, tt)
 
-module _ (P : State → Type 0) (kept : (s : State) (ops : List Op) (k : ℕ) (w : Working) → P s → AreWritten ops → step (tree_of s.tree) s.sources ops ≡ done k w → P (settled s w)) where
+module _ (P : State → Type 0) (kept : (s : State) (ops : List Op) (k : ℕ) (w : Working) → P s → AreWritten ops → step (tree_of s.tree) s.sources ops ≡ done k w → P (after_settling s w)) where
   after_done : (s : State) (ops : List Op) → P s → AreWritten ops → is_done (step (tree_of s.tree) s.sources ops) ≡ true → P (after_step s ops)
   unfolding after_step
   after_done s ops p a d =
@@ -57,7 +57,7 @@ abbrev pub IsGoodIf : Option State → Type 0
 IsGoodIf None = ⊤
 IsGoodIf (Some s) = IsGood s
 
-good-settled : (s : State) (ops : List Op) (k : ℕ) (w : Working) → IsGood s → AreWritten ops → step (tree_of s.tree) s.sources ops ≡ done k w → IsGood (settled s w)
+good-settled : (s : State) (ops : List Op) (k : ℕ) (w : Working) → IsGood s → AreWritten ops → step (tree_of s.tree) s.sources ops ≡ done k w → IsGood (after_settling s w)
 good-settled s ops k w g a e = (sound-settled s ops k w g.0 a e, walked-settled s ops k w g.0 g.1 a e)
 
 -- a commit keeps a state sound and walked
@@ -87,6 +87,6 @@ legal-walked h s l e = let g : IsGood s = subst IsGoodIf e (good-from None h tt 
 
 -- in every kind, going from change to change in the records of a legal history gives the past of each place
 pub legal-pasts : (h : List Entry) (s : State) → IsLegal h → replay h ≡ Some s → (p : Path) → is_there s.tree p ≡ true →
-    leaped (reads s.kind s.rows) (loses s.rows) (suc s.now) s.now p ≡ past_at s.tree p
+    leap_back (reads s.kind s.rows) (loses s.rows) (suc s.now) s.now p ≡ past_at s.tree p
 legal-pasts h s l e p i =
     leaped-walked (reads s.kind s.rows) (loses s.rows) (suc s.now) s.now p (omega arith) ∙ (legal-walked h s l e).walks p i

@@ -16,7 +16,7 @@ use Rattle.cp_model.specs.Closed.{Closed}
 use Rattle.cp_model.specs.Subtrees.{is_there}
 use Rattle.cp_model.specs.Tree.{Tree}
 use Rattle.cp_model.specs.Step.{Working}
-use Rattle.cp_model.specs.Rows.{Effect, same, made, from, Reading, left, gone, Mark, I, C, D, K, effect, gives, effect_at, full_mark, reduced_mark, effect_eq, given, given_by, or_same, lost_below_same, full_here, reduced_here, parent_there, full_rows, reduced_rows, within, read_mark, read_nearest, read_full, read_reduced}
+use Rattle.cp_model.specs.Rows.{Effect, same, made, from, Reading, left, gone, Mark, I, C, D, K, effect, gives, effect_at, full_mark, reduced_mark, effect_eq, effect_given, effect_given_by, or_same, lost_below_same, full_here, reduced_here, parent_there, full_rows, reduced_rows, within, read_mark, read_nearest, read_full, read_reduced}
 use Rattle.cp_model.proofs.Strips.{append-nil, path_ind, nearest-snoc, further, parent-snoc, last_label-snoc}
 use Rattle.cp_model.proofs.Marks.{find-full_rows, find-reduced_rows}
 
@@ -44,8 +44,8 @@ read-full_rows a w p e at fits =
     ∙ read-full_mark e ∙ ap left fits
 
 -- a child is given what the effect of its parent gives
-pub given-snoc : (w : Working) (r : Path) (a : Label) → given w (r ++ a ∷ []) ≡ gives (or_same (effect_at w r)) a
-given-snoc w r a = ap (λ o. given_by w o (last_label (r ++ a ∷ []))) (parent-snoc r a) ∙ ap (gives (or_same (effect_at w r))) (last_label-snoc r a)
+pub given-snoc : (w : Working) (r : Path) (a : Label) → effect_given w (r ++ a ∷ []) ≡ gives (or_same (effect_at w r)) a
+given-snoc w r a = ap (λ o. effect_given_by w o (last_label (r ++ a ∷ []))) (parent-snoc r a) ∙ ap (gives (or_same (effect_at w r))) (last_label-snoc r a)
 
 -- effects that are equal by the test are equal
 pub effect_eq-same : (d e : Effect) → effect_eq d e ≡ true → d ≡ e
@@ -135,11 +135,11 @@ unfoldable pub wanted_here : Effect → Effect → Option Mark
 wanted_here e g = if effect_eq e g then None else Some (reduced_mark e)
 
 -- the reduced row of a place by its effect and by what it is given
-pub reduced_at : (a : Tree) (w : Working) (p : Path) (e g : Effect) → effect_at w p ≡ Some e → given w p ≡ g → look p (reduced_rows a w) ≡ wanted_here e g
+pub reduced_at : (a : Tree) (w : Working) (p : Path) (e g : Effect) → effect_at w p ≡ Some e → effect_given w p ≡ g → look p (reduced_rows a w) ≡ wanted_here e g
 unfolding reduced_here wanted_here
 reduced_at a w p e g at gi =
     find-reduced_rows a w p
-    ∙ ap (λ o. elim o [ Some e ↦ if effect_eq e (given w p) then None else Some (reduced_mark e) | None ↦ if lost_below_same a w p && parent_there w (parent p) then Some D else None ]) at
+    ∙ ap (λ o. elim o [ Some e ↦ if effect_eq e (effect_given w p) then None else Some (reduced_mark e) | None ↦ if lost_below_same a w p && parent_there w (parent p) then Some D else None ]) at
     ∙ ap (wanted_here e) gi
 
 -- in kinds h and ht the row at the longest prefix with a row, carried down, is the effect
@@ -161,7 +161,7 @@ read-reduced_rows a w ok = path_ind (λ p. (e : Effect) → effect_at w p ≡ So
     more : (r : Path) (l : Label) → ((e : Effect) → effect_at w r ≡ Some e → read_reduced f r ≡ left e) → (e : Effect) → effect_at w (r ++ l ∷ []) ≡ Some e → read_reduced f (r ++ l ∷ []) ≡ left e
     more r l ih e at =
         let up = effect_there w r (ok.closed.parents r l (there_effect w (r ++ l ∷ []) e at)) in
-        let gi : given w (r ++ l ∷ []) ≡ gives up.0 l = given-snoc w r l ∙ ap (λ o. gives (or_same o) l) up.1 in
+        let gi : effect_given w (r ++ l ∷ []) ≡ gives up.0 l = given-snoc w r l ∙ ap (λ o. gives (or_same o) l) up.1 in
         read_step f r l (wanted_here e (gives up.0 l)) (reduced_at a w (r ++ l ∷ []) e (gives up.0 l) at gi)
         ∙ elim (effect_eq e (gives up.0 l)) as (λ b. effect_eq e (gives up.0 l) ≡ b → read_nearest (or_else (with_rest (if b then None else Some (reduced_mark e)) []) (further (l ∷ []) (nearest f r))) ≡ left e) [
           | true ↦ λ h. read_nearest-snoc (nearest f r) l ∙ ap (λ d. told_below d l) (ih up.0 up.1) ∙ ap (λ d. left (limited d)) (sym (effect_eq-same e (gives up.0 l) h)) ∙ ap left (ok.fits (r ++ l ∷ []) e at)

@@ -8,11 +8,11 @@ use Rattle.cp_model.specs.declared.row.Content.TheVariants.{Node}
 use Rattle.cp_model.specs.Place.{Label, Path, child, strip}
 use Rattle.cp_model.specs.Keyed as keyed
 use Rattle.cp_model.specs.Keyed.{look}
-use Rattle.cp_model.specs.Subtrees.{is_there, below, without, replaced}
+use Rattle.cp_model.specs.Subtrees.{is_there, below, without, with_subtree}
 use Rattle.cp_model.specs.Tree.{Tree, text_bytes, last_bytes, CanBeSpelled, IsRooted, IsTree}
 use Rattle.cp_model.specs.History.{IsLiteral}
 use Rattle.cp_model.proofs.Strips.{strip_is, strip-append, strip-snoc, append-nil, snoc-same, path_ind}
-use Rattle.cp_model.specs.Laws.{placed}
+use Rattle.cp_model.specs.Laws.{at_rest_or}
 use Rattle.cp_model.proofs.Lookups.{find-below, get-without, get-replaced, find-from_entries}
 
 -- what is above p is a node
@@ -53,10 +53,10 @@ pub under-child : (t : Tree) (p : Path) (a : Label) → keyed.get t p ≡ Some N
 under-child t p a n r b e = ap (keyed.get t) (snoc-same r p b a e) ∙ n
 
 -- a whole tree put under a node leaves a tree rooted
-pub rooted-replaced : (t : Tree) (p : Path) (es : List (Path × Content)) → IsRooted t → AreRows es → IsUnderNode t p → IsRooted (replaced p es t)
+pub rooted-replaced : (t : Tree) (p : Path) (es : List (Path × Content)) → IsRooted t → AreRows es → IsUnderNode t p → IsRooted (with_subtree p es t)
 rooted-replaced t p es h d up = record { root = ap is_some (get-replaced p es t []) ∙ root_at p; parents = parents }
   where
-    root_at : (p : Path) → is_some (placed (strip p []) (λ s. look s es) (keyed.get t [])) ≡ true
+    root_at : (p : Path) → is_some (at_rest_or (strip p []) (λ s. look s es) (keyed.get t [])) ≡ true
     root_at [] = d.root
     root_at (a ∷ p) = h.root
 
@@ -65,10 +65,10 @@ rooted-replaced t p es h d up = record { root = ap is_some (get-replaced p es t 
         (λ e. up r a (e ∙ append-nil p))
         (λ s b _ e. let k = ap (strip p) (snoc-same r (p ++ s) a b (e ∙ sym (append_assoc p s (b ∷ [])))) in absurd (cc (strip-append p s)))
 
-    parents : (r : Path) (a : Label) → is_there (replaced p es t) (r ++ a ∷ []) ≡ true → keyed.get (replaced p es t) r ≡ Some Node
-    parents r a i = get-replaced p es t r ∙ elim (strip p r) as (λ o. strip p r ≡ o → placed o (λ s. look s es) (keyed.get t r) ≡ Some Node) [
-      | Some s ↦ λ k. d.parents s a (sym (ap is_some (get-replaced p es t (r ++ a ∷ []) ∙ ap (λ o. placed o (λ s. look s es) (keyed.get t (r ++ a ∷ []))) (strip-snoc p r s a k))) ∙ i)
-      | None ↦ λ n. elim (strip p (r ++ a ∷ [])) as (λ o. strip p (r ++ a ∷ []) ≡ o → is_some (placed o (λ s. look s es) (keyed.get t (r ++ a ∷ []))) ≡ true → keyed.get t r ≡ Some Node) [
+    parents : (r : Path) (a : Label) → is_there (with_subtree p es t) (r ++ a ∷ []) ≡ true → keyed.get (with_subtree p es t) r ≡ Some Node
+    parents r a i = get-replaced p es t r ∙ elim (strip p r) as (λ o. strip p r ≡ o → at_rest_or o (λ s. look s es) (keyed.get t r) ≡ Some Node) [
+      | Some s ↦ λ k. d.parents s a (sym (ap is_some (get-replaced p es t (r ++ a ∷ []) ∙ ap (λ o. at_rest_or o (λ s. look s es) (keyed.get t (r ++ a ∷ []))) (strip-snoc p r s a k))) ∙ i)
+      | None ↦ λ n. elim (strip p (r ++ a ∷ [])) as (λ o. strip p (r ++ a ∷ []) ≡ o → is_some (at_rest_or o (λ s. look s es) (keyed.get t (r ++ a ∷ []))) ≡ true → keyed.get t r ≡ Some Node) [
         | None ↦ λ _ j. h.parents r a j
         | Some s ↦ λ k _. over r a n s (strip_is p (r ++ a ∷ []) s k)
       ] refl (sym (ap is_some (get-replaced p es t (r ++ a ∷ []))) ∙ i)
@@ -78,16 +78,16 @@ rooted-replaced t p es h d up = record { root = ap is_some (get-replaced p es t 
 pub rooted-without : (t : Tree) (p : Path) (a : Label) → IsRooted t → IsRooted (without (child p a) t)
 rooted-without t p a h = record { root = ap is_some (get-without (child p a) t []) ∙ root_at p; parents = parents }
   where
-    root_at : (p : Path) → is_some (placed (strip (child p a) []) (λ _. None) (keyed.get t [])) ≡ true
+    root_at : (p : Path) → is_some (at_rest_or (strip (child p a) []) (λ _. None) (keyed.get t [])) ≡ true
     root_at [] = h.root
     root_at (b ∷ p) = h.root
 
     parents : (r : Path) (l : Label) → is_there (without (child p a) t) (r ++ l ∷ []) ≡ true → keyed.get (without (child p a) t) r ≡ Some Node
-    parents r l i = get-without (child p a) t r ∙ elim (strip (child p a) r) as (λ o. strip (child p a) r ≡ o → placed o (λ _. None) (keyed.get t r) ≡ Some Node) [
+    parents r l i = get-without (child p a) t r ∙ elim (strip (child p a) r) as (λ o. strip (child p a) r ≡ o → at_rest_or o (λ _. None) (keyed.get t r) ≡ Some Node) [
       | Some s ↦ λ k.
-          let gone : is_there (without (child p a) t) (r ++ l ∷ []) ≡ false = ap is_some (get-without (child p a) t (r ++ l ∷ [])) ∙ ap (λ o. is_some (placed o (λ _. None) (keyed.get t (r ++ l ∷ [])))) (strip-snoc (child p a) r s l k) in
+          let gone : is_there (without (child p a) t) (r ++ l ∷ []) ≡ false = ap is_some (get-without (child p a) t (r ++ l ∷ [])) ∙ ap (λ o. is_some (at_rest_or o (λ _. None) (keyed.get t (r ++ l ∷ [])))) (strip-snoc (child p a) r s l k) in
           absurd (cc)
-      | None ↦ λ n. elim (strip (child p a) (r ++ l ∷ [])) as (λ o. is_some (placed o (λ _. None) (keyed.get t (r ++ l ∷ []))) ≡ true → keyed.get t r ≡ Some Node) [
+      | None ↦ λ n. elim (strip (child p a) (r ++ l ∷ [])) as (λ o. is_some (at_rest_or o (λ _. None) (keyed.get t (r ++ l ∷ []))) ≡ true → keyed.get t r ≡ Some Node) [
         | None ↦ λ j. h.parents r l j
         | Some s ↦ λ j. absurd (cc)
       ] (ap is_some (sym (get-without (child p a) t (r ++ l ∷ []))) ∙ i)

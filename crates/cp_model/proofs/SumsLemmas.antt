@@ -16,10 +16,10 @@ use Rattle.cp_model.proofs.KeyedLemmas.{get-put_all, look-find}
 use Rattle.cp_model.specs.Keyed as keyed
 use Rattle.cp_model.specs.Keyed.{look, Keyed}
 use Rattle.cp_model.specs.Closed.{Closed}
-use Rattle.cp_model.specs.Subtrees.{below, moved, without, replaced, entry_below, is_there}
+use Rattle.cp_model.specs.Subtrees.{below, entries_under, without, with_subtree, entry_below, is_there}
 use Rattle.cp_model.specs.Tree.{Tree, weight, weight_of, last_bytes}
 use Rattle.cp_model.proofs.Strips.{strip_is, strip-append, append-nil, path_ind}
-use Rattle.cp_model.specs.Laws.{placed}
+use Rattle.cp_model.specs.Laws.{at_rest_or}
 use Rattle.cp_model.proofs.Lookups.{starts_with-strip, find-moved, find-below, get-without}
 use Rattle.cp_model.specs.declared.row.Content.{Content}
 use Rattle.cp_model.specs.Sums.{total}
@@ -67,11 +67,11 @@ module _ {X : Type 0} where
       let parts = and_so (is_lt (path_cmp x e.0)) (below_all path_cmp x es) h in
       ap (λ b. cond b (Some e.1) (look x es)) (path_ties x e.0 ∙ less_no (path_cmp x e.0) parts.0) ∙ none_below x es parts.1
 
-  fresh : (p : Path) (e : Path × X) (es : List (Path × X)) (m : Keyed X) → T (below_all path_cmp e.0 es) → keyed.get (keyed.put_all (moved p es) (without p m)) (p ++ e.0) ≡ None
+  fresh : (p : Path) (e : Path × X) (es : List (Path × X)) (m : Keyed X) → T (below_all path_cmp e.0 es) → keyed.get (keyed.put_all (entries_under p es) (without p m)) (p ++ e.0) ≡ None
   fresh p e es m h =
-      get-put_all (moved p es) (without p m) (p ++ e.0)
-      ∙ ap (λ o. or_else o (keyed.get (without p m) (p ++ e.0))) (find-moved p (p ++ e.0) es ∙ ap (λ o. placed o (λ s. look s es) None) (strip-append p e.0) ∙ none_below e.0 es h)
-      ∙ get-without p m (p ++ e.0) ∙ ap (λ o. placed o (λ _. None) (keyed.get m (p ++ e.0))) (strip-append p e.0)
+      get-put_all (entries_under p es) (without p m) (p ++ e.0)
+      ∙ ap (λ o. or_else o (keyed.get (without p m) (p ++ e.0))) (find-moved p (p ++ e.0) es ∙ ap (λ o. at_rest_or o (λ s. look s es) None) (strip-append p e.0) ∙ none_below e.0 es h)
+      ∙ get-without p m (p ++ e.0) ∙ ap (λ o. at_rest_or o (λ _. None) (keyed.get m (p ++ e.0))) (strip-append p e.0)
 
 module _ {X : Type 0} (f : Path × X → ℕ) where
   total-insert_new : (m : Keyed X) (k : Path) (v : X) → keyed.get m k ≡ None → total f (keyed.insert m k v) ≡ total f m + f (k, v)
@@ -90,13 +90,13 @@ module _ {X : Type 0} (f : Path × X → ℕ) where
             ∙ sym (sum_by-cons (λ e. f (p ++ e.0, e.1)) (s, e.1) (filter_map (entry_below p) es))
       ] refl
 
-  total-put_all : (p : Path) (es : List (Path × X)) (m : Keyed X) → T (is_sorted path_cmp es) → total f (keyed.put_all (moved p es) (without p m)) ≡ sum_by f (moved p es) + total f (without p m)
-  unfolding moved keyed.put_all
+  total-put_all : (p : Path) (es : List (Path × X)) (m : Keyed X) → T (is_sorted path_cmp es) → total f (keyed.put_all (entries_under p es) (without p m)) ≡ sum_by f (entries_under p es) + total f (without p m)
+  unfolding entries_under keyed.put_all
   total-put_all p [] m h = omega arith
   total-put_all p (e ∷ es) m h =
       let parts = and_so (below_all path_cmp e.0 es) (is_sorted path_cmp es) h in
-      total-insert_new (keyed.put_all (moved p es) (without p m)) (p ++ e.0) e.1 (fresh p e es m parts.0)
-      ∙ omega (arith, total-put_all p es m parts.1, sum_by-cons f (p ++ e.0, e.1) (moved p es))
+      total-insert_new (keyed.put_all (entries_under p es) (without p m)) (p ++ e.0) e.1 (fresh p e es m parts.0)
+      ∙ omega (arith, total-put_all p es m parts.1, sum_by-cons f (p ++ e.0, e.1) (entries_under p es))
 
   -- the sum splits into what is at or below p and the rest
   pub total-without : (p : Path) (m : Keyed X) → total f (without p m) + sum_by (λ e. f (p ++ e.0, e.1)) (below p m) ≡ total f m
@@ -107,15 +107,15 @@ module _ {X : Type 0} (f : Path × X → ℕ) where
 
   -- what is put in place of a subtree counts in its place
   pub total-replaced : (p : Path) (es : List (Path × X)) (m : Keyed X) → T (is_sorted path_cmp es) →
-      total f (replaced p es m) + sum_by (λ e. f (p ++ e.0, e.1)) (below p m) ≡ total f m + sum_by f (moved p es)
-  unfolding replaced
+      total f (with_subtree p es m) + sum_by (λ e. f (p ++ e.0, e.1)) (below p m) ≡ total f m + sum_by f (entries_under p es)
+  unfolding with_subtree
   total-replaced p es m h = omega (arith, total-put_all p es m h, total-without p m)
 
   -- the sum over entries behind p
-  pub sum_by-moved : (p : Path) (es : List (Path × X)) → sum_by f (moved p es) ≡ sum_by (λ e. f (p ++ e.0, e.1)) es
-  unfolding moved
+  pub sum_by-moved : (p : Path) (es : List (Path × X)) → sum_by f (entries_under p es) ≡ sum_by (λ e. f (p ++ e.0, e.1)) es
+  unfolding entries_under
   sum_by-moved p [] = refl
-  sum_by-moved p (e ∷ es) = sum_by-cons f (p ++ e.0, e.1) (moved p es) ∙ ap (λ n. f (p ++ e.0, e.1) + n) (sum_by-moved p es) ∙ sym (sum_by-cons (λ e. f (p ++ e.0, e.1)) e es)
+  sum_by-moved p (e ∷ es) = sum_by-cons f (p ++ e.0, e.1) (entries_under p es) ∙ ap (λ n. f (p ++ e.0, e.1) + n) (sum_by-moved p es) ∙ sym (sum_by-cons (λ e. f (p ++ e.0, e.1)) e es)
 
 -- counting one for each entry gives their number
 pub sum_by-one : {A : Type 0} (xs : List A) → sum_by (λ _. 1) xs ≡ length xs
@@ -128,9 +128,9 @@ module _ {X : Type 0} where
   one_each m = sum_by-one m.list
 
   -- as many places as before, less those at and below p, and the new ones
-  pub len-replaced : (p : Path) (es : List (Path × X)) (m : Keyed X) → T (is_sorted path_cmp es) → keyed.len (replaced p es m) + length (below p m) ≡ keyed.len m + length es
+  pub len-replaced : (p : Path) (es : List (Path × X)) (m : Keyed X) → T (is_sorted path_cmp es) → keyed.len (with_subtree p es m) + length (below p m) ≡ keyed.len m + length es
   len-replaced p es m h =
-      omega (arith, total-replaced (λ _. 1) p es m h, one_each (replaced p es m), one_each m, sum_by-one (below p m), sum_by-moved (λ _. 1) p es, sum_by-one es)
+      omega (arith, total-replaced (λ _. 1) p es m h, one_each (with_subtree p es m), one_each m, sum_by-one (below p m), sum_by-moved (λ _. 1) p es, sum_by-one es)
 
   -- as many places as before, less those at and below p
   pub len-without : (p : Path) (m : Keyed X) → keyed.len (without p m) + length (below p m) ≡ keyed.len m
@@ -160,11 +160,11 @@ module _ {X : Type 0} where
           (λ r a h. not_true (is_there m (p ++ (r ++ a ∷ []))) (λ t. sym (c.parents (p ++ r) a (ap (is_there m) (append_assoc p r (a ∷ [])) ∙ t)) ∙ h)) s)
 
   -- at a place that wasn't there the new places are all added
-  pub len-replaced_new : (p : Path) (es : List (Path × X)) (m : Keyed X) → T (is_sorted path_cmp es) → Closed (keyed.get m) → keyed.get m p ≡ None → keyed.len (replaced p es m) ≡ keyed.len m + length es
+  pub len-replaced_new : (p : Path) (es : List (Path × X)) (m : Keyed X) → T (is_sorted path_cmp es) → Closed (keyed.get m) → keyed.get m p ≡ None → keyed.len (with_subtree p es m) ≡ keyed.len m + length es
   len-replaced_new p es m h c n = omega (arith, len-replaced p es m h, ap length (below-none m p c n))
 
 -- the weight as before, less that of what was at and below p, and the new weight
-pub weight-replaced : (p : Path) (es : List (Path × Content)) (t : Tree) → T (is_sorted path_cmp es) → weight (replaced p es t) + sum_by (λ e. weight_of (p ++ e.0, e.1)) (below p t) ≡ weight t + sum_by weight_of (moved p es)
+pub weight-replaced : (p : Path) (es : List (Path × Content)) (t : Tree) → T (is_sorted path_cmp es) → weight (with_subtree p es t) + sum_by (λ e. weight_of (p ++ e.0, e.1)) (below p t) ≡ weight t + sum_by weight_of (entries_under p es)
 unfolding weight
 weight-replaced p es t h = total-replaced weight_of p es t h
 
@@ -174,5 +174,5 @@ unfolding weight
 weight-without p t = total-without weight_of p t
 
 -- at a place that wasn't there the new weight is added
-pub weight-replaced_new : (p : Path) (es : List (Path × Content)) (t : Tree) → T (is_sorted path_cmp es) → Closed (keyed.get t) → keyed.get t p ≡ None → weight (replaced p es t) ≡ weight t + sum_by weight_of (moved p es)
+pub weight-replaced_new : (p : Path) (es : List (Path × Content)) (t : Tree) → T (is_sorted path_cmp es) → Closed (keyed.get t) → keyed.get t p ≡ None → weight (with_subtree p es t) ≡ weight t + sum_by weight_of (entries_under p es)
 weight-replaced_new p es t h c n = omega (arith, weight-replaced p es t h, ap (sum_by (λ e. weight_of (p ++ e.0, e.1))) (below-none t p c n))

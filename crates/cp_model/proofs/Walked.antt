@@ -17,7 +17,7 @@ use Rattle.cp_model.specs.Tree.{Tree, IsTree}
 use Rattle.cp_model.specs.Step.{Working, done, step}
 use Rattle.cp_model.specs.Past.{AgedTree, Aged, tree_of, past_of, past_at, loses_child, is_child, settle}
 use Rattle.cp_model.specs.Rows.{same, from, Reading, left, gone, effect, effect_at}
-use Rattle.cp_model.specs.History.{State, rows_of, read, with_tid, settled, begun, AreWritten}
+use Rattle.cp_model.specs.History.{State, rows_of, read_rows, with_tid, after_settling, start_state, AreWritten}
 use Rattle.cp_model.proofs.Lookups.{get-mapped, there-mapped}
 use Rattle.cp_model.proofs.Contents.{tree_of-settle}
 use Rattle.cp_model.proofs.Kept.{tree-step}
@@ -52,8 +52,8 @@ pub record IsWalked (s : State) : Type 0 where
   pub later : (t : ℕ) → s.now < t → rows_at s.rows t ≡ []
 
 -- a history begins walked
-pub walked-begun : (k : Kind) (t : Tree) → IsWalked (begun k t)
-unfolding begun rows_at
+pub walked-begun : (k : Kind) (t : Tree) → IsWalked (start_state k t)
+unfolding start_state rows_at
 walked-begun k t = record { walks = λ p _. sym (ap past_of (get-mapped (λ _ c. first c) t p) ∙ no_past (keyed.get t p)); later = λ u _. refl }
   where
     first : Content → Aged
@@ -69,7 +69,7 @@ module _ (kd : Kind) (rs : List Record) (n : ℕ) (a : AgedTree) (w : Working) w
 
   older : (p : Path) → walked (reads kd more) (loses more) n p ≡ walked (reads kd rs) (loses rs) n p
   older = walked-alike (reads kd more) (reads kd rs) (loses more) (loses rs) n
-      (λ t p h. ap (λ xs. read kd (λ r. look r xs) p) (rows_before rs n (rows_of kd (tree_of a) w) t h))
+      (λ t p h. ap (λ xs. read_rows kd (λ r. look r xs) p) (rows_before rs n (rows_of kd (tree_of a) w) t h))
       (λ t p h. ap (λ xs. list_any (λ r. is_child p r.0 && is_D r.1) xs) (rows_before rs n (rows_of kd (tree_of a) w) t h))
 
   -- after one step more the records walk back to the settled pasts
@@ -85,7 +85,7 @@ module _ (kd : Kind) (rs : List Record) (n : ℕ) (a : AgedTree) (w : Working) w
       let at : effect_at w p ≡ Some e = ap (option_map (λ x. effect p x.origin)) x.1 in
       walked-more (reads kd more) (loses more) n p
       ∙ ap (walk_on (walked (reads kd more) (loses more) n) (n + 1) p (loses more (n + 1) p))
-      (ap (λ xs. read kd (λ r. look r xs) p) (rows_now rs n (rows_of kd (tree_of a) w) none) ∙ read-rows_of kd (tree_of a) w ok p e at)
+      (ap (λ xs. read_rows kd (λ r. look r xs) p) (rows_now rs n (rows_of kd (tree_of a) w) none) ∙ read-rows_of kd (tree_of a) w ok p e at)
       ∙ walk_same (walked (reads kd more) (loses more) n) (past_at a) (n + 1) p (loses more (n + 1) p) (loses_child a w p) e
       (λ k. older p ∙ walks p (there p (at ∙ ap (λ d. Some d) k)))
       (λ k. ap (λ xs. list_any (λ r. is_child p r.0 && is_D r.1) xs) (rows_now rs n (rows_of kd (tree_of a) w) none) ∙ losses-rows_of kd a w p (at ∙ ap (λ d. Some d) k))
@@ -94,16 +94,16 @@ module _ (kd : Kind) (rs : List Record) (n : ℕ) (a : AgedTree) (w : Working) w
       ∙ sym (past_settled (n + 1) a w p x.0 x.1)
 
 -- a step that is done keeps a state sound
-pub sound-settled : (s : State) (ops : List Op) (k : ℕ) (w : Working) → IsSound s → AreWritten ops → step (tree_of s.tree) s.sources ops ≡ done k w → IsSound (settled s w)
-unfolding settled
+pub sound-settled : (s : State) (ops : List Op) (k : ℕ) (w : Working) → IsSound s → AreWritten ops → step (tree_of s.tree) s.sources ops ≡ done k w → IsSound (after_settling s w)
+unfolding after_settling
 sound-settled s ops k w h a e = record {
   tree = subst IsTree (sym (tree_of-settle (s.now + 1) s.tree w)) (tree-step (tree_of s.tree) s.sources ops k w h.tree (trees-sources s.sources h.sources) a e);
   sources = h.sources;
 }
 
 -- a step that is done keeps a state walked
-pub walked-settled : (s : State) (ops : List Op) (k : ℕ) (w : Working) → IsSound s → IsWalked s → AreWritten ops → step (tree_of s.tree) s.sources ops ≡ done k w → IsWalked (settled s w)
-unfolding settled
+pub walked-settled : (s : State) (ops : List Op) (k : ℕ) (w : Working) → IsSound s → IsWalked s → AreWritten ops → step (tree_of s.tree) s.sources ops ≡ done k w → IsWalked (after_settling s w)
+unfolding after_settling
 walked-settled s ops k w h b a e =
     let origins = sound-step (tree_of s.tree) s.sources ops k w h.tree h.sources e in
     record {

@@ -37,16 +37,16 @@ abbrev pub alone : Segment → TraceEnd → Trace
 alone s e = record { segments = s ∷ []; end = e }
 
 -- events from the newest; the data stood at c up to the version high
-abbrev pub traced : Path → ℕ → List Event → Trace
-traced c high [] = alone (segment c 0 high) end.Start
-traced c high (lost t ∷ es) = traced c high es
-traced c high (born t ∷ es) = alone (segment c t high) end.New
-traced c high (copied t q ∷ es) =
-    if in_target q then after_segment (segment c t high) (traced q.path (t - 1) es) else alone (segment c t high) (end.Source q)
+abbrev pub trace_from_events : Path → ℕ → List Event → Trace
+trace_from_events c high [] = alone (segment c 0 high) end.Start
+trace_from_events c high (lost t ∷ es) = trace_from_events c high es
+trace_from_events c high (born t ∷ es) = alone (segment c t high) end.New
+trace_from_events c high (copied t q ∷ es) =
+    if in_target q then after_segment (segment c t high) (trace_from_events q.path (t - 1) es) else alone (segment c t high) (end.Source q)
 
 -- the places at which the data stood, newest first, and where it came from
 abbrev pub trace : ℕ → AgedTree → Path → Trace
-trace now a p = traced p now (reverse (past_at a p))
+trace now a p = trace_from_events p now (reverse (past_at a p))
 
 -- ---- src, hist, mod, from
 
@@ -78,18 +78,18 @@ tid_of (born t) = t
 tid_of (lost t) = t
 
 -- into a rising list without repeats
-abbrev pub joined : ℕ → List ℕ → List ℕ
-joined t [] = t ∷ []
-joined t (u ∷ us) = if nat_lt t u then t ∷ u ∷ us else (if t == u then u ∷ us else u ∷ joined t us)
+abbrev pub insert_tid : ℕ → List ℕ → List ℕ
+insert_tid t [] = t ∷ []
+insert_tid t (u ∷ us) = if nat_lt t u then t ∷ u ∷ us else (if t == u then u ∷ us else u ∷ insert_tid t us)
 
 -- in order, each once
-abbrev pub rising : List ℕ → List ℕ
-rising [] = []
-rising (t ∷ ts) = joined t (rising ts)
+abbrev pub tids_in_order : List ℕ → List ℕ
+tids_in_order [] = []
+tids_in_order (t ∷ ts) = insert_tid t (tids_in_order ts)
 
 -- the Tids of all events at or below p
-abbrev pub modified : AgedTree → Path → List ℕ
-modified a p = rising (flat_map (λ e. map tid_of e.1.past) (below p a))
+abbrev pub mod_tids : AgedTree → Path → List ℕ
+mod_tids a p = tids_in_order (flat_map (λ e. map tid_of e.1.past) (below p a))
 
 -- the newest insertion or copy of events from the newest
 abbrev pub newest : List Event → FromAnswer
@@ -127,7 +127,7 @@ at_place s q a = if has_place s q then Some a else None
 unfoldable pub answer_to : State → Query → Option Answer
 answer_to s (query.Src q) = at_place s q (answer.Src (src s.tree q.path))
 answer_to s (query.Hist q) = at_place s q (answer.Tids (hist s.tree q.path))
-answer_to s (query.Mod q) = at_place s q (answer.Tids (modified s.tree q.path))
+answer_to s (query.Mod q) = at_place s q (answer.Tids (mod_tids s.tree q.path))
 answer_to s (query.Trace q) = at_place s q (answer.Trace (trace s.now s.tree q.path))
 answer_to s (query.From q) = at_place s q (answer.From (from s.tree q.path))
 answer_to s (query.Records t) = Some (answer.Records (records s t))

@@ -13,7 +13,7 @@ use Rattle.cp_model.specs.Subtrees.{is_there}
 use Rattle.cp_model.specs.Literals.{literal_rows}
 use Rattle.cp_model.specs.Tree.{Tree, IsTree, IsRooted, Source, source, text_bytes, CanBeSpelled}
 use Rattle.cp_model.specs.Step.{Working, step, Outcome, done, refused, is_done}
-use Rattle.cp_model.specs.Past.{AgedTree, settle, tree_of, aged}
+use Rattle.cp_model.specs.Past.{AgedTree, settle, tree_of, start_aged}
 use Rattle.cp_model.specs.Rows.{Mark, I, C, D, K, full_rows, reduced_rows, Reading, read_full, read_reduced}
 use Rattle.cp_model.specs.declared.row.Content.{Content}
 use Rattle.cp_model.specs.declared.answer.LogLine.{LogLine}
@@ -52,11 +52,11 @@ rows_of kind.H a w = reduced_rows a w
 rows_of kind.HT a w = reduced_rows a w
 
 -- what a reader of each kind makes of the rows of one step at a place
-abbrev pub read : Kind → (Path → Option Mark) → Path → Reading
-read kind.N f p = read_full f p
-read kind.T f p = read_full f p
-read kind.H f p = read_reduced f p
-read kind.HT f p = read_reduced f p
+abbrev pub read_rows : Kind → (Path → Option Mark) → Path → Reading
+read_rows kind.N f p = read_full f p
+read_rows kind.T f p = read_full f p
+read_rows kind.H f p = read_reduced f p
+read_rows kind.HT f p = read_reduced f p
 
 -- ---- records
 
@@ -86,12 +86,12 @@ pub record State : Type 0 where
   pub rows : List Record
 
 -- the state after a step that ends with the working tree w
-unfoldable pub settled : State → Working → State
-settled s w = record s { tree = settle (s.now + 1) s.tree w; now = s.now + 1; rows = s.rows ++ with_tid (s.now + 1) (rows_of s.kind (tree_of s.tree) w) }
+unfoldable pub after_settling : State → Working → State
+after_settling s w = record s { tree = settle (s.now + 1) s.tree w; now = s.now + 1; rows = s.rows ++ with_tid (s.now + 1) (rows_of s.kind (tree_of s.tree) w) }
 
 -- a step that was refused changes nothing
 abbrev pub after_outcome : State → Outcome → State
-after_outcome s (done k w) = settled s w
+after_outcome s (done k w) = after_settling s w
 after_outcome s (refused n r) = s
 
 -- the state after the operations of one step
@@ -107,19 +107,19 @@ unfoldable pub after_commit : State → List Op → State
 after_commit s ops = one_commit_more (fold after_step s (steps_of s.kind ops))
 
 -- the state of a start tree
-unfoldable pub begun : Kind → Tree → State
-begun k t = record { kind = k; sources = []; tree = aged t; now = 0; commits = 0; rows = [] }
+unfoldable pub start_state : Kind → Tree → State
+start_state k t = record { kind = k; sources = []; tree = start_aged t; now = 0; commits = 0; rows = [] }
 
 -- the state with one source more
-abbrev pub loaded : State → List ℕ → Tree → State
-loaded s n t = record s { sources = s.sources ++ record { name = n; tree = t } ∷ [] }
+abbrev pub after_load : State → List ℕ → Tree → State
+after_load s n t = record s { sources = s.sources ++ record { name = n; tree = t } ∷ [] }
 
 -- the state after one entry more
 abbrev pub then_entry : Option State → Entry → Option State
-then_entry o (start k t) = Some (begun k t)
+then_entry o (start k t) = Some (start_state k t)
 then_entry None (load n t) = None
 then_entry None (commit stamp ops) = None
-then_entry (Some s) (load n t) = Some (loaded s n t)
+then_entry (Some s) (load n t) = Some (after_load s n t)
 then_entry (Some s) (commit stamp ops) = Some (after_commit s ops)
 
 -- the state that a history leads to; none where it is empty

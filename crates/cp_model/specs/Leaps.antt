@@ -42,6 +42,6 @@ leap prev L t p None = losts L 0 t p
 leap prev L t p (Some c) = before prev c.0 p c.1 ++ losts L c.0 t p
 
 -- from change to change, n of them at most
-unfoldable pub leaped : Readings → (ℕ → Path → Bool) → ℕ → ℕ → Path → List Event
-leaped E L zero t p = []
-leaped E L (suc n) t p = leap (leaped E L n) L t p (last E t p)
+unfoldable pub leap_back : Readings → (ℕ → Path → Bool) → ℕ → ℕ → Path → List Event
+leap_back E L zero t p = []
+leap_back E L (suc n) t p = leap (leap_back E L n) L t p (last E t p)

@@ -6,7 +6,7 @@ use Rattle.std.specs.declared.option.Option.TheVariants.{None, Some}
 use Rattle.cp_model.specs.Place.{Path, in_target, path_eq, strip}
 use Rattle.cp_model.specs.Keyed as keyed
 use Rattle.cp_model.specs.Keyed.{Keyed}
-use Rattle.cp_model.specs.Subtrees.{is_there, mapped}
+use Rattle.cp_model.specs.Subtrees.{is_there, map_values}
 use Rattle.cp_model.specs.Tree.{Tree}
 use Rattle.cp_model.specs.Step.{Origin, new, was, Worked, Working}
 use Rattle.cp_path.specs.declared.loc.Loc.{Loc}
@@ -29,11 +29,11 @@ AgedTree = Keyed Aged
 
 -- the contents of an aged tree
 abbrev pub tree_of : AgedTree → Tree
-tree_of a = mapped (λ _ x. x.content) a
+tree_of a = map_values (λ _ x. x.content) a
 
 -- a start tree has no past
-abbrev pub aged : Tree → AgedTree
-aged t = mapped (λ _ c. record { content = c; past = [] }) t
+abbrev pub start_aged : Tree → AgedTree
+start_aged t = map_values (λ _ c. record { content = c; past = [] }) t
 
 -- the past, and none where the place isn't there
 abbrev pub past_of : Option Aged → List Event
@@ -76,4 +76,4 @@ settled_at t a w p x = record { content = x.content; past = past_after t a w p x
 
 -- the aged tree after step t, which led from a to the working tree w
 unfoldable pub settle : ℕ → AgedTree → Working → AgedTree
-settle t a w = mapped (settled_at t a w) w
+settle t a w = map_values (settled_at t a w) w

@@ -12,7 +12,7 @@ use Rattle.cp_model.specs.Place.{Path}
 use Rattle.cp_model.specs.Keyed.{look}
 use Rattle.cp_model.specs.Past.{is_child}
 use Rattle.cp_model.specs.Rows.{Reading, Mark, I, C, D, K}
-use Rattle.cp_model.specs.History.{read}
+use Rattle.cp_model.specs.History.{read_rows}
 
 -- the row says that the place is gone
 abbrev pub is_D : Mark → Bool
@@ -30,16 +30,16 @@ mark_by op.D q = D
 mark_by op.K q = K
 
 -- the record as a row, if it is of step t
-abbrev pub row_of : ℕ → Record → Option (Path × Mark)
-row_of t r = if r.tid == t then Some (r.loc.path, mark_by r.op r.src) else None
+abbrev pub row_in_step : ℕ → Record → Option (Path × Mark)
+row_in_step t r = if r.tid == t then Some (r.loc.path, mark_by r.op r.src) else None
 
 -- the rows of step t among the records
 unfoldable pub rows_at : List Record → ℕ → List (Path × Mark)
-rows_at rs t = filter_map (row_of t) rs
+rows_at rs t = filter_map (row_in_step t) rs
 
 -- what the records say that step t did to each place
 abbrev pub reads : Kind → List Record → ℕ → Path → Reading
-reads k rs t p = read k (λ r. look r (rows_at rs t)) p
+reads k rs t p = read_rows k (λ r. look r (rows_at rs t)) p
 
 -- the records say that in step t a child of p is gone
 abbrev pub loses : List Record → ℕ → Path → Bool

@@ -12,7 +12,7 @@ use Rattle.std.specs.declared.option.Option.{Option}
 use Rattle.std.specs.declared.option.Option.TheVariants.{None, Some}
 use Rattle.cp_model.specs.Place.{Label, Path, at_target, place_eq, below_place, nearest, over_limit, option_map, parent, last_label}
 use Rattle.cp_model.specs.Keyed as keyed
-use Rattle.cp_model.specs.Subtrees.{is_there, mapped, with_values}
+use Rattle.cp_model.specs.Subtrees.{is_there, map_values, with_values}
 use Rattle.cp_model.specs.Tree.{Tree}
 use Rattle.cp_model.specs.Step.{Origin, new, was, Working}
 use Rattle.cp_path.specs.declared.loc.Loc.{Loc}
@@ -66,13 +66,13 @@ or_same None = same
 or_same (Some e) = e
 
 -- what the parent's effect gives p; the root is compared with Same
-abbrev pub given_by : Working → Option Path → Label → Effect
-given_by w None a = same
-given_by w (Some r) a = gives (or_same (effect_at w r)) a
+abbrev pub effect_given_by : Working → Option Path → Label → Effect
+effect_given_by w None a = same
+effect_given_by w (Some r) a = gives (or_same (effect_at w r)) a
 
 -- what the effect of p's parent gives p
-abbrev pub given : Working → Path → Effect
-given w p = given_by w (parent p) (last_label p)
+abbrev pub effect_given : Working → Path → Effect
+effect_given w p = effect_given_by w (parent p) (last_label p)
 
 -- nothing has changed
 abbrev pub is_same : Effect → Bool
@@ -106,25 +106,25 @@ parent_there w (Some r) = is_there w r
 unfoldable pub reduced_here : Tree → Working → Path → Option Mark
 reduced_here a w p =
     elim (effect_at w p) [
-      | Some e ↦ if effect_eq e (given w p) then None else Some (reduced_mark e)
+      | Some e ↦ if effect_eq e (effect_given w p) then None else Some (reduced_mark e)
       | None ↦ if lost_below_same a w p && parent_there w (parent p) then Some D else None
     ]
 
 -- the rows by place: each place of either tree that has a mark
-abbrev pub marked : (Path → Option Mark) → List Path → List (Path × Mark)
-marked f ps = filter_map (λ p. option_map (λ m. (p, m)) (f p)) ps
+abbrev pub rows_with_marks : (Path → Option Mark) → List Path → List (Path × Mark)
+rows_with_marks f ps = filter_map (λ p. option_map (λ m. (p, m)) (f p)) ps
 
 -- the places of either tree, in order
 unfoldable pub all_paths : Tree → Working → List Path
-all_paths a w = map (λ e. e.0) (keyed.entries (keyed.put_all (with_values (λ _ _. true) (keyed.entries w)) (mapped (λ _ _. true) a)))
+all_paths a w = map (λ e. e.0) (keyed.entries (keyed.put_all (with_values (λ _ _. true) (keyed.entries w)) (map_values (λ _ _. true) a)))
 
 -- the full rows of a step, in the order of their places
 abbrev pub full_rows : Tree → Working → List (Path × Mark)
-full_rows a w = marked (full_here a w) (all_paths a w)
+full_rows a w = rows_with_marks (full_here a w) (all_paths a w)
 
 -- the reduced rows of a step, in the order of their places
 abbrev pub reduced_rows : Tree → Working → List (Path × Mark)
-reduced_rows a w = marked (reduced_here a w) (all_paths a w)
+reduced_rows a w = rows_with_marks (reduced_here a w) (all_paths a w)
 
 -- ---- reading
 

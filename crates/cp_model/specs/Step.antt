@@ -4,9 +4,9 @@ use Rattle.std.specs.declared.option.Option.{Option}
 use Rattle.std.specs.declared.option.Option.TheVariants.{None, Some}
 use Rattle.cp_model.specs.Place.{Path, at_target, in_target, child, below_place}
 use Rattle.cp_model.specs.Keyed.{Keyed}
-use Rattle.cp_model.specs.Subtrees.{below, without, replaced, with_values, mapped}
+use Rattle.cp_model.specs.Subtrees.{below, without, with_subtree, with_values, map_values}
 use Rattle.cp_model.specs.Literals.{literal_rows}
-use Rattle.cp_model.specs.Tree.{Tree, Source, source, taken, refusal}
+use Rattle.cp_model.specs.Tree.{Tree, Source, source, subtree_at, refusal}
 use Rattle.cp_path.specs.declared.loc.Loc.{Loc}
 use Rattle.cp_model.specs.declared.row.Content.{Content}
 use Rattle.cp_model.specs.declared.op.Op.{Op}
@@ -26,11 +26,11 @@ Working = Keyed Worked
 
 -- the contents of a working tree
 abbrev pub contents : Working → Tree
-contents w = mapped (λ _ x. x.content) w
+contents w = map_values (λ _ x. x.content) w
 
 -- at the start of a step every place of T carries itself
-abbrev pub opened : Tree → Working
-opened t = mapped (λ p c. record { content = c; origin = was (at_target p) }) t
+abbrev pub open_tree : Tree → Working
+open_tree t = map_values (λ p c. record { content = c; origin = was (at_target p) }) t
 
 -- what is inserted is new
 abbrev pub as_new : List (Path × Content) → List (Path × Worked)
@@ -41,15 +41,15 @@ abbrev pub from_source : Loc → List (Path × Content) → List (Path × Worked
 from_source q es = with_values (λ s c. record { content = c; origin = was (below_place q s) }) es
 
 -- a copy inside T carries the origins along
-abbrev pub carried : List Source → Working → Loc → Bool → List (Path × Worked)
-carried ss w q true = below q.path w
-carried ss w q false = from_source q (taken (source ss q.db) q.path)
+abbrev pub entries_to_copy : List Source → Working → Loc → Bool → List (Path × Worked)
+entries_to_copy ss w q true = below q.path w
+entries_to_copy ss w q false = from_source q (subtree_at (source ss q.db) q.path)
 
 -- the working tree after an operation that isn't refused
-unfoldable pub applied : List Source → Working → Op → Working
-applied ss w (Ins p a l) = replaced (child p.path a) (as_new (literal_rows l)) w
-applied ss w (Del a p) = without (child p.path a) w
-applied ss w (Copy q p) = replaced p.path (carried ss w q (in_target q)) w
+unfoldable pub apply_op : List Source → Working → Op → Working
+apply_op ss w (Ins p a l) = with_subtree (child p.path a) (as_new (literal_rows l)) w
+apply_op ss w (Del a p) = without (child p.path a) w
+apply_op ss w (Copy q p) = with_subtree p.path (entries_to_copy ss w q (in_target q)) w
 
 -- the working tree after so many operations, or the number and refusal of the first refused one
 pub data Outcome : Type 0 where
@@ -57,18 +57,18 @@ pub data Outcome : Type 0 where
   refused : ℕ → Refusal → Outcome
 
 -- an operation that isn't refused is applied
-abbrev pub judged : List Source → ℕ → Working → Op → Option Refusal → Outcome
-judged ss k w op (Some r) = refused (k + 1) r
-judged ss k w op None = done (k + 1) (applied ss w op)
+abbrev pub judge_op : List Source → ℕ → Working → Op → Option Refusal → Outcome
+judge_op ss k w op (Some r) = refused (k + 1) r
+judge_op ss k w op None = done (k + 1) (apply_op ss w op)
 
 -- one operation more
 unfoldable pub then_op : List Source → Outcome → Op → Outcome
-then_op ss (done k w) op = judged ss k w op (refusal ss (contents w) op)
+then_op ss (done k w) op = judge_op ss k w op (refusal ss (contents w) op)
 then_op ss (refused n r) op = refused n r
 
 -- the operations in order, from the tree t
 unfoldable pub step : Tree → List Source → List Op → Outcome
-step t ss ops = fold (then_op ss) (done 0 (opened t)) ops
+step t ss ops = fold (then_op ss) (done 0 (open_tree t)) ops
 
 -- nothing was refused
 abbrev pub is_done : Outcome → Bool

@@ -16,16 +16,16 @@ module _ {X : Type 0} where
   below q m = filter_map (entry_below q) (keyed.entries m)
 
   -- the entries, each behind p
-  unfoldable pub moved : Path → List (Path × X) → List (Path × X)
-  moved p es = map (λ e. (p ++ e.0, e.1)) es
+  unfoldable pub entries_under : Path → List (Path × X) → List (Path × X)
+  entries_under p es = map (λ e. (p ++ e.0, e.1)) es
 
   -- all but what lies at or below p
   unfoldable pub without : Path → Keyed X → Keyed X
   without p m = keyed.retain_keys m (λ r. not (starts_with r p))
 
   -- the subtree at p becomes these entries
-  unfoldable pub replaced : Path → List (Path × X) → Keyed X → Keyed X
-  replaced p es m = keyed.put_all (moved p es) (without p m)
+  unfoldable pub with_subtree : Path → List (Path × X) → Keyed X → Keyed X
+  with_subtree p es m = keyed.put_all (entries_under p es) (without p m)
 
   -- the path is in the map
   abbrev pub is_there : Keyed X → Path → Bool
@@ -36,5 +36,5 @@ abbrev pub with_values : {X Y : Type 0} → (Path → X → Y) → List (Path ×
 with_values f es = map (λ e. (e.0, f e.0 e.1)) es
 
 -- the same paths, with a value made of each path and its old value
-abbrev pub mapped : {X Y : Type 0} → (Path → X → Y) → Keyed X → Keyed Y
-mapped f m = keyed.from_entries (with_values f (keyed.entries m))
+abbrev pub map_values : {X Y : Type 0} → (Path → X → Y) → Keyed X → Keyed Y
+map_values f m = keyed.from_entries (with_values f (keyed.entries m))

@@ -9,7 +9,7 @@ use Rattle.cp_model.specs.Place.{Label, Path, at_target, in_target, label_eq, ch
 use Rattle.cp_model.specs.Cases.{first_case}
 use Rattle.cp_model.specs.Keyed as keyed
 use Rattle.cp_model.specs.Keyed.{Keyed}
-use Rattle.cp_model.specs.Subtrees.{below, without, replaced, is_there}
+use Rattle.cp_model.specs.Subtrees.{below, without, with_subtree, is_there}
 use Rattle.cp_model.specs.Literals.{literal_rows}
 use Rattle.cp_path.specs.Whole.{IsWhole}
 use Rattle.cp_path.specs.declared.loc.Loc.{Loc}
@@ -107,15 +107,15 @@ is_node (Some (Leaf v)) = false
 is_node None = false
 
 -- the subtree at q, if there is such a tree
-abbrev pub taken : Option Tree → Path → List (Path × Content)
-taken None q = []
-taken (Some t) q = below q t
+abbrev pub subtree_at : Option Tree → Path → List (Path × Content)
+subtree_at None q = []
+subtree_at (Some t) q = below q t
 
 -- the contents after the operation
-unfoldable pub changed : List Source → Tree → Op → Tree
-changed ss t (Ins p a l) = replaced (child p.path a) (literal_rows l) t
-changed ss t (Del a p) = without (child p.path a) t
-changed ss t (Copy q p) = replaced p.path (taken (database ss t q) q.path) t
+unfoldable pub tree_after : List Source → Tree → Op → Tree
+tree_after ss t (Ins p a l) = with_subtree (child p.path a) (literal_rows l) t
+tree_after ss t (Del a p) = without (child p.path a) t
+tree_after ss t (Copy q p) = with_subtree p.path (subtree_at (database ss t q) q.path) t
 
 -- some place of the subtree would be over a limit of places when it stands at p
 abbrev pub reaches_over : {X : Type 0} → Loc → List (Path × X) → Bool
@@ -140,14 +140,14 @@ cases_of ss t (Ins p a l) =
     at_node t p
     ++ ((is_there t (child p.path a), LabelThere)
     ∷ (reaches_over (below_place p (a ∷ [])) (literal_rows l), TooDeep)
-    ∷ limits_of (changed ss t (Ins p a l)))
+    ∷ limits_of (tree_after ss t (Ins p a l)))
 cases_of ss t (Del a p) = at_node t p ++ ((not (is_there t (child p.path a)), NoLabel) ∷ [])
 cases_of ss t (Copy q p) =
     (not (in_target p), ReadOnly)
     ∷ (not (is_there t p.path), NoPlace)
     ∷ (origin_there (database ss t q) q.path
-    ++ ((reaches_over p (taken (database ss t q) q.path), TooDeep)
-    ∷ limits_of (changed ss t (Copy q p))))
+    ++ ((reaches_over p (subtree_at (database ss t q) q.path), TooDeep)
+    ∷ limits_of (tree_after ss t (Copy q p))))
 
 -- why the operation is refused, if it is
 unfoldable pub refusal : List Source → Tree → Op → Option Refusal

@@ -50,9 +50,9 @@ abbrev pub after_refused_write : SinkState → SinkState
 after_refused_write s = record s { calls = one_more s.calls; refusals = one_more s.refusals }
 
 -- What a name names among these files: the bytes of the first file that has it.
-abbrev pub named : List MemFile → FileTable
-named [] name = None
-named (file ∷ files) name = if text_eq file.name name then Some file.bytes else named files name
+abbrev pub file_named : List MemFile → FileTable
+file_named [] name = None
+file_named (file ∷ files) name = if text_eq file.name name then Some file.bytes else file_named files name
 
 -- The files, the numbers of the reads that fail, how many reads there were, and how many of them failed.
 pub record FilesState : Type 0 where

@@ -3,7 +3,7 @@ ghost use Rattle.std.specs.Prelude.{◌≡◌, [], ◌↔◌, length, Some, IfOk
 ghost use Rattle.std.specs.Option.{option_map};
 ghost use Rattle.cp_outside.specs.FileReads.{EndsAs, ReadsFile, BlamesFile};
 ghost use Rattle.cp_outside.specs.Causes.{Accounts, one_more};
-ghost use Rattle.cp_outside.specs.MemoryStates.{named, new_files, after_file, after_failed_file};
+ghost use Rattle.cp_outside.specs.MemoryStates.{file_named, new_files, after_file, after_failed_file};
 
 use crate::files::{FileEnd, Files, FilesFault};
 use crate::plan::Plan;
@@ -78,7 +78,7 @@ impl MemFiles {
 
 // The bytes of the first file of this name.
 fn bytes_of<'a>(files: &'a [MemFile], name: &str) -> Option<&'a [u8]>
-    ensures { option_map (λ bytes. bytes.now) result ≡ named files.now name.now }
+    ensures { option_map (λ bytes. bytes.now) result ≡ file_named files.now name.now }
 {
     for file in files {
         if file.name.items.as_str() == name {
@@ -108,7 +108,7 @@ fn find(
     limit: u64,
     into: &mut Vec<u8>,
 ) -> Result<FileEnd, AllocError>
-    ensures { IfOk result (EndsAs (named files.now name.now) limit into.new.items) }
+    ensures { IfOk result (EndsAs (file_named files.now name.now) limit into.new.items) }
 {
     match bytes_of(files, name) {
         Some(bytes) => keep(bytes, limit, into),
@@ -120,7 +120,7 @@ fn find(
 }
 
 impl Files for MemFiles {
-    ghost found = { λ s. Some (named s.files) };
+    ghost found = { λ s. Some (file_named s.files) };
 
     ghost reads = { λ s. s.calls };
 
@@ -134,8 +134,8 @@ impl Files for MemFiles {
         into: &mut Vec<u8>,
     ) -> Result<FileEnd, FilesFault>
         ensures read { IfOk result (λ end.
-            ReadsFile (Some (named self.old.files)) name.now limit into.new.items end) }
-        ensures same { Some (named self.new.files) ≡ Some (named self.old.files) }
+            ReadsFile (Some (file_named self.old.files)) name.now limit into.new.items end) }
+        ensures same { Some (file_named self.new.files) ≡ Some (file_named self.old.files) }
         ensures counted { self.new.calls ≡ one_more self.old.calls }
         ensures cause { Accounts BlamesFile self.old.faults self.new.faults result }
 
@@ -143,7 +143,7 @@ impl Files for MemFiles {
         // is memory.
         ensures listed { IsErrOf result FilesFault.Failed
             ↔ Contains self.old.fails (one_more self.old.calls) }
-        ensures ends { IfOk result (EndsAs (named self.old.files name.now) limit into.new.items) }
+        ensures ends { IfOk result (EndsAs (file_named self.old.files name.now) limit into.new.items) }
         ensures done { OnOk result (self.new ≡ after_file self.old) }
         ensures failed { IsErrOf result FilesFault.Failed → self.new ≡ after_failed_file self.old }
         ensures memory { IsErrOf result FilesFault.Memory → self.new ≡ after_file self.old }

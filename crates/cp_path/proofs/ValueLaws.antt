@@ -21,7 +21,7 @@ use Rattle.cp_path.specs.Reading.{IsNoWord, IsNoWhole, IsNoString, IsNoText, Spe
 use Rattle.cp_path.specs.Words.{string_reading, word_reading, is_whole, whole_reading, text_reading, text_or_bad, whole_or, value_or, value_reading}
 use Rattle.cp_path.proofs.Accepted.{quoted_spells, string_reading_spelled}
 use Rattle.cp_path.proofs.Runs.{all_below, below}
-use Rattle.cp_path.specs.Laws.{Shape, IsNoValue, IsWithin}
+use Rattle.cp_path.specs.Laws.{IsTokenShape, IsNoValue, IsValueWithin}
 use Rattle.cp_path.proofs.WordLaws.{quoted_shape}
 use Rattle.std.specs.Fmt.{digits, digits_onto, digit_glyph}
 use Rattle.cp_path.specs.declared.fault.PathFault.{PathFault}
@@ -267,7 +267,7 @@ whole_first (pos n) fits =
     (omega (arith, d.3), omega (arith, d.3))
 whole_first (negsuc n) fits = (omega arith, omega arith)
 
-pub value_reads_back : (v : Value) → IsWithin v → value_reading (value_text v) ≡ Ok v
+pub value_reads_back : (v : Value) → IsValueWithin v → value_reading (value_text v) ≡ Ok v
 value_reads_back Null h = value_reading_word (codes "null") Null word_null
 value_reads_back False h = value_reading_word (codes "false") False word_false
 value_reads_back True h = value_reading_word (codes "true") True word_true
@@ -280,7 +280,7 @@ value_reads_back (Text t) h =
     ∙ ap text_or_bad (text_reading_spelled (quoted t) t (quoted_spells t, h))
 
 -- two values are never spelled alike
-pub value_spelled_once : (u v : Value) → IsWithin u → IsWithin v → value_text u ≡ value_text v → u ≡ v
+pub value_spelled_once : (u v : Value) → IsValueWithin u → IsValueWithin v → value_text u ≡ value_text v → u ≡ v
 value_spelled_once u v h k e = ok_value u v (value_reading (value_text u)) (value_reads_back u h) (ap value_reading e ∙ value_reads_back v k)
 
 -- ---- what a spelling looks like
@@ -322,7 +322,7 @@ bare_decimal n = by (n / 10 == 0) (bare_digits 63 (n / 10) (digit_glyph false (n
     by true f = (omega arith, one_more n [] refl)
     by false f = f
 
-pub value_shape : (v : Value) → Shape (value_text v)
+pub value_shape : (v : Value) → IsTokenShape (value_text v)
 value_shape Null = (omega arith, inl refl)
 value_shape False = (omega arith, inl refl)
 value_shape True = (omega arith, inl refl)

@@ -20,7 +20,7 @@ use Rattle.cp_path.specs.declared.scan.Spot.TheVariants as spot
 use Rattle.cp_path.proofs.Placed.{word_place}
 use Rattle.cp_path.proofs.PiecesLemmas.{pieces_of_label, pieces_of_place}
 use Rattle.cp_path.proofs.Accepted.{label_accepted, label_stopped, place_accepted, place_stopped, quoted_word, bare_text, string_reading_spelled}
-use Rattle.cp_path.specs.Laws.{IsSpelling, Shape}
+use Rattle.cp_path.specs.Laws.{IsSpelling, IsTokenShape}
 
 -- ---- the scan as a function
 
@@ -300,19 +300,19 @@ label_spelled_once a b e =
 
 -- ---- what a spelling looks like
 
-pub quoted_shape : (t : List ℕ) → Shape (quoted t)
+pub quoted_shape : (t : List ℕ) → IsTokenShape (quoted t)
 quoted_shape t = (omega arith, inr (t, refl))
 
-word_shape : (r : List ℕ) → Shape (label_word r)
+word_shape : (r : List ℕ) → IsTokenShape (label_word r)
 word_shape [] = quoted_shape []
 word_shape (x ∷ r) = by (has_trigger (x ∷ r)) refl
   where
-    by : (b : Bool) → has_trigger (x ∷ r) ≡ b → Shape (cond b (quoted (x ∷ r)) (x ∷ r))
+    by : (b : Bool) → has_trigger (x ∷ r) ≡ b → IsTokenShape (cond b (quoted (x ∷ r)) (x ∷ r))
     by true e = quoted_shape (x ∷ r)
     by false e = (omega arith, inl e)
 
-pub label_shape : (a : Label) → Shape (label_text a)
+pub label_shape : (a : Label) → IsTokenShape (label_text a)
 label_shape a = word_shape (escaped_text a)
 
-pub place_shape : (q : Loc) → is_name q.db ≡ true → Shape (place_text q)
-place_shape q n = subst Shape (word_place q n) (word_shape (raw_place q))
+pub place_shape : (q : Loc) → is_name q.db ≡ true → IsTokenShape (place_text q)
+place_shape q n = subst IsTokenShape (word_place q n) (word_shape (raw_place q))

@@ -24,8 +24,8 @@ IsSpelling w q = (place_text q ≡ w) × (size q ≤ LOC_MAX) × (length q.path 
 -- ---- what a spelling looks like
 
 -- the word is not empty, and stands in quotation marks or has no byte that asks for them
-abbrev pub Shape : List ℕ → Type 0
-Shape w = (0 < length w) × ((has_trigger w ≡ false) ⊎ ((t : List ℕ) × (w ≡ quoted t)))
+abbrev pub IsTokenShape : List ℕ → Type 0
+IsTokenShape w = (0 < length w) × ((has_trigger w ≡ false) ⊎ ((t : List ℕ) × (w ≡ quoted t)))
 
 -- ---- values
 
@@ -34,12 +34,12 @@ abbrev pub IsNoValue : List ℕ → Type 0
 IsNoValue w = (v : Value) → ¬ SpellsValue w v
 
 -- the value has a place in a tree: a number in the range, a text within its limit
-abbrev pub IsWithin : Value → Type 0
-IsWithin Null = Unit {0}
-IsWithin False = Unit {0}
-IsWithin True = Unit {0}
-IsWithin (Whole n) = IsWhole n
-IsWithin (Text t) = length t ≤ TEXT_MAX
+abbrev pub IsValueWithin : Value → Type 0
+IsValueWithin Null = Unit {0}
+IsValueWithin False = Unit {0}
+IsValueWithin True = Unit {0}
+IsValueWithin (Whole n) = IsWhole n
+IsValueWithin (Text t) = length t ≤ TEXT_MAX
 
 -- a place within every limit is read back from its spelling; a word spells one place; and what a reading says of its word
 pub record PlaceLaws : Type 0 where
@@ -47,7 +47,7 @@ pub record PlaceLaws : Type 0 where
   pub spelled_once : (w : List ℕ) (p q : Loc) → SpellsPlace w p → SpellsPlace w q → p ≡ q
   pub read : (w : List ℕ) (q : Loc) → place_reading w ≡ Ok q → IsSpelling w q
   pub refused : (w : List ℕ) (e : PathFault) → place_reading w ≡ Err e → PlaceFault e w
-  pub shape : (q : Loc) → is_name q.db ≡ true → Shape (place_text q)
+  pub shape : (q : Loc) → is_name q.db ≡ true → IsTokenShape (place_text q)
 
 -- the same of labels that stand alone
 pub record LabelLaws : Type 0 where
@@ -55,15 +55,15 @@ pub record LabelLaws : Type 0 where
   pub spelled_once : (a b : Label) → label_text a ≡ label_text b → a ≡ b
   pub read : (w : List ℕ) (a : Label) → label_reading w ≡ Ok a → (w ≡ label_text a) × (length a ≤ LABEL_MAX)
   pub refused : (w : List ℕ) (e : PathFault) → label_reading w ≡ Err e → LabelFault e w
-  pub shape : (a : Label) → Shape (label_text a)
+  pub shape : (a : Label) → IsTokenShape (label_text a)
 
 -- the same of values, whose texts have many spellings, of which one is written
 pub record ValueLaws : Type 0 where
-  pub reads_back : (v : Value) → IsWithin v → value_reading (value_text v) ≡ Ok v
-  pub spelled_once : (u v : Value) → IsWithin u → IsWithin v → value_text u ≡ value_text v → u ≡ v
+  pub reads_back : (v : Value) → IsValueWithin v → value_reading (value_text v) ≡ Ok v
+  pub spelled_once : (u v : Value) → IsValueWithin u → IsValueWithin v → value_text u ≡ value_text v → u ≡ v
   pub read : (w : List ℕ) (v : Value) → value_reading w ≡ Ok v → SpellsValue w v
   pub refused : (w : List ℕ) (e : PathFault) → value_reading w ≡ Err e → (e ≡ fault.BadValue) × IsNoValue w
-  pub shape : (v : Value) → Shape (value_text v)
+  pub shape : (v : Value) → IsTokenShape (value_text v)
 
 -- a text of any length is read back from its quotation marks
 abbrev pub StringsReadBack : Type 0

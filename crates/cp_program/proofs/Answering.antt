@@ -25,8 +25,8 @@ use Rattle.cp_reply.specs.declared.reply.Of.TheVariants as of
 use Rattle.cp_reply.specs.declared.reply.Why.TheVariants as why
 use Rattle.cp_reply.specs.declared.reply.Reply.{Reply}
 use Rattle.cp_reply.specs.declared.reply.Reply.TheVariants as reply
-use Rattle.cp_session.specs.Session.{Session, Opened, closed, going, failed, says, turn_of, row_of, shown, current_tree, outcome_tree, answered, no_place_of, replies, refuses}
-use Rattle.cp_engine.specs.Passed.{passed, AllAccepted}
+use Rattle.cp_session.specs.Session.{Session, OpenTransaction, closed, going, failed, says, turn_of, row_of, show_at, current_tree, outcome_tree, answer_or_refuse, no_place_of, replies, refuses}
+use Rattle.cp_engine.specs.Passed.{stage_after, AllAccepted}
 use Rattle.cp_engine.proofs.Linked.{accepted-step}
 use Rattle.cp_engine.specs.Transactions as txn
 use Rattle.cp_engine.specs.declared.txn.Txn.{Txn}
@@ -43,7 +43,7 @@ use Rattle.cp_program.proofs.Standing.{turned-on}
 -- ---- the tree that is shown
 
 -- accepted operations lead to the tree after them
-working_tree : (t : State) (n : ℕ) (ops : List Op) → AllAccepted t.sources (tree_of t.tree) ops → (passed t.sources (tree_of t.tree) n ops).tree ≡ outcome_tree t (step (tree_of t.tree) t.sources ops)
+working_tree : (t : State) (n : ℕ) (ops : List Op) → AllAccepted t.sources (tree_of t.tree) ops → (stage_after t.sources (tree_of t.tree) n ops).tree ≡ outcome_tree t (step (tree_of t.tree) t.sources ops)
 working_tree t n ops a =
     let x = accepted-step t.sources (tree_of t.tree) n ops a in
     sym (ap (outcome_tree t) x.1 ∙ x.2)
@@ -58,7 +58,7 @@ module _ {R : Type 0} (view : R → Tree) (d : Database R) (s : Session) (z : St
   abbrev ss : List Source
   ss = z.state.sources
 
-  closed_tree : (o : Opened) → Opens view None ss t n o → t ≡ current_tree z.state o
+  closed_tree : (o : OpenTransaction) → Opens view None ss t n o → t ≡ current_tree z.state o
   closed_tree closed h = refl
   closed_tree (going ops) h = absurd h
   closed_tree (failed k c) h = absurd h
@@ -71,16 +71,16 @@ module _ {R : Type 0} (view : R → Tree) (d : Database R) (s : Session) (z : St
     stands_open : Opens view (Some x) ss t n s.opened
     stands_open = subst (λ y. Opens view y ss t n s.opened) there z.opened
 
-    going_tree : (j : ℕ) (u : Tree) (o : Opened) → Opens view (Some x) ss t n o → k ≡ state.Going j → ((ops : List Op) → txn.Stands view x ss t n (txn.going ops) → u ≡ (passed ss t n ops).tree) → u ≡ current_tree z.state o
+    going_tree : (j : ℕ) (u : Tree) (o : OpenTransaction) → Opens view (Some x) ss t n o → k ≡ state.Going j → ((ops : List Op) → txn.Stands view x ss t n (txn.going ops) → u ≡ (stage_after ss t n ops).tree) → u ≡ current_tree z.state o
     going_tree j u closed h e f = absurd h
     going_tree j u (going ops) h e f = f ops h.0 ∙ working_tree z.state n ops h.0.accepted
     going_tree j u (failed i c) h e f = let same = is ss t n (txn.failed i c) h in absurd (cc)
 
     -- where it is going, its working tree is shown
-    pub tree-going : (j : ℕ) (u : Tree) → k ≡ state.Going j → ((ss : List Source) (t : Tree) (n : ℕ) (ops : List Op) → txn.Stands view x ss t n (txn.going ops) → u ≡ (passed ss t n ops).tree) → u ≡ current_tree z.state s.opened
+    pub tree-going : (j : ℕ) (u : Tree) → k ≡ state.Going j → ((ss : List Source) (t : Tree) (n : ℕ) (ops : List Op) → txn.Stands view x ss t n (txn.going ops) → u ≡ (stage_after ss t n ops).tree) → u ≡ current_tree z.state s.opened
     tree-going j u e f = going_tree j u s.opened stands_open e (f ss t n)
 
-    failed_tree : (o : Opened) → Opens view (Some x) ss t n o → ((j : ℕ) → k ≡ state.Going j → ⊥) → t ≡ current_tree z.state o
+    failed_tree : (o : OpenTransaction) → Opens view (Some x) ss t n o → ((j : ℕ) → k ≡ state.Going j → ⊥) → t ≡ current_tree z.state o
     failed_tree closed h e = absurd h
     failed_tree (going ops) h e = absurd (e _ (is ss t n (txn.going ops) h.0))
     failed_tree (failed i c) h e = refl
@@ -92,21 +92,21 @@ module _ {R : Type 0} (view : R → Tree) (d : Database R) (s : Session) (z : St
 -- ---- show
 
 module _ {R : Type 0} (view : R → Tree) (files : FileTable) (d : Database R) (s : Session) (z : Stands view d s) where
-  shows : (q : Loc) (r : Option Reply) → Turned view (shown s q (shown_tree z.state s.opened q)) d r → Turned view (turn_of (setting files) s (says (stmt.Show q))) d r
+  shows : (q : Loc) (r : Option Reply) → Turned view (show_at s q (shown_tree z.state s.opened q)) d r → Turned view (turn_of (setting files) s (says (stmt.Show q))) d r
   shows q r h = turned-on view files d d s z (stmt.Show q) r h
 
   -- there is no such database
   pub turned-no_source : (q : Loc) → shown_tree z.state s.opened q ≡ None → Turned view (turn_of (setting files) s (says (stmt.Show q))) d (Some (reply.Refused of.Statement (why.NoSource q.db)))
   turned-no_source q e =
       let r = Some (reply.Refused of.Statement (why.NoSource q.db)) in
-      shows q r (subst (λ o. Turned view (shown s q o) d r) (sym e) (refl, z))
+      shows q r (subst (λ o. Turned view (show_at s q o) d r) (sym e) (refl, z))
 
   -- nothing is shown of a place that isn't there
   pub turned-no_place : (q : Loc) (u : Tree) → shown_tree z.state s.opened q ≡ Some u → is_there u q.path ≡ false → Turned view (turn_of (setting files) s (says (stmt.Show q))) d (Some (reply.Refused of.Statement (why.NoPlace q)))
   turned-no_place q u e there =
       let r = Some (reply.Refused of.Statement (why.NoPlace q)) in
       shows q r
-      (subst (λ o. Turned view (shown s q o) d r) (sym e)
+      (subst (λ o. Turned view (show_at s q o) d r) (sym e)
       (subst (λ b. Turned view (if b then replies (reply.Show q (map row_of (below q.path u))) s else refuses (why.NoPlace q) s) d r) (sym there) (refl, z)))
 
   -- the rows at and below the place are shown
@@ -115,7 +115,7 @@ module _ {R : Type 0} (view : R → Tree) (files : FileTable) (d : Database R) (
   turned-shown q u rows e there is =
       let r = Some (reply.Show q rows) in
       shows q r
-      (subst (λ o. Turned view (shown s q o) d r) (sym e)
+      (subst (λ o. Turned view (show_at s q o) d r) (sym e)
       (subst (λ b. Turned view (if b then replies (reply.Show q (map row_of (below q.path u))) s else refuses (why.NoPlace q) s) d r) (sym there) (ap (λ rs. Some (reply.Show q rs)) is, z)))
 
 -- ---- queries
@@ -129,10 +129,10 @@ module _ {R : Type 0} (view : R → Tree) (files : FileTable) (d m : Database R)
   pub turned-answered : (q : Query) (a : Answer) → answer_to z.state q ≡ Some a → Turned view (turn_of (setting files) s (says (stmt.Ask q))) m (Some (reply.Answered q a))
   turned-answered q a e =
       let r = Some (reply.Answered q a) in
-      turned-on view files d m s z (stmt.Ask q) r (subst (λ o. Turned view (answered s q o) m r) (sym e) (refl, y))
+      turned-on view files d m s z (stmt.Ask q) r (subst (λ o. Turned view (answer_or_refuse s q o) m r) (sym e) (refl, y))
 
   -- a query without one is refused
   pub turned-unanswered : (q : Query) → answer_to z.state q ≡ None → Turned view (turn_of (setting files) s (says (stmt.Ask q))) m (Some (reply.Refused of.Statement (no_place_of q)))
   turned-unanswered q e =
       let r = Some (reply.Refused of.Statement (no_place_of q)) in
-      turned-on view files d m s z (stmt.Ask q) r (subst (λ o. Turned view (answered s q o) m r) (sym e) (refl, y))
+      turned-on view files d m s z (stmt.Ask q) r (subst (λ o. Turned view (answer_or_refuse s q o) m r) (sym e) (refl, y))

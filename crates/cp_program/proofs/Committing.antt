@@ -14,8 +14,8 @@ use Rattle.cp_reply.specs.declared.reply.Of.TheVariants as of
 use Rattle.cp_reply.specs.declared.reply.Why.TheVariants as why
 use Rattle.cp_reply.specs.declared.reply.Reply.TheVariants as reply
 use Rattle.cp_store.specs.Changes.{AreNext}
-use Rattle.cp_session.specs.Session.{Session, Opened, closed, going, failed, with_opened, says, turn_of, committing, given_up, stamp_of, after_moment, with_entry}
-use Rattle.cp_engine.specs.Passed.{passed}
+use Rattle.cp_session.specs.Session.{Session, OpenTransaction, closed, going, failed, with_opened, says, turn_of, on_commit, count_given_up, stamp_of, after_moment, with_entry}
+use Rattle.cp_engine.specs.Passed.{stage_after}
 use Rattle.cp_engine.proofs.Linked.{accepted-done, IsAt, passed-after, now-after}
 use Rattle.cp_engine.proofs.Rising.{rising-passed}
 use Rattle.cp_engine.specs.Transactions as txn
@@ -58,8 +58,8 @@ module _ {R : Type 0} (view : R → Tree) (files : FileTable) (d m : Database R)
   pub next-rows : AreNext d.store.upto (d.store.upto + x.tids) x.rows
   next-rows =
       subst (λ rs. AreNext d.store.upto (d.store.upto + x.tids) rs) (sym k.step.rows)
-      (subst (λ j. AreNext d.store.upto (d.store.upto + j) (passed ss t (before.now + 1) k.ops).records) (sym k.step.tids)
-      (subst (λ i. AreNext i (i + length k.ops) (passed ss t (before.now + 1) k.ops).records) (sym k.stands.upto) (rising-passed ss t before.now k.ops)))
+      (subst (λ j. AreNext d.store.upto (d.store.upto + j) (stage_after ss t (before.now + 1) k.ops).records) (sym k.step.tids)
+      (subst (λ i. AreNext i (i + length k.ops) (stage_after ss t (before.now + 1) k.ops).records) (sym k.stands.upto) (rising-passed ss t before.now k.ops)))
 
   can_commit : CanCommit before k.ops
   can_commit = record {
@@ -69,7 +69,7 @@ module _ {R : Type 0} (view : R → Tree) (files : FileTable) (d m : Database R)
     accepted = accepted-done ss t k.ops going_on.0.accepted;
   }
 
-  at_end : IsAt ss before.rows (passed ss t (before.now + 1) k.ops) after
+  at_end : IsAt ss before.rows (stage_after ss t (before.now + 1) k.ops) after
   at_end = passed-after ss before k.ops k.stands.kind refl going_on.0.accepted
 
   now_is : after.now ≡ before.now + length k.ops
@@ -107,7 +107,7 @@ module _ {R : Type 0} (view : R → Tree) (files : FileTable) (d m : Database R)
       Turned view (turn_of (setting files) s (says stmt.Commit)) m (Some (reply.Committed low high))
   turned-kept low high tree kept list upto same more l h =
       turned-on view files (holding d k.transaction) m s k.stands stmt.Commit (Some (reply.Committed low high))
-      (subst (λ o. Turned view (committing (setting files) s before o) m (Some (reply.Committed low high))) (sym k.opened) (
+      (subst (λ o. Turned view (on_commit (setting files) s before o) m (Some (reply.Committed low high))) (sym k.opened) (
         ap (λ i. Some (reply.Committed i high)) (l ∙ ap (λ i. i + 1) k.stands.upto) ∙ ap (λ j. Some (reply.Committed (before.now + 1) j)) (h ∙ upto ∙ sym high_is),
         keeps tree kept list upto same more,
       ))
@@ -128,7 +128,7 @@ module _ {R : Type 0} (view : R → Tree) (files : FileTable) (d m : Database R)
       let few = z.few in
       stands-with view d m s z closed tree kept list upto (subst (λ y. Opens view y loaded from first closed) (sym none) tt) (omega (arith, few, runs))
 
-  nothing_open : (o : Opened) → Opens view None loaded from first o → Turned view (committing (setting files) s z.state o) m (Some (reply.Refused of.Commit why.NoOperation))
+  nothing_open : (o : OpenTransaction) → Opens view None loaded from first o → Turned view (on_commit (setting files) s z.state o) m (Some (reply.Refused of.Commit why.NoOperation))
   nothing_open closed h = (refl, closes)
   nothing_open (going ops) h = absurd h
   nothing_open (failed k c) h = absurd h
@@ -137,7 +137,7 @@ module _ {R : Type 0} (view : R → Tree) (files : FileTable) (d m : Database R)
   pub turned-nothing : d.transaction ≡ None → Turned view (turn_of (setting files) s (says stmt.Commit)) m (Some (reply.Refused of.Commit why.NoOperation))
   turned-nothing e = turned-on view files d m s z stmt.Commit _ (nothing_open s.opened (subst (λ y. Opens view y loaded from first s.opened) e z.opened))
 
-  aborts_none : (o : Opened) → Opens view None loaded from first o → given_up o ≡ 0
+  aborts_none : (o : OpenTransaction) → Opens view None loaded from first o → count_given_up o ≡ 0
   aborts_none closed h = refl
   aborts_none (going ops) h = absurd h
   aborts_none (failed k c) h = absurd h
@@ -151,17 +151,17 @@ module _ {R : Type 0} (view : R → Tree) (files : FileTable) (d m : Database R)
     stands_open : Opens view (Some x) loaded from first s.opened
     stands_open = subst (λ y. Opens view y loaded from first s.opened) there z.opened
 
-    aborts : (count : ℕ) (o : Opened) → Opens view (Some x) loaded from first o → ((p : txn.Progress) → txn.Stands view x loaded from first p → count ≡ txn.given_up p) → count ≡ given_up o
+    aborts : (count : ℕ) (o : OpenTransaction) → Opens view (Some x) loaded from first o → ((p : txn.Progress) → txn.Stands view x loaded from first p → count ≡ txn.held_count p) → count ≡ count_given_up o
     aborts count closed h e = absurd h
     aborts count (going ops) h e = e (txn.going ops) h.0
     aborts count (failed k c) h e = e (txn.failed k c) h
 
     -- the accepted operations are given up
-    pub turned-aborted : (count : ℕ) → ((p : txn.Progress) → txn.Stands view x loaded from first p → count ≡ txn.given_up p) → Turned view (turn_of (setting files) s (says stmt.Abort)) m (Some (reply.Aborted count))
+    pub turned-aborted : (count : ℕ) → ((p : txn.Progress) → txn.Stands view x loaded from first p → count ≡ txn.held_count p) → Turned view (turn_of (setting files) s (says stmt.Abort)) m (Some (reply.Aborted count))
     turned-aborted count e = turned-on view files d m s z stmt.Abort _ (ap (λ i. Some (reply.Aborted i)) (aborts count s.opened stands_open e), closes)
 
-    fails : (j : ℕ) (c : Cause) (o : Opened) → Opens view (Some x) loaded from first o → ((p : txn.Progress) → txn.Stands view x loaded from first p → txn.Finishes view loaded from first p (2 ^ 64 - 1) (Err (unfinished.Failed j c))) →
-        Turned view (committing (setting files) s z.state o) m (Some (reply.Refused of.Commit (why.FailedAt j)))
+    fails : (j : ℕ) (c : Cause) (o : OpenTransaction) → Opens view (Some x) loaded from first o → ((p : txn.Progress) → txn.Stands view x loaded from first p → txn.Finishes view loaded from first p (2 ^ 64 - 1) (Err (unfinished.Failed j c))) →
+        Turned view (on_commit (setting files) s z.state o) m (Some (reply.Refused of.Commit (why.FailedAt j)))
     fails j c closed h e = absurd h
     fails j c (going ops) h e = absurd (e (txn.going ops) h.0)
     fails j c (failed k b) h e = (ap (λ i. Some (reply.Refused of.Commit (why.FailedAt i))) (e (txn.failed k b) h).0, closes)
@@ -171,7 +171,7 @@ module _ {R : Type 0} (view : R → Tree) (files : FileTable) (d m : Database R)
         Turned view (turn_of (setting files) s (says stmt.Commit)) m (Some (reply.Refused of.Commit (why.FailedAt j)))
     turned-unfinished j c e = turned-on view files d m s z stmt.Commit _ (fails j c s.opened stands_open e)
 
-    never_empty : (o : Opened) → Opens view (Some x) loaded from first o → ((p : txn.Progress) → txn.Stands view x loaded from first p → txn.Finishes view loaded from first p (2 ^ 64 - 1) (Err unfinished.Empty)) → ⊥
+    never_empty : (o : OpenTransaction) → Opens view (Some x) loaded from first o → ((p : txn.Progress) → txn.Stands view x loaded from first p → txn.Finishes view loaded from first p (2 ^ 64 - 1) (Err unfinished.Empty)) → ⊥
     never_empty closed h e = h
     never_empty (going ops) h e = let none = e (txn.going ops) h.0 in let len = ap length none in let some = h.1 in omega (arith, len, some)
     never_empty (failed k b) h e = e (txn.failed k b) h
@@ -180,7 +180,7 @@ module _ {R : Type 0} (view : R → Tree) (files : FileTable) (d m : Database R)
     pub not-empty : ((p : txn.Progress) → txn.Stands view x loaded from first p → txn.Finishes view loaded from first p (2 ^ 64 - 1) (Err unfinished.Empty)) → ⊥
     not-empty e = never_empty s.opened stands_open e
 
-    never_large : (o : Opened) → Opens view (Some x) loaded from first o → ((p : txn.Progress) → txn.Stands view x loaded from first p → txn.Finishes view loaded from first p (2 ^ 64 - 1) (Err unfinished.TooLarge)) → ⊥
+    never_large : (o : OpenTransaction) → Opens view (Some x) loaded from first o → ((p : txn.Progress) → txn.Stands view x loaded from first p → txn.Finishes view loaded from first p (2 ^ 64 - 1) (Err unfinished.TooLarge)) → ⊥
     never_large closed h e = h
     never_large (going ops) h e = let large = e (txn.going ops) h.0 in let more = large.1 in let less = large.2 in omega (arith, more, less)
     never_large (failed k b) h e = e (txn.failed k b) h
@@ -190,7 +190,7 @@ module _ {R : Type 0} (view : R → Tree) (files : FileTable) (d m : Database R)
     not-large e = never_large s.opened stands_open e
 
 -- the step is made by the transaction that was open
-makes_if : {R : Type 0} (view : R → Tree) (m : Database R) (s : Session) (x : Txn R) (st : Step R) (z : Stands view (holding m x) s) (o : Opened) → m.transaction ≡ None → s.opened ≡ o →
+makes_if : {R : Type 0} (view : R → Tree) (m : Database R) (s : Session) (x : Txn R) (st : Step R) (z : Stands view (holding m x) s) (o : OpenTransaction) → m.transaction ≡ None → s.opened ≡ o →
     Opens view (Some x) z.state.sources (tree_of z.state.tree) (z.state.now + 1) o → ((p : txn.Progress) → txn.Stands view x z.state.sources (tree_of z.state.tree) (z.state.now + 1) p → txn.Finishes view z.state.sources (tree_of z.state.tree) (z.state.now + 1) p (2 ^ 64 - 1) (Ok st)) → Makes view m st s
 makes_if view m s x st z closed none e h f = absurd h
 makes_if view m s x st z (going ops) none e h f = record { taken = none; transaction = x; stands = z; ops = ops; opened = e; step = f (txn.going ops) h.0 }

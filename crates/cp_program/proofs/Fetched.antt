@@ -14,7 +14,7 @@ use Rattle.cp_csv.specs.declared.fault.CsvFault.TheVariants as csv
 use Rattle.cp_reply.specs.declared.reply.Why.{Why}
 use Rattle.cp_reply.specs.declared.reply.Why.TheVariants as why
 use Rattle.cp_session.specs.Session.{withholds}
-use Rattle.cp_program.specs.Fetching.{json_why, csv_why, json_given, csv_given, given, file_gives}
+use Rattle.cp_program.specs.Fetching.{json_why, csv_why, json_given, csv_given, form_given, file_gives}
 use Rattle.cp_program.specs.Fetched.{Gives}
 
 -- ---- texts
@@ -40,16 +40,16 @@ csv-withholds view r e w (inr h) n i = subst (λ y. Gives view (csv_given y) (Er
 -- ---- files
 
 -- a file within the limit gives what its text does
-pub whole-gives : (name : List ℕ) (form : Form) (file : Option (List ℕ)) (bytes : List ℕ) → file ≡ Some bytes → length bytes ≤ FILE_MAX → file_gives name form file ≡ given name form bytes
+pub whole-gives : (name : List ℕ) (form : Form) (file : Option (List ℕ)) (bytes : List ℕ) → file ≡ Some bytes → length bytes ≤ FILE_MAX → file_gives name form file ≡ form_given name form bytes
 whole-gives name form file bytes is short =
     let within : nat_lt FILE_MAX (length bytes) ≡ false = grind (arith, nat_tests) in
-    ap (file_gives name form) is ∙ ap (λ b. if b then withholds why.FileTooLong else given name form bytes) within
+    ap (file_gives name form) is ∙ ap (λ b. if b then withholds why.FileTooLong else form_given name form bytes) within
 
 -- a longer one gives nothing
 pub long-gives : (name : List ℕ) (form : Form) (file : Option (List ℕ)) (bytes : List ℕ) → file ≡ Some bytes → FILE_MAX < length bytes → file_gives name form file ≡ withholds why.FileTooLong
 long-gives name form file bytes is long =
     let past : nat_lt FILE_MAX (length bytes) ≡ true = grind (arith, nat_tests) in
-    ap (file_gives name form) is ∙ ap (λ b. if b then withholds why.FileTooLong else given name form bytes) past
+    ap (file_gives name form) is ∙ ap (λ b. if b then withholds why.FileTooLong else form_given name form bytes) past
 
 -- nor does one that isn't there
 pub none-gives : (name : List ℕ) (form : Form) (file : Option (List ℕ)) → file ≡ None → file_gives name form file ≡ withholds why.NoFile

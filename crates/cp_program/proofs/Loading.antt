@@ -10,7 +10,7 @@ use Rattle.cp_path.specs.Text.{is_name}
 use Rattle.cp_model.specs.Place.{label_eq, target}
 use Rattle.cp_model.specs.Tree.{Tree, IsTree, Source, source}
 use Rattle.cp_model.specs.Past.{tree_of}
-use Rattle.cp_model.specs.History.{State, load, loaded, then_entry, CanLoad, CanFollow}
+use Rattle.cp_model.specs.History.{State, load, after_load, then_entry, CanLoad, CanFollow}
 use Rattle.cp_model.proofs.Histories.{replay-snoc, legal-snoc}
 use Rattle.cp_lang.specs.declared.syntax_tree.Load.{Load}
 use Rattle.cp_lang.specs.declared.syntax_tree.Stmt.TheVariants as stmt
@@ -19,7 +19,7 @@ use Rattle.cp_reply.specs.declared.reply.Why.{Why}
 use Rattle.cp_reply.specs.declared.reply.Why.TheVariants as why
 use Rattle.cp_reply.specs.declared.reply.Reply.{Reply}
 use Rattle.cp_reply.specs.declared.reply.Reply.TheVariants as reply
-use Rattle.cp_session.specs.Session.{Session, Opened, closed, going, failed, with_entry, says, turn_of, Setting, Turn, loading, fetched, refused_load, is_closed, gives, withholds}
+use Rattle.cp_session.specs.Session.{Session, OpenTransaction, closed, going, failed, with_entry, says, turn_of, Setting, Turn, on_load, load_fetched, refused_load, is_closed, gives, withholds}
 use Rattle.cp_engine.specs.Loaded.{sources_in}
 use Rattle.cp_engine.specs.declared.txn.Txn.{Txn}
 use Rattle.cp_program.specs.Fetching.{fetch}
@@ -33,13 +33,13 @@ use Rattle.cp_program.proofs.Standing.{turned-on}
 -- ---- why nothing is loaded
 
 -- a transaction is open
-open_isn't_closed : {R : Type 0} (view : R → Tree) (x : Txn R) (ss : List Source) (t : Tree) (n : ℕ) (o : Opened) → Opens view (Some x) ss t n o → is_closed o ≡ false
+open_isn't_closed : {R : Type 0} (view : R → Tree) (x : Txn R) (ss : List Source) (t : Tree) (n : ℕ) (o : OpenTransaction) → Opens view (Some x) ss t n o → is_closed o ≡ false
 open_isn't_closed view x ss t n closed h = absurd h
 open_isn't_closed view x ss t n (going ops) h = refl
 open_isn't_closed view x ss t n (failed k c) h = refl
 
 -- none is
-none_is_closed : {R : Type 0} (view : R → Tree) (ss : List Source) (t : Tree) (n : ℕ) (o : Opened) → Opens view None ss t n o → is_closed o ≡ true
+none_is_closed : {R : Type 0} (view : R → Tree) (ss : List Source) (t : Tree) (n : ℕ) (o : OpenTransaction) → Opens view None ss t n o → is_closed o ≡ true
 none_is_closed view ss t n closed h = refl
 none_is_closed view ss t n (going ops) h = absurd h
 none_is_closed view ss t n (failed k c) h = absurd h
@@ -83,7 +83,7 @@ module _ {R : Type 0} (view : R → Tree) (d : Database R) (s : Session) (z : St
 -- ---- what is loaded
 
 module _ {R : Type 0} (view : R → Tree) (d m : Database R) (s : Session) (z : Stands view d s) (name : List ℕ) (u : Tree) where
-  opened_on : (ss : List Source) (o : Opened) → d.transaction ≡ None → Opens view d.transaction z.state.sources (tree_of z.state.tree) (z.state.now + 1) o → Opens view None ss (tree_of z.state.tree) (z.state.now + 1) o
+  opened_on : (ss : List Source) (o : OpenTransaction) → d.transaction ≡ None → Opens view d.transaction z.state.sources (tree_of z.state.tree) (z.state.now + 1) o → Opens view None ss (tree_of z.state.tree) (z.state.now + 1) o
   opened_on ss closed e h = tt
   opened_on ss (going ops) e h = absurd (subst (λ y. Opens view y z.state.sources (tree_of z.state.tree) (z.state.now + 1) (going ops)) e h)
   opened_on ss (failed k c) e h = absurd (subst (λ y. Opens view y z.state.sources (tree_of z.state.tree) (z.state.now + 1) (failed k c)) e h)
@@ -100,7 +100,7 @@ module _ {R : Type 0} (view : R → Tree) (d m : Database R) (s : Session) (z : 
       } in
       let bound = few in
       record {
-        state = loaded z.state name u;
+        state = after_load z.state name u;
         replayed = replay-snoc s.history (load name u) ∙ ap (λ r. then_entry r (load name u)) z.replayed;
         legal = legal-snoc s.history (load name u) z.legal (subst (λ r. CanFollow r (load name u)) (sym z.replayed) can);
         kind = z.kind;
@@ -109,7 +109,7 @@ module _ {R : Type 0} (view : R → Tree) (d m : Database R) (s : Session) (z : 
         tree = ap view same ∙ z.tree;
         rows = ap (λ x. x.list) store ∙ z.rows;
         upto = ap (λ x. x.upto) store ∙ z.upto;
-        opened = subst (λ y. Opens view y (loaded z.state name u).sources (tree_of z.state.tree) (z.state.now + 1) s.opened) (sym none) (opened_on (loaded z.state name u).sources s.opened shut z.opened);
+        opened = subst (λ y. Opens view y (after_load z.state name u).sources (tree_of z.state.tree) (z.state.now + 1) s.opened) (sym none) (opened_on (after_load z.state name u).sources s.opened shut z.opened);
         few = subst (λ n. z.state.now + held_in s.opened ≤ n) (sym runs) z.few;
       }
 
@@ -118,14 +118,14 @@ module _ {R : Type 0} (view : R → Tree) (d m : Database R) (s : Session) (z : 
 -- the turn of a load, by what is in its way
 abbrev loading_by : Setting → Session → Load → Option Why → Turn
 loading_by c s l (Some w) = refused_load w s
-loading_by c s l None = fetched c s l.name (c.fetch l)
+loading_by c s l None = load_fetched c s l.name (c.fetch l)
 
-loading-is : (c : Setting) (s : Session) (t : State) (l : Load) → loading c s t l ≡ loading_by c s l (why_not_loaded t s.opened l.name)
+loading-is : (c : Setting) (s : Session) (t : State) (l : Load) → on_load c s t l ≡ loading_by c s l (why_not_loaded t s.opened l.name)
 loading-is c s t l =
     elim (is_closed s.opened) as (λ b. (if not b then refused_load why.TransactionOpen s
     else if is_some (source t.sources l.name) then refused_load (why.SourceThere l.name) s
     else if length t.sources == SOURCES_MAX then refused_load why.TooManySources s
-    else fetched c s l.name (c.fetch l))
+    else load_fetched c s l.name (c.fetch l))
     ≡ loading_by c s l (if not b then Some why.TransactionOpen
     else if is_some (source t.sources l.name) then Some (why.SourceThere l.name)
     else if length t.sources == SOURCES_MAX then Some why.TooManySources
@@ -133,12 +133,12 @@ loading-is c s t l =
       | false ↦ refl
       | true ↦ elim (is_some (source t.sources l.name)) as (λ b. (if b then refused_load (why.SourceThere l.name) s
           else if length t.sources == SOURCES_MAX then refused_load why.TooManySources s
-          else fetched c s l.name (c.fetch l))
+          else load_fetched c s l.name (c.fetch l))
           ≡ loading_by c s l (if b then Some (why.SourceThere l.name)
           else if length t.sources == SOURCES_MAX then Some why.TooManySources
           else None)) [
             | true ↦ refl
-            | false ↦ elim (length t.sources == SOURCES_MAX) as (λ b. (if b then refused_load why.TooManySources s else fetched c s l.name (c.fetch l)) ≡ loading_by c s l (if b then Some why.TooManySources else None)) [ true ↦ refl | false ↦ refl ]
+            | false ↦ elim (length t.sources == SOURCES_MAX) as (λ b. (if b then refused_load why.TooManySources s else load_fetched c s l.name (c.fetch l)) ≡ loading_by c s l (if b then Some why.TooManySources else None)) [ true ↦ refl | false ↦ refl ]
           ]
     ]
 
@@ -156,8 +156,8 @@ module _ {R : Type 0} (view : R → Tree) (files : FileTable) (d m : Database R)
   pub turned-withheld : (w : Why) → None ≡ why_not_loaded z.state s.opened l.name → fetch files l ≡ withholds w → Stands view m s → Turned view (turn_of (setting files) s (says (stmt.Load l))) m (Some (reply.Refused of.Load w))
   turned-withheld w e g y =
       let r = Some (reply.Refused of.Load w) in
-      by_way None r e (subst (λ x. Turned view (fetched (setting files) s l.name x) m r) (sym g) (refl, y))
+      by_way None r e (subst (λ x. Turned view (load_fetched (setting files) s l.name x) m r) (sym g) (refl, y))
 
   -- the tree that the file gives is loaded
   pub turned-loaded : (u : Tree) (r : Reply) → None ≡ why_not_loaded z.state s.opened l.name → fetch files l ≡ gives u → Loads view s l.name u m r → Turned view (turn_of (setting files) s (says (stmt.Load l))) m (Some r)
-  turned-loaded u r e g y = by_way None (Some r) e (subst (λ x. Turned view (fetched (setting files) s l.name x) m (Some r)) (sym g) (ap (λ x. Some x) y.0, y.1))
+  turned-loaded u r e g y = by_way None (Some r) e (subst (λ x. Turned view (load_fetched (setting files) s l.name x) m (Some r)) (sym g) (ap (λ x. Some x) y.0, y.1))

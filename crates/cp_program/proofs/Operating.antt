@@ -16,8 +16,8 @@ use Rattle.cp_reply.specs.declared.reply.Of.TheVariants as of
 use Rattle.cp_reply.specs.declared.reply.Why.{Why}
 use Rattle.cp_reply.specs.declared.reply.Why.TheVariants as why
 use Rattle.cp_reply.specs.declared.reply.Reply.TheVariants as reply
-use Rattle.cp_session.specs.Session.{Session, Opened, closed, going, failed, with_opened, says, turn_of, refusal_on, refusal_after, decided, operated, why_refused, not_read, spoiled}
-use Rattle.cp_engine.specs.Passed.{passed, refusal_behind, AllAccepted}
+use Rattle.cp_session.specs.Session.{Session, OpenTransaction, closed, going, failed, with_opened, says, turn_of, refusal_on, refusal_after, decide_op, on_operation, why_refused, not_read, fail_unread}
+use Rattle.cp_engine.specs.Passed.{stage_after, refusal_behind, AllAccepted}
 use Rattle.cp_engine.proofs.Linked.{accepted-step}
 use Rattle.cp_engine.specs.Transactions as txn
 use Rattle.cp_engine.specs.declared.txn.Txn.{Txn}
@@ -32,7 +32,7 @@ use Rattle.cp_program.proofs.Standing.{stands-with, turned-on}
 
 -- behind accepted operations, the refusal on their step is the one by the tree to which they lead
 refusal_on_step : (t : State) (n : ℕ) (ops : List Op) (op : Op) → AllAccepted t.sources (tree_of t.tree) ops →
-    refusal_on t (step (tree_of t.tree) t.sources ops) op ≡ refusal t.sources (passed t.sources (tree_of t.tree) n ops).tree op
+    refusal_on t (step (tree_of t.tree) t.sources ops) op ≡ refusal t.sources (stage_after t.sources (tree_of t.tree) n ops).tree op
 refusal_on_step t n ops op a =
     let x = accepted-step t.sources (tree_of t.tree) n ops a in
     ap (λ y. refusal_on t y op) x.1 ∙ ap (λ u. refusal t.sources u op) x.2
@@ -57,49 +57,49 @@ module _ {R : Type 0} (view : R → Tree) (d m : Database R) (s : Session) (z : 
   ss = z.state.sources
 
   -- the transaction is put back
-  puts_back : (o : Opened) → Opens view (Some x) ss t n o → z.state.now + held_in o ≤ m.runs → Stands view m (with_opened s o)
+  puts_back : (o : OpenTransaction) → Opens view (Some x) ss t n o → z.state.now + held_in o ≤ m.runs → Stands view m (with_opened s o)
   puts_back o h few = stands-with view d m s z o tree kept list upto (subst (λ y. Opens view y ss t n o) (sym there) h) few
 
   -- ---- texts that can't be read
 
-  puts_spoiled : (o : Opened) → z.state.now ≤ m.runs → txn.Stands view x ss t n (txn.spoiled (progress_of o)) → Stands view m (with_opened s (spoiled o))
+  puts_spoiled : (o : OpenTransaction) → z.state.now ≤ m.runs → txn.Stands view x ss t n (txn.after_unread (progress_of o)) → Stands view m (with_opened s (fail_unread o))
   puts_spoiled closed few h = puts_back (failed 1 Unread) h (omega (arith, few))
   puts_spoiled (going ops) few h = puts_back (failed (length ops + 1) Unread) h (omega (arith, few))
   puts_spoiled (failed k c) few h = puts_back (failed k c) h (omega (arith, few))
 
   -- a text that can't be read is counted
-  pub stands-spoiled : (w : Why) → d.runs ≤ m.runs → txn.Stands view x ss t n (txn.spoiled (progress_of s.opened)) → Stands view m (not_read s w).next
+  pub stands-spoiled : (w : Why) → d.runs ≤ m.runs → txn.Stands view x ss t n (txn.after_unread (progress_of s.opened)) → Stands view m (not_read s w).next
   stands-spoiled w more h = let few = z.few in puts_spoiled s.opened (omega (arith, few, more)) h
 
   -- ---- operations
 
   module _ (files : FileTable) (y : Txn R) (op : Op) (more : m.runs ≡ d.runs + 1) where
     accepted : (ops : List Op) → z.state.now + length ops ≤ d.runs → txn.Stands view y ss t n (txn.going ops) → refusal_behind ss t n ops op ≡ None → txn.Stands view x ss t n (txn.going (ops ++ op ∷ [])) →
-        Turned view (decided s ops op (refusal_after z.state ops op)) m None
+        Turned view (decide_op s ops op (refusal_after z.state ops op)) m None
     accepted ops few g e h =
         let len = length-append ops (op ∷ []) in
-        subst (λ r. Turned view (decided s ops op r) m None) (sym (refusal-is z.state n ops op g.accepted ∙ e))
+        subst (λ r. Turned view (decide_op s ops op r) m None) (sym (refusal-is z.state n ops op g.accepted ∙ e))
         (refl, puts_back (going (ops ++ op ∷ [])) (h, omega (arith, len)) (omega (arith, len, few, more)))
 
     denied_by : (r : Refusal) (ops : List Op) → z.state.now + length ops ≤ d.runs → txn.Stands view y ss t n (txn.going ops) → refusal_behind ss t n ops op ≡ Some r → txn.Stands view x ss t n (txn.failed (length ops + 1) (Refused r)) →
-        Turned view (decided s ops op (refusal_after z.state ops op)) m (Some (reply.Refused of.Statement (why_refused op r)))
+        Turned view (decide_op s ops op (refusal_after z.state ops op)) m (Some (reply.Refused of.Statement (why_refused op r)))
     denied_by r ops few g e h =
-        subst (λ q. Turned view (decided s ops op q) m (Some (reply.Refused of.Statement (why_refused op r)))) (sym (refusal-is z.state n ops op g.accepted ∙ e))
+        subst (λ q. Turned view (decide_op s ops op q) m (Some (reply.Refused of.Statement (why_refused op r)))) (sym (refusal-is z.state n ops op g.accepted ∙ e))
         (refl, puts_back (failed (length ops + 1) (Refused r)) h (omega (arith, few, more)))
 
-    operated_ok : (o : Opened) → z.state.now + held_in o ≤ d.runs → txn.Stands view y ss t n (progress_of o) → txn.Applies view ss t n (progress_of o) op x (Ok tt) → Turned view (operated s z.state op o) m None
+    operated_ok : (o : OpenTransaction) → z.state.now + held_in o ≤ d.runs → txn.Stands view y ss t n (progress_of o) → txn.Applies view ss t n (progress_of o) op x (Ok tt) → Turned view (on_operation s z.state op o) m None
     operated_ok closed few g a = accepted [] few g a.0 a.1
     operated_ok (going ops) few g a = accepted ops few g a.0 a.1
     operated_ok (failed k c) few g a = absurd a
 
-    operated_refused : (r : Refusal) (o : Opened) → z.state.now + held_in o ≤ d.runs → txn.Stands view y ss t n (progress_of o) → txn.Applies view ss t n (progress_of o) op x (Err (denied.Refused r)) →
-        Turned view (operated s z.state op o) m (Some (reply.Refused of.Statement (why_refused op r)))
+    operated_refused : (r : Refusal) (o : OpenTransaction) → z.state.now + held_in o ≤ d.runs → txn.Stands view y ss t n (progress_of o) → txn.Applies view ss t n (progress_of o) op x (Err (denied.Refused r)) →
+        Turned view (on_operation s z.state op o) m (Some (reply.Refused of.Statement (why_refused op r)))
     operated_refused r closed few g a = denied_by r [] few g a.0 a.1
     operated_refused r (going ops) few g a = denied_by r ops few g a.0 a.1
     operated_refused r (failed k c) few g a = absurd a
 
-    operated_failed : (j : ℕ) (o : Opened) → s.opened ≡ o → z.state.now + held_in o ≤ d.runs → txn.Applies view ss t n (progress_of o) op x (Err (denied.Failed j)) →
-        Turned view (operated s z.state op o) m (Some (reply.Refused of.Statement (why.FailedAt j)))
+    operated_failed : (j : ℕ) (o : OpenTransaction) → s.opened ≡ o → z.state.now + held_in o ≤ d.runs → txn.Applies view ss t n (progress_of o) op x (Err (denied.Failed j)) →
+        Turned view (on_operation s z.state op o) m (Some (reply.Refused of.Statement (why.FailedAt j)))
     operated_failed j closed e few a = absurd a
     operated_failed j (going ops) e few a = absurd a
     operated_failed j (failed k c) e few a = (

@@ -21,7 +21,7 @@ use Rattle.cp_reply.specs.Lines.{lines}
 use Rattle.cp_reply.specs.declared.reply.Reply.{Reply}
 use Rattle.cp_session.specs.Session.{Session, turn, replies_to, session_after}
 use Rattle.cp_session.proofs.Appended.{replies_to-append, session_after-append}
-use Rattle.cp_program.specs.Job.{Ended, told, setting, is_refusal}
+use Rattle.cp_program.specs.Job.{Ended, output_of, setting, is_refusal}
 use Rattle.cp_program.specs.Play.{Seen, plays, after_play, closes, plays_all}
 use Rattle.cp_model.specs.Tree.{Tree}
 use Rattle.cp_program.specs.Databases.{Stands, IsSession, Turned}
@@ -47,7 +47,7 @@ ended : List ℕ → Bool → Ended
 ended out refused = record { out = out; refused = refused }
 
 -- the lines of replies one after another
-pub told-append : (xs ys : List Reply) → told (xs ++ ys) ≡ joined (told xs) (told ys)
+pub told-append : (xs ys : List Reply) → output_of (xs ++ ys) ≡ joined (output_of xs) (output_of ys)
 unfolding ended
 told-append xs ys =
     ap (λ o. ended o (list_any is_refusal (xs ++ ys))) (flat_map-append lines xs ys) ∙ ap (ended (flat_map lines xs ++ flat_map lines ys)) (list_any-append is_refusal xs ys)
@@ -106,13 +106,13 @@ one-told view old new d (Err e) f i h l = tt
 
 module _ (files : FileTable) where
   -- the lines for cuts one after another
-  pub cuts-then : (s : Session) (xs ys : List Cut) → told (replies_to (setting files) s (xs ++ ys)) ≡ joined (told (replies_to (setting files) s xs)) (told (replies_to (setting files) (session_after (setting files) s xs) ys))
-  cuts-then s xs ys = ap told (replies_to-append (setting files) s xs ys) ∙ told-append (replies_to (setting files) s xs) (replies_to (setting files) (session_after (setting files) s xs) ys)
+  pub cuts-then : (s : Session) (xs ys : List Cut) → output_of (replies_to (setting files) s (xs ++ ys)) ≡ joined (output_of (replies_to (setting files) s xs)) (output_of (replies_to (setting files) (session_after (setting files) s xs) ys))
+  cuts-then s xs ys = ap output_of (replies_to-append (setting files) s xs ys) ∙ told-append (replies_to (setting files) s xs) (replies_to (setting files) (session_after (setting files) s xs) ys)
 
   -- bytes are played in any pieces
   pub plays-append : (s : Seen) (xs ys : List ℕ) → plays files s (xs ++ ys) ≡ joined (plays files s xs) (plays files (after_play files s xs) ys)
   unfolding plays after_play
-  plays-append s xs ys = ap (λ c. told (replies_to (setting files) s.session c)) (cuts-append s.scan xs ys) ∙ cuts-then s.session (scan_bytes s.scan xs).cuts (scan_bytes (scan_bytes s.scan xs).scan ys).cuts
+  plays-append s xs ys = ap (λ c. output_of (replies_to (setting files) s.session c)) (cuts-append s.scan xs ys) ∙ cuts-then s.session (scan_bytes s.scan xs).cuts (scan_bytes (scan_bytes s.scan xs).scan ys).cuts
 
   -- what is seen behind them is the same
   pub after-append : (s : Seen) (xs ys : List ℕ) → after_play files s (xs ++ ys) ≡ after_play files (after_play files s xs) ys
@@ -186,7 +186,7 @@ module _ (files : FileTable) where
   pub plays-one : (s : Seen) (x : ℕ) → (plays files s (x ∷ []) ≡ cuts_play files s (byte_cuts (held_of s.scan) x)) × (after_play files s (x ∷ []) ≡ after_cuts files (record { scan = (scan_byte s.scan x).scan; session = s.session }) (byte_cuts (held_of s.scan) x))
   unfolding plays after_play scan_bytes seen
   plays-one s x = (
-    ap (λ c. told (replies_to (setting files) s.session c)) one,
+    ap (λ c. output_of (replies_to (setting files) s.session c)) one,
     ap (λ c. seen (scan_byte s.scan x).scan (session_after (setting files) s.session c)) one,
   )
     where
@@ -253,11 +253,11 @@ module _ (files : FileTable) where
   closed view s cuts old mid new b a result f rest l r go c h =
       moved result (go (record { scan = c; session = s.session }) (h, subst (λ z. Stands view z s.session) (sym l) f.1))
     where
-      same : told (replies_to (setting files) s.session cuts) ≡ told (replies_to (setting files) s.session (rest_of s.scan))
-      same = ap (λ z. told (replies_to (setting files) s.session z)) (rest s.scan f.0)
+      same : output_of (replies_to (setting files) s.session cuts) ≡ output_of (replies_to (setting files) s.session (rest_of s.scan))
+      same = ap (λ z. output_of (replies_to (setting files) s.session z)) (rest s.scan f.0)
 
       moved : (v : Result ⊤ Stop) → Goes view (cuts_play files (record { scan = c; session = s.session }) cuts) (after_cuts files (record { scan = c; session = s.session }) cuts) mid new b a v → Closed files s old new b a v
-      moved (Ok y) g = (g.1 ∙ ap (λ z. z || (told (replies_to (setting files) s.session cuts)).refused) r ∙ ap (λ (e : Ended). old.refused || e.refused) same, subst (λ (e : Ended). Appends b a e.out) same g.2)
+      moved (Ok y) g = (g.1 ∙ ap (λ z. z || (output_of (replies_to (setting files) s.session cuts)).refused) r ∙ ap (λ (e : Ended). old.refused || e.refused) same, subst (λ (e : Ended). Appends b a e.out) same g.2)
       moved (Err Output) g = subst (λ (e : Ended). TakesPart b a e.out) same g
       moved (Err Full) g = subst (λ (e : Ended). TakesPart b a e.out) same g
       moved (Err File) g = g

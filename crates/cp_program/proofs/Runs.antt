@@ -17,7 +17,7 @@ use Rattle.cp_program.specs.Play.{Seen, plays, after_play, closes, plays_all}
 use Rattle.cp_program.specs.Story.{WritesLast, WroteRefusal, Took, IsCalm}
 use Rattle.cp_model.specs.Tree.{Tree}
 use Rattle.cp_program.specs.declared.session.Session.{Session as Kept}
-use Rattle.cp_program.specs.Turns.{Follows, Written, Fed, Closed, marked, WroteOn, RanFrom, Turned, WroteLast, Closes, IsClosing, status_of}
+use Rattle.cp_program.specs.Turns.{Follows, Written, Fed, Closed, with_refusal, WroteOn, RanFrom, Turned, WroteLast, Closes, IsClosing, status_of}
 use Rattle.cp_program.specs.declared.end.End.{End}
 use Rattle.cp_program.specs.declared.end.End.TheVariants as how
 use Rattle.cp_program.specs.declared.stop.Stop.{Stop}
@@ -51,7 +51,7 @@ module _ (files : FileTable) where
   -- ---- a run after played bytes
 
   -- whether a refusal was written, behind the bytes and then the rest
-  pub refused-then : (s : Seen) (f : Bool) (xs ys : List ℕ) → (marked f (plays_all files s (xs ++ ys))).refused ≡ (marked (f || (plays files s xs).refused) (plays_all files (after_play files s xs) ys)).refused
+  pub refused-then : (s : Seen) (f : Bool) (xs ys : List ℕ) → (with_refusal f (plays_all files s (xs ++ ys))).refused ≡ (with_refusal (f || (plays files s xs).refused) (plays_all files (after_play files s xs) ys)).refused
   refused-then s f xs ys = ap (λ (e : Ended). f || e.refused) (all-append files s xs ys) ∙ sym (or_assoc f (plays files s xs).refused (plays_all files (after_play files s xs) ys).refused)
 
   -- all that was written, behind the bytes and then the rest
@@ -76,7 +76,7 @@ module _ (files : FileTable) where
 
   -- what a session writes in the end
   abbrev all_of : Seen → Bool → List ℕ → Ended
-  all_of s f bytes = marked f (plays_all files s bytes)
+  all_of s f bytes = with_refusal f (plays_all files s bytes)
 
   pub wrote-then : (s : Seen) (f : Bool) (count : ℕ) (xs ys : List ℕ) (left b m a : Option (List ℕ)) (q r v : ℕ) (e : End) → q ≤ r → Appends b m (plays files s xs).out
       → WroteOn files (after_play files s xs) (f || (plays files s xs).refused) (count + length xs) ys left m a r v e → WroteOn files s f count (xs ++ ys) left b a q v e

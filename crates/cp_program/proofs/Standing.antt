@@ -5,13 +5,13 @@ use Rattle.std.specs.declared.option.Option.{Option}
 use Rattle.std.specs.declared.option.Option.TheVariants.{None}
 use Rattle.cp_model.specs.Tree.{Tree, IsTree}
 use Rattle.cp_model.specs.Past.{tree_of}
-use Rattle.cp_model.specs.History.{begun, replay}
+use Rattle.cp_model.specs.History.{start_state, replay}
 use Rattle.cp_model.proofs.Histories.{legal-tree}
 use Rattle.cp_model.proofs.Contents.{tree_of-aged}
 use Rattle.cp_model.specs.declared.kind.Kind.TheVariants as kind
 use Rattle.cp_lang.specs.declared.syntax_tree.Stmt.{Stmt}
 use Rattle.cp_reply.specs.declared.reply.Reply.{Reply}
-use Rattle.cp_session.specs.Session.{Session, Opened, closed, with_opened, says, turn_of, turn_by, turn_on}
+use Rattle.cp_session.specs.Session.{Session, OpenTransaction, closed, with_opened, says, turn_of, turn_by, turn_on}
 use Rattle.cp_engine.specs.Loaded.{sources_in}
 use Rattle.cp_outside.specs.FileReads.{FileTable}
 use Rattle.cp_program.specs.Job.{setting, begun_session}
@@ -24,7 +24,7 @@ module _ {R : Type 0} (view : R → Tree) (d m : Database R) (s : Session) (z : 
   committed-tree = (legal-tree s.history z.state z.legal z.replayed).tree
 
   -- it stands for a session whose transaction alone has changed
-  pub stands-with : (o : Opened) → view m.tree ≡ view d.tree → m.sources ≡ d.sources → m.store.list ≡ d.store.list → m.store.upto ≡ d.store.upto → Opens view m.transaction z.state.sources (tree_of z.state.tree) (z.state.now + 1) o → z.state.now + held_in o ≤ m.runs →
+  pub stands-with : (o : OpenTransaction) → view m.tree ≡ view d.tree → m.sources ≡ d.sources → m.store.list ≡ d.store.list → m.store.upto ≡ d.store.upto → Opens view m.transaction z.state.sources (tree_of z.state.tree) (z.state.now + 1) o → z.state.now + held_in o ≤ m.runs →
       Stands view m (with_opened s o)
   stands-with o tree kept list upto h few = record {
     state = z.state;
@@ -52,9 +52,9 @@ module _ {R : Type 0} (view : R → Tree) (files : FileTable) (d m : Database R)
 
 -- a tree without rows and sources stands for a session that begins on it
 pub stands-begun : {R : Type 0} (view : R → Tree) (d : Database R) → IsTree (view d.tree) → sources_in view d.sources ≡ [] → d.store.list ≡ [] → d.store.upto ≡ 0 → d.transaction ≡ None → Stands view d (begun_session (view d.tree))
-unfolding replay begun
+unfolding replay start_state
 stands-begun view d h none_loaded list upto none = record {
-  state = begun kind.N (view d.tree);
+  state = start_state kind.N (view d.tree);
   replayed = refl;
   legal = (h, tt);
   kind = refl;
@@ -63,7 +63,7 @@ stands-begun view d h none_loaded list upto none = record {
   tree = sym (tree_of-aged (view d.tree));
   rows = list;
   upto = upto;
-  opened = subst (λ y. Opens view y [] (tree_of (begun kind.N (view d.tree)).tree) 1 closed) (sym none) tt;
+  opened = subst (λ y. Opens view y [] (tree_of (start_state kind.N (view d.tree)).tree) 1 closed) (sym none) tt;
   few = omega arith;
 }
 

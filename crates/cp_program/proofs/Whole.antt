@@ -7,11 +7,11 @@ use Rattle.std.specs.declared.option.Option.TheVariants.{None, Some}
 use Rattle.cp_outside.specs.FileReads.{FileTable}
 use Rattle.std.proofs.KnownBytes.{Consumes-nil}
 use Rattle.cp_model.specs.Tree.{Tree}
-use Rattle.cp_session.specs.Session.{Fetched, gives, withholds}
+use Rattle.cp_session.specs.Session.{FetchedFile, gives, withholds}
 use Rattle.cp_reply.specs.declared.reply.Why.{Why}
 use Rattle.std.specs.Prelude.{Ok, Err, ⊤}
 use Rattle.cp_program.specs.Words.{Start, usage_text, memory_line, file_line}
-use Rattle.cp_program.specs.Job.{played, job, start_given, refused_start}
+use Rattle.cp_program.specs.Job.{output_so_far, job, start_given, refused_start}
 use Rattle.cp_program.specs.Fetched.{Gives}
 use Rattle.cp_program.specs.Play.{start, plays, plays_all}
 use Rattle.cp_program.specs.Story.{WritesLast, Took, WroteRefusal, WroteFrom, RanAs, Whole, IsShort, IsAnswer, IsFaultless, Counts, counts, HasCauses, Called}
@@ -27,7 +27,7 @@ use Rattle.cp_program.proofs.Plays.{plays-none}
 
 -- what a session writes from its start is what the whole session does
 pub wrote-is : (files : FileTable) (t : Tree) (taken : List ℕ) (left b a : Option (List ℕ)) (r s : ℕ) (e : End) → WroteOn files (start t) false 0 taken left b a r s e → WroteFrom files (gives t) taken left b a r s e
-unfolding plays plays_all played job
+unfolding plays plays_all output_so_far job
 wrote-is files t taken left b a r s how.Done w = w
 wrote-is files t taken left b a r s how.Refused w = w
 wrote-is files t taken left b a r s how.Usage w = w
@@ -44,11 +44,11 @@ ran-is view found t x l0 l1 b a r s e f none w =
     (w.0, w.1, w.2, λ files told. wrote-is files t w.0 l1 b a r s e (subst (λ z. WroteOn files (start t) z 0 w.0 l1 b a r s e) none (w.3 files told (start t) f)))
 
 -- no byte of the input writes nothing
-played-none : (files : FileTable) (t : Tree) → (played files t []).out ≡ []
-unfolding plays played
+played-none : (files : FileTable) (t : Tree) → (output_so_far files t []).out ≡ []
+unfolding plays output_so_far
 played-none files t = plays-none files (start t)
 
-early : (files : FileTable) (g : Fetched) (left b a : Option (List ℕ)) (r s : ℕ) (stop : Stop) → IsOwn {T = ⊤} (Err stop) → WroteLast b a r s stop → WroteFrom files g [] left b a r s (status_of stop)
+early : (files : FileTable) (g : FetchedFile) (left b a : Option (List ℕ)) (r s : ℕ) (stop : Stop) → IsOwn {T = ⊤} (Err stop) → WroteLast b a r s stop → WroteFrom files g [] left b a r s (status_of stop)
 early files (gives t) left b a r s Output own w = absurd own
 early files (gives t) left b a r s Full own w = absurd own
 early files (gives t) left b a r s File own w = (0, omega arith, subst (λ z. WritesLast b a r s z file_line) (sym (played-none files t)) w)
@@ -59,7 +59,7 @@ early files (withholds y) left b a r s File own w = (refl, w)
 early files (withholds y) left b a r s Memory own w = (refl, inr w)
 
 -- a call that was stopped before it took a byte
-pub ran-early : (found : Option FileTable) (g : FileTable → Fetched) (l b a : Option (List ℕ)) (r s : ℕ) (stop : Stop) → IsOwn {T = ⊤} (Err stop) → WroteLast b a r s stop → RanAs found g l l b a r s (status_of stop)
+pub ran-early : (found : Option FileTable) (g : FileTable → FetchedFile) (l b a : Option (List ℕ)) (r s : ℕ) (stop : Stop) → IsOwn {T = ⊤} (Err stop) → WroteLast b a r s stop → RanAs found g l l b a r s (status_of stop)
 ran-early found g l b a r s stop own w = ([], Consumes-nil l, took stop own, λ files told. early files (g files) l b a r s stop own w)
   where
     took : (x : Stop) → IsOwn {T = ⊤} (Err x) → Took 0 [] (status_of x)
@@ -69,27 +69,27 @@ ran-early found g l b a r s stop own w = ([], Consumes-nil l, took stop own, λ 
     took Memory o = omega arith
 
 -- a start tree that is refused
-pub ran-refused : (found : Option FileTable) (g : FileTable → Fetched) (y : Why) (l b a : Option (List ℕ)) (r s : ℕ) (e : End) → ((files : FileTable) → found ≡ Some files → g files ≡ withholds y) → IsClosing e
+pub ran-refused : (found : Option FileTable) (g : FileTable → FetchedFile) (y : Why) (l b a : Option (List ℕ)) (r s : ℕ) (e : End) → ((files : FileTable) → found ≡ Some files → g files ≡ withholds y) → IsClosing e
     → WroteRefusal (refused_start y) b a r s e → RanAs found g l l b a r s e
 ran-refused found g y l b a r s e is own w =
     ([], Consumes-nil l, took-closed 0 e own (omega arith), λ files told. subst (λ z. WroteFrom files z [] l b a r s e) (sym (is files told)) (refl, w))
 
 -- a session on the tree that the files give
-pub ran-given : (found : Option FileTable) (g : FileTable → Fetched) (t : Tree) (l0 l1 b a : Option (List ℕ)) (r s : ℕ) (e : End) → ((files : FileTable) → found ≡ Some files → g files ≡ gives t)
+pub ran-given : (found : Option FileTable) (g : FileTable → FetchedFile) (t : Tree) (l0 l1 b a : Option (List ℕ)) (r s : ℕ) (e : End) → ((files : FileTable) → found ≡ Some files → g files ≡ gives t)
     → RanAs found (λ files. gives t) l0 l1 b a r s e → RanAs found g l0 l1 b a r s e
 ran-given found g t l0 l1 b a r s e is w = (w.0, w.1, w.2, λ files told. subst (λ z. WroteFrom files z w.0 l1 b a r s e) (sym (is files told)) (w.3 files told))
 
 -- what is given is told by what the code made of it
-pub given-tree : {R : Type 0} (view : R → Tree) (g : Fetched) (x : R) → Gives view g (Ok x) → g ≡ gives (view x)
+pub given-tree : {R : Type 0} (view : R → Tree) (g : FetchedFile) (x : R) → Gives view g (Ok x) → g ≡ gives (view x)
 given-tree view (gives t) x h = ap (λ z. gives z) (sym h)
 given-tree view (withholds y) x h = absurd h
 
-pub given-why : {R : Type 0} (view : R → Tree) (g : Fetched) (w : Why) → Gives view g (Err w) → g ≡ withholds w
+pub given-why : {R : Type 0} (view : R → Tree) (g : FetchedFile) (w : Why) → Gives view g (Err w) → g ≡ withholds w
 given-why view (gives t) w h = absurd h
 given-why view (withholds y) w h = ap (λ z. withholds z) (sym h)
 
 -- where the input is told, all of it has its replies
-pub whole : (files : FileTable) (g : Fetched) (taken : List ℕ) (l0 l1 b a : Option (List ℕ)) (r s : ℕ) (e : End) → Consumes l0 l1 taken → WroteFrom files g taken l1 b a r s e → Whole files g l0 b a e
+pub whole : (files : FileTable) (g : FetchedFile) (taken : List ℕ) (l0 l1 b a : Option (List ℕ)) (r s : ℕ) (e : End) → Consumes l0 l1 taken → WroteFrom files g taken l1 b a r s e → Whole files g l0 b a e
 whole files (gives t) taken None l1 b a r s e c w = tt
 whole files (gives t) taken (Some all) None b a r s e c w = absurd c
 whole files (gives t) taken (Some all) (Some rest) b a r s how.Done c w =

@@ -15,7 +15,7 @@ use Rattle.cp_reply.specs.declared.reply.Why.{Why}
 use Rattle.cp_reply.specs.declared.reply.Why.TheVariants as why
 use Rattle.cp_reply.specs.declared.reply.Reply.{Reply}
 use Rattle.cp_reply.specs.declared.reply.Reply.TheVariants as reply
-use Rattle.cp_session.specs.Session.{Session, Opened, closed, going, failed, Turn, current_tree, is_closed, with_entry}
+use Rattle.cp_session.specs.Session.{Session, OpenTransaction, closed, going, failed, Turn, current_tree, is_closed, with_entry}
 use Rattle.cp_engine.specs.Loaded.{sources_in}
 use Rattle.cp_engine.specs.Transactions as txn
 use Rattle.cp_engine.specs.declared.txn.Txn.{Txn}
@@ -24,13 +24,13 @@ use Rattle.cp_program.specs.declared.database.Database.{Database}
 pub use Rattle.cp_lang.specs.Written.{IsWrittenStmt}
 
 -- the number of operations that are held
-abbrev pub held_in : Opened → ℕ
+abbrev pub held_in : OpenTransaction → ℕ
 held_in closed = 0
 held_in (going ops) = length ops
 held_in (failed n c) = 0
 
 -- the transaction, if one is open, has come as far as the session's
-abbrev pub Opens : {R : Type 0} → (R → Tree) → Option (Txn R) → List Source → Tree → ℕ → Opened → Type 0
+abbrev pub Opens : {R : Type 0} → (R → Tree) → Option (Txn R) → List Source → Tree → ℕ → OpenTransaction → Type 0
 Opens view None ss t n closed = ⊤
 Opens view None ss t n (going ops) = ⊥
 Opens view None ss t n (failed k c) = ⊥
@@ -62,11 +62,11 @@ abbrev pub Turned : {R : Type 0} → (R → Tree) → Turn → Database R → Op
 Turned view t new r = (r ≡ t.reply) × Stands view new t.next
 
 -- the tree that is shown of the place's database, if there is such a database
-abbrev pub shown_tree : State → Opened → Loc → Option Tree
+abbrev pub shown_tree : State → OpenTransaction → Loc → Option Tree
 shown_tree t o q = if in_target q then Some (current_tree t o) else source t.sources q.db
 
 -- how far the transaction has come once one is open: where none was, it holds no operation
-abbrev pub progress_of : Opened → txn.Progress
+abbrev pub progress_of : OpenTransaction → txn.Progress
 progress_of closed = txn.going []
 progress_of (going ops) = txn.going ops
 progress_of (failed n c) = txn.failed n c
@@ -89,7 +89,7 @@ pub record Makes {R : Type 0} (view : R → Tree) (d : Database R) (x : Step R) 
   pub step : txn.IsStep view stands.state.sources (tree_of stands.state.tree) (stands.state.now + 1) ops (2 ^ 64 - 1) x
 
 -- why nothing is loaded under the name, whatever its file gives
-abbrev pub why_not_loaded : State → Opened → List ℕ → Option Why
+abbrev pub why_not_loaded : State → OpenTransaction → List ℕ → Option Why
 why_not_loaded t o n =
     if not (is_closed o) then Some why.TransactionOpen
     else if is_some (source t.sources n) then Some (why.SourceThere n)

@@ -4,10 +4,10 @@ use Rattle.cp_model.specs.Place.{Path, over_limit}
 use Rattle.cp_model.specs.Subtrees.{is_there}
 use Rattle.cp_model.specs.Tree.{Tree}
 use Rattle.cp_reply.specs.declared.reply.Why.{Why}
-use Rattle.cp_session.specs.Session.{Fetched, gives, withholds}
+use Rattle.cp_session.specs.Session.{FetchedFile, gives, withholds}
 
 -- the tree that the file gives, or why it gives none
-abbrev pub Gives : {R : Type 0} → (R → Tree) → Fetched → Result R Why → Type 0
+abbrev pub Gives : {R : Type 0} → (R → Tree) → FetchedFile → Result R Why → Type 0
 Gives view (gives t) (Ok x) = view x ≡ t
 Gives view (gives t) (Err w) = ⊥
 Gives view (withholds v) (Ok x) = ⊥

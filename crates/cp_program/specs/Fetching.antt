@@ -16,7 +16,7 @@ use Rattle.cp_csv.specs.declared.fault.CsvFault.{CsvFault}
 use Rattle.cp_csv.specs.declared.fault.CsvFault.TheVariants as csv
 use Rattle.cp_reply.specs.declared.reply.Why.{Why}
 use Rattle.cp_reply.specs.declared.reply.Why.TheVariants as why
-use Rattle.cp_session.specs.Session.{Fetched, gives, withholds}
+use Rattle.cp_session.specs.Session.{FetchedFile, gives, withholds}
 
 -- why a JSON text that is loaded under the name gives no tree; want of memory is no refusal
 abbrev pub json_why : List ℕ → JsonFault → Why
@@ -45,25 +45,25 @@ csv_why csv.TooBig = why.TooBig
 csv_why csv.Memory = why.NoHeader
 
 -- a JSON text
-abbrev pub json_given : List ℕ → Result Tree JsonFault → Fetched
+abbrev pub json_given : List ℕ → Result Tree JsonFault → FetchedFile
 json_given name (Ok t) = gives t
 json_given name (Err e) = withholds (json_why name e)
 
 -- a CSV text
-abbrev pub csv_given : Result Tree CsvFault → Fetched
+abbrev pub csv_given : Result Tree CsvFault → FetchedFile
 csv_given (Ok t) = gives t
 csv_given (Err e) = withholds (csv_why e)
 
 -- bytes of either form
-abbrev pub given : List ℕ → Form → List ℕ → Fetched
-given name Json bytes = json_given name (json_tree name bytes)
-given name (Csv key) bytes = csv_given (csv_tree bytes key)
+abbrev pub form_given : List ℕ → Form → List ℕ → FetchedFile
+form_given name Json bytes = json_given name (json_tree name bytes)
+form_given name (Csv key) bytes = csv_given (csv_tree bytes key)
 
 -- a file, which may be none, that is loaded under the name
-abbrev pub file_gives : List ℕ → Form → Option (List ℕ) → Fetched
+abbrev pub file_gives : List ℕ → Form → Option (List ℕ) → FetchedFile
 file_gives name form None = withholds why.NoFile
-file_gives name form (Some bytes) = if nat_lt FILE_MAX (length bytes) then withholds why.FileTooLong else given name form bytes
+file_gives name form (Some bytes) = if nat_lt FILE_MAX (length bytes) then withholds why.FileTooLong else form_given name form bytes
 
 -- what a load finds in these files
-abbrev pub fetch : FileTable → Load → Fetched
+abbrev pub fetch : FileTable → Load → FetchedFile
 fetch files l = file_gives l.name l.form (files l.file)

@@ -22,7 +22,7 @@ use Rattle.cp_reply.specs.declared.reply.Why.{Why}
 use Rattle.cp_reply.specs.declared.reply.Why.TheVariants as why
 use Rattle.cp_reply.specs.declared.reply.Reply.{Reply}
 use Rattle.cp_reply.specs.declared.reply.Reply.TheVariants as reply
-use Rattle.cp_session.specs.Session.{Reading, says, unread, Setting, Fetched, gives, Session, fresh, replies_to}
+use Rattle.cp_session.specs.Session.{TextReading, says, unread, Setting, FetchedFile, gives, Session, fresh, replies_to}
 use Rattle.cp_outside.specs.FileReads.{FileTable}
 use Rattle.cp_program.specs.Words.{Start, alone, tree_in}
 use Rattle.cp_program.specs.Fetching.{fetch}
@@ -48,18 +48,18 @@ is_load (stmt.Ask q) = false
 is_load (stmt.Show q) = false
 
 -- a statement of another kind is refused at its first token
-abbrev pub if_run : List ℕ → Stmt → Reading
+abbrev pub if_run : List ℕ → Stmt → TextReading
 if_run text s = if is_run s then says s else unread (why.Syntax (first_offset (length text) (tokens_of text)))
 
 -- a statement, or why the text is none
-abbrev pub read_as : List ℕ → Result Stmt StmtFault → Reading
+abbrev pub read_as : List ℕ → Result Stmt StmtFault → TextReading
 read_as text (Ok s) = if_run text s
 read_as text (Err (fault.Syntax at)) = unread (why.Syntax at)
 read_as text (Err (fault.Place at e)) = unread (why.Place at e)
 read_as text (Err fault.Memory) = unread (why.Syntax (length text))
 
 -- what a text says
-unfoldable pub reading : List ℕ → Reading
+unfoldable pub reading : List ℕ → TextReading
 reading text = read_as text (bytes_reading text)
 
 -- ---- sessions
@@ -81,7 +81,7 @@ abbrev pub start_load : List ℕ → Load
 start_load file = record { name = target; form = Json; file = file }
 
 -- the tree that a session starts from, or why it starts from none
-abbrev pub start_given : FileTable → Start → Fetched
+abbrev pub start_given : FileTable → Start → FetchedFile
 start_given files alone = gives empty_tree
 start_given files (tree_in file) = fetch files (start_load file)
 
@@ -96,16 +96,16 @@ pub record Ended : Type 0 where
   pub refused : Bool
 
 -- the lines of the replies
-abbrev pub told : List Reply → Ended
-told rs = record { out = flat_map lines rs; refused = list_any is_refusal rs }
+abbrev pub output_of : List Reply → Ended
+output_of rs = record { out = flat_map lines rs; refused = list_any is_refusal rs }
 
 -- the statements that end in these bytes, with these files and this start tree
-unfoldable pub played : FileTable → Tree → List ℕ → Ended
-played files t bytes = told (replies_to (setting files) (begun_session t) (cuts_in bytes))
+unfoldable pub output_so_far : FileTable → Tree → List ℕ → Ended
+output_so_far files t bytes = output_of (replies_to (setting files) (begun_session t) (cuts_in bytes))
 
 -- all statements of a whole input
 unfoldable pub job : FileTable → Tree → List ℕ → Ended
-job files t bytes = told (replies_to (setting files) (begun_session t) (cuts_of bytes))
+job files t bytes = output_of (replies_to (setting files) (begun_session t) (cuts_of bytes))
 
 -- the line of a start tree that is refused
 abbrev pub refused_start : Why → List ℕ

@@ -4,6 +4,6 @@ use Rattle.cp_program.specs.declared.run.Start.{Start as Kept}
 use Rattle.cp_program.specs.declared.run.Start.TheVariants.{Alone, TreeIn}
 
 -- what a session starts from
-abbrev pub asked : Kept → Start
-asked Alone = alone
-asked (TreeIn file) = tree_in file.now
+abbrev pub start_asked : Kept → Start
+start_asked Alone = alone
+start_asked (TreeIn file) = tree_in file.now

@@ -7,9 +7,9 @@ use Rattle.std.specs.Io.KnownBytes.{Appends, Consumes, IsAtEnd}
 use Rattle.cp_outside.specs.Causes.{Rose}
 use Rattle.cp_outside.specs.FileReads.{FileTable}
 use Rattle.cp_outside.specs.Sinks.{TakesPart}
-use Rattle.cp_session.specs.Session.{Fetched, gives, withholds}
+use Rattle.cp_session.specs.Session.{FetchedFile, gives, withholds}
 use Rattle.cp_program.specs.Words.{Start, usage_text, input_line, file_line, memory_line, too_long_line}
-use Rattle.cp_program.specs.Job.{Ended, start_given, played, job, refused_start}
+use Rattle.cp_program.specs.Job.{Ended, start_given, output_so_far, job, refused_start}
 use Rattle.cp_program.specs.Ends.{code_of}
 use Rattle.cp_program.specs.declared.end.End.{End}
 use Rattle.cp_program.specs.declared.end.End.TheVariants as how
@@ -63,12 +63,12 @@ WroteRefusal line before after r s how.Memory = (Rose r s × TakesPart before af
 WroteRefusal line before after r s how.TooLong = ⊥
 
 -- The session from the start tree, or the line that refuses it, of which nothing of the input is taken.
-abbrev pub WroteFrom : FileTable → Fetched → List ℕ → Option (List ℕ) → Option (List ℕ) → Option (List ℕ) → ℕ → ℕ → End → Type 0
-WroteFrom files (gives t) taken left before after r s status = Wrote (played files t) (job files t) 0 taken left before after r s status
+abbrev pub WroteFrom : FileTable → FetchedFile → List ℕ → Option (List ℕ) → Option (List ℕ) → Option (List ℕ) → ℕ → ℕ → End → Type 0
+WroteFrom files (gives t) taken left before after r s status = Wrote (output_so_far files t) (job files t) 0 taken left before after r s status
 WroteFrom files (withholds w) taken left before after r s status = (taken ≡ []) × WroteRefusal (refused_start w) before after r s status
 
 -- Some bytes of the input were taken, and where the files are told the session from the start tree wrote what it writes for them.
-abbrev pub RanAs : Option FileTable → (FileTable → Fetched) → Option (List ℕ) → Option (List ℕ) → Option (List ℕ) → Option (List ℕ) → ℕ → ℕ → End → Type 0
+abbrev pub RanAs : Option FileTable → (FileTable → FetchedFile) → Option (List ℕ) → Option (List ℕ) → Option (List ℕ) → Option (List ℕ) → ℕ → ℕ → End → Type 0
 RanAs found given left_before left before after r s status =
     (taken : List ℕ) × Consumes left_before left taken × Took 0 taken status
     × ((files : FileTable) → found ≡ Some files → WroteFrom files (given files) taken left before after r s status)
@@ -91,7 +91,7 @@ TellsRefusal line before after how.Memory = ⊤
 TellsRefusal line before after how.TooLong = ⊤
 
 -- Where the input is told, all of it has its replies.
-abbrev pub Whole : FileTable → Fetched → Option (List ℕ) → Option (List ℕ) → Option (List ℕ) → End → Type 0
+abbrev pub Whole : FileTable → FetchedFile → Option (List ℕ) → Option (List ℕ) → Option (List ℕ) → End → Type 0
 Whole files (gives t) None before after status = ⊤
 Whole files (gives t) (Some all) before after how.Done = ((job files t all).refused ≡ false) × Appends before after (job files t all).out
 Whole files (gives t) (Some all) before after how.Refused = ((job files t all).refused ≡ true) × Appends before after (job files t all).out

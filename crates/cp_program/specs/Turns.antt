@@ -13,7 +13,7 @@ use Rattle.cp_lang.specs.Written.{IsWrittenStmt}
 use Rattle.cp_reply.specs.declared.reply.Why.{Why}
 use Rattle.cp_session.specs.Session.{says, unread, replies_to, session_after}
 use Rattle.cp_program.specs.Words.{memory_line, file_line}
-use Rattle.cp_program.specs.Job.{Ended, told, setting, is_run, reading}
+use Rattle.cp_program.specs.Job.{Ended, output_of, setting, is_run, reading}
 use Rattle.cp_program.specs.Play.{Seen, plays, after_play, closes, plays_all}
 use Rattle.cp_model.specs.Tree.{Tree}
 use Rattle.cp_program.specs.Databases.{Stands}
@@ -55,7 +55,7 @@ Goes view e next old new before after (Err Memory) = Appends before after []
 
 -- what these cuts write
 abbrev pub cuts_play : FileTable → Seen → List Cut → Ended
-cuts_play files s cuts = told (replies_to (setting files) s.session cuts)
+cuts_play files s cuts = output_of (replies_to (setting files) s.session cuts)
 
 -- the session behind these cuts
 abbrev pub after_cuts : FileTable → Seen → List Cut → Seen
@@ -115,8 +115,8 @@ WroteLast before after r s File = WritesLast before after r s [] file_line
 WroteLast before after r s Memory = WritesLast before after r s [] memory_line
 
 -- what was written, where a refusal may have been written before
-abbrev pub marked : Bool → Ended → Ended
-marked refused e = record { out = e.out; refused = refused || e.refused }
+abbrev pub with_refusal : Bool → Ended → Ended
+with_refusal refused e = record { out = e.out; refused = refused || e.refused }
 
 -- the ends of a session whose input has ended
 abbrev pub IsClosing : End → Type 0
@@ -142,7 +142,7 @@ Closes files s refused before after r t how.TooLong = ⊥
 
 -- What a session wrote that stands at s, after so many bytes and maybe a refusal.
 abbrev pub WroteOn : FileTable → Seen → Bool → ℕ → List ℕ → Option (List ℕ) → Option (List ℕ) → Option (List ℕ) → ℕ → ℕ → End → Type 0
-WroteOn files s refused count = Wrote (plays files s) (λ bytes. marked refused (plays_all files s bytes)) count
+WroteOn files s refused count = Wrote (plays files s) (λ bytes. with_refusal refused (plays_all files s bytes)) count
 
 -- The session of x, after so many bytes, ran to this end.
 abbrev pub RanFrom : {R : Type 0} → (R → Tree) → Option FileTable → Kept R → ℕ → Option (List ℕ) → Option (List ℕ) → Option (List ℕ) → Option (List ℕ) → ℕ → ℕ → End → Type 0

@@ -6,7 +6,7 @@ ghost use Rattle.cp_outside.specs.Causes.{Rose};
 ghost use Rattle.cp_outside.specs.FileReads.{FileTable};
 ghost use Rattle.cp_model.specs.Place.{Path as PathValue, over_limit};
 ghost use Rattle.cp_model.specs.Subtrees.{is_there};
-ghost use Rattle.cp_program.specs.Fetching.{file_gives, given, json_why, csv_why};
+ghost use Rattle.cp_program.specs.Fetching.{file_gives, form_given, json_why, csv_why};
 ghost use Rattle.cp_program.specs.Fetched.{Gives, FitsUnder};
 ghost use Rattle.cp_program.specs.Turns.{BlamesFiles};
 
@@ -66,7 +66,7 @@ fn from_json<R: TreeRep>(
     name: &Name,
     bytes: &[u8],
 ) -> Result<Result<R, Why>, AllocError>
-    ensures gives { IfOk result (λ r. Gives R.contents (given name.now Form.Json bytes.now) r) }
+    ensures gives { IfOk result (λ r. Gives R.contents (form_given name.now Form.Json bytes.now) r) }
     ensures fits { IfOk result (λ r. IfOk r (λ t. FitsUnder name.now (R.contents t))) }
 {
     match tree_of_json(alloc, name, bytes) {
@@ -82,7 +82,7 @@ fn from_csv<R: TreeRep>(
     bytes: &[u8],
     key: Option<&Label>,
 ) -> Result<Result<R, Why>, AllocError>
-    ensures gives { IfOk result (λ r. Gives R.contents (given name.now (Form.Csv (option_map (λ k. k.now) key.entry)) bytes.now) r) }
+    ensures gives { IfOk result (λ r. Gives R.contents (form_given name.now (Form.Csv (option_map (λ k. k.now) key.entry)) bytes.now) r) }
     ensures fits { IfOk result (λ r. IfOk r (λ t. FitsUnder name.now (R.contents t))) }
 {
     match tree_of_csv(alloc, name, bytes, key) {
@@ -98,7 +98,7 @@ fn from_text<R: TreeRep>(
     form: &Form,
     bytes: &[u8],
 ) -> Result<Result<R, Why>, AllocError>
-    ensures gives { IfOk result (λ r. Gives R.contents (given name.now form.now bytes.now) r) }
+    ensures gives { IfOk result (λ r. Gives R.contents (form_given name.now form.now bytes.now) r) }
     ensures fits { IfOk result (λ r. IfOk r (λ t. FitsUnder name.now (R.contents t))) }
 {
     match form {

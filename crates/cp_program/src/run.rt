@@ -10,7 +10,7 @@ ghost use Rattle.cp_program.specs.Job.{start_given, refused_start};
 ghost use Rattle.cp_session.specs.Session.{gives};
 ghost use Rattle.cp_program.specs.Fetched.{Gives};
 ghost use Rattle.cp_program.specs.Play.{Seen, start as start_on};
-ghost use Rattle.cp_program.specs.Starts.{asked};
+ghost use Rattle.cp_program.specs.Starts.{start_asked};
 ghost use Rattle.cp_program.specs.Ends.{code_of};
 ghost use Rattle.cp_program.specs.Story.{WritesLast, WroteRefusal, IsCalm, HasCauses, RanAs, Ran, Called, counts};
 ghost use Rattle.cp_program.specs.Turns.{Follows, FollowsOne, WroteLast, Closes, RanFrom, Turned, Written, Blames, BlamesFiles, IsOwn, IsClosing, status_of, status_or_done};
@@ -62,7 +62,7 @@ fn is_file_name(word: &str) -> bool
 
 /// What the words ask for, if they fit.
 fn start_of(words: &[String]) -> Option<Start<'_>>
-    ensures { option_map asked result ≡ start_of (map string_bytes words.now) }
+    ensures { option_map start_asked result ≡ start_of (map string_bytes words.now) }
 {
     match words {
         [_, command, kind] => {
@@ -258,7 +258,7 @@ fn start_tree<R: TreeRep, F: Files>(
     start: Start<'_>,
     files: &mut F,
 ) -> Result<Result<R, Why>, Stop>
-    ensures gives { IfOk result (λ r. (t : FileTable) → F.found files.old ≡ Some t → Gives R.contents (start_given t (asked start.entry)) r) }
+    ensures gives { IfOk result (λ r. (t : FileTable) → F.found files.old ≡ Some t → Gives R.contents (start_given t (start_asked start.entry)) r) }
     ensures same { F.found files.new ≡ F.found files.old }
     ensures blamed { BlamesFiles (F.faults files.old) (F.faults files.new) result }
     ensures own { IsOwn result }
@@ -322,7 +322,7 @@ fn session<R: TreeRep, F: Files, I: Source, O: Sink>(
 ) -> End
     requires room { 0 < length piece.old }
     requires bounded { length piece.old ≤ PIECE_MAX }
-    ensures ran { RanAs (F.found files.old) (λ t. start_given t (asked start.entry)) (I.left input.old) (I.left input.new) (O.contents output.old) (O.contents output.new) (O.refusals output.old) (O.refusals output.new) result }
+    ensures ran { RanAs (F.found files.old) (λ t. start_given t (start_asked start.entry)) (I.left input.old) (I.left input.new) (O.contents output.old) (O.contents output.new) (O.refusals output.old) (O.refusals output.new) result }
     ensures causes { HasCauses (counts (I.faults input.old) (F.faults files.old) (O.faults output.old)) (counts (I.faults input.new) (F.faults files.new) (O.faults output.new)) result }
 {
     match start_tree::<R, F>(alloc, start, files) {
@@ -340,7 +340,7 @@ fn scratch<R: TreeRep, F: Files, I: Source, O: Sink>(
     input: &mut I,
     output: &mut O,
 ) -> End
-    ensures ran { RanAs (F.found files.old) (λ t. start_given t (asked start.entry)) (I.left input.old) (I.left input.new) (O.contents output.old) (O.contents output.new) (O.refusals output.old) (O.refusals output.new) result }
+    ensures ran { RanAs (F.found files.old) (λ t. start_given t (start_asked start.entry)) (I.left input.old) (I.left input.new) (O.contents output.old) (O.contents output.new) (O.refusals output.old) (O.refusals output.new) result }
     ensures causes { HasCauses (counts (I.faults input.old) (F.faults files.old) (O.faults output.old)) (counts (I.faults input.new) (F.faults files.new) (O.faults output.new)) result }
 {
     match vec![in alloc; 0u8; PIECE_MAX] {

@@ -10,7 +10,7 @@ use Rattle.cp_model.proofs.Lookups.{there-mapped}
 use Rattle.cp_model.specs.History.{State}
 use Rattle.cp_model.specs.Leaps.{last}
 use Rattle.cp_model.specs.Records.{reads}
-use Rattle.cp_model.specs.Answers.{traced, trace, src, hist}
+use Rattle.cp_model.specs.Answers.{trace_from_events, trace, src, hist}
 use Rattle.cp_model.specs.declared.kind.Kind.{Kind}
 use Rattle.cp_model.specs.declared.record.Record.{Record}
 use Rattle.cp_query.specs.declared.walk.Walk.{Walk}
@@ -50,7 +50,7 @@ module _ (k : Kind) (n : ℕ) (rs : List Record) (t : Tree) (s : State) (c : IsC
       (tells-pasts c.history s c.legal c.replayed (last (reads s.kind s.rows)) (λ u r b. refl) q.path there)))
 
   pub asked-trace : (w : Walk) → w ≡ record { at = q; high = n } → trace_from (reads k rs) w ≡ trace s.now s.tree q.path
-  asked-trace w e = ap (trace_from (reads k rs)) e ∙ ap (λ m. traced q.path m (back (reads k rs) n q.path)) (sym c.now) ∙ told.trace
+  asked-trace w e = ap (trace_from (reads k rs)) e ∙ ap (λ m. trace_from_events q.path m (back (reads k rs) n q.path)) (sym c.now) ∙ told.trace
 
   pub asked-src : (w : Walk) → w ≡ record { at = q; high = n } → src_from (reads k rs) w ≡ src s.tree q.path
   asked-src w e = ap (src_from (reads k rs)) e ∙ told.src

@@ -14,9 +14,9 @@ use Rattle.cp_model.specs.Rows.{Reading, left, gone}
 use Rattle.cp_model.proofs.Walk.{walk_on, walked}
 use Rattle.cp_model.specs.Leaps.{Readings, tells_same, last}
 use Rattle.cp_model.proofs.LeapsLemmas.{Says, last-says}
-use Rattle.cp_model.specs.Answers.{segment, after_segment, alone, traced, src_of, copy_tid}
+use Rattle.cp_model.specs.Answers.{segment, after_segment, alone, trace_from_events, src_of, copy_tid}
 use Rattle.cp_model.specs.declared.answer.TraceEnd.TheVariants as end
-use Rattle.cp_query.specs.Following.{LookUps, event_then, change_then, followed, back, stays, without_losses}
+use Rattle.cp_query.specs.Following.{NewestChange, event_then, change_then, follow_back, back, stays, without_losses}
 
 -- ---- how far it goes
 
@@ -37,28 +37,28 @@ change_same E t p f g (Some c) s h =
     event_same f g c.0 c.1 (λ q. h (c.0 - 1) q (omega (arith, pos, le)))
 
 -- look-ups that answer alike up to a version are followed alike from there
-pub followed-alike : (E : Readings) (look : LookUps) (n t : ℕ) (p : Path) → ((u : ℕ) (q : Path) → u ≤ t → look u q ≡ last E u q) → followed look n t p ≡ followed (last E) n t p
-unfolding followed
+pub followed-alike : (E : Readings) (look : NewestChange) (n t : ℕ) (p : Path) → ((u : ℕ) (q : Path) → u ≤ t → look u q ≡ last E u q) → follow_back look n t p ≡ follow_back (last E) n t p
+unfolding follow_back
 followed-alike E look zero t p h = refl
 followed-alike E look (suc n) t p h =
-    ap (change_then (followed look n)) (h t p (omega arith))
-    ∙ change_same E t p (followed look n) (followed (last E) n) (last E t p) (last-says E t p)
+    ap (change_then (follow_back look n)) (h t p (omega arith))
+    ∙ change_same E t p (follow_back look n) (follow_back (last E) n) (last E t p) (last-says E t p)
     (λ u q b. followed-alike E look n u q (λ v r c. h v r (omega (arith, b, c))))
 
 -- more changes than versions are none too many
-followed-enough : (E : Readings) (n m t : ℕ) (p : Path) → t < n → t < m → followed (last E) n t p ≡ followed (last E) m t p
-unfolding followed
+followed-enough : (E : Readings) (n m t : ℕ) (p : Path) → t < n → t < m → follow_back (last E) n t p ≡ follow_back (last E) m t p
+unfolding follow_back
 followed-enough E zero m t p h k = absurd (omega arith)
 followed-enough E (suc n) zero t p h k = absurd (omega arith)
 followed-enough E (suc n) (suc m) t p h k =
-    change_same E t p (followed (last E) n) (followed (last E) m) (last E t p) (last-says E t p)
+    change_same E t p (follow_back (last E) n) (follow_back (last E) m) (last E t p) (last-says E t p)
     (λ u q b. followed-enough E n m u q (omega (arith, b, h)) (omega (arith, b, k)))
 
 -- one change, and then from there
 pub back-step : (E : Readings) (t : ℕ) (p : Path) → back E t p ≡ change_then (back E) (last E t p)
-unfolding followed
+unfolding follow_back
 back-step E t p =
-    change_same E t p (followed (last E) t) (back E) (last E t p) (last-says E t p) (λ u q b. followed-enough E t (suc u) u q b (omega arith))
+    change_same E t p (follow_back (last E) t) (back E) (last E t p) (last-says E t p) (λ u q b. followed-enough E t (suc u) u q b (omega arith))
 
 -- ---- losses
 
@@ -71,7 +71,7 @@ copy-stays t q xs ys h = filter-append stays xs (copied t q ∷ []) ∙ ap (λ z
 
 -- a walk over every step, without its losses, is what following the newest changes gives
 pub walked-followed : (E : Readings) (L : ℕ → Path → Bool) (t : ℕ) (p : Path) → without_losses (walked E L t p) ≡ reverse (back E t p)
-unfolding followed last
+unfolding follow_back last
 walked-followed E L zero p = refl
 walked-followed E L (suc t) p = by_effect (E (suc t) p) (λ q. walked-followed E L t q) ∙ ap reverse (sym (back-step E (suc t) p))
   where
@@ -131,7 +131,7 @@ copies-stay (copied t q ∷ xs) = ap (λ ts. t ∷ ts) (copies-stay xs)
 copies-stay (lost t ∷ xs) = copies-stay xs
 
 -- a trace passes over the losses
-pub trace-stays : (c : Path) (high : ℕ) (es : List Event) → traced c high (without_losses es) ≡ traced c high es
+pub trace-stays : (c : Path) (high : ℕ) (es : List Event) → trace_from_events c high (without_losses es) ≡ trace_from_events c high es
 trace-stays c high [] = refl
 trace-stays c high (born t ∷ es) = refl
 trace-stays c high (copied t q ∷ es) = ap (λ r. if in_target q then after_segment (segment c t high) r else alone (segment c t high) (end.Source q)) (trace-stays q.path (t - 1) es)

@@ -21,9 +21,9 @@ use Rattle.cp_model.specs.Rows.{Reading, left, gone}
 use Rattle.cp_model.specs.Leaps.{Readings, last}
 use Rattle.cp_model.proofs.LeapsLemmas.{Says, last-says}
 use Rattle.cp_model.specs.Records.{reads}
-use Rattle.cp_model.specs.Answers.{segment, after_segment, alone, traced, src_of, copy_tid}
+use Rattle.cp_model.specs.Answers.{segment, after_segment, alone, trace_from_events, src_of, copy_tid}
 use Rattle.cp_store.specs.declared.change.Change.{Change}
-use Rattle.cp_store.specs.Changes.{seen, change_at}
+use Rattle.cp_store.specs.Changes.{change_told, change_at}
 use Rattle.cp_query.specs.declared.walk.Walk.{Walk}
 use Rattle.cp_query.specs.declared.walk.Leg.{Leg}
 use Rattle.cp_query.specs.declared.walk.Came.{Came}
@@ -35,13 +35,13 @@ use Rattle.cp_query.specs.Legs.{inserted_by, copied_by, leg_with, leg_by, leg, t
 -- ---- a look-up
 
 -- a step that changed a place isn't before the first
-pub seen-tid : (E : Readings) (t : ℕ) (p : Path) (o : Option Change) → seen o ≡ last E t p → IfSome o (λ c. 0 < c.tid)
+pub seen-tid : (E : Readings) (t : ℕ) (p : Path) (o : Option Change) → change_told o ≡ last E t p → IfSome o (λ c. 0 < c.tid)
 unfolding Says
 seen-tid E t p None e = tt
 seen-tid E t p (Some c) e = (subst (Says E t p) (sym e) (last-says E t p)).0
 
 -- a place of T is looked up by its path
-pub found-leg : (k : Kind) (rs : List Record) (w : Walk) (o : Option Change) → in_target w.at ≡ true → seen o ≡ change_at k rs w.high w.at → seen o ≡ last (reads k rs) w.high w.at.path
+pub found-leg : (k : Kind) (rs : List Record) (w : Walk) (o : Option Change) → in_target w.at ≡ true → change_told o ≡ change_at k rs w.high w.at → change_told o ≡ last (reads k rs) w.high w.at.path
 unfolding change_at
 found-leg k rs w o h e = e ∙ ap (λ b. if b then last (reads k rs) w.high w.at.path else None) h
 
@@ -86,24 +86,24 @@ trace_by E s (Back next) = after_segment s (trace_from E next)
 trace_by E s (End e) = alone s e
 
 pub trace-leg : (E : Readings) (w : Walk) → in_target w.at ≡ true → trace_from E w ≡ trace_by E (leg E w).segment (leg E w).came
-trace-leg E w h = ap (traced w.at.path w.high) (back-step E w.high w.at.path) ∙ by_last (last E w.high w.at.path)
+trace-leg E w h = ap (trace_from_events w.at.path w.high) (back-step E w.high w.at.path) ∙ by_last (last E w.high w.at.path)
   where
     here : (u : ℕ) → segment w.at.path u w.high ≡ record { loc = w.at; low = u; high = w.high }
     here u = ap (λ q. record { loc = q; low = u; high = w.high }) (target-place w.at h)
 
     copy : (u : ℕ) (q : Loc) (b : Bool) →
-        (if b then after_segment (segment w.at.path u w.high) (traced q.path (u - 1) (if b then back E (u - 1) q.path else [])) else alone (segment w.at.path u w.high) (end.Source q))
+        (if b then after_segment (segment w.at.path u w.high) (trace_from_events q.path (u - 1) (if b then back E (u - 1) q.path else [])) else alone (segment w.at.path u w.high) (end.Source q))
         ≡ trace_by E (record { loc = w.at; low = u; high = w.high }) (if b then Back (record { at = q; high = u - 1 }) else End (end.Source q))
-    copy u q true = ap (λ s. after_segment s (traced q.path (u - 1) (back E (u - 1) q.path))) (here u)
+    copy u q true = ap (λ s. after_segment s (trace_from_events q.path (u - 1) (back E (u - 1) q.path))) (here u)
     copy u q false = ap (λ s. alone s (end.Source q)) (here u)
 
-    by_effect : (u : ℕ) (e : Reading) → traced w.at.path w.high (change_then (back E) (Some (u, e))) ≡ trace_by E (leg_with w u e).segment (leg_with w u e).came
+    by_effect : (u : ℕ) (e : Reading) → trace_from_events w.at.path w.high (change_then (back E) (Some (u, e))) ≡ trace_by E (leg_with w u e).segment (leg_with w u e).came
     by_effect u (left same) = ap (λ s. alone s end.Start) (here 0)
     by_effect u (left made) = ap (λ s. alone s end.New) (here u)
     by_effect u (left (from q)) = copy u q (in_target q)
     by_effect u gone = ap (λ s. alone s end.Start) (here 0)
 
-    by_last : (o : Option (ℕ × Reading)) → traced w.at.path w.high (change_then (back E) o) ≡ trace_by E (leg_by w o).segment (leg_by w o).came
+    by_last : (o : Option (ℕ × Reading)) → trace_from_events w.at.path w.high (change_then (back E) o) ≡ trace_by E (leg_by w o).segment (leg_by w o).came
     by_last None = ap (λ s. alone s end.Start) (here 0)
     by_last (Some c) = by_effect c.0 c.1
 

@@ -11,7 +11,7 @@ use Rattle.cp_model.specs.Leaps.{Readings}
 use Rattle.cp_model.proofs.LeapsLemmas.{leaped-walked}
 use Rattle.cp_model.proofs.Pasts.{legal-pasts}
 use Rattle.cp_model.specs.Records.{reads, loses}
-use Rattle.cp_model.specs.Answers.{traced, src_of, copy_tid}
+use Rattle.cp_model.specs.Answers.{trace_from_events, src_of, copy_tid}
 use Rattle.cp_query.specs.Following.{back, stays, without_losses}
 use Rattle.cp_query.proofs.Followed.{followed-alike, walked-followed, src-walked, copies-stay, trace-stays, filter-reverse, filter_map-reverse}
 use Rattle.cp_query.specs.Laws.{FollowingPassesLosses, Tells, LookUpsTellPasts}
@@ -20,9 +20,9 @@ use Rattle.cp_query.specs.Laws.{FollowingPassesLosses, Tells, LookUpsTellPasts}
 pub passes-losses : FollowingPassesLosses
 passes-losses E L t p = sym (walked-followed E L t p) ∙ ap without_losses (sym (leaped-walked E L (suc t) t p (omega arith)))
 
-trace-walked : (E : Readings) (L : ℕ → Path → Bool) (t : ℕ) (p : Path) → traced p t (back E t p) ≡ traced p t (reverse (walked E L t p))
+trace-walked : (E : Readings) (L : ℕ → Path → Bool) (t : ℕ) (p : Path) → trace_from_events p t (back E t p) ≡ trace_from_events p t (reverse (walked E L t p))
 trace-walked E L t p =
-    ap (traced p t) (sym (reverse-reverse (back E t p)) ∙ ap reverse (sym (walked-followed E L t p)) ∙ sym (filter-reverse stays (walked E L t p)))
+    ap (trace_from_events p t) (sym (reverse-reverse (back E t p)) ∙ ap reverse (sym (walked-followed E L t p)) ∙ sym (filter-reverse stays (walked E L t p)))
     ∙ trace-stays p t (reverse (walked E L t p))
 
 hist-walked : (E : Readings) (L : ℕ → Path → Bool) (t : ℕ) (p : Path) → reverse (filter_map copy_tid (back E t p)) ≡ filter_map copy_tid (walked E L t p)
@@ -33,7 +33,7 @@ hist-walked E L t p =
 tells : (s : State) (E : Readings) (L : ℕ → Path → Bool) (p : Path) → walked E L s.now p ≡ past_at s.tree p → Tells s p (back E s.now p)
 tells s E L p e = record {
   past = sym (walked-followed E L s.now p) ∙ ap without_losses e;
-  trace = trace-walked E L s.now p ∙ ap (λ es. traced p s.now (reverse es)) e;
+  trace = trace-walked E L s.now p ∙ ap (λ es. trace_from_events p s.now (reverse es)) e;
   src = ap src_of (sym (walked-followed E L s.now p)) ∙ src-walked E L s.now p ∙ ap src_of e;
   hist = hist-walked E L s.now p ∙ ap (filter_map copy_tid) e;
 }

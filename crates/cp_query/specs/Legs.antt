@@ -10,7 +10,7 @@ use Rattle.cp_model.specs.Place.{in_target}
 use Rattle.cp_model.specs.declared.effect.Effect.TheVariants.{Same as same, New as made, From as from}
 use Rattle.cp_model.specs.Rows.{Reading, left, gone}
 use Rattle.cp_model.specs.Leaps.{Readings, last}
-use Rattle.cp_model.specs.Answers.{traced, src_of, copy_tid}
+use Rattle.cp_model.specs.Answers.{trace_from_events, src_of, copy_tid}
 use Rattle.cp_model.specs.Records.{reads}
 use Rattle.cp_store.specs.declared.store.ProvStore.{Ghosts}
 use Rattle.cp_query.specs.Following.{back}
@@ -63,7 +63,7 @@ copied_by u (End (end.Source q)) = Some u
 
 -- the trace, the insertion and the copies, newest first, that following the changes gives
 abbrev pub trace_from : Readings → Walk → Trace
-trace_from E w = traced w.at.path w.high (back E w.high w.at.path)
+trace_from E w = trace_from_events w.at.path w.high (back E w.high w.at.path)
 
 abbrev pub src_from : Readings → Walk → Option ℕ
 src_from E w = src_of (reverse (back E w.high w.at.path))

@@ -2,7 +2,7 @@
 ghost use Rattle.std.specs.Prelude.{◌≡◌, ◌<◌, true, reverse, IfSome, IfOk};
 ghost use Rattle.cp_model.specs.Place.{in_target};
 ghost use Rattle.cp_query.specs.Legs.{came_with, inserted_by, copied_by, leg_of, leg_by, leg, effects_in, trace_from, src_from, hist_from};
-ghost use Rattle.cp_store.specs.Changes.{seen};
+ghost use Rattle.cp_store.specs.Changes.{change_told};
 ghost use Rattle.cp_store.specs.Calls.{Asks};
 ghost use Rattle.cp_store.specs.Steps.{BlamesDisk};
 
@@ -82,7 +82,7 @@ impl Walk {
     /// The leg that the newest change of this place begins. Data that no step brought was there from the start.
     fn leg_from(self, change: Option<Change>) -> Leg
         requires { IfSome change (λ c. 0 < c.tid) }
-        ensures { result ≡ leg_by self (seen change) }
+        ensures { result ≡ leg_by self (change_told change) }
     {
         let Some(Change { tid, what }) = change else {
             return self.leg_of(0, Came::End(TraceEnd::Start));

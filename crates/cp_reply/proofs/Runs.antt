@@ -18,7 +18,7 @@ use Rattle.cp_model.specs.declared.row.Content.{Content}
 use Rattle.cp_model.specs.declared.row.Content.TheVariants.{Node, Leaf}
 use Rattle.cp_model.proofs.Grouping.{joins}
 use Rattle.cp_model.specs.Trees.{Group, between, into_groups, groups, tree_at}
-use Rattle.cp_reply.specs.Runs.{seen, all_seen, leaves, run_length, edge, edges, IsNextRun}
+use Rattle.cp_reply.specs.Runs.{rows_seen, all_seen, leaves, run_length, edge, edges, IsNextRun}
 
 -- a row, seen one label further down
 pub down : Path × Content → Path × Content
@@ -96,7 +96,7 @@ down_seen (suc d) (a ∷ p) c = down_seen d p c
 pub down_all : (d : ℕ) (rows : List Row) → map down (all_seen d rows) ≡ all_seen (d + 1) rows
 down_all d [] = refl
 down_all d (r ∷ rows) =
-    let here : down (seen d r) ≡ seen (d + 1) r = rw add-one (down_seen d r.path r.content) in
+    let here : down (rows_seen d r) ≡ rows_seen (d + 1) r = rw add-one (down_seen d r.path r.content) in
     rw (here, down_all d rows) refl
 
 pub drop_some : (d : ℕ) (p : Path) (a : Label) → slice_get p d ≡ Some a → drop d p ≡ a ∷ drop (suc d) p
@@ -111,10 +111,10 @@ drop_none (suc d) [] e = refl
 drop_none zero (b ∷ p) e = cc
 drop_none (suc d) (b ∷ p) e = drop_none d p e
 
-pub leaves_some : (a b : Label) (d : ℕ) (r : Row) → slice_get r.path d ≡ Some b → leaves a (seen d r) ≡ not (label_eq b a)
+pub leaves_some : (a b : Label) (d : ℕ) (r : Row) → slice_get r.path d ≡ Some b → leaves a (rows_seen d r) ≡ not (label_eq b a)
 leaves_some a b d r e = ap (λ p. leaves a (p, r.content)) (drop_some d r.path b e)
 
-pub leaves_none : (a : Label) (d : ℕ) (r : Row) → slice_get r.path d ≡ None → leaves a (seen d r) ≡ false
+pub leaves_none : (a : Label) (d : ℕ) (r : Row) → slice_get r.path d ≡ None → leaves a (rows_seen d r) ≡ false
 leaves_none a d r e = ap (λ p. leaves a (p, r.content)) (drop_none d r.path e)
 
 -- a row without a label is in no group
@@ -130,12 +130,12 @@ edges_some d n a r rows e =
     let first : groups (all_seen d (r ∷ rows)) ≡ record { label = a; rows = (q, r.content) ∷ kept (take k (all_seen d rows)) } ∷ groups (drop k (all_seen d rows)) =
     ap (λ p. groups ((p, r.content) ∷ all_seen d rows)) (drop_some d r.path a e) ∙ run_groups a (q, r.content) (all_seen d rows) in
     let one : suc d ≡ d + 1 = omega arith in
-    let head : (q, r.content) ≡ seen (d + 1) r = ap (λ m. (drop m r.path, r.content)) one in
-    let tail : map down (take k (all_seen d rows)) ≡ all_seen (d + 1) (take k rows) = ap (map down) (take-map (seen d) k rows) ∙ down_all d (take k rows) in
+    let head : (q, r.content) ≡ rows_seen (d + 1) r = ap (λ m. (drop m r.path, r.content)) one in
+    let tail : map down (take k (all_seen d rows)) ≡ all_seen (d + 1) (take k rows) = ap (map down) (take-map (rows_seen d) k rows) ∙ down_all d (take k rows) in
     let below : tree_at n ((q, r.content) ∷ kept (take k (all_seen d rows))) ≡ tree_at n (all_seen (d + 1) (r ∷ take k rows)) =
-    tree_kept n (q, r.content) (take k (all_seen d rows)) ∙ ap (λ x. tree_at n (x ∷ map down (take k (all_seen d rows)))) head ∙ ap (λ xs. tree_at n (seen (d + 1) r ∷ xs)) tail in
+    tree_kept n (q, r.content) (take k (all_seen d rows)) ∙ ap (λ x. tree_at n (x ∷ map down (take k (all_seen d rows)))) head ∙ ap (λ xs. tree_at n (rows_seen (d + 1) r ∷ xs)) tail in
     ap (map (λ (g : Group). edge n g.label g.rows)) first ∙ ap (λ t. (label_text a ++ (codes " : " ++ t)) ∷ edges n (drop k (all_seen d rows))) below
-    ∙ ap (λ xs. edge n a (all_seen (d + 1) (r ∷ take k rows)) ∷ edges n xs) (drop-map (seen d) k rows)
+    ∙ ap (λ xs. edge n a (all_seen (d + 1) (r ∷ take k rows)) ∷ edges n xs) (drop-map (rows_seen d) k rows)
 
 -- ---- the walk over the rows
 
@@ -148,7 +148,7 @@ groups_pass d rows i row within is none before =
 -- a row stands in the run of its own label
 own_run : (a : Label) (d : ℕ) (r : Row) (rows : List Row) → slice_get r.path d ≡ Some a → run_length a (all_seen d (r ∷ rows)) ≡ suc (run_length a (all_seen d rows))
 own_run a d r rows e =
-    let stays : leaves a (seen d r) ≡ false = leaves_some a a d r e ∙ ap not (nat_list_eq_equiv.refl a) in
+    let stays : leaves a (rows_seen d r) ≡ false = leaves_some a a d r e ∙ ap not (nat_list_eq_equiv.refl a) in
     rw (stays, add-one) refl
 
 pub edges_run : (d n : ℕ) (a : Label) (r : Row) (rows : List Row) (k : ℕ) → slice_get r.path d ≡ Some a → k ≡ run_length a (all_seen d (r ∷ rows))

@@ -8,12 +8,12 @@ use Rattle.cp_model.specs.declared.row.Content.{Content}
 use Rattle.cp_model.specs.Trees.{groups, tree_at}
 
 -- a row, seen from this many labels down
-abbrev pub seen : ℕ → Row → Path × Content
-seen depth r = (drop depth r.path, r.content)
+abbrev pub rows_seen : ℕ → Row → Path × Content
+rows_seen depth r = (drop depth r.path, r.content)
 
 -- rows, seen from this many labels down
 abbrev pub all_seen : ℕ → List Row → List (Path × Content)
-all_seen depth rows = map (seen depth) rows
+all_seen depth rows = map (rows_seen depth) rows
 
 -- the row lies below another label
 abbrev pub leaves : Label → Path × Content → Bool

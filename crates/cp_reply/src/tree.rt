@@ -3,7 +3,7 @@ ghost use Rattle.std.specs.List.{slice_get};
 ghost use Rattle.cp_path.specs.Place.{label_eq};
 ghost use Rattle.cp_path.specs.Spelling.{value_text, label_text};
 ghost use Rattle.cp_model.specs.Trees.{between, groups, tree_at, tree_text};
-ghost use Rattle.cp_reply.specs.Runs.{seen, all_seen, leaves, run_length, edge, edges, IsNextRun};
+ghost use Rattle.cp_reply.specs.Runs.{rows_seen, all_seen, leaves, run_length, edge, edges, IsNextRun};
 
 use cp_model::{Content, Row};
 use cp_path::{Label, Value, LABELS_MAX};
@@ -27,7 +27,7 @@ fn label_at(row: &Row, depth: usize) -> Option<&Label>
 
 /// Whether the row lies below another label of the node.
 fn leaves(row: &Row, depth: usize, label: &Label) -> bool
-    ensures { result ≡ leaves label.now (seen depth row.now) }
+    ensures { result ≡ leaves label.now (rows_seen depth row.now) }
 {
     match label_at(row, depth) {
         Some(other) => other != label,

@@ -17,8 +17,8 @@ use Rattle.cp_model.specs.declared.record.Record.{Record}
 use Rattle.cp_store.specs.Changes.{goes_before}
 use Rattle.cp_rows.specs.declared.index.Step.{Step}
 use Rattle.cp_rows.specs.declared.limits.TheConstants.{BLOCK_LEN}
-use Rattle.cp_rows.specs.Blocks.{joined, AreBlocks}
-use Rattle.cp_rows.specs.Index.{Index, steps_of, is_key, noted}
+use Rattle.cp_rows.specs.Blocks.{all_records, AreBlocks}
+use Rattle.cp_rows.specs.Index.{Index, steps_in_entry, is_key, steps_at}
 use Rattle.cp_rows.specs.Steps.{steps_in, AreRising}
 use Rattle.cp_rows.specs.Rows.{AreOrdered, IsKept, IsStored}
 use Rattle.cp_rows.proofs.Before.{and_of, list_all-weaker, order-more}
@@ -51,15 +51,15 @@ key_eq p q =
 -- ---- rows
 
 kept-none : (upto : ℕ) (m : Index) → m.entries ≡ [] → IsKept [] upto m
-unfolding steps_in noted
-kept-none upto m e = record { order = tt; old = refl; index = λ p. ap (λ es. steps_of (lookup (is_key (flat_map counted_bytes p)) es)) e }
+unfolding steps_in steps_at
+kept-none upto m e = record { order = tt; old = refl; index = λ p. ap (λ es. steps_in_entry (lookup (is_key (flat_map counted_bytes p)) es)) e }
 
-empty_joined : joined [] [] ≡ []
-unfolding joined
+empty_joined : all_records [] [] ≡ []
+unfolding all_records
 empty_joined = refl
 
-pub joined-none : (full : List (List Record)) (last : List Record) → full ≡ [] → last ≡ [] → joined full last ≡ []
-joined-none full last e f = ap (λ xs. joined xs last) e ∙ ap (joined []) f ∙ empty_joined
+pub joined-none : (full : List (List Record)) (last : List Record) → full ≡ [] → last ≡ [] → all_records full last ≡ []
+joined-none full last e f = ap (λ xs. all_records xs last) e ∙ ap (all_records []) f ∙ empty_joined
 
 -- no rows, and an empty index
 pub stored-none : (full : List (List Record)) (last : List Record) (upto : ℕ) (m : Index) → full ≡ [] → last ≡ [] → m.entries ≡ [] → IsStored full last 0 upto m
@@ -71,13 +71,13 @@ stored-none full last upto m f l e =
 
 -- one row more, which all others go before, and whose step is noted
 kept-more : (rs : List Record) (upto : ℕ) (m n : Index) (r : Record) (s : Step) → IsKept rs upto m → r.tid ≤ upto → list_all (λ s. goes_before s r) rs ≡ true → s ≡ at_row r (length rs)
-    → ((key : List ℕ) → noted n key ≡ (if text_eq key (flat_map counted_bytes r.loc.path) then noted m key ++ s ∷ [] else noted m key)) → IsKept (rs ++ r ∷ []) upto n
+    → ((key : List ℕ) → steps_at n key ≡ (if text_eq key (flat_map counted_bytes r.loc.path) then steps_at m key ++ s ∷ [] else steps_at m key)) → IsKept (rs ++ r ∷ []) upto n
 kept-more rs upto m n r s k up h e note = record {
   order = order-more rs r k.order h;
   old = list_all-append (λ r. nat_lt r.tid (upto + 1)) rs (r ∷ []) ∙ and_of (list_all (λ r. nat_lt r.tid (upto + 1)) rs) (nat_lt r.tid (upto + 1) && true) k.old (and_of (nat_lt r.tid (upto + 1)) true (below r.tid up) refl);
   index = λ p.
       note (flat_map counted_bytes p)
-      ∙ ap (λ b. if b then noted m (flat_map counted_bytes p) ++ s ∷ [] else noted m (flat_map counted_bytes p)) (key_eq p r.loc.path)
+      ∙ ap (λ b. if b then steps_at m (flat_map counted_bytes p) ++ s ∷ [] else steps_at m (flat_map counted_bytes p)) (key_eq p r.loc.path)
       ∙ ap (λ l. if path_eq p r.loc.path then l ++ s ∷ [] else l) (k.index p)
       ∙ ap (λ x. if path_eq p r.loc.path then steps_in p 0 rs ++ x ∷ [] else steps_in p 0 rs) e
       ∙ ap (λ n. if path_eq p r.loc.path then steps_in p 0 rs ++ (at_row r n) ∷ [] else steps_in p 0 rs) (let z : length rs ≡ 0 + length rs = omega arith in z)
@@ -87,7 +87,7 @@ kept-more rs upto m n r s k up h e note = record {
     below : (t : ℕ) → t ≤ upto → nat_lt t (upto + 1) ≡ true
     below t l = grind (arith, nat_tests)
 
-kept-same : (rs : List Record) (upto : ℕ) (m n : Index) → IsKept rs upto m → ((key : List ℕ) → noted n key ≡ noted m key) → IsKept rs upto n
+kept-same : (rs : List Record) (upto : ℕ) (m n : Index) → IsKept rs upto m → ((key : List ℕ) → steps_at n key ≡ steps_at m key) → IsKept rs upto n
 kept-same rs upto m n k e = record { order = k.order; old = k.old; index = λ p. e (flat_map counted_bytes p) ∙ k.index p }
 
 -- the last Tid may be a later one
@@ -98,30 +98,30 @@ kept-later rs upto more m k = record { order = k.order; old = list_all-weaker (�
     later t e = grind (arith, nat_tests)
 
 pub stored-later : (full : List (List Record)) (last : List Record) (count upto more : ℕ) (m : Index) → IsStored full last count upto m → IsStored full last count (upto + more) m
-stored-later full last count upto more m h = record { blocks = h.blocks; counted = h.counted; kept = kept-later (joined full last) upto more m h.kept }
+stored-later full last count upto more m h = record { blocks = h.blocks; counted = h.counted; kept = kept-later (all_records full last) upto more m h.kept }
 
-module _ (full : List (List Record)) (last : List Record) (count upto : ℕ) (m : Index) (h : IsStored full last count upto m) (full2 : List (List Record)) (last2 : List Record) (same : joined full2 last2 ≡ joined full last) (blocks : AreBlocks full2 last2) where
+module _ (full : List (List Record)) (last : List Record) (count upto : ℕ) (m : Index) (h : IsStored full last count upto m) (full2 : List (List Record)) (last2 : List Record) (same : all_records full2 last2 ≡ all_records full last) (blocks : AreBlocks full2 last2) where
   -- other blocks of the same rows
-  pub stored-same : (n : Index) → ((key : List ℕ) → noted n key ≡ noted m key) → IsStored full2 last2 count upto n
-  stored-same n e = record { blocks = blocks; counted = h.counted ∙ ap length (sym same); kept = subst (λ rs. IsKept rs upto n) (sym same) (kept-same (joined full last) upto m n h.kept e) }
+  pub stored-same : (n : Index) → ((key : List ℕ) → steps_at n key ≡ steps_at m key) → IsStored full2 last2 count upto n
+  stored-same n e = record { blocks = blocks; counted = h.counted ∙ ap length (sym same); kept = subst (λ rs. IsKept rs upto n) (sym same) (kept-same (all_records full last) upto m n h.kept e) }
 
   module _ (r : Record) (last3 : List Record) (is : last3 ≡ last2 ++ r ∷ []) where
     -- a row more
-    pub joined-row : joined full2 last3 ≡ joined full last ++ r ∷ []
-    joined-row = ap (joined full2) is ∙ joined-more full2 last2 (r ∷ []) ∙ ap (λ l. l ++ r ∷ []) same
+    pub joined-row : all_records full2 last3 ≡ all_records full last ++ r ∷ []
+    joined-row = ap (all_records full2) is ∙ joined-more full2 last2 (r ∷ []) ∙ ap (λ l. l ++ r ∷ []) same
 
-    pub stored-more : (s : Step) (n : Index) → length last2 < BLOCK_LEN → r.tid ≤ upto → list_all (λ s. goes_before s r) (joined full last) ≡ true → s ≡ at_row r count
-        → ((key : List ℕ) → noted n key ≡ (if text_eq key (flat_map counted_bytes r.loc.path) then noted m key ++ s ∷ [] else noted m key)) → IsStored full2 last3 (count + 1) upto n
+    pub stored-more : (s : Step) (n : Index) → length last2 < BLOCK_LEN → r.tid ≤ upto → list_all (λ s. goes_before s r) (all_records full last) ≡ true → s ≡ at_row r count
+        → ((key : List ℕ) → steps_at n key ≡ (if text_eq key (flat_map counted_bytes r.loc.path) then steps_at m key ++ s ∷ [] else steps_at m key)) → IsStored full2 last3 (count + 1) upto n
     stored-more s n room up before e note =
         let size : length last3 ≡ length last2 + 1 = ap length is ∙ length-append last2 (r ∷ []) in
-        let total : length (joined full2 last3) ≡ length (joined full last) + 1 = ap length joined-row ∙ length-append (joined full last) (r ∷ []) in
+        let total : length (all_records full2 last3) ≡ length (all_records full last) + 1 = ap length joined-row ∙ length-append (all_records full last) (r ∷ []) in
         let counted_bytes = h.counted in
         record {
           blocks = record { each = blocks.each; few = omega (arith, size, room) };
           counted = omega (arith, total, counted_bytes);
-          kept = subst (λ rs. IsKept rs upto n) (sym joined-row) (kept-more (joined full last) upto m n r s h.kept up before (e ∙ ap (at_row r) counted_bytes) note);
+          kept = subst (λ rs. IsKept rs upto n) (sym joined-row) (kept-more (all_records full last) upto m n r s h.kept up before (e ∙ ap (at_row r) counted_bytes) note);
         }
 
 -- the steps of a place rise
-pub noted-rise : (rs : List Record) (upto : ℕ) (m : Index) (p : Path) (key : List ℕ) → IsKept rs upto m → key ≡ flat_map counted_bytes p → AreRising (noted m key)
-noted-rise rs upto m p key k e = subst (λ l. AreRising l) (sym (ap (noted m) e ∙ k.index p)) (steps-rise p 0 rs k.order)
+pub noted-rise : (rs : List Record) (upto : ℕ) (m : Index) (p : Path) (key : List ℕ) → IsKept rs upto m → key ≡ flat_map counted_bytes p → AreRising (steps_at m key)
+noted-rise rs upto m p key k e = subst (λ l. AreRising l) (sym (ap (steps_at m) e ∙ k.index p)) (steps-rise p 0 rs k.order)

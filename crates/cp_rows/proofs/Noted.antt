@@ -14,7 +14,7 @@ use Rattle.std.specs.Cmp.Lexicographic.{nat_list_eq_equiv, texts_ties}
 use Rattle.cp_path.specs.Text.{text_eq, text_cmp}
 use Rattle.cp_path.proofs.Same.{text_eq-same}
 use Rattle.cp_rows.specs.declared.index.Step.{Step}
-use Rattle.cp_rows.specs.Index.{Index, steps_of, is_key, noted}
+use Rattle.cp_rows.specs.Index.{Index, steps_in_entry, is_key, steps_at}
 
 -- what holds anyhow holds where there is an error
 pub on_err : {A E P : Type 0} (r : Result A E) → P → OnErr r P
@@ -85,61 +85,61 @@ module _ {X : Type 0} where
             | true ↦ λ u. let same : q ≡ p = text_eq-same q p u in let equal : is_eq (text_cmp p r) ≡ true = ap (λ l. is_eq (text_cmp l r)) (sym same) ∙ t in absurd (cc)
           ] refl
 
-if_steps : (b : Bool) (v : Vec Step) (o : Option (Vec Step)) → steps_of (cond b (Some v) o) ≡ (if b then v.items else steps_of o)
+if_steps : (b : Bool) (v : Vec Step) (o : Option (Vec Step)) → steps_in_entry (cond b (Some v) o) ≡ (if b then v.items else steps_in_entry o)
 if_steps true v o = refl
 if_steps false v o = refl
 
 -- an index with the same entries notes the same
-pub noted-same : (m n : Index) → n.entries ≡ m.entries → (key : List ℕ) → noted n key ≡ noted m key
-unfolding noted
-noted-same m n e key = ap (λ es. steps_of (lookup (is_key key) es)) e
+pub noted-same : (m n : Index) → n.entries ≡ m.entries → (key : List ℕ) → steps_at n key ≡ steps_at m key
+unfolding steps_at
+noted-same m n e key = ap (λ es. steps_in_entry (lookup (is_key key) es)) e
 
 -- a key that has no steps yet
 pub noted-inserted : (l m n : Index) (k : Vec ℕ) (v : Vec Step) (place : List ℕ) (s : Step) → l ≡ m → k.items ≡ place → v.items ≡ s ∷ [] → None ≡ lookup (is_key place) m.entries
-    → n.entries ≡ insert_entry (λ x y. text_cmp x.items y.items) l.entries k v → (key : List ℕ) → noted n key ≡ (if text_eq key place then noted m key ++ s ∷ [] else noted m key)
-unfolding noted
+    → n.entries ≡ insert_entry (λ x y. text_cmp x.items y.items) l.entries k v → (key : List ℕ) → steps_at n key ≡ (if text_eq key place then steps_at m key ++ s ∷ [] else steps_at m key)
+unfolding steps_at
 noted-inserted l m n k v place s same e f none put key =
-    ap (λ es. steps_of (lookup (is_key key) es)) put
-    ∙ ap (λ (x : Index). steps_of (lookup (is_key key) (insert_entry (λ x y. text_cmp x.items y.items) x.entries k v))) same
-    ∙ ap steps_of (inserted key m.entries k v)
+    ap (λ es. steps_in_entry (lookup (is_key key) es)) put
+    ∙ ap (λ (x : Index). steps_in_entry (lookup (is_key key) (insert_entry (λ x y. text_cmp x.items y.items) x.entries k v))) same
+    ∙ ap steps_in_entry (inserted key m.entries k v)
     ∙ if_steps (is_key key k) v (lookup (is_key key) m.entries)
-    ∙ ap (λ b. if b then v.items else noted m key) (sym (texts_ties key k.items) ∙ ap (text_eq key) e)
-    ∙ elim (text_eq key place) as (λ b. text_eq key place ≡ b → (if b then v.items else noted m key) ≡ (if b then noted m key ++ s ∷ [] else noted m key)) [
+    ∙ ap (λ b. if b then v.items else steps_at m key) (sym (texts_ties key k.items) ∙ ap (text_eq key) e)
+    ∙ elim (text_eq key place) as (λ b. text_eq key place ≡ b → (if b then v.items else steps_at m key) ≡ (if b then steps_at m key ++ s ∷ [] else steps_at m key)) [
       | true ↦ λ t. f ∙ ap (λ l. l ++ s ∷ []) (sym (empty (text_eq-same key place t)))
       | false ↦ λ _. refl
     ] refl
   where
-    empty : key ≡ place → noted m key ≡ []
-    empty t = ap (λ q. steps_of (lookup (is_key q) m.entries)) t ∙ ap steps_of (sym none)
+    empty : key ≡ place → steps_at m key ≡ []
+    empty t = ap (λ q. steps_in_entry (lookup (is_key q) m.entries)) t ∙ ap steps_in_entry (sym none)
 
 -- a key whose steps are set
 pub noted-set : (m n : Index) (v w : Vec Step) (place k : List ℕ) → k ≡ place → Some v ≡ lookup (is_key k) m.entries → n.entries ≡ set_value (is_key k) m.entries w
-    → (key : List ℕ) → noted n key ≡ (if text_eq key place then w.items else noted m key)
-unfolding noted
+    → (key : List ℕ) → steps_at n key ≡ (if text_eq key place then w.items else steps_at m key)
+unfolding steps_at
 noted-set m n v w place k e some put key =
-    ap (λ es. steps_of (lookup (is_key key) es)) put
-    ∙ ap steps_of (set key k m.entries w v (sym some))
+    ap (λ es. steps_in_entry (lookup (is_key key) es)) put
+    ∙ ap steps_in_entry (set key k m.entries w v (sym some))
     ∙ if_steps (text_eq key k) w (lookup (is_key key) m.entries)
-    ∙ ap (λ p. if text_eq key p then w.items else noted m key) e
+    ∙ ap (λ p. if text_eq key p then w.items else steps_at m key) e
 
 -- a key that has one step more
 pub noted-more : (m n : Index) (v w : Vec Step) (place k : List ℕ) (s : Step) → k ≡ place → Some v ≡ lookup (is_key k) m.entries → n.entries ≡ set_value (is_key k) m.entries w → w.items ≡ v.items ++ s ∷ []
-    → (key : List ℕ) → noted n key ≡ (if text_eq key place then noted m key ++ s ∷ [] else noted m key)
-unfolding noted
+    → (key : List ℕ) → steps_at n key ≡ (if text_eq key place then steps_at m key ++ s ∷ [] else steps_at m key)
+unfolding steps_at
 noted-more m n v w place k s e some put f key =
     noted-set m n v w place k e some put key
-    ∙ elim (text_eq key place) as (λ b. text_eq key place ≡ b → (if b then w.items else noted m key) ≡ (if b then noted m key ++ s ∷ [] else noted m key)) [
-      | true ↦ λ t. f ∙ ap (λ l. l ++ s ∷ []) (ap steps_of some ∙ ap (λ q. noted m q) (e ∙ sym (text_eq-same key place t)))
+    ∙ elim (text_eq key place) as (λ b. text_eq key place ≡ b → (if b then w.items else steps_at m key) ≡ (if b then steps_at m key ++ s ∷ [] else steps_at m key)) [
+      | true ↦ λ t. f ∙ ap (λ l. l ++ s ∷ []) (ap steps_in_entry some ∙ ap (λ q. steps_at m q) (e ∙ sym (text_eq-same key place t)))
       | false ↦ λ _. refl
     ] refl
 
 -- a key whose steps stay
 pub noted-kept : (m n : Index) (v w : Vec Step) (place k : List ℕ) → k ≡ place → Some v ≡ lookup (is_key k) m.entries → n.entries ≡ set_value (is_key k) m.entries w → w.items ≡ v.items
-    → (key : List ℕ) → noted n key ≡ noted m key
-unfolding noted
+    → (key : List ℕ) → steps_at n key ≡ steps_at m key
+unfolding steps_at
 noted-kept m n v w place k e some put f key =
     noted-set m n v w place k e some put key
-    ∙ elim (text_eq key place) as (λ b. text_eq key place ≡ b → (if b then w.items else noted m key) ≡ noted m key) [
-      | true ↦ λ t. f ∙ ap steps_of some ∙ ap (λ q. noted m q) (e ∙ sym (text_eq-same key place t))
+    ∙ elim (text_eq key place) as (λ b. text_eq key place ≡ b → (if b then w.items else steps_at m key) ≡ steps_at m key) [
+      | true ↦ λ t. f ∙ ap steps_in_entry some ∙ ap (λ q. steps_at m q) (e ∙ sym (text_eq-same key place t))
       | false ↦ λ _. refl
     ] refl

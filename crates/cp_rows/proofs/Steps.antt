@@ -14,7 +14,7 @@ use Rattle.cp_model.specs.declared.record.Record.{Record}
 use Rattle.cp_model.specs.declared.record.RowMark.{RowMark as Mark}
 use Rattle.cp_store.specs.Changes.{goes_before}
 use Rattle.cp_rows.specs.declared.index.Step.{Step}
-use Rattle.cp_rows.specs.Steps.{steps_in, row_of, mark_at, AreRising, IsNewest}
+use Rattle.cp_rows.specs.Steps.{steps_in, row_number, mark_at, AreRising, IsNewest}
 use Rattle.cp_rows.specs.Rows.{AreOrdered}
 use Rattle.cp_rows.proofs.Before.{same_place}
 
@@ -48,8 +48,8 @@ get_at : {X : Type 0} (xs : List X) (y : X) (ys : List X) → slice_get (xs ++ y
 get_at [] y ys = refl
 get_at (x ∷ xs) y ys = get_at xs y ys
 
-row_of-if : (b : Bool) (s : Step) (steps : List Step) (u : ℕ) → row_of (if b then s ∷ steps else steps) u ≡ (if b && u == s.tid then Some s.row else row_of steps u)
-unfolding row_of
+row_of-if : (b : Bool) (s : Step) (steps : List Step) (u : ℕ) → row_number (if b then s ∷ steps else steps) u ≡ (if b && u == s.tid then Some s.row else row_number steps u)
+unfolding row_number
 row_of-if true s steps u = refl
 row_of-if false s steps u = refl
 
@@ -61,37 +61,37 @@ either : (d : Bool) (rs : List Record) (n : ℕ) (o : Option ℕ) (m : Mark) (x 
 either true rs n o m x h g = g
 either false rs n o m x h g = h
 
-marked : (p : Path) (u : ℕ) (pre rs : List Record) (n : ℕ) → n ≡ length pre → mark_at (pre ++ rs) (row_of (steps_in p n rs) u) ≡ look p (rows_at rs u)
-unfolding steps_in row_of rows_at
+marked : (p : Path) (u : ℕ) (pre rs : List Record) (n : ℕ) → n ≡ length pre → mark_at (pre ++ rs) (row_number (steps_in p n rs) u) ≡ look p (rows_at rs u)
+unfolding steps_in row_number rows_at
 marked p u pre [] n e = refl
 marked p u pre (r ∷ rs) n e =
     let size : n + 1 ≡ length (pre ++ r ∷ []) = (let z : length (pre ++ r ∷ []) ≡ length pre + 1 = length-append pre (r ∷ []) in omega (arith, z, e)) in
-    let next : mark_at (pre ++ r ∷ rs) (row_of (steps_in p (n + 1) rs) u) ≡ look p (rows_at rs u) = ap (λ l. mark_at l (row_of (steps_in p (n + 1) rs) u)) (sym (append_assoc pre (r ∷ []) rs)) ∙ marked p u (pre ++ r ∷ []) rs (n + 1) size in
+    let next : mark_at (pre ++ r ∷ rs) (row_number (steps_in p (n + 1) rs) u) ≡ look p (rows_at rs u) = ap (λ l. mark_at l (row_number (steps_in p (n + 1) rs) u)) (sym (append_assoc pre (r ∷ []) rs)) ∙ marked p u (pre ++ r ∷ []) rs (n + 1) size in
     let here : mark_at (pre ++ r ∷ rs) (Some n) ≡ Some (mark_by r.op r.src) = ap (λ m. option_map (λ q. mark_by q.op q.src) (slice_get (pre ++ r ∷ rs) m)) e ∙ ap (option_map (λ q. mark_by q.op q.src)) (get_at pre r rs) in
     let m = mark_by r.op r.src in
     ap (mark_at (pre ++ r ∷ rs)) (row_of-if (path_eq p r.loc.path) (at_row r n) (steps_in p (n + 1) rs) u)
-    ∙ either (path_eq p r.loc.path && u == r.tid) (pre ++ r ∷ rs) n (row_of (steps_in p (n + 1) rs) u) m (look p (rows_at rs u)) next here
+    ∙ either (path_eq p r.loc.path && u == r.tid) (pre ++ r ∷ rs) n (row_number (steps_in p (n + 1) rs) u) m (look p (rows_at rs u)) next here
     ∙ ap (λ c. if path_eq p r.loc.path && c then Some m else look p (rows_at rs u)) (number_eq-sym u r.tid)
     ∙ sym (look-if (r.tid == u) p r.loc.path m (rows_at rs u))
 
 -- the row of a place and step says what the rows of the step say of the place
-pub row_of-says : (p : Path) (u : ℕ) (rs : List Record) → mark_at rs (row_of (steps_in p 0 rs) u) ≡ look p (rows_at rs u)
+pub row_of-says : (p : Path) (u : ℕ) (rs : List Record) → mark_at rs (row_number (steps_in p 0 rs) u) ≡ look p (rows_at rs u)
 row_of-says p u rs = marked p u [] rs 0 refl
 
 within_or : (d : Bool) (n m i : ℕ) (o : Option ℕ) → n < m → (o ≡ Some i → i < m) → (if d then Some n else o) ≡ Some i → i < m
 within_or true n m i o h g e = let same : n ≡ i = cc in omega (arith, same, h)
 within_or false n m i o h g e = g e
 
-within_from : (p : Path) (u n i : ℕ) (rs : List Record) → row_of (steps_in p n rs) u ≡ Some i → i < n + length rs
-unfolding steps_in row_of
+within_from : (p : Path) (u n i : ℕ) (rs : List Record) → row_number (steps_in p n rs) u ≡ Some i → i < n + length rs
+unfolding steps_in row_number
 within_from p u n i [] h = absurd (cc)
 within_from p u n i (r ∷ rs) h =
-    within_or (path_eq p r.loc.path && u == r.tid) n (n + suc (length rs)) i (row_of (steps_in p (n + 1) rs) u) (omega arith)
+    within_or (path_eq p r.loc.path && u == r.tid) n (n + suc (length rs)) i (row_number (steps_in p (n + 1) rs) u) (omega arith)
     (λ e. let le : i < n + 1 + length rs = within_from p u (n + 1) i rs e in omega (arith, le))
     (sym (row_of-if (path_eq p r.loc.path) (at_row r n) (steps_in p (n + 1) rs) u) ∙ h)
 
 -- the row of a step is among the rows
-pub row_of-within : (p : Path) (u i : ℕ) (rs : List Record) → row_of (steps_in p 0 rs) u ≡ Some i → i < length rs
+pub row_of-within : (p : Path) (u i : ℕ) (rs : List Record) → row_number (steps_in p 0 rs) u ≡ Some i → i < length rs
 row_of-within p u i rs h = let le : i < 0 + length rs = within_from p u 0 i rs h in omega (arith, le)
 
 later_all : (p : Path) (n : ℕ) (r : Record) (rs : List Record) → path_eq p r.loc.path ≡ true → list_all (goes_before r) rs ≡ true → AllByRecursion (λ s. r.tid < s.tid) (steps_in p n rs)
@@ -129,31 +129,31 @@ rise-order (x ∷ steps) h (suc i) (suc j) d le lt = rise-order steps h.1 i j d 
 
 module _ (t : ℕ) where
   -- steps after t have no row up to t
-  after_none : (steps : List Step) (u : ℕ) → u ≤ t → AllByRecursion (λ s. t < s.tid) steps → row_of steps u ≡ None
-  unfolding row_of
+  after_none : (steps : List Step) (u : ℕ) → u ≤ t → AllByRecursion (λ s. t < s.tid) steps → row_number steps u ≡ None
+  unfolding row_number
   after_none [] u le h = refl
   after_none (s ∷ steps) u le h =
       let first = h.0 in
       let other : (u == s.tid) ≡ false = grind (arith, nat_tests) in
-      ap (λ b. if b then Some s.row else row_of steps u) other ∙ after_none steps u le h.1
+      ap (λ b. if b then Some s.row else row_number steps u) other ∙ after_none steps u le h.1
 
   all_after : (s : Step) (steps : List Step) → t < s.tid → AllByRecursion (λ r. s.tid < r.tid) steps → AllByRecursion (λ r. t < r.tid) steps
   all_after s [] l h = tt
   all_after s (x ∷ steps) l h = let first = h.0 in (omega (arith, l, first), all_after s steps l h.1)
 
   -- where the first step is after t, there is none up to t
-  none_newest : (steps : List Step) → AreRising steps → ((s : Step) (more : List Step) → steps ≡ s ∷ more → t < s.tid) → (u : ℕ) → u ≤ t → row_of steps u ≡ None
-  unfolding row_of
+  none_newest : (steps : List Step) → AreRising steps → ((s : Step) (more : List Step) → steps ≡ s ∷ more → t < s.tid) → (u : ℕ) → u ≤ t → row_number steps u ≡ None
+  unfolding row_number
   none_newest [] h f u le = refl
   none_newest (s ∷ steps) h f u le = let first = f s steps refl in after_none (s ∷ steps) u le (first, all_after s steps first h.0)
 
-  own_row : (s : Step) (steps : List Step) → row_of (s ∷ steps) s.tid ≡ Some s.row
-  unfolding row_of
-  own_row s steps = ap (λ b. if b then Some s.row else row_of steps s.tid) (let e : (s.tid == s.tid) ≡ true = grind (arith, nat_tests) in e)
+  own_row : (s : Step) (steps : List Step) → row_number (s ∷ steps) s.tid ≡ Some s.row
+  unfolding row_number
+  own_row s steps = ap (λ b. if b then Some s.row else row_number steps s.tid) (let e : (s.tid == s.tid) ≡ true = grind (arith, nat_tests) in e)
 
-  past_row : (s : Step) (steps : List Step) (u : ℕ) → s.tid < u → row_of (s ∷ steps) u ≡ row_of steps u
-  unfolding row_of
-  past_row s steps u l = ap (λ b. if b then Some s.row else row_of steps u) (let e : (u == s.tid) ≡ false = grind (arith, nat_tests) in e)
+  past_row : (s : Step) (steps : List Step) (u : ℕ) → s.tid < u → row_number (s ∷ steps) u ≡ row_number steps u
+  unfolding row_number
+  past_row s steps u l = ap (λ b. if b then Some s.row else row_number steps u) (let e : (u == s.tid) ≡ false = grind (arith, nat_tests) in e)
 
   -- the step in front of those after t is the newest
   pub newest_at : (steps : List Step) (n : ℕ) (d : Step) → AreRising steps → n < length steps → (get_or steps n d).tid ≤ t → ((e : Step) → n + 1 < length steps → t < (get_or steps (n + 1) e).tid) → IsNewest steps t (Some (get_or steps n d))

@@ -13,14 +13,14 @@ abbrev pub Index : Type 0
 Index = BTreeMap (Vec ℕ) (Vec Step)
 
 -- the steps, if there are any
-abbrev pub steps_of : Option (Vec Step) → List Step
-steps_of None = []
-steps_of (Some v) = v.items
+abbrev pub steps_in_entry : Option (Vec Step) → List Step
+steps_in_entry None = []
+steps_in_entry (Some v) = v.items
 
 -- whether the bytes of a key are these
 abbrev pub is_key : List ℕ → Vec ℕ → Bool
 is_key key = is_at (λ k. text_cmp key k.items)
 
 -- the steps at a key
-unfoldable pub noted : Index → List ℕ → List Step
-noted m key = steps_of (lookup (is_key key) m.entries)
+unfoldable pub steps_at : Index → List ℕ → List Step
+steps_at m key = steps_in_entry (lookup (is_key key) m.entries)

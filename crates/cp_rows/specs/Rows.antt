@@ -8,8 +8,8 @@ use Rattle.cp_model.specs.Place.{Path}
 use Rattle.cp_model.specs.declared.record.Record.{Record}
 use Rattle.cp_store.specs.Changes.{goes_before}
 use Rattle.cp_rows.specs.Steps.{steps_in}
-use Rattle.cp_rows.specs.Blocks.{joined, AreBlocks}
-use Rattle.cp_rows.specs.Index.{Index, noted}
+use Rattle.cp_rows.specs.Blocks.{all_records, AreBlocks}
+use Rattle.cp_rows.specs.Index.{Index, steps_at}
 
 -- the rows of all steps up to the last
 pub record Rows : Type 0 where
@@ -25,13 +25,13 @@ AreOrdered (r ∷ rs) = (list_all (goes_before r) rs ≡ true) × AreOrdered rs
 pub record IsKept (rs : List Record) (upto : ℕ) (m : Index) : Type 0 where
   pub order : AreOrdered rs
   pub old : list_all (λ r. nat_lt r.tid (upto + 1)) rs ≡ true
-  pub index : (p : Path) → noted m (flat_map counted_bytes p) ≡ steps_in p 0 rs
+  pub index : (p : Path) → steps_at m (flat_map counted_bytes p) ≡ steps_in p 0 rs
 
 -- the same of rows in blocks, whose number is counted
 pub record IsStored (full : List (List Record)) (last : List Record) (count upto : ℕ) (m : Index) : Type 0 where
   pub blocks : AreBlocks full last
-  pub counted : count ≡ length (joined full last)
-  pub kept : IsKept (joined full last) upto m
+  pub counted : count ≡ length (all_records full last)
+  pub kept : IsKept (all_records full last) upto m
 
 -- the key of a place: its labels, each behind its length
 pub record IsKey (key : List ℕ) : Type 0 where

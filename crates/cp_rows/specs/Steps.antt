@@ -15,9 +15,9 @@ steps_in p n [] = []
 steps_in p n (r ∷ rs) = if path_eq p r.loc.path then (record { tid = r.tid; row = n }) ∷ steps_in p (n + 1) rs else steps_in p (n + 1) rs
 
 -- the number of the row of step u
-unfoldable pub row_of : List Step → ℕ → Option ℕ
-row_of [] u = None
-row_of (s ∷ steps) u = if u == s.tid then Some s.row else row_of steps u
+unfoldable pub row_number : List Step → ℕ → Option ℕ
+row_number [] u = None
+row_number (s ∷ steps) u = if u == s.tid then Some s.row else row_number steps u
 
 -- what the row of a number says of its place
 abbrev pub mark_at : List Record → Option ℕ → Option Mark
@@ -31,5 +31,5 @@ AreRising (s ∷ steps) = AllByRecursion (λ r. s.tid < r.tid) steps × AreRisin
 
 -- the step of the greatest Tid up to t
 unfoldable pub IsNewest : List Step → ℕ → Option Step → Type 0
-IsNewest steps t None = (u : ℕ) → u ≤ t → row_of steps u ≡ None
-IsNewest steps t (Some s) = (s.tid ≤ t) × (row_of steps s.tid ≡ Some s.row) × ((u : ℕ) → s.tid < u → u ≤ t → row_of steps u ≡ None)
+IsNewest steps t None = (u : ℕ) → u ≤ t → row_number steps u ≡ None
+IsNewest steps t (Some s) = (s.tid ≤ t) × (row_number steps s.tid ≡ Some s.row) × ((u : ℕ) → s.tid < u → u ≤ t → row_number steps u ≡ None)

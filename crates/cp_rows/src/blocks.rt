@@ -2,7 +2,7 @@
 ghost use Rattle.std.specs.Prelude.{◌≡◌, ◌≤◌, ◌<◌, ◌++◌, ◌∷◌, [], length, OnOk};
 ghost use Rattle.std.specs.List.{slice_get, AllByRecursion};
 ghost use Rattle.cp_model.specs.declared.record.Record.{Record};
-ghost use Rattle.cp_rows.specs.Blocks.{joined, AreBlocks};
+ghost use Rattle.cp_rows.specs.Blocks.{all_records, AreBlocks};
 
 use crate::limits::BLOCK_LEN;
 use cp_record::PackedRecords;
@@ -17,8 +17,8 @@ pub(crate) fn make_room(
     alloc: Global,
 ) -> Result<(), AllocError>
     requires blocks { AreBlocks full.old.items last.old }
-    requires count { count ≡ length (joined full.old.items last.old) }
-    ensures same { joined full.new.items last.new ≡ joined full.old.items last.old }
+    requires count { count ≡ length (all_records full.old.items last.old) }
+    ensures same { all_records full.new.items last.new ≡ all_records full.old.items last.old }
     ensures blocks { AreBlocks full.new.items last.new }
     ensures room { OnOk result (length last.new < BLOCK_LEN) }
 {
@@ -37,9 +37,9 @@ pub(crate) fn block_of<'a>(
     number: usize,
 ) -> (&'a PackedRecords, usize)
     requires blocks { AreBlocks full.now last.now }
-    requires within { number < length (joined full.now last.now) }
+    requires within { number < length (all_records full.now last.now) }
     ensures within { result.1 < length result.0.now }
-    ensures same { slice_get result.0.now result.1 ≡ slice_get (joined full.now last.now) number }
+    ensures same { slice_get result.0.now result.1 ≡ slice_get (all_records full.now last.now) number }
 {
     let block = number / BLOCK_LEN;
     if block < full.len() {

@@ -3,7 +3,7 @@ ghost use Rattle.std.specs.Prelude.{◌≡◌, ◌≤◌, ◌<◌, ◌++◌, ◌
 ghost use Rattle.std.specs.List.{flat_map};
 ghost use Rattle.cp_path.specs.Encoding.{counted_bytes};
 ghost use Rattle.cp_path.specs.Text.{text_eq};
-ghost use Rattle.cp_rows.specs.Index.{noted};
+ghost use Rattle.cp_rows.specs.Index.{steps_at};
 ghost use Rattle.cp_rows.specs.Steps.{AreRising, IsNewest};
 
 use crate::key::key_of;
@@ -28,8 +28,8 @@ pub(crate) fn note(
     place: &Path,
     step: Step,
 ) -> Result<(), AllocError>
-    ensures ok { OnOk result ((key : List ℕ) → noted index.new key ≡ (if text_eq key (flat_map counted_bytes place.now) then noted index.old key ++ step ∷ [] else noted index.old key)) }
-    ensures err { OnErr result ((key : List ℕ) → noted index.new key ≡ noted index.old key) }
+    ensures ok { OnOk result ((key : List ℕ) → steps_at index.new key ≡ (if text_eq key (flat_map counted_bytes place.now) then steps_at index.old key ++ step ∷ [] else steps_at index.old key)) }
+    ensures err { OnErr result ((key : List ℕ) → steps_at index.new key ≡ steps_at index.old key) }
 {
     let key = key_of(alloc, place)?;
     if let Some(steps) = index.get_mut(key.as_slice()) {
@@ -44,7 +44,7 @@ pub(crate) fn note(
 
 /// The steps that the index has at a key. Costs a logarithm of the places.
 pub(crate) fn steps_at<'a>(index: &'a Index, key: &[u8]) -> &'a [Step]
-    ensures { result.now ≡ noted index.now key.now }
+    ensures { result.now ≡ steps_at index.now key.now }
 {
     match index.get(key) {
         Some(steps) => steps.as_slice(),

@@ -34,12 +34,12 @@ pub struct Rows {
 
 impl Model for Rows {
     ghost use Rattle.std.specs.Prelude.{◌≡◌, length};
-    ghost use Rattle.cp_rows.specs.Blocks.{joined};
+    ghost use Rattle.cp_rows.specs.Blocks.{all_records};
     ghost use Rattle.cp_rows.specs.Rows.{Rows, IsStored};
 
     ghost Value = { Rows };
 
-    ghost view = { λ s. record { list = joined s.full.items s.last; upto = s.upto } };
+    ghost view = { λ s. record { list = all_records s.full.items s.last; upto = s.upto } };
 
     ghost invariant = { λ s. IsStored s.full.items s.last s.count s.upto s.index };
 }

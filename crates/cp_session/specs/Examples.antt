@@ -23,7 +23,7 @@ use Rattle.cp_lang.specs.declared.syntax_tree.Stmt.TheVariants as stmt
 use Rattle.cp_reply.specs.Lines.{lines}
 use Rattle.cp_reply.specs.declared.reply.Reply.TheVariants as reply
 use Rattle.cp_reply.specs.declared.reply.Why.TheVariants as why
-use Rattle.cp_session.specs.Session.{Setting, going, unread, Fetched, gives, withholds, fresh, replies_to_statements, session_after_statements}
+use Rattle.cp_session.specs.Session.{Setting, going, unread, FetchedFile, gives, withholds, fresh, replies_to_statements, session_after_statements}
 
 -- ---- places, trees and statements in short
 
@@ -122,8 +122,8 @@ abbrev pub empty_tree : Tree
 empty_tree = tree []
 
 -- `{"c1":{"x":1,"y":3},"c3":{"x":0},"c5":{"x":9,"y":7}}`
-abbrev pub curated : Tree
-curated =
+abbrev pub curated_tree : Tree
+curated_tree =
     tree (edge "c1" (node (edge "x" (whole 1) ∷ edge "y" (whole 3) ∷ []))
     ∷ edge "c3" (node (edge "x" (whole 0) ∷ []))
     ∷ edge "c5" (node (edge "x" (whole 9) ∷ edge "y" (whole 7) ∷ [])) ∷ [])
@@ -157,7 +157,7 @@ genes = tree (gene_row "ENSG01" "BRCA1" "17" ∷ gene_row "ENSG02" "TP53" "17" �
 
 -- ---- sessions
 
-abbrev pub file_named : List ℕ → Fetched
+abbrev pub file_named : List ℕ → FetchedFile
 file_named f =
     if label_eq f (codes "s1.json") then gives first_source
     else if label_eq f (codes "s2.json") then gives second_source
@@ -193,12 +193,12 @@ abbrev pub output : Kind → Tree → List Stmt → List ℕ
 output k t script = output_with setting k t script
 
 -- the log of the history to which these statements lead, from an empty tree, where the clock tells these moments
-abbrev pub logged : Setting → Kind → List ℕ → List Stmt → List ℕ
-logged c k moments script = lines (reply.Logged (log_of (session_after_statements c (fresh k empty_tree moments) script).history))
+abbrev pub log_lines : Setting → Kind → List ℕ → List Stmt → List ℕ
+log_lines c k moments script = lines (reply.Logged (log_of (session_after_statements c (fresh k empty_tree moments) script).history))
 
 -- the lines, each with its line feed
-abbrev pub written : List String → List ℕ
-written texts = flat_map (λ s. codes s ++ 10 ∷ []) texts
+abbrev pub lines_of : List String → List ℕ
+lines_of texts = flat_map (λ s. codes s ++ 10 ∷ []) texts
 
 -- ---- copies and pastes from two sources, in each kind
 
@@ -213,8 +213,8 @@ curation =
 -- the naive kind numbers each operation and records each place that it touched; what a copy has replaced is in no past
 abbrev pub naive_kind_records_each_place : Type 0
 naive_kind_records_each_place =
-    output kind.N curated (curation ++ stats ∷ mod_at "T" ∷ show "T" ∷ [])
-    ≡ written ("loaded S1 9" ∷ "loaded S2 6" ∷ "committed 1..10"
+    output kind.N curated_tree (curation ++ stats ∷ mod_at "T" ∷ show "T" ∷ [])
+    ≡ lines_of ("loaded S1 9" ∷ "loaded S2 6" ∷ "committed 1..10"
     ∷ "stats: kind n, tid 10, transactions 1, records 16, nodes 13, sources 2"
     ∷ "mod T: 1 2 4 6 7 9 10"
     ∷ "show T: {c1 : {x : 1, y : 2}, c2 : {x : 3, y : 5}, c3 : {x : 7, y : 6}, c4 : {x : 4, y : 12}}" ∷ [])
@@ -222,40 +222,40 @@ naive_kind_records_each_place =
 -- the transactional kind has one number for the whole transaction, and records its net effect alone
 abbrev pub transactional_kind_records_net_effects : Type 0
 transactional_kind_records_net_effects =
-    output kind.T curated (curation ++ stats ∷ mod_at "T" ∷ [])
-    ≡ written ("loaded S1 9" ∷ "loaded S2 6" ∷ "committed 1"
+    output kind.T curated_tree (curation ++ stats ∷ mod_at "T" ∷ [])
+    ≡ lines_of ("loaded S1 9" ∷ "loaded S2 6" ∷ "committed 1"
     ∷ "stats: kind t, tid 1, transactions 1, records 13, nodes 13, sources 2"
     ∷ "mod T: 1" ∷ [])
 
 -- the hierarchical kind has ten records for ten operations, and answers as the naive one
 abbrev pub hierarchical_kind_has_fewer_records : Type 0
 hierarchical_kind_has_fewer_records =
-    output kind.H curated (curation ++ stats ∷ mod_at "T" ∷ [])
-    ≡ written ("loaded S1 9" ∷ "loaded S2 6" ∷ "committed 1..10"
+    output kind.H curated_tree (curation ++ stats ∷ mod_at "T" ∷ [])
+    ≡ lines_of ("loaded S1 9" ∷ "loaded S2 6" ∷ "committed 1..10"
     ∷ "stats: kind h, tid 10, transactions 1, records 10, nodes 13, sources 2"
     ∷ "mod T: 1 2 4 6 7 9 10" ∷ [])
 
 -- of each operation the hierarchical kind has one record: that of the place which the operation names
 abbrev pub hierarchical_kind_records_each_operation_once : Type 0
 hierarchical_kind_records_each_operation_once =
-    output kind.H curated (curation ++ all_records ∷ [])
-    ≡ written ("loaded S1 9" ∷ "loaded S2 6" ∷ "committed 1..10"
+    output kind.H curated_tree (curation ++ all_records ∷ [])
+    ≡ lines_of ("loaded S1 9" ∷ "loaded S2 6" ∷ "committed 1..10"
     ∷ "1 D T/c5" ∷ "2 C T/c1/y S1/a1/y" ∷ "3 I T/c2" ∷ "4 C T/c2 S1/a2" ∷ "5 I T/c2/y" ∷ "6 C T/c2/y S2/b3/y"
     ∷ "7 C T/c3 S1/a3" ∷ "8 I T/c4" ∷ "9 C T/c4 S2/b2" ∷ "10 I T/c4/y" ∷ "records: 10" ∷ [])
 
 -- the hierarchical-transactional kind has seven; T/c2/y has one although T/c2 does, since that would imply S1/a2/y
 abbrev pub implied_records_are_left_out : Type 0
 implied_records_are_left_out =
-    output kind.HT curated (curation ++ records 1 ∷ [])
-    ≡ written ("loaded S1 9" ∷ "loaded S2 6" ∷ "committed 1"
+    output kind.HT curated_tree (curation ++ records 1 ∷ [])
+    ≡ lines_of ("loaded S1 9" ∷ "loaded S2 6" ∷ "committed 1"
     ∷ "1 C T/c1/y S1/a1/y" ∷ "1 C T/c2 S1/a2" ∷ "1 C T/c2/y S2/b3/y" ∷ "1 C T/c3 S1/a3" ∷ "1 C T/c4 S2/b2" ∷ "1 I T/c4/y" ∷ "1 D T/c5"
     ∷ "records: 7" ∷ [])
 
 -- a trace ends in the source, at the start tree or at the insertion
 abbrev pub pasts_end_where_data_came_from : Type 0
 pasts_end_where_data_came_from =
-    output kind.T curated (curation ++ trace "T/c1/y" ∷ trace "T/c1/x" ∷ from "T/c2/x" ∷ src "T/c4/y" ∷ hist "T/c2/y" ∷ [])
-    ≡ written ("loaded S1 9" ∷ "loaded S2 6" ∷ "committed 1"
+    output kind.T curated_tree (curation ++ trace "T/c1/y" ∷ trace "T/c1/x" ∷ from "T/c2/x" ∷ src "T/c4/y" ∷ hist "T/c2/y" ∷ [])
+    ≡ lines_of ("loaded S1 9" ∷ "loaded S2 6" ∷ "committed 1"
     ∷ "trace T/c1/y: T/c1/y@1..1 < S1/a1/y"
     ∷ "trace T/c1/x: T/c1/x@0..1 < start"
     ∷ "from T/c2/x: S1/a2/x at 1"
@@ -265,8 +265,8 @@ pasts_end_where_data_came_from =
 -- data that was inserted, and data of the start tree
 abbrev pub from_tells_new_and_start : Type 0
 from_tells_new_and_start =
-    output kind.N curated (ins "n" (whole 7) "T" ∷ stmt.Commit ∷ from "T/n" ∷ from "T/c1/x" ∷ src "T/c1/x" ∷ [])
-    ≡ written ("committed 1" ∷ "from T/n: new at 1" ∷ "from T/c1/x: start" ∷ "src T/c1/x: none" ∷ [])
+    output kind.N curated_tree (ins "n" (whole 7) "T" ∷ stmt.Commit ∷ from "T/n" ∷ from "T/c1/x" ∷ src "T/c1/x" ∷ [])
+    ≡ lines_of ("committed 1" ∷ "from T/n: new at 1" ∷ "from T/c1/x: start" ∷ "src T/c1/x: none" ∷ [])
 
 -- a trace passes over the loss of a child, which changes the node and not where its data came from
 abbrev pub trace_passes_a_loss : Type 0
@@ -275,7 +275,7 @@ trace_passes_a_loss =
     ∷ trace "T/a" ∷ from "T/a" ∷ mod_at "T/a"
     ∷ ins "c" null "T" ∷ copy "T/a" "T/c" ∷ stmt.Commit
     ∷ trace "T/c" ∷ src "T/c" ∷ hist "T/c" ∷ mod_at "T/c" ∷ [])
-    ≡ written ("committed 1" ∷ "committed 2"
+    ≡ lines_of ("committed 1" ∷ "committed 2"
     ∷ "trace T/a: T/a@1..2 < new" ∷ "from T/a: new at 1" ∷ "mod T/a: 1 2"
     ∷ "committed 3"
     ∷ "trace T/c: T/c@3..3 < T/a@1..2 < new" ∷ "src T/c: 1" ∷ "hist T/c: 3" ∷ "mod T/c: 1 2 3" ∷ [])
@@ -285,7 +285,7 @@ abbrev pub records_of_several_commits : Type 0
 records_of_several_commits =
     output kind.N empty_tree (ins "a" (whole 1) "T" ∷ stmt.Commit ∷ ins "b" null "T" ∷ copy "T/a" "T/b" ∷ stmt.Commit ∷ del "a" "T" ∷ stmt.Commit
     ∷ all_records ∷ records 3 ∷ records 5 ∷ [])
-    ≡ written ("committed 1" ∷ "committed 2..3" ∷ "committed 4"
+    ≡ lines_of ("committed 1" ∷ "committed 2..3" ∷ "committed 4"
     ∷ "1 I T/a" ∷ "2 I T/b" ∷ "3 C T/b T/a" ∷ "4 D T/a" ∷ "records: 4"
     ∷ "3 C T/b T/a" ∷ "records: 1"
     ∷ "records: 0" ∷ [])
@@ -309,7 +309,7 @@ moved_data_keeps_its_insertion =
     output kind.T empty_tree (ins "a" (whole 1) "T" ∷ stmt.Commit
     ∷ ins "b" (node []) "T" ∷ copy "T/a" "T/b" ∷ del "a" "T" ∷ stmt.Commit
     ∷ src "T/b" ∷ hist "T/b" ∷ trace "T/b" ∷ mod_at "T" ∷ from "T/b" ∷ [])
-    ≡ written ("committed 1" ∷ "committed 2"
+    ≡ lines_of ("committed 1" ∷ "committed 2"
     ∷ "src T/b: 1" ∷ "hist T/b: 2" ∷ "trace T/b: T/b@2..2 < T/a@1..1 < new" ∷ "mod T: 1 2" ∷ "from T/b: T/a at 2" ∷ [])
 
 -- the same in the naive kind, where the copy has a number of its own
@@ -318,28 +318,28 @@ naive_trace_numbers_each_operation =
     output kind.N empty_tree (ins "a" (whole 1) "T" ∷ stmt.Commit
     ∷ ins "b" (node []) "T" ∷ copy "T/a" "T/b" ∷ del "a" "T" ∷ stmt.Commit
     ∷ src "T/b" ∷ hist "T/b" ∷ trace "T/b" ∷ [])
-    ≡ written ("committed 1" ∷ "committed 2..4"
+    ≡ lines_of ("committed 1" ∷ "committed 2..4"
     ∷ "src T/b: 1" ∷ "hist T/b: 3" ∷ "trace T/b: T/b@3..4 < T/a@1..2 < new" ∷ [])
 
 -- a node may be copied into a place below itself; the copy is of what stood there before
 abbrev pub node_is_copied_into_itself : Type 0
 node_is_copied_into_itself =
-    output kind.H curated (copy "T/c1" "T/c1/y" ∷ stmt.Commit ∷ records 1 ∷ show "T/c1" ∷ trace "T/c1/y/y" ∷ [])
-    ≡ written ("committed 1" ∷ "1 C T/c1/y T/c1" ∷ "records: 1"
+    output kind.H curated_tree (copy "T/c1" "T/c1/y" ∷ stmt.Commit ∷ records 1 ∷ show "T/c1" ∷ trace "T/c1/y/y" ∷ [])
+    ≡ lines_of ("committed 1" ∷ "1 C T/c1/y T/c1" ∷ "records: 1"
     ∷ "show T/c1: {x : 1, y : {x : 1, y : 3}}"
     ∷ "trace T/c1/y/y: T/c1/y/y@1..1 < T/c1/y@0..0 < start" ∷ [])
 
 -- a source that replaces the whole tree has one record where the rest is implied
 abbrev pub whole_source_has_one_record : Type 0
 whole_source_has_one_record =
-    output kind.HT curated (load "S1" "s1.json" ∷ copy "S1" "T" ∷ stmt.Commit ∷ all_records ∷ hist "T" ∷ mod_at "T" ∷ [])
-    ≡ written ("loaded S1 9" ∷ "committed 1" ∷ "1 C T S1" ∷ "records: 1" ∷ "hist T: 1" ∷ "mod T: 1" ∷ [])
+    output kind.HT curated_tree (load "S1" "s1.json" ∷ copy "S1" "T" ∷ stmt.Commit ∷ all_records ∷ hist "T" ∷ mod_at "T" ∷ [])
+    ≡ lines_of ("loaded S1 9" ∷ "committed 1" ∷ "1 C T S1" ∷ "records: 1" ∷ "hist T: 1" ∷ "mod T: 1" ∷ [])
 
 -- and a record for each of its nine places where nothing is implied; what it replaced has none
 abbrev pub whole_source_in_full : Type 0
 whole_source_in_full =
-    output kind.T curated (load "S1" "s1.json" ∷ copy "S1" "T" ∷ stmt.Commit ∷ all_records ∷ hist "T" ∷ mod_at "T" ∷ [])
-    ≡ written ("loaded S1 9" ∷ "committed 1"
+    output kind.T curated_tree (load "S1" "s1.json" ∷ copy "S1" "T" ∷ stmt.Commit ∷ all_records ∷ hist "T" ∷ mod_at "T" ∷ [])
+    ≡ lines_of ("loaded S1 9" ∷ "committed 1"
     ∷ "1 C T S1" ∷ "1 C T/a1 S1/a1" ∷ "1 C T/a1/x S1/a1/x" ∷ "1 C T/a1/y S1/a1/y" ∷ "1 C T/a2 S1/a2" ∷ "1 C T/a2/x S1/a2/x"
     ∷ "1 C T/a3 S1/a3" ∷ "1 C T/a3/x S1/a3/x" ∷ "1 C T/a3/y S1/a3/y" ∷ "records: 9"
     ∷ "hist T: 1" ∷ "mod T: 1" ∷ [])
@@ -357,7 +357,7 @@ pub record CopiesHold : Type 0 where
 abbrev pub copy_onto_itself_leaves_no_record : Kind → Type 0
 copy_onto_itself_leaves_no_record k =
     output k empty_tree (ins "a" (whole 1) "T" ∷ stmt.Commit ∷ copy "T/a" "T/a" ∷ stmt.Commit ∷ records 2 ∷ src "T/a" ∷ hist "T/a" ∷ [])
-    ≡ written ("committed 1" ∷ "committed 2" ∷ "records: 0" ∷ "src T/a: 1" ∷ "hist T/a: none" ∷ [])
+    ≡ lines_of ("committed 1" ∷ "committed 2" ∷ "records: 0" ∷ "src T/a: 1" ∷ "hist T/a: none" ∷ [])
 
 -- a place that was put aside and put back inside a copied node is recorded as kept, and its past is as it was
 abbrev pub kept_place_is_recorded : Type 0
@@ -365,7 +365,7 @@ kept_place_is_recorded =
     output kind.HT (tree (edge "r" (node (edge "a" (whole 5) ∷ [])) ∷ [])) (load "S" "s.json"
     ∷ ins "tmp" (node []) "T" ∷ copy "T/r" "T/tmp" ∷ copy "S/x" "T/r" ∷ copy "T/tmp/a" "T/r/a" ∷ del "tmp" "T" ∷ stmt.Commit
     ∷ records 1 ∷ hist "T/r/a" ∷ trace "T/r/a" ∷ show "T" ∷ [])
-    ≡ written ("loaded S 3" ∷ "committed 1"
+    ≡ lines_of ("loaded S 3" ∷ "committed 1"
     ∷ "1 C T/r S/x" ∷ "1 K T/r/a" ∷ "records: 2"
     ∷ "hist T/r/a: none" ∷ "trace T/r/a: T/r/a@0..1 < start" ∷ "show T: {r : {a : 5}}" ∷ [])
 
@@ -375,7 +375,7 @@ place_below_a_kept_one_is_kept =
     output kind.HT (tree (edge "r" (node (edge "a" (node (edge "b" (whole 5) ∷ [])) ∷ [])) ∷ [])) (load "S" "s.json"
     ∷ ins "tmp" (node []) "T" ∷ copy "T/r" "T/tmp" ∷ copy "S/x" "T/r" ∷ copy "T/tmp/a" "T/r/a" ∷ del "tmp" "T" ∷ stmt.Commit
     ∷ records 1 ∷ hist "T/r/a/b" ∷ trace "T/r/a/b" ∷ from "T/r/a/b" ∷ mod_at "T/r" ∷ mod_at "T/r/a" ∷ show "T" ∷ [])
-    ≡ written ("loaded S 3" ∷ "committed 1"
+    ≡ lines_of ("loaded S 3" ∷ "committed 1"
     ∷ "1 C T/r S/x" ∷ "1 K T/r/a" ∷ "records: 2"
     ∷ "hist T/r/a/b: none" ∷ "trace T/r/a/b: T/r/a/b@0..1 < start" ∷ "from T/r/a/b: start" ∷ "mod T/r: 1" ∷ "mod T/r/a: none"
     ∷ "show T: {r : {a : {b : 5}}}" ∷ [])
@@ -385,13 +385,13 @@ abbrev pub round_trip_records_the_loss : Kind → Type 0
 round_trip_records_the_loss k =
     output k (tree (edge "r" (node (edge "a" (whole 1) ∷ edge "b" (whole 2) ∷ [])) ∷ [])) (ins "tmp" (node []) "T" ∷ copy "T/r" "T/tmp" ∷ del "a" "T/tmp" ∷ copy "T/tmp" "T/r" ∷ del "tmp" "T" ∷ stmt.Commit
     ∷ records 1 ∷ mod_at "T/r" ∷ [])
-    ≡ written ("committed 1" ∷ "1 D T/r/a" ∷ "records: 1" ∷ "mod T/r: 1" ∷ [])
+    ≡ lines_of ("committed 1" ∷ "1 D T/r/a" ∷ "records: 1" ∷ "mod T/r: 1" ∷ [])
 
 -- data that was made and given up within a transaction leaves no record
 abbrev pub temporary_data_leaves_no_record : Type 0
 temporary_data_leaves_no_record =
     output kind.T empty_tree (ins "a" (whole 1) "T" ∷ del "a" "T" ∷ stmt.Commit ∷ src "T" ∷ hist "T" ∷ records 1 ∷ [])
-    ≡ written ("committed 1" ∷ "src T: none" ∷ "hist T: none" ∷ "records: 0" ∷ [])
+    ≡ lines_of ("committed 1" ∷ "src T: none" ∷ "hist T: none" ∷ "records: 0" ∷ [])
 
 pub record NetEffectsHold : Type 0 where
   pub onto_itself_naive : copy_onto_itself_leaves_no_record kind.N
@@ -414,14 +414,14 @@ gene = ins "g" (node (edge "loc" (node (edge "chrom" (text "17") ∷ [])) ∷ ed
 abbrev pub inserted_tree_has_one_record : Type 0
 inserted_tree_has_one_record =
     output kind.H empty_tree (gene ∷ stmt.Commit ∷ records 1 ∷ src "T/g/loc/chrom" ∷ show "T" ∷ [])
-    ≡ written ("committed 1" ∷ "1 I T/g" ∷ "records: 1" ∷ "src T/g/loc/chrom: 1"
+    ≡ lines_of ("committed 1" ∷ "1 I T/g" ∷ "records: 1" ∷ "src T/g/loc/chrom: 1"
     ∷ "show T: {g : {loc : {chrom : \"17\"}, sym : \"TP53\"}}" ∷ [])
 
 -- and a record for each of its places where nothing is implied
 abbrev pub inserted_tree_in_full : Type 0
 inserted_tree_in_full =
     output kind.N empty_tree (gene ∷ stmt.Commit ∷ records 1 ∷ [])
-    ≡ written ("committed 1" ∷ "1 I T/g" ∷ "1 I T/g/loc" ∷ "1 I T/g/loc/chrom" ∷ "1 I T/g/sym" ∷ "records: 4" ∷ [])
+    ≡ lines_of ("committed 1" ∷ "1 I T/g" ∷ "1 I T/g/loc" ∷ "1 I T/g/loc/chrom" ∷ "1 I T/g/sym" ∷ "records: 4" ∷ [])
 
 pub record InsertedTreesHold : Type 0 where
   pub one_record : inserted_tree_has_one_record
@@ -433,46 +433,46 @@ pub record InsertedTreesHold : Type 0 where
 abbrev pub failed_transaction_changes_nothing : Type 0
 failed_transaction_changes_nothing =
     output kind.N empty_tree (ins "a" (whole 1) "T" ∷ del "z" "T" ∷ ins "b" (whole 2) "T" ∷ stmt.Commit ∷ show "T" ∷ [])
-    ≡ written ("refused: no label z in T" ∷ "refused: transaction failed at 2" ∷ "refused commit: failed at 2" ∷ "show T: {}" ∷ [])
+    ≡ lines_of ("refused: no label z in T" ∷ "refused: transaction failed at 2" ∷ "refused commit: failed at 2" ∷ "show T: {}" ∷ [])
 
 -- where no transaction is open there is nothing to commit, and an abort goes through
 abbrev pub empty_commit_is_refused : Type 0
 empty_commit_is_refused =
     output kind.T empty_tree (stmt.Commit ∷ ins "a" (whole 1) "T" ∷ stmt.Commit ∷ stmt.Commit ∷ stmt.Abort ∷ [])
-    ≡ written ("refused commit: no operation" ∷ "committed 1" ∷ "refused commit: no operation" ∷ "aborted 0" ∷ [])
+    ≡ lines_of ("refused commit: no operation" ∷ "committed 1" ∷ "refused commit: no operation" ∷ "aborted 0" ∷ [])
 
 -- a label stands once below its node
 abbrev pub label_is_inserted_once : Type 0
 label_is_inserted_once =
     output kind.N empty_tree (ins "a" (whole 1) "T" ∷ ins "a" (whole 2) "T" ∷ stmt.Commit ∷ [])
-    ≡ written ("refused: label a is there in T" ∷ "refused commit: failed at 2" ∷ [])
+    ≡ lines_of ("refused: label a is there in T" ∷ "refused commit: failed at 2" ∷ [])
 
 -- a query sees what is committed, and not the open transaction
 abbrev pub query_sees_what_is_committed : Type 0
 query_sees_what_is_committed =
     output kind.N empty_tree (ins "a" (node []) "T" ∷ ins "b" (text "x") "T/a" ∷ src "T/a/b" ∷ stmt.Commit ∷ src "T/a/b" ∷ stmt.Abort ∷ [])
-    ≡ written ("refused: no place T/a/b" ∷ "committed 1..2" ∷ "src T/a/b: 2" ∷ "aborted 0" ∷ [])
+    ≡ lines_of ("refused: no place T/a/b" ∷ "committed 1..2" ∷ "src T/a/b: 2" ∷ "aborted 0" ∷ [])
 
 -- operations whose entry is over a limit are given up
 abbrev pub commit_that_does_not_fit_is_refused : Type 0
 commit_that_does_not_fit_is_refused =
     output_with cramped_setting kind.N empty_tree (ins "a" (whole 1) "T" ∷ ins "b" (whole 2) "T" ∷ stmt.Commit ∷ show "T" ∷ stats
     ∷ ins "b" (whole 2) "T" ∷ stmt.Commit ∷ show "T" ∷ [])
-    ≡ written ("refused commit: transaction too large" ∷ "show T: {}" ∷ "stats: kind n, tid 0, transactions 0, records 0, nodes 1, sources 0"
+    ≡ lines_of ("refused commit: transaction too large" ∷ "show T: {}" ∷ "stats: kind n, tid 0, transactions 0, records 0, nodes 1, sources 0"
     ∷ "committed 1" ∷ "show T: {b : 2}" ∷ [])
 
 -- the log has each commit with its Tids, who made it and when, and the number of its operations
 abbrev pub log_tells_who_and_when : Type 0
 log_tells_who_and_when =
-    logged (signed_by "Ada L" setting) kind.N (1000 ∷ 2000 ∷ []) (ins "a" (whole 1) "T" ∷ stmt.Commit ∷ ins "b" (whole 2) "T" ∷ ins "c" (whole 3) "T" ∷ stmt.Commit ∷ [])
-    ≡ written ("commit 1 by \"Ada L\" at 1000, operations 1" ∷ "commit 2..3 by \"Ada L\" at 2000, operations 2" ∷ "log: 2" ∷ [])
+    log_lines (signed_by "Ada L" setting) kind.N (1000 ∷ 2000 ∷ []) (ins "a" (whole 1) "T" ∷ stmt.Commit ∷ ins "b" (whole 2) "T" ∷ ins "c" (whole 3) "T" ∷ stmt.Commit ∷ [])
+    ≡ lines_of ("commit 1 by \"Ada L\" at 1000, operations 1" ∷ "commit 2..3 by \"Ada L\" at 2000, operations 2" ∷ "log: 2" ∷ [])
 
 -- a commit that doesn't fit has taken a moment, one without operations none; where the clock tells no more the moment is 0
 abbrev pub moments_are_taken_in_turn : Type 0
 moments_are_taken_in_turn =
-    logged (signed_by "ann" cramped_setting) kind.HT (5 ∷ 6 ∷ []) (stmt.Commit ∷ ins "a" (whole 1) "T" ∷ ins "b" (whole 2) "T" ∷ stmt.Commit
+    log_lines (signed_by "ann" cramped_setting) kind.HT (5 ∷ 6 ∷ []) (stmt.Commit ∷ ins "a" (whole 1) "T" ∷ ins "b" (whole 2) "T" ∷ stmt.Commit
     ∷ ins "c" (whole 3) "T" ∷ stmt.Commit ∷ ins "d" (whole 4) "T" ∷ stmt.Commit ∷ [])
-    ≡ written ("commit 1 by ann at 6, operations 1" ∷ "commit 2 by ann at 0, operations 1" ∷ "log: 2" ∷ [])
+    ≡ lines_of ("commit 1 by ann at 6, operations 1" ∷ "commit 2 by ann at 0, operations 1" ∷ "log: 2" ∷ [])
 
 pub record TransactionsHold : Type 0 where
   pub failed : failed_transaction_changes_nothing
@@ -491,15 +491,15 @@ one_by_one script = flat_map (λ x. x ∷ stmt.Abort ∷ []) script
 
 -- the refusal of each, and the end of its transaction
 abbrev pub each_refused : List String → List ℕ
-each_refused reasons = flat_map (λ s. written (s ∷ "aborted 0" ∷ [])) reasons
+each_refused reasons = flat_map (λ s. lines_of (s ∷ "aborted 0" ∷ [])) reasons
 
 -- of an insertion or a deletion: first that the place isn't of T, then that it isn't there, then that it is a leaf
 abbrev pub insertions_and_deletions_are_refused : Type 0
 insertions_and_deletions_are_refused =
-    output kind.N curated (load "S" "s.json" ∷ one_by_one (
+    output kind.N curated_tree (load "S" "s.json" ∷ one_by_one (
     ins "a" (whole 1) "S/x" ∷ ins "a" (whole 1) "R/x" ∷ ins "a" (whole 1) "T/z" ∷ ins "a" (whole 1) "T/c1/x/z" ∷ ins "a" (whole 1) "T/c1/x"
     ∷ ins "x" (whole 1) "T/c1" ∷ del "a" "S/x" ∷ del "x" "T/z" ∷ del "x" "T/c1/x" ∷ del "z" "T/c1" ∷ []))
-    ≡ written ("loaded S 3" ∷ []) ++ each_refused (
+    ≡ lines_of ("loaded S 3" ∷ []) ++ each_refused (
     "refused: read only S/x" ∷ "refused: read only R/x" ∷ "refused: no place T/z" ∷ "refused: no place T/c1/x/z" ∷ "refused: not a node T/c1/x"
     ∷ "refused: label x is there in T/c1" ∷ "refused: read only S/x" ∷ "refused: no place T/z" ∷ "refused: not a node T/c1/x" ∷ "refused: no label z in T/c1" ∷ [])
 
@@ -507,15 +507,15 @@ insertions_and_deletions_are_refused =
 -- the source has no such place; a leaf may be replaced
 abbrev pub copies_are_refused : Type 0
 copies_are_refused =
-    output kind.N curated (load "S" "s.json" ∷ one_by_one (
+    output kind.N curated_tree (load "S" "s.json" ∷ one_by_one (
     copy "T/c1" "S/x" ∷ copy "R/x" "S/x" ∷ copy "R/x" "T/z" ∷ copy "R/x" "T/c1" ∷ copy "S/y" "T/c1" ∷ copy "T/z" "T/c1/x" ∷ []))
-    ≡ written ("loaded S 3" ∷ []) ++ each_refused (
+    ≡ lines_of ("loaded S 3" ∷ []) ++ each_refused (
     "refused: read only S/x" ∷ "refused: read only S/x" ∷ "refused: no place T/z" ∷ "refused: no source R" ∷ "refused: no origin S/y" ∷ "refused: no origin T/z" ∷ [])
 
 -- nodes with the label `a`, so many one below the other
-abbrev pub nested : ℕ → Literal
-nested zero = node []
-nested (suc n) = node (edge "a" (nested n) ∷ [])
+abbrev pub nested_nodes : ℕ → Literal
+nested_nodes zero = node []
+nested_nodes (suc n) = node (edge "a" (nested_nodes n) ∷ [])
 
 -- the place that is so many labels `a` below the root
 abbrev pub under : ℕ → Path
@@ -525,21 +525,21 @@ under (suc n) = codes "a" ∷ under n
 -- a place has at most 64 labels, whether a tree is inserted, a leaf is, or a subtree is copied
 abbrev pub deeper_places_are_refused : Type 0
 deeper_places_are_refused =
-    output kind.H (keyed.from_entries (literal_rows (nested 64))) (one_by_one (
-    stmt.Op (Ins (record { db = codes "T"; path = under 64 }) (codes "b") (whole 1)) ∷ ins "b" (nested 64) "T" ∷ copy "T" "T/a" ∷ copy "T/a/a" "T/a/a/a" ∷ [])
-    ++ ins "b" (nested 63) "T" ∷ copy "T/a/a" "T/a" ∷ [])
+    output kind.H (keyed.from_entries (literal_rows (nested_nodes 64))) (one_by_one (
+    stmt.Op (Ins (record { db = codes "T"; path = under 64 }) (codes "b") (whole 1)) ∷ ins "b" (nested_nodes 64) "T" ∷ copy "T" "T/a" ∷ copy "T/a/a" "T/a/a/a" ∷ [])
+    ++ ins "b" (nested_nodes 63) "T" ∷ copy "T/a/a" "T/a" ∷ [])
     ≡ each_refused ("refused: too deep" ∷ "refused: too deep" ∷ "refused: too deep" ∷ "refused: too deep" ∷ [])
 
 -- the operation so many times
-abbrev pub repeated : ℕ → Op → List Op
-repeated zero op = []
-repeated (suc n) op = op ∷ repeated n op
+abbrev pub repeat_op : ℕ → Op → List Op
+repeat_op zero op = []
+repeat_op (suc n) op = op ∷ repeat_op n op
 
 -- a transaction has 65,535 operations at most
 abbrev pub one_more_operation_is_refused : Type 0
 one_more_operation_is_refused =
-    flat_map lines (replies_to_statements setting (record (fresh kind.T curated []) { opened = going (repeated 65535 (Copy (place "T/c1") (place "T/c3"))) }) (del "c1" "T" ∷ stmt.Abort ∷ []))
-    ≡ written ("refused: too many operations" ∷ "aborted 65535" ∷ [])
+    flat_map lines (replies_to_statements setting (record (fresh kind.T curated_tree []) { opened = going (repeat_op 65535 (Copy (place "T/c1") (place "T/c3"))) }) (del "c1" "T" ∷ stmt.Abort ∷ []))
+    ≡ lines_of ("refused: too many operations" ∷ "aborted 65535" ∷ [])
 
 pub record RefusalsHold : Type 0 where
   pub at_labels : insertions_and_deletions_are_refused
@@ -554,7 +554,7 @@ abbrev pub row_of_a_table_is_copied : Type 0
 row_of_a_table_is_copied =
     output kind.T empty_tree (load_by "G" "g.csv" "gene" ∷ ins "tp53" (node []) "T" ∷ copy "G/ENSG02" "T/tp53" ∷ stmt.Commit
     ∷ trace "T/tp53/symbol" ∷ show "T/tp53" ∷ [])
-    ≡ written ("loaded G 13" ∷ "committed 1"
+    ≡ lines_of ("loaded G 13" ∷ "committed 1"
     ∷ "trace T/tp53/symbol: T/tp53/symbol@1..1 < G/ENSG02/symbol"
     ∷ "show T/tp53: {chrom : \"17\", gene : \"ENSG02\", symbol : \"TP53\"}" ∷ [])
 
@@ -563,14 +563,14 @@ abbrev pub copied_row_has_to_be_there : Type 0
 copied_row_has_to_be_there =
     output kind.N empty_tree (load_by "G" "g.csv" "gene" ∷ ins "tp53" (node []) "T" ∷ copy "G/ENSG02" "T/tp53" ∷ stmt.Commit
     ∷ trace "T/tp53/symbol" ∷ copy "G/X" "T" ∷ [])
-    ≡ written ("loaded G 13" ∷ "committed 1..2"
+    ≡ lines_of ("loaded G 13" ∷ "committed 1..2"
     ∷ "trace T/tp53/symbol: T/tp53/symbol@2..2 < G/ENSG02/symbol"
     ∷ "refused: no origin G/X" ∷ [])
 
 -- a source is loaded once
 abbrev pub source_is_loaded_once : Type 0
 source_is_loaded_once =
-    output kind.N empty_tree (load "S" "x.json" ∷ load "S" "x.json" ∷ []) ≡ written ("loaded S 2" ∷ "refused load: source S is there" ∷ [])
+    output kind.N empty_tree (load "S" "x.json" ∷ load "S" "x.json" ∷ []) ≡ lines_of ("loaded S 2" ∷ "refused load: source S is there" ∷ [])
 
 pub record SourcesHold : Type 0 where
   pub copied : row_of_a_table_is_copied
@@ -584,7 +584,7 @@ abbrev pub labels_are_escaped_and_quoted : Type 0
 labels_are_escaped_and_quoted =
     output kind.T empty_tree (ins "a/b" (whole 1) "T" ∷ ins "~" (whole 2) "T" ∷ ins "" (whole 3) "T" ∷ ins "x y" (whole 4) "T" ∷ stmt.Commit
     ∷ src_below "T" "a/b" ∷ src_below "T" "~" ∷ src_below "T" "" ∷ src_below "T" "x y" ∷ show "T" ∷ [])
-    ≡ written ("committed 1"
+    ≡ lines_of ("committed 1"
     ∷ "src T/a~1b: 1" ∷ "src T/~0: 1" ∷ "src T/: 1" ∷ "src \"T/x y\": 1"
     ∷ "show T: {\"\" : 3, a~1b : 1, \"x y\" : 4, ~0 : 2}" ∷ [])
 

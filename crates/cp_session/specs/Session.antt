@@ -40,19 +40,19 @@ use Rattle.cp_reply.specs.declared.reply.Reply.TheVariants as reply
 -- ---- what a session is run with
 
 -- what a text says: a statement, or why it is none
-pub data Reading : Type 0 where
-  says : Stmt → Reading
-  unread : Why → Reading
+pub data TextReading : Type 0 where
+  says : Stmt → TextReading
+  unread : Why → TextReading
 
 -- what a source file gives: a tree, or why it gives none
-pub data Fetched : Type 0 where
-  gives : Tree → Fetched
-  withholds : Why → Fetched
+pub data FetchedFile : Type 0 where
+  gives : Tree → FetchedFile
+  withholds : Why → FetchedFile
 
 -- what the table leaves to whoever runs a session
 pub record Setting : Type 0 where
-  pub read : List ℕ → Reading
-  pub fetch : Load → Fetched
+  pub read : List ℕ → TextReading
+  pub fetch : Load → FetchedFile
   -- after this history an entry of these operations and records is within the limits of an entry's bytes and the file's
   pub fits : List Entry → Stamp → List Op → List Record → Bool
   -- after this history the file has room for an entry of this source
@@ -62,15 +62,15 @@ pub record Setting : Type 0 where
 -- ---- states
 
 -- the open transaction: none, operations that were accepted, or the number of the one at which it failed
-pub data Opened : Type 0 where
-  closed : Opened
-  going : List Op → Opened
-  failed : ℕ → Cause → Opened
+pub data OpenTransaction : Type 0 where
+  closed : OpenTransaction
+  going : List Op → OpenTransaction
+  failed : ℕ → Cause → OpenTransaction
 
 -- the state of a session
 pub record Session : Type 0 where
   pub history : List Entry
-  pub opened : Opened
+  pub opened : OpenTransaction
   -- the moments that the clock still tells
   pub moments : List ℕ
 
@@ -92,7 +92,7 @@ abbrev pub refuses : Why → Session → Turn
 refuses w s = replies (reply.Refused of.Statement w) s
 
 -- the transaction becomes x
-abbrev pub with_opened : Session → Opened → Session
+abbrev pub with_opened : Session → OpenTransaction → Session
 with_opened s x = record { history = s.history; opened = x; moments = s.moments }
 
 -- the history gets one entry more
@@ -148,25 +148,25 @@ refusal_after s ops op =
     if length ops == OPS_MAX then Some refusal.TooManyOps else refusal_on s (step (tree_of s.tree) s.sources ops) op
 
 -- an operation that is refused fails the transaction, another is held
-abbrev pub decided : Session → List Op → Op → Option Refusal → Turn
-decided s ops op (Some r) = refuses (why_refused op r) (with_opened s (failed (length ops + 1) (Refused r)))
-decided s ops op None = silent (with_opened s (going (ops ++ op ∷ [])))
+abbrev pub decide_op : Session → List Op → Op → Option Refusal → Turn
+decide_op s ops op (Some r) = refuses (why_refused op r) (with_opened s (failed (length ops + 1) (Refused r)))
+decide_op s ops op None = silent (with_opened s (going (ops ++ op ∷ [])))
 
 -- a later operation of a failed transaction is refused too
-abbrev pub operated : Session → State → Op → Opened → Turn
-operated s t op (failed n c) = refuses (why.FailedAt n) s
-operated s t op closed = decided s [] op (refusal_after t [] op)
-operated s t op (going ops) = decided s ops op (refusal_after t ops op)
+abbrev pub on_operation : Session → State → Op → OpenTransaction → Turn
+on_operation s t op (failed n c) = refuses (why.FailedAt n) s
+on_operation s t op closed = decide_op s [] op (refusal_after t [] op)
+on_operation s t op (going ops) = decide_op s ops op (refusal_after t ops op)
 
 -- a text that can't be read counts as an operation that is refused
-abbrev pub spoiled : Opened → Opened
-spoiled closed = failed 1 Unread
-spoiled (going ops) = failed (length ops + 1) Unread
-spoiled (failed n c) = failed n c
+abbrev pub fail_unread : OpenTransaction → OpenTransaction
+fail_unread closed = failed 1 Unread
+fail_unread (going ops) = failed (length ops + 1) Unread
+fail_unread (failed n c) = failed n c
 
 -- the refusal of a text that can't be read
 abbrev pub not_read : Session → Why → Turn
-not_read s w = refuses w (with_opened s (spoiled s.opened))
+not_read s w = refuses w (with_opened s (fail_unread s.opened))
 
 -- ---- commit and abort
 
@@ -192,23 +192,23 @@ abbrev pub stamp_of : Setting → Session → Stamp
 stamp_of c s = record { curator = c.curator; moment = next_moment s.moments }
 
 -- the Tids of the commit, unless its entry is too large
-abbrev pub committed : Setting → Session → State → List Op → Turn
-committed c s t ops =
+abbrev pub commit_ops : Setting → Session → State → List Op → Turn
+commit_ops c s t ops =
     if c.fits s.history (stamp_of c s) ops (new_records t (after_commit t ops))
     then replies (reply.Committed (t.now + 1) (t.now + length (steps_of t.kind ops))) (with_entry (after_moment s) (commit (stamp_of c s) ops))
     else replies (reply.Refused of.Commit why.TransactionTooLarge) (after_moment s)
 
 -- the table of commit
-abbrev pub committing : Setting → Session → State → Opened → Turn
-committing c s t closed = refused_commit why.NoOperation s
-committing c s t (failed n k) = refused_commit (why.FailedAt n) s
-committing c s t (going ops) = committed c s t ops
+abbrev pub on_commit : Setting → Session → State → OpenTransaction → Turn
+on_commit c s t closed = refused_commit why.NoOperation s
+on_commit c s t (failed n k) = refused_commit (why.FailedAt n) s
+on_commit c s t (going ops) = commit_ops c s t ops
 
 -- the number of operations that are given up
-abbrev pub given_up : Opened → ℕ
-given_up closed = 0
-given_up (going ops) = length ops
-given_up (failed n c) = n - 1
+abbrev pub count_given_up : OpenTransaction → ℕ
+count_given_up closed = 0
+count_given_up (going ops) = length ops
+count_given_up (failed n c) = n - 1
 
 -- ---- load
 
@@ -217,24 +217,24 @@ abbrev pub refused_load : Why → Session → Turn
 refused_load w s = replies (reply.Refused of.Load w) s
 
 -- no transaction is open
-abbrev pub is_closed : Opened → Bool
+abbrev pub is_closed : OpenTransaction → Bool
 is_closed closed = true
 is_closed (going ops) = false
 is_closed (failed n c) = false
 
 -- the source is loaded, unless the store has no room
-abbrev pub fetched : Setting → Session → List ℕ → Fetched → Turn
-fetched c s n (withholds w) = refused_load w s
-fetched c s n (gives t) =
+abbrev pub load_fetched : Setting → Session → List ℕ → FetchedFile → Turn
+load_fetched c s n (withholds w) = refused_load w s
+load_fetched c s n (gives t) =
     if c.has_room s.history n t then replies (reply.Loaded n (keyed.len t)) (with_entry s (load n t)) else refused_load why.StoreTooLarge s
 
 -- the refusals of load in their order
-abbrev pub loading : Setting → Session → State → Load → Turn
-loading c s t l =
+abbrev pub on_load : Setting → Session → State → Load → Turn
+on_load c s t l =
     if not (is_closed s.opened) then refused_load why.TransactionOpen s
     else if is_some (source t.sources l.name) then refused_load (why.SourceThere l.name) s
     else if length t.sources == SOURCES_MAX then refused_load why.TooManySources s
-    else fetched c s l.name (c.fetch l)
+    else load_fetched c s l.name (c.fetch l)
 
 -- ---- show and queries
 
@@ -243,9 +243,9 @@ abbrev pub row_of : Path × Content → Row
 row_of e = record { path = e.0; content = e.1 }
 
 -- what stands at and below the place, if the tree and the place are there
-abbrev pub shown : Session → Loc → Option Tree → Turn
-shown s q None = refuses (why.NoSource q.db) s
-shown s q (Some t) = if is_there t q.path then replies (reply.Show q (map row_of (below q.path t))) s else refuses (why.NoPlace q) s
+abbrev pub show_at : Session → Loc → Option Tree → Turn
+show_at s q None = refuses (why.NoSource q.db) s
+show_at s q (Some t) = if is_there t q.path then replies (reply.Show q (map row_of (below q.path t))) s else refuses (why.NoPlace q) s
 
 -- the tree after operations
 abbrev pub outcome_tree : State → Outcome → Tree
@@ -253,14 +253,14 @@ outcome_tree t (done k w) = contents w
 outcome_tree t (refused n r) = tree_of t.tree
 
 -- the working tree of a going transaction, else the committed one
-abbrev pub current_tree : State → Opened → Tree
+abbrev pub current_tree : State → OpenTransaction → Tree
 current_tree t closed = tree_of t.tree
 current_tree t (going ops) = outcome_tree t (step (tree_of t.tree) t.sources ops)
 current_tree t (failed n c) = tree_of t.tree
 
 -- the tree of the place's database
-abbrev pub showing : Session → State → Loc → Turn
-showing s t q = shown s q (if in_target q then Some (current_tree t s.opened) else source t.sources q.db)
+abbrev pub on_show : Session → State → Loc → Turn
+on_show s t q = show_at s q (if in_target q then Some (current_tree t s.opened) else source t.sources q.db)
 
 -- the place that a query names
 abbrev pub no_place_of : Query → Why
@@ -273,20 +273,20 @@ no_place_of (query.Records t) = why.NoOperation
 no_place_of query.Stats = why.NoOperation
 
 -- the answer, or that its place isn't there
-abbrev pub answered : Session → Query → Option Answer → Turn
-answered s q None = refuses (no_place_of q) s
-answered s q (Some a) = replies (reply.Answered q a) s
+abbrev pub answer_or_refuse : Session → Query → Option Answer → Turn
+answer_or_refuse s q None = refuses (no_place_of q) s
+answer_or_refuse s q (Some a) = replies (reply.Answered q a) s
 
 -- ---- the table
 
 -- on the state that the history leads to
 abbrev pub turn_on : Setting → Session → State → Stmt → Turn
-turn_on c s t (stmt.Op op) = operated s t op s.opened
-turn_on c s t stmt.Commit = committing c s t s.opened
-turn_on c s t stmt.Abort = replies (reply.Aborted (given_up s.opened)) (with_opened s closed)
-turn_on c s t (stmt.Load l) = loading c s t l
-turn_on c s t (stmt.Ask q) = answered s q (answer_to t q)
-turn_on c s t (stmt.Show q) = showing s t q
+turn_on c s t (stmt.Op op) = on_operation s t op s.opened
+turn_on c s t stmt.Commit = on_commit c s t s.opened
+turn_on c s t stmt.Abort = replies (reply.Aborted (count_given_up s.opened)) (with_opened s closed)
+turn_on c s t (stmt.Load l) = on_load c s t l
+turn_on c s t (stmt.Ask q) = answer_or_refuse s q (answer_to t q)
+turn_on c s t (stmt.Show q) = on_show s t q
 
 -- a history without a state answers nothing
 abbrev pub turn_by : Setting → Session → Option State → Stmt → Turn
@@ -294,7 +294,7 @@ turn_by c s None x = silent s
 turn_by c s (Some t) x = turn_on c s t x
 
 -- what a text brings, by what it says
-abbrev pub turn_of : Setting → Session → Reading → Turn
+abbrev pub turn_of : Setting → Session → TextReading → Turn
 turn_of c s (says x) = turn_by c s (replay s.history) x
 turn_of c s (unread w) = not_read s w
 

@@ -25,9 +25,9 @@ reading_of (From q) = left (from q)
 reading_of Gone = gone
 
 -- the Tid of a change, and what it tells
-abbrev pub seen : Option Change → Option (ℕ × Reading)
-seen None = None
-seen (Some c) = Some (c.tid, reading_of c.what)
+abbrev pub change_told : Option Change → Option (ℕ × Reading)
+change_told None = None
+change_told (Some c) = Some (c.tid, reading_of c.what)
 
 -- the greatest Tid up to t at which the rows tell of the place other than that it is the same, with what they tell; no
 -- row is of a place of a source

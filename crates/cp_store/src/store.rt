@@ -3,7 +3,7 @@ ghost use Rattle.std.specs.Prelude.{◌≡◌, ◌+◌, ◌<◌, ◌^◌, ◌++�
 ghost use Rattle.cp_outside.specs.Causes.{Accounts};
 ghost use Rattle.cp_model.specs.declared.kind.Kind.{Kind};
 ghost use Rattle.cp_model.specs.declared.record.Record.{Record};
-ghost use Rattle.cp_store.specs.Changes.{seen, change_at, records_at, AreNext};
+ghost use Rattle.cp_store.specs.Changes.{change_told, change_at, records_at, AreNext};
 ghost use Rattle.cp_store.specs.Steps.{BlamesDisk, StaysThrough};
 
 use crate::change::Change;
@@ -42,7 +42,7 @@ pub trait ProvStore: Drop {
         t: u64,
     ) -> Result<Option<Change>, StoreFault>
         ensures found { IfOk result (λ c.
-            seen c ≡ change_at (kept_kind self.old) (kept_rows self.old) t loc.now) }
+            change_told c ≡ change_at (kept_kind self.old) (kept_rows self.old) t loc.now) }
         ensures asks { StaysThrough kept_kind last_tid kept_rows faults BlamesDisk
             self.old self.new result };
 

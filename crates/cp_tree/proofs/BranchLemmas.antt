@@ -17,8 +17,8 @@ use Rattle.cp_path.specs.PathOrder.{path_total}
 use Rattle.cp_model.proofs.KeyedLemmas.{get-entries, same_map, look-find}
 use Rattle.cp_model.specs.Keyed as keyed
 use Rattle.cp_model.specs.Keyed.{look, Keyed}
-use Rattle.cp_model.specs.Subtrees.{below, without, replaced}
-use Rattle.cp_model.specs.Laws.{placed}
+use Rattle.cp_model.specs.Subtrees.{below, without, with_subtree}
+use Rattle.cp_model.specs.Laws.{at_rest_or}
 use Rattle.cp_model.proofs.Lookups.{find-below, find-from_entries, get-without, get-replaced, or_none}
 use Rattle.cp_model.proofs.Sorted.{parts_of, all_of, sorted-entries}
 use Rattle.cp_tree.specs.Branch.{below_label, child_rows, branch, sub, without_child}
@@ -168,43 +168,43 @@ module _ {X : Type 0} where
 
   -- a new tree at an edge, in the place of an old one or beside it
   pub replaced_child : (x : X) (es : List (Label × Keyed X)) (a : Label) (p : Path) (rows : List (Path × X)) (n : Keyed X) → T (is_sorted text_cmp es) →
-      ((s : Path) → keyed.get n s ≡ placed (strip p s) (λ z. look z rows) (get_in (find text_cmp a es) s)) → replaced (a ∷ p) rows (branch x es) ≡ branch x (put text_cmp a n es)
-  replaced_child x es a p rows n s is = same_map (replaced (a ∷ p) rows (branch x es)) (branch x (put text_cmp a n es)) at
+      ((s : Path) → keyed.get n s ≡ at_rest_or (strip p s) (λ z. look z rows) (get_in (find text_cmp a es) s)) → with_subtree (a ∷ p) rows (branch x es) ≡ branch x (put text_cmp a n es)
+  replaced_child x es a p rows n s is = same_map (with_subtree (a ∷ p) rows (branch x es)) (branch x (put text_cmp a n es)) at
     where
       flip : (b : Label) (t : Bool) → label_eq a b ≡ t → eq_by_cmp text_cmp b a ≡ t
       flip b t e = sym (texts_ties b a) ∙ nat_list_eq_equiv.symm b a ∙ e
 
-      at : (q : Path) → keyed.get (replaced (a ∷ p) rows (branch x es)) q ≡ keyed.get (branch x (put text_cmp a n es)) q
+      at : (q : Path) → keyed.get (with_subtree (a ∷ p) rows (branch x es)) q ≡ keyed.get (branch x (put text_cmp a n es)) q
       at [] = get-replaced (a ∷ p) rows (branch x es) [] ∙ get-branch_root x es ∙ sym (get-branch_root x (put text_cmp a n es))
       at (b ∷ q) =
           get-replaced (a ∷ p) rows (branch x es) (b ∷ q)
-          ∙ ap (placed (strip (a ∷ p) (b ∷ q)) (λ z. look z rows)) (get-branch_child x es b q s)
-          ∙ elim (label_eq a b) as (λ t. label_eq a b ≡ t → placed (cond t (strip p q) None) (λ z. look z rows) (get_in (find text_cmp b es) q) ≡ get_in (cond (eq_by_cmp text_cmp b a) (Some n) (find text_cmp b es)) q) [
+          ∙ ap (at_rest_or (strip (a ∷ p) (b ∷ q)) (λ z. look z rows)) (get-branch_child x es b q s)
+          ∙ elim (label_eq a b) as (λ t. label_eq a b ≡ t → at_rest_or (cond t (strip p q) None) (λ z. look z rows) (get_in (find text_cmp b es) q) ≡ get_in (cond (eq_by_cmp text_cmp b a) (Some n) (find text_cmp b es)) q) [
             | false ↦ λ t. ap (λ u. get_in (cond u (Some n) (find text_cmp b es)) q) (sym (flip b false t))
             | true ↦ λ t.
-                ap (λ c. placed (strip p q) (λ z. look z rows) (get_in (find text_cmp c es) q)) (sym (text_eq-same a b t)) ∙ sym (is q)
+                ap (λ c. at_rest_or (strip p q) (λ z. look z rows) (get_in (find text_cmp c es) q)) (sym (text_eq-same a b t)) ∙ sym (is q)
                 ∙ ap (λ u. get_in (cond u (Some n) (find text_cmp b es)) q) (sym (flip b true t))
           ] refl
           ∙ ap (λ f. get_in f q) (sym (find-put text_cmp label_total b a n es))
           ∙ sym (get-branch_child x (put text_cmp a n es) b q (is_sorted-put text_cmp label_total a n es s))
 
   -- to drop a subtree is to replace it by nothing
-  pub without-replaced : (p : Path) (m : Keyed X) → replaced p [] m ≡ without p m
-  without-replaced p m = same_map (replaced p [] m) (without p m) (λ r. get-replaced p [] m r ∙ sym (get-without p m r))
+  pub without-replaced : (p : Path) (m : Keyed X) → with_subtree p [] m ≡ without p m
+  without-replaced p m = same_map (with_subtree p [] m) (without p m) (λ r. get-replaced p [] m r ∙ sym (get-without p m r))
 
   -- a tree at an edge changed by dropping what is below a place of it
   pub without_below : (x : X) (es : List (Label × Keyed X)) (a : Label) (p : Path) (n : Keyed X) → T (is_sorted text_cmp es) → find text_cmp a es ≡ Some n → without (a ∷ p) (branch x es) ≡ branch x (put text_cmp a (without p n) es)
   without_below x es a p n s is =
       sym (without-replaced (a ∷ p) (branch x es))
-      ∙ replaced_child x es a p [] (without p n) s (λ z. get-without p n z ∙ ap (λ o. placed (strip p z) (λ _. None) (get_in o z)) (sym is))
+      ∙ replaced_child x es a p [] (without p n) s (λ z. get-without p n z ∙ ap (λ o. at_rest_or (strip p z) (λ _. None) (get_in o z)) (sym is))
 
   -- a tree at an edge changed by replacing what is below a place of it
   pub replaced_below : (x : X) (es : List (Label × Keyed X)) (a : Label) (p : Path) (rows : List (Path × X)) (n : Keyed X) → T (is_sorted text_cmp es) → find text_cmp a es ≡ Some n →
-      replaced (a ∷ p) rows (branch x es) ≡ branch x (put text_cmp a (replaced p rows n) es)
-  replaced_below x es a p rows n s is = replaced_child x es a p rows (replaced p rows n) s (λ z. get-replaced p rows n z ∙ ap (λ o. placed (strip p z) (λ y. look y rows) (get_in o z)) (sym is))
+      with_subtree (a ∷ p) rows (branch x es) ≡ branch x (put text_cmp a (with_subtree p rows n) es)
+  replaced_below x es a p rows n s is = replaced_child x es a p rows (with_subtree p rows n) s (λ z. get-replaced p rows n z ∙ ap (λ o. at_rest_or (strip p z) (λ y. look y rows) (get_in o z)) (sym is))
 
   -- a tree at an edge replaced, or one added
-  pub replaced_here : (x : X) (es : List (Label × Keyed X)) (a : Label) (n : Keyed X) → T (is_sorted text_cmp es) → replaced (a ∷ []) (keyed.entries n) (branch x es) ≡ branch x (put text_cmp a n es)
+  pub replaced_here : (x : X) (es : List (Label × Keyed X)) (a : Label) (n : Keyed X) → T (is_sorted text_cmp es) → with_subtree (a ∷ []) (keyed.entries n) (branch x es) ≡ branch x (put text_cmp a n es)
   replaced_here x es a n s = replaced_child x es a [] (keyed.entries n) n s (λ z. get-entries n z)
 
   find_without : (a b : Label) (es : List (Label × Keyed X)) → find text_cmp b (without_child a es) ≡ cond (eq_by_cmp text_cmp a b) None (find text_cmp b es)
@@ -222,8 +222,8 @@ module _ {X : Type 0} where
       at [] = get-without (a ∷ []) (branch x es) [] ∙ get-branch_root x es ∙ sym (get-branch_root x (without_child a es))
       at (b ∷ q) =
           get-without (a ∷ []) (branch x es) (b ∷ q)
-          ∙ ap (placed (strip (a ∷ []) (b ∷ q)) (λ _. None)) (get-branch_child x es b q s)
-          ∙ elim (label_eq a b) as (λ t. label_eq a b ≡ t → placed (cond t (Some q) None) (λ _. None) (get_in (find text_cmp b es) q) ≡ get_in (cond (eq_by_cmp text_cmp a b) None (find text_cmp b es)) q) [
+          ∙ ap (at_rest_or (strip (a ∷ []) (b ∷ q)) (λ _. None)) (get-branch_child x es b q s)
+          ∙ elim (label_eq a b) as (λ t. label_eq a b ≡ t → at_rest_or (cond t (Some q) None) (λ _. None) (get_in (find text_cmp b es) q) ≡ get_in (cond (eq_by_cmp text_cmp a b) None (find text_cmp b es)) q) [
             | false ↦ λ t. ap (λ u. get_in (cond u None (find text_cmp b es)) q) (sym (sym (texts_ties a b) ∙ t))
             | true ↦ λ t. ap (λ u. get_in (cond u None (find text_cmp b es)) q) (sym (sym (texts_ties a b) ∙ t))
           ] refl

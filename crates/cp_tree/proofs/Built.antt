@@ -10,7 +10,7 @@ use Rattle.cp_model.specs.declared.row.Content.TheVariants.{Node}
 use Rattle.cp_model.specs.declared.row.Row.{Row}
 use Rattle.cp_model.specs.Place.{Label, Path, path_cmp, child}
 use Rattle.cp_model.specs.Keyed as keyed
-use Rattle.cp_model.specs.Subtrees.{replaced}
+use Rattle.cp_model.specs.Subtrees.{with_subtree}
 use Rattle.cp_model.specs.Tree.{IsRooted}
 use Rattle.cp_model.specs.History.{IsLiteral}
 use Rattle.cp_tree.specs.Rows.{entries_in, root_entries, single, tree_of_rows}
@@ -46,7 +46,7 @@ module _ (first : Row) (rest : List Row) (l : IsLiteral (entries_in (first ∷ r
       tree_of_rows-parent = parent_there (entries_in (first ∷ take i rest)) p a row.content (entries_in (drop (suc i) rest)) sorted_parts (subst (λ z. IsRooted (keyed.from_entries ((first.path, first.content) ∷ z))) parts l.rooted)
 
       -- and as a leaf added it makes the tree of one row more
-      pub tree_of_rows-more : tree_of_rows (first ∷ take (i + 1) rest) ≡ replaced (child p a) (root_entries row.content) (tree_of_rows (first ∷ take i rest))
+      pub tree_of_rows-more : tree_of_rows (first ∷ take (i + 1) rest) ≡ with_subtree (child p a) (root_entries row.content) (tree_of_rows (first ∷ take i rest))
       tree_of_rows-more =
           ap (λ z. keyed.from_entries ((first.path, first.content) ∷ z)) (ap entries_in (ap (λ k. take k rest) (add-one i) ∙ take_one) ∙ map-append (λ (r : Row). (r.path, r.content)) (take i rest) (row ∷ []) ∙ ap (λ q. entries_in (take i rest) ++ (q, row.content) ∷ []) path)
           ∙ row_added (entries_in (first ∷ take i rest)) p a row.content (entries_in (drop (suc i) rest)) sorted_parts

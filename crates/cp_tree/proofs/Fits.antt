@@ -12,10 +12,10 @@ use Rattle.cp_model.specs.Place.{Label, Path, path_cmp, path_eq, at_target, over
 use Rattle.cp_path.proofs.Same.{path_eq-same}
 use Rattle.cp_model.specs.Keyed as keyed
 use Rattle.cp_model.specs.Keyed.{look}
-use Rattle.cp_model.specs.Subtrees.{replaced}
+use Rattle.cp_model.specs.Subtrees.{with_subtree}
 use Rattle.cp_model.specs.Tree.{Tree, IsTree, weight, weight_of, last_bytes}
 use Rattle.cp_model.proofs.Strips.{strip_is}
-use Rattle.cp_model.specs.Laws.{placed}
+use Rattle.cp_model.specs.Laws.{at_rest_or}
 use Rattle.cp_model.proofs.Lookups.{get-replaced}
 use Rattle.cp_model.proofs.SumsLemmas.{len-replaced, weight-replaced}
 use Rattle.cp_model.proofs.Weights.{weight-moved}
@@ -26,7 +26,7 @@ use Rattle.cp_tree.specs.declared.reach.Reach.{Reach}
 
 -- a whole tree put under a node leaves a tree, where what it adds is few and light enough, and its places are within their limits
 pub tree-fits : (t : Tree) (p : Path) (es : List (Path × Content)) → IsTree t → AreRows es → T (is_sorted path_cmp es) → IsUnderNode t p → last_bytes p ≤ LABEL_MAX → keyed.len t + length es ≤ NODES_MAX →
-    weight t + last_bytes p + sum_by weight_of es ≤ WEIGHT_MAX → ((r : Path) → is_some (look r es) ≡ true → over_limit (at_target (p ++ r)) ≡ false) → IsTree (replaced p es t)
+    weight t + last_bytes p + sum_by weight_of es ≤ WEIGHT_MAX → ((r : Path) → is_some (look r es) ≡ true → over_limit (at_target (p ++ r)) ≡ false) → IsTree (with_subtree p es t)
 tree-fits t p es h d s u l n w f = record {
   rooted = rooted-replaced t p es h.rooted d u;
   within = record {
@@ -34,7 +34,7 @@ tree-fits t p es h d s u l n w f = record {
     weighs = omega (arith, w, weight-replaced p es t s, weight-moved p es s d.root);
   };
   places = λ r i.
-      elim (strip p r) as (λ o. strip p r ≡ o → is_some (placed o (λ s. look s es) (keyed.get t r)) ≡ true → over_limit (at_target r) ≡ false) [
+      elim (strip p r) as (λ o. strip p r ≡ o → is_some (at_rest_or o (λ s. look s es) (keyed.get t r)) ≡ true → over_limit (at_target r) ≡ false) [
         | None ↦ λ _ j. h.places r j
         | Some s ↦ λ k j. ap (λ q. over_limit (at_target q)) (strip_is p r s k) ∙ f s j
       ] refl (ap is_some (sym (get-replaced p es t r)) ∙ i);
@@ -61,7 +61,7 @@ at_most_greatest f (e ∷ es) r i =
 
 -- a whole tree put under a node leaves a tree, where its reach and that of the place are within the limits together
 pub reach-fits : (t : Tree) (p : Path) (es : List (Path × Content)) (z : Reach) → z ≡ reach_of es → IsTree t → AreRows es → T (is_sorted path_cmp es) → IsUnderNode t p → last_bytes p ≤ LABEL_MAX → keyed.len t + z.nodes ≤ NODES_MAX →
-    weight t + last_bytes p + z.inner ≤ WEIGHT_MAX → length p + z.depth ≤ LABELS_MAX → path_size p + z.size ≤ LOC_MAX - 1 → IsTree (replaced p es t)
+    weight t + last_bytes p + z.inner ≤ WEIGHT_MAX → length p + z.depth ≤ LABELS_MAX → path_size p + z.size ≤ LOC_MAX - 1 → IsTree (with_subtree p es t)
 unfolding reach_of
 reach-fits t p es z e h d s u l n w deep large =
     tree-fits t p es h d s u l (omega (arith, n, ap (λ r. r.nodes) e)) (omega (arith, w, ap (λ r. r.inner) e)) (λ r i.

@@ -11,7 +11,7 @@ use Rattle.cp_model.specs.declared.row.Content.{Content}
 use Rattle.cp_model.specs.declared.row.Content.TheVariants.{Node, Leaf}
 use Rattle.cp_model.specs.Place.{Label, Path, child}
 use Rattle.cp_model.specs.Keyed as keyed
-use Rattle.cp_model.specs.Subtrees.{without, replaced, is_there}
+use Rattle.cp_model.specs.Subtrees.{without, with_subtree, is_there}
 use Rattle.cp_model.specs.Tree.{Tree, IsRooted}
 use Rattle.cp_tree.specs.Branch.{branch, sub, without_child}
 use Rattle.cp_tree.proofs.BranchLemmas.{label_total, get_in, get-branch_root, get-branch_child, sub-branch, replaced_here, replaced_below, without_here, without_below}
@@ -100,17 +100,17 @@ module _ (m : Tree) (x : Content) (es fs : List (Label × Tree)) (a : Label) (vi
   put_now n t node r e is = record { good = subst (IsGood x) e (good_put x es a n g node r); is = ap (branch x) (sym e) ∙ sym is }
 
   -- the edge a now leads to n, below a node
-  pub changed_here : (n : Tree) → keyed.get m [] ≡ Some Node → IsRooted n → put text_cmp a n es ≡ fs → IsNow x fs (replaced (a ∷ []) (keyed.entries n) m)
+  pub changed_here : (n : Tree) → keyed.get m [] ≡ Some Node → IsRooted n → put text_cmp a n es ≡ fs → IsNow x fs (with_subtree (a ∷ []) (keyed.entries n) m)
   changed_here n node r e =
-      put_now n (replaced (a ∷ []) (keyed.entries n) m) (node_of_root x es (ap (λ z. keyed.get z []) view ∙ node)) r e
-      (ap (replaced (a ∷ []) (keyed.entries n)) (sym view) ∙ replaced_here x es a n g.sorted)
+      put_now n (with_subtree (a ∷ []) (keyed.entries n) m) (node_of_root x es (ap (λ z. keyed.get z []) view ∙ node)) r e
+      (ap (with_subtree (a ∷ []) (keyed.entries n)) (sym view) ∙ replaced_here x es a n g.sorted)
 
   -- the tree k at the edge a has changed at a place below
-  pub changed_below : (q : Path) (rows : List (Path × Content)) (k n : Tree) → find text_cmp a es ≡ Some k → IsRooted n → n ≡ replaced q rows k → put text_cmp a n es ≡ fs →
-      IsNow x fs (replaced (a ∷ q) rows m)
+  pub changed_below : (q : Path) (rows : List (Path × Content)) (k n : Tree) → find text_cmp a es ≡ Some k → IsRooted n → n ≡ with_subtree q rows k → put text_cmp a n es ≡ fs →
+      IsNow x fs (with_subtree (a ∷ q) rows m)
   changed_below q rows k n is r at e =
-      put_now n (replaced (a ∷ q) rows m) (node_of_child x es a k g.bare is) r e
-      (ap (replaced (a ∷ q) rows) (sym view) ∙ replaced_below x es a q rows k g.sorted is ∙ ap (λ z. branch x (put text_cmp a z es)) (sym at))
+      put_now n (with_subtree (a ∷ q) rows m) (node_of_child x es a k g.bare is) r e
+      (ap (with_subtree (a ∷ q) rows) (sym view) ∙ replaced_below x es a q rows k g.sorted is ∙ ap (λ z. branch x (put text_cmp a z es)) (sym at))
 
   -- the tree k at the edge a has lost what was at and below a place
   pub dropped_below : (q : Path) (k n : Tree) → find text_cmp a es ≡ Some k → IsRooted n → n ≡ without q k → put text_cmp a n es ≡ fs → IsNow x fs (without (a ∷ q) m)

@@ -12,10 +12,10 @@ use Rattle.cp_model.specs.Place.{Label, Path, child, path_eq, at_target, over_li
 use Rattle.cp_model.proofs.KeyedLemmas.{same_map, get-insert}
 use Rattle.cp_model.specs.Keyed as keyed
 use Rattle.cp_model.specs.Keyed.{look}
-use Rattle.cp_model.specs.Subtrees.{replaced, is_there}
+use Rattle.cp_model.specs.Subtrees.{with_subtree, is_there}
 use Rattle.cp_model.specs.Tree.{Tree, IsTree, IsRooted, weight, weight_of, text_bytes, IsNumber, CanBeSpelled}
 use Rattle.cp_model.proofs.Strips.{strip_is, append-nil}
-use Rattle.cp_model.specs.Laws.{placed}
+use Rattle.cp_model.specs.Laws.{at_rest_or}
 use Rattle.cp_model.proofs.Lookups.{find-below, find-from_entries, get-replaced, path_eq-append, path_eq-sym, rest_is}
 use Rattle.cp_model.proofs.SumsLemmas.{below-none, last_bytes_child}
 use Rattle.cp_model.proofs.Rooted.{AreRows, under-child}
@@ -84,14 +84,14 @@ pub nothing-below : (t : Tree) (p r : Path) → IsRooted t → keyed.get t p ≡
 nothing-below t p r h n = sym (find-below p r t) ∙ ap (look r) (below-none t p (closed-tree t h) n)
 
 -- a leaf at a new place is one more entry
-pub leaf-insert : (t : Tree) (p : Path) (c : Content) → IsRooted t → keyed.get t p ≡ None → replaced p (root_entries c) t ≡ keyed.insert t p c
-leaf-insert t p c h n = same_map (replaced p (root_entries c) t) (keyed.insert t p c) (λ r.
+pub leaf-insert : (t : Tree) (p : Path) (c : Content) → IsRooted t → keyed.get t p ≡ None → with_subtree p (root_entries c) t ≡ keyed.insert t p c
+leaf-insert t p c h n = same_map (with_subtree p (root_entries c) t) (keyed.insert t p c) (λ r.
     get-replaced p (root_entries c) t r ∙ cases r (strip p r) refl ∙ ap (λ b. cond b (Some c) (keyed.get t r)) (sym (same_as r)) ∙ sym (get-insert t p c r))
   where
     same_as : (r : Path) → path_eq r p ≡ rest_is (strip p r) []
     same_as r = path_eq-sym r p ∙ ap (λ q. path_eq q r) (sym (append-nil p)) ∙ path_eq-append p [] r
 
-    cases : (r : Path) (o : Option Path) → strip p r ≡ o → placed o (λ s. look s (root_entries c)) (keyed.get t r) ≡ cond (rest_is o []) (Some c) (keyed.get t r)
+    cases : (r : Path) (o : Option Path) → strip p r ≡ o → at_rest_or o (λ s. look s (root_entries c)) (keyed.get t r) ≡ cond (rest_is o []) (Some c) (keyed.get t r)
     cases r None e = refl
     cases r (Some z) e =
         ap (λ o. cond (path_eq z []) (Some c) o) (sym (ap (keyed.get t) (strip_is p r z e) ∙ nothing-below t p z h n))
@@ -99,7 +99,7 @@ leaf-insert t p c h n = same_map (replaced p (root_entries c) t) (keyed.insert t
 
 -- a leaf leaves a tree, where there is room and its place is within the limits
 pub leaf-fits : (t : Tree) (p : Path) (a : Label) (c : Content) → IsTree t → keyed.get t p ≡ Some Node → over_limit (at_target (child p a)) ≡ false → length a ≤ LABEL_MAX → text_bytes c ≤ TEXT_MAX → IsNumber c →
-    keyed.len t + 1 ≤ NODES_MAX → weight t + PLACE_WEIGHT + length a + text_bytes c ≤ WEIGHT_MAX → IsTree (replaced (child p a) (root_entries c) t)
+    keyed.len t + 1 ≤ NODES_MAX → weight t + PLACE_WEIGHT + length a + text_bytes c ≤ WEIGHT_MAX → IsTree (with_subtree (child p a) (root_entries c) t)
 leaf-fits t p a c h n near short s whole l w =
     tree-fits t (child p a) (root_entries c) h (alone-rows c s whole) tt (under-child t p a n) (omega (arith, last_bytes_child p a, short)) (omega (arith, l)) (omega (arith, w, last_bytes_child p a, sum_by-cons weight_of ([], c) [])) within
   where

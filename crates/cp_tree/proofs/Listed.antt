@@ -10,7 +10,7 @@ use Rattle.cp_model.specs.declared.row.Row.{Row}
 use Rattle.cp_model.specs.declared.literal.LitEdge.{LitEdge}
 use Rattle.cp_model.specs.Literals.{literal_rows, rows_under, edge_rows}
 use Rattle.cp_model.specs.Place.{Path, child}
-use Rattle.cp_model.specs.Subtrees.{moved}
+use Rattle.cp_model.specs.Subtrees.{entries_under}
 use Rattle.cp_tree.proofs.ListingLemmas.{entries_in-rows, moved-append, moved-below_label, moved-first, moved-root}
 use Rattle.cp_tree.proofs.Counted.{greatest-append}
 use Rattle.cp_tree.proofs.Edges.{deepest-literal, edge-fewer}
@@ -25,8 +25,8 @@ pub entries-more : (rs : List Row) (r : Row) → entries_in (rs ++ r ∷ []) ≡
 entries-more rs r = map-append (λ (x : Row). (x.path, x.content)) rs (r ∷ [])
 
 -- rows listed from a root are all
-pub entries-root : (at : Path) (rs first all : List Row) (es : List (Path × Content)) → rs ≡ all → at ≡ [] → first ≡ [] → entries_in all ≡ entries_in first ++ moved at es → entries_in rs ≡ es
-entries-root at rs first all es r p f h = ap entries_in r ∙ h ∙ ap (λ xs. entries_in xs ++ moved at es) f ∙ ap (λ q. moved q es) p ∙ moved-root es
+pub entries-root : (at : Path) (rs first all : List Row) (es : List (Path × Content)) → rs ≡ all → at ≡ [] → first ≡ [] → entries_in all ≡ entries_in first ++ entries_under at es → entries_in rs ≡ es
+entries-root at rs first all es r p f h = ap entries_in r ∙ h ∙ ap (λ xs. entries_in xs ++ entries_under at es) f ∙ ap (λ q. entries_under q es) p ∙ moved-root es
 
 -- ---- depths
 
@@ -41,41 +41,41 @@ deepest-edge e rest tail t =
 
 -- after an edge's rows the rest is listed
 pub rows-edge : (at path : Path) (e : LitEdge) (rest tail : List LitEdge) (old new total : List (Path × Content)) → tail ≡ e ∷ rest → path ≡ child at e.label →
-    new ≡ old ++ moved path (literal_rows e.tree) → old ++ moved at (edge_rows tail) ≡ total → new ++ moved at (edge_rows rest) ≡ total
+    new ≡ old ++ entries_under path (literal_rows e.tree) → old ++ entries_under at (edge_rows tail) ≡ total → new ++ entries_under at (edge_rows rest) ≡ total
 rows-edge at path e rest tail old new total t p n h =
-    ap (λ xs. xs ++ moved at (edge_rows rest)) (n ∙ ap (λ q. old ++ moved q (literal_rows e.tree)) p ∙ ap (λ xs. old ++ xs) (sym (moved-below_label at e.label (literal_rows e.tree))))
-    ∙ append_assoc old (moved at (rows_under e.label (literal_rows e.tree))) (moved at (edge_rows rest))
+    ap (λ xs. xs ++ entries_under at (edge_rows rest)) (n ∙ ap (λ q. old ++ entries_under q (literal_rows e.tree)) p ∙ ap (λ xs. old ++ xs) (sym (moved-below_label at e.label (literal_rows e.tree))))
+    ∙ append_assoc old (entries_under at (rows_under e.label (literal_rows e.tree))) (entries_under at (edge_rows rest))
     ∙ ap (λ xs. old ++ xs) (sym (moved-append at (rows_under e.label (literal_rows e.tree)) (edge_rows rest)))
-    ∙ ap (λ es. old ++ moved at (edge_rows es)) (sym t)
+    ∙ ap (λ es. old ++ entries_under at (edge_rows es)) (sym t)
     ∙ h
 
 -- the row of a root
 pub rows-root : (at : Path) (c : Content) (rs : List Row) (r : Row) (new : List Row) (es : List (Path × Content)) → new ≡ rs ++ r ∷ [] → r.path ≡ at → r.content ≡ c →
-    entries_in new ++ moved at es ≡ entries_in rs ++ moved at (([], c) ∷ es)
+    entries_in new ++ entries_under at es ≡ entries_in rs ++ entries_under at (([], c) ∷ es)
 rows-root at c rs r new es n p is =
-    ap (λ x. entries_in x ++ moved at es) n
-    ∙ ap (λ x. x ++ moved at es) (entries-more rs r)
-    ∙ append_assoc (entries_in rs) ((r.path, r.content) ∷ []) (moved at es)
-    ∙ (λ i. entries_in rs ++ (p i, is i) ∷ moved at es)
+    ap (λ x. entries_in x ++ entries_under at es) n
+    ∙ ap (λ x. x ++ entries_under at es) (entries-more rs r)
+    ∙ append_assoc (entries_in rs) ((r.path, r.content) ∷ []) (entries_under at es)
+    ∙ (λ i. entries_in rs ++ (p i, is i) ∷ entries_under at es)
     ∙ ap (λ x. entries_in rs ++ x) (sym (moved-first at c es))
 
-no_rows : (at : Path) (xs : List (Path × Content)) → xs ++ moved at [] ≡ xs
-unfolding moved
+no_rows : (at : Path) (xs : List (Path × Content)) → xs ++ entries_under at [] ≡ xs
+unfolding entries_under
 no_rows at xs = append-nil xs
 
 -- a leaf is its root alone
-pub rows-leaf : (at : Path) (c : Content) (rs : List Row) (r : Row) (new : List Row) → new ≡ rs ++ r ∷ [] → r.path ≡ at → r.content ≡ c → entries_in new ≡ entries_in rs ++ moved at (([], c) ∷ [])
+pub rows-leaf : (at : Path) (c : Content) (rs : List Row) (r : Row) (new : List Row) → new ≡ rs ++ r ∷ [] → r.path ≡ at → r.content ≡ c → entries_in new ≡ entries_in rs ++ entries_under at (([], c) ∷ [])
 rows-leaf at c rs r new n p is = sym (no_rows at (entries_in new)) ∙ rows-root at c rs r new [] n p is
 
 -- after the last edge all is listed
 pub rows-end : (at : Path) (edges : List LitEdge) (i : ℕ) (new old : List (Path × Content)) (below : List (Path × Content)) → length edges ≤ i → edge_rows edges ≡ below →
-    new ++ moved at (edge_rows (drop i edges)) ≡ old ++ moved at (edge_rows edges) → new ≡ old ++ moved at below
+    new ++ entries_under at (edge_rows (drop i edges)) ≡ old ++ entries_under at (edge_rows edges) → new ≡ old ++ entries_under at below
 rows-end at edges i new old below l b h =
-    sym (no_rows at new) ∙ ap (λ es. new ++ moved at (edge_rows es)) (sym (drop_of_length-le edges l)) ∙ h ∙ ap (λ es. old ++ moved at es) b
+    sym (no_rows at new) ∙ ap (λ es. new ++ entries_under at (edge_rows es)) (sym (drop_of_length-le edges l)) ∙ h ∙ ap (λ es. old ++ entries_under at es) b
 
 -- the rows below a node come after its own
 pub rows-node : {E : Type 0} (result : Result (Unit {0}) E) (at : Path) (rs new all : List Row) (below : List (Path × Content)) (r : Row) → new ≡ rs ++ r ∷ [] → r.path ≡ at → r.content ≡ Node →
-    OnOk result (entries_in all ≡ entries_in new ++ moved at below) → OnOk result (entries_in all ≡ entries_in rs ++ moved at (([], Node) ∷ below))
+    OnOk result (entries_in all ≡ entries_in new ++ entries_under at below) → OnOk result (entries_in all ≡ entries_in rs ++ entries_under at (([], Node) ∷ below))
 rows-node (Ok u) at rs new all below r n p c h = h ∙ rows-root at Node rs r new below n p c
 rows-node (Err e) at rs new all below r n p c h = tt
 

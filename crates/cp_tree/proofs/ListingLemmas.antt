@@ -12,7 +12,7 @@ use Rattle.cp_model.specs.Place.{Label, Path, path_cmp, child}
 use Rattle.cp_model.proofs.KeyedLemmas.{get-entries}
 use Rattle.cp_model.specs.Keyed as keyed
 use Rattle.cp_model.specs.Keyed.{look, Keyed}
-use Rattle.cp_model.specs.Subtrees.{below, moved, is_there}
+use Rattle.cp_model.specs.Subtrees.{below, entries_under, is_there}
 use Rattle.cp_model.specs.Tree.{Tree, IsTree}
 use Rattle.cp_model.specs.History.{IsLiteral}
 use Rattle.cp_model.proofs.Lookups.{find-from_entries}
@@ -42,30 +42,30 @@ literal-below t q h i =
 
 module _ {X : Type 0} where
   -- rows behind the root stay
-  pub moved-root : (es : List (Path × X)) → moved [] es ≡ es
-  unfolding moved
+  pub moved-root : (es : List (Path × X)) → entries_under [] es ≡ es
+  unfolding entries_under
   moved-root [] = refl
   moved-root (e ∷ es) = ap (λ z. e ∷ z) (moved-root es)
 
   -- rows and rows behind a path
-  pub moved-append : (p : Path) (es fs : List (Path × X)) → moved p (es ++ fs) ≡ moved p es ++ moved p fs
-  unfolding moved
+  pub moved-append : (p : Path) (es fs : List (Path × X)) → entries_under p (es ++ fs) ≡ entries_under p es ++ entries_under p fs
+  unfolding entries_under
   moved-append p es fs = map-append (λ e. (p ++ e.0, e.1)) es fs
 
   -- the first of rows behind a path
-  pub moved-first : (p : Path) (x : X) (es : List (Path × X)) → moved p (([], x) ∷ es) ≡ (p, x) ∷ moved p es
-  unfolding moved
-  moved-first p x es = ap (λ q. (q, x) ∷ moved p es) (append-nil p)
+  pub moved-first : (p : Path) (x : X) (es : List (Path × X)) → entries_under p (([], x) ∷ es) ≡ (p, x) ∷ entries_under p es
+  unfolding entries_under
+  moved-first p x es = ap (λ q. (q, x) ∷ entries_under p es) (append-nil p)
 
   -- the rows of a child, seen from its parent and then from further up
-  pub moved-below_label : (p : Path) (a : Label) (es : List (Path × X)) → moved p (below_label a es) ≡ moved (child p a) es
-  unfolding moved
+  pub moved-below_label : (p : Path) (a : Label) (es : List (Path × X)) → entries_under p (below_label a es) ≡ entries_under (child p a) es
+  unfolding entries_under
   moved-below_label p a [] = refl
   moved-below_label p a (e ∷ es) = λ i. (sym (append_assoc p (a ∷ []) e.0) i, e.1) ∷ moved-below_label p a es i
 
   -- the rows of a tree at a place: that of its root, and those below its edges
-  pub moved-branch : (p : Path) (x : X) (es : List (Label × Keyed X)) → T (is_sorted text_cmp es) → moved p (keyed.entries (branch x es)) ≡ (p, x) ∷ moved p (child_rows es)
-  moved-branch p x es s = ap (moved p) (entries-branch x es s) ∙ moved-first p x (child_rows es)
+  pub moved-branch : (p : Path) (x : X) (es : List (Label × Keyed X)) → T (is_sorted text_cmp es) → entries_under p (keyed.entries (branch x es)) ≡ (p, x) ∷ entries_under p (child_rows es)
+  moved-branch p x es s = ap (entries_under p) (entries-branch x es s) ∙ moved-first p x (child_rows es)
 
 -- ---- labels
 

@@ -14,11 +14,11 @@ use Rattle.cp_path.specs.PathOrder.{path_eq_equiv, path_ties, path_total}
 use Rattle.cp_model.proofs.KeyedLemmas.{same_map}
 use Rattle.cp_model.specs.Keyed as keyed
 use Rattle.cp_model.specs.Keyed.{look}
-use Rattle.cp_model.specs.Subtrees.{replaced, is_there}
+use Rattle.cp_model.specs.Subtrees.{with_subtree, is_there}
 use Rattle.cp_model.specs.Tree.{IsRooted}
 use Rattle.cp_model.specs.History.{IsLiteral}
 use Rattle.cp_model.proofs.Strips.{strip_is, strip-itself, append-nil}
-use Rattle.cp_model.specs.Laws.{placed}
+use Rattle.cp_model.specs.Laws.{at_rest_or}
 use Rattle.cp_model.proofs.Lookups.{find-from_entries, get-replaced, rest_is, path_eq-append, path_eq-sym, or_none}
 use Rattle.cp_model.proofs.Sorted.{parts_of, path_cmp-append, root-first}
 use Rattle.cp_tree.proofs.Rising.{less_is, less_mid, less_all}
@@ -63,19 +63,19 @@ module _ (f : List (Path × Content)) (p : Path) (a : Label) (c : Content) (g : 
   row_is_new = ap is_some (find-from_entries f (child p a) ∙ missing f (child p a) [] (strip-itself (child p a)) s)
 
   -- with it there is one leaf more
-  pub row_added : keyed.from_entries (f ++ (child p a, c) ∷ []) ≡ replaced (child p a) (root_entries c) (keyed.from_entries f)
-  row_added = same_map (keyed.from_entries (f ++ (child p a, c) ∷ [])) (replaced (child p a) (root_entries c) (keyed.from_entries f)) (λ r.
+  pub row_added : keyed.from_entries (f ++ (child p a, c) ∷ []) ≡ with_subtree (child p a) (root_entries c) (keyed.from_entries f)
+  row_added = same_map (keyed.from_entries (f ++ (child p a, c) ∷ [])) (with_subtree (child p a) (root_entries c) (keyed.from_entries f)) (λ r.
       find-from_entries (f ++ (child p a, c) ∷ []) r
       ∙ look_append r f ((child p a, c) ∷ [])
       ∙ ap (λ b. or_else (look r f) (cond b (Some c) None)) (same_as r)
       ∙ cases r (strip (child p a) r) refl
-      ∙ ap (placed (strip (child p a) r) (λ z. look z (root_entries c))) (sym (find-from_entries f r))
+      ∙ ap (at_rest_or (strip (child p a) r) (λ z. look z (root_entries c))) (sym (find-from_entries f r))
       ∙ sym (get-replaced (child p a) (root_entries c) (keyed.from_entries f) r))
     where
       same_as : (r : Path) → path_eq r (child p a) ≡ rest_is (strip (child p a) r) []
       same_as r = path_eq-sym r (child p a) ∙ ap (λ q. path_eq q r) (sym (append-nil (child p a))) ∙ path_eq-append (child p a) [] r
 
-      cases : (r : Path) (o : Option Path) → strip (child p a) r ≡ o → or_else (look r f) (cond (rest_is o []) (Some c) None) ≡ placed o (λ z. look z (root_entries c)) (look r f)
+      cases : (r : Path) (o : Option Path) → strip (child p a) r ≡ o → or_else (look r f) (cond (rest_is o []) (Some c) None) ≡ at_rest_or o (λ z. look z (root_entries c)) (look r f)
       cases r None e = or_none (look r f)
       cases r (Some z) e = ap (λ o. or_else o (cond (path_eq [] z) (Some c) None)) (missing f r z e s) ∙ ap (λ b. cond b (Some c) None) (path_eq-sym [] z)
 

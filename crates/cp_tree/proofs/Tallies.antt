@@ -1,8 +1,7 @@
 -- Bounds of numbers of the places of a tree within its limits.
 use Rattle.cp_path.specs.declared.limits.TheConstants.{LABELS_MAX, LOC_MAX}
-use Rattle.std.specs.Prelude.{◌≡◌, ℕ, ◌+◌, ◌-◌, ◌≤◌, ◌<◌, Bool, true, false, cond, ◌||◌, ◌==◌, nat_lt, List, [], ◌∷◌, ◌++◌, length, is_some, refl}
+use Rattle.std.specs.Prelude.{◌≡◌, ℕ, ◌+◌, ◌-◌, ◌≤◌, Bool, true, false, cond, ◌||◌, nat_lt, List, [], ◌∷◌, ◌++◌, length, is_some, refl}
 use Rattle.std.proofs.Common.{ap, ◌∙◌, arith, length-append}
-use Rattle.std.proofs.lemmas.List.Sums.{sum_by-cons}
 use Rattle.std.proofs.lemmas.Bool.Decides.{nat_tests}
 use Rattle.std.specs.declared.option.Option.TheVariants.{Some}
 use Rattle.cp_model.specs.declared.row.Content.{Content}
@@ -10,14 +9,13 @@ use Rattle.cp_model.specs.Place.{Path, path_eq, at_target, over_limit, size}
 use Rattle.cp_path.specs.PathOrder.{path_eq_equiv}
 use Rattle.cp_model.specs.Keyed as keyed
 use Rattle.cp_model.specs.Keyed.{look}
-use Rattle.cp_model.specs.Subtrees.{replaced, is_there}
+use Rattle.cp_model.specs.Subtrees.{with_subtree, is_there}
 use Rattle.cp_model.specs.Tree.{Tree, IsTree}
 use Rattle.cp_model.proofs.Strips.{strip-append}
-use Rattle.cp_model.specs.Laws.{placed}
+use Rattle.cp_model.specs.Laws.{at_rest_or}
 use Rattle.cp_model.proofs.Lookups.{get-replaced}
 use Rattle.cp_model.specs.History.{IsLiteral}
 use Rattle.cp_model.proofs.Rooted.{rows-literal}
-use Rattle.cp_tree.proofs.Counted.{is_one, counted}
 use Rattle.cp_tree.specs.Rows.{greatest, deepest}
 
 -- a place within the limits has few labels
@@ -40,11 +38,11 @@ module _ (n : ℕ) (f : Path → ℕ) where
       later true r i = refl
       later false r i = i
 
-there_replaced : (t : Tree) (p r : Path) (es : List (Path × Content)) → is_some (look r es) ≡ true → is_there (replaced p es t) (p ++ r) ≡ true
-there_replaced t p r es i = ap is_some (get-replaced p es t (p ++ r) ∙ ap (λ o. placed o (λ s. look s es) (keyed.get t (p ++ r))) (strip-append p r)) ∙ i
+there_replaced : (t : Tree) (p r : Path) (es : List (Path × Content)) → is_some (look r es) ≡ true → is_there (with_subtree p es t) (p ++ r) ≡ true
+there_replaced t p r es i = ap is_some (get-replaced p es t (p ++ r) ∙ ap (λ o. at_rest_or o (λ s. look s es) (keyed.get t (p ++ r))) (strip-append p r)) ∙ i
 
 -- rows that are put at p into a tree within its limits lie no deeper than those
-pub deepest-fits : (t : Tree) (p : Path) (es : List (Path × Content)) → IsLiteral es → IsTree (replaced p es t) → length p + deepest es ≤ LABELS_MAX
+pub deepest-fits : (t : Tree) (p : Path) (es : List (Path × Content)) → IsLiteral es → IsTree (with_subtree p es t) → length p + deepest es ≤ LABELS_MAX
 deepest-fits t p es l h =
     let at : (r : Path) → is_some (look r es) ≡ true → length p + length r ≤ LABELS_MAX = λ r i. (let few = few_labels (p ++ r) (h.places (p ++ r) (there_replaced t p r es i)) in omega (arith, few, length-append p r)) in
     let all = greatest_within (LABELS_MAX - length p) (λ r. length r) es (λ r i. omega (arith, at r i)) in

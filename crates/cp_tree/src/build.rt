@@ -3,7 +3,7 @@ ghost use Rattle.std.specs.Prelude.{◌≡◌, true, false, OnOk, OnErr};
 ghost use Rattle.std.specs.declared.option.Option.TheVariants.{Some};
 ghost use Rattle.cp_model.specs.Place.{child};
 ghost use Rattle.cp_model.specs.Keyed.{get};
-ghost use Rattle.cp_model.specs.Subtrees.{below, replaced, is_there};
+ghost use Rattle.cp_model.specs.Subtrees.{below, with_subtree, is_there};
 ghost use Rattle.cp_model.specs.Tree.{IsTree};
 ghost use Rattle.cp_model.specs.Literals.{literal_rows};
 ghost use Rattle.cp_model.specs.History.{IsLiteral};
@@ -15,7 +15,7 @@ use cp_model::Literal;
 use cp_path::{Label, Path};
 use std::alloc::{AllocError, Global};
 
-/// The subtree of `tree` at `place` becomes that of `other` at `from`. Costs the two subtrees.
+/// Puts the subtree of `other` at `from` in the place of that of `tree` at `place`. Costs the two subtrees.
 pub fn graft<R: TreeRep, O: TreeRep>(
     alloc: Global,
     tree: &mut R,
@@ -25,8 +25,8 @@ pub fn graft<R: TreeRep, O: TreeRep>(
 ) -> Result<(), AllocError>
     requires from { is_there (O.contents other.now) from.now ≡ true }
     requires there { is_there (R.contents tree.old) place.now ≡ true }
-    requires fits { IsTree (replaced place.now (below from.now (O.contents other.now)) (R.contents tree.old)) }
-    ensures ok { OnOk result (R.contents tree.new ≡ replaced place.now (below from.now (O.contents other.now)) (R.contents tree.old)) }
+    requires fits { IsTree (with_subtree place.now (below from.now (O.contents other.now)) (R.contents tree.old)) }
+    ensures ok { OnOk result (R.contents tree.new ≡ with_subtree place.now (below from.now (O.contents other.now)) (R.contents tree.old)) }
     ensures err { OnErr result (R.contents tree.new ≡ R.contents tree.old) }
 {
     let rows = other.rows(alloc, from)?;
@@ -44,8 +44,8 @@ pub fn insert_tree<R: TreeRep>(
     requires node { get (R.contents tree.old) place.now ≡ Some Node }
     requires free { is_there (R.contents tree.old) (child place.now label.now) ≡ false }
     requires literal { IsLiteral (literal_rows literal.now) }
-    requires fits { IsTree (replaced (child place.now label.now) (literal_rows literal.now) (R.contents tree.old)) }
-    ensures ok { OnOk result (R.contents tree.new ≡ replaced (child place.now label.now) (literal_rows literal.now) (R.contents tree.old)) }
+    requires fits { IsTree (with_subtree (child place.now label.now) (literal_rows literal.now) (R.contents tree.old)) }
+    ensures ok { OnOk result (R.contents tree.new ≡ with_subtree (child place.now label.now) (literal_rows literal.now) (R.contents tree.old)) }
     ensures err { OnErr result (R.contents tree.new ≡ R.contents tree.old) }
 {
     let mut rows = Vec::new(alloc);

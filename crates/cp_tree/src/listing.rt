@@ -1,6 +1,6 @@
 //! The rows of a literal tree.
 ghost use Rattle.std.specs.Prelude.{◌≡◌, ◌≤◌, ◌+◌, ◌++◌, length, IfOk, OnOk};
-ghost use Rattle.cp_model.specs.Subtrees.{moved};
+ghost use Rattle.cp_model.specs.Subtrees.{entries_under};
 ghost use Rattle.cp_model.specs.Literals.{literal_rows};
 ghost use Rattle.cp_model.specs.declared.row.Content.TheVariants.{Leaf};
 ghost use Rattle.cp_tree.specs.Rows.{entries_in, deepest};
@@ -9,7 +9,7 @@ use cp_model::{Content, LitList, Literal, Row};
 use cp_path::{LABELS_MAX, Path, Value};
 use std::alloc::{AllocError, Global};
 
-/// A leaf with this value. Costs its bytes.
+/// Copies the value into a leaf. Costs its bytes.
 fn leaf_of(value: &Value) -> Result<Content, AllocError>
     ensures { IfOk result (λ c. c ≡ Leaf value.now) }
 {
@@ -20,7 +20,7 @@ fn leaf_of(value: &Value) -> Result<Content, AllocError>
 #[cycle(listing)]
 pub(crate) fn list_tree(at: Path, tree: &Literal, rows: &mut Vec<Row>) -> Result<(), AllocError>
     requires shallow { length at + deepest (literal_rows tree.now) ≤ LABELS_MAX }
-    ensures { OnOk result (entries_in rows.new.items ≡ entries_in rows.old.items ++ moved at (literal_rows tree.now)) }
+    ensures { OnOk result (entries_in rows.new.items ≡ entries_in rows.old.items ++ entries_under at (literal_rows tree.now)) }
 {
     match tree {
         Literal::Leaf(value) => {
@@ -43,7 +43,7 @@ pub(crate) fn list_tree(at: Path, tree: &Literal, rows: &mut Vec<Row>) -> Result
 #[cycle(listing)]
 fn list_edges(at: &Path, below: &LitList, rows: &mut Vec<Row>) -> Result<(), AllocError>
     requires shallow { length at.now + deepest below.now ≤ LABELS_MAX }
-    ensures { OnOk result (entries_in rows.new.items ≡ entries_in rows.old.items ++ moved at.now below.now) }
+    ensures { OnOk result (entries_in rows.new.items ≡ entries_in rows.old.items ++ entries_under at.now below.now) }
 {
     for edge in &below.items {
         let path = at.child(&edge.label)?;

@@ -7,7 +7,7 @@ use Rattle.cp_model.specs.declared.row.Content.TheVariants.{Node}
 use Rattle.cp_model.specs.declared.row.Row.{Row}
 use Rattle.cp_model.specs.Place.{Label, Path, child}
 use Rattle.cp_model.specs.Keyed as keyed
-use Rattle.cp_model.specs.Subtrees.{replaced}
+use Rattle.cp_model.specs.Subtrees.{with_subtree}
 use Rattle.cp_model.specs.Tree.{Tree}
 use Rattle.cp_model.specs.History.{IsLiteral}
 use Rattle.cp_model.proofs.Lookups.{find-from_entries}
@@ -16,11 +16,11 @@ use Rattle.cp_tree.proofs.Built.{tree_of_rows-first, row_below, tree_of_rows-par
 
 -- a leaf put at a row's place
 pub put_row : {E : Type 0} (r : Result (Unit {0}) E) (new root leaf : Tree) (path parent : Path) (a b : Label) (c d : Content) → path ≡ parent ++ a ∷ [] → b ≡ a → leaf ≡ single d → d ≡ c →
-    OnOk r (new ≡ replaced (child parent b) (keyed.entries leaf) root) → OnOk r (new ≡ replaced path (root_entries c) root)
+    OnOk r (new ≡ with_subtree (child parent b) (keyed.entries leaf) root) → OnOk r (new ≡ with_subtree path (root_entries c) root)
 put_row (Err y) new root leaf path parent a b c d p l s e h = tt
 put_row (Ok u) new root leaf path parent a b c d p l s e h =
     let rows : keyed.entries leaf ≡ root_entries c = ap keyed.entries s ∙ entries-single d ∙ ap root_entries e in
-    h ∙ ap (λ z. replaced (child parent z) (keyed.entries leaf) root) l ∙ ap (λ z. replaced z (keyed.entries leaf) root) (sym p) ∙ ap (λ z. replaced path z root) rows
+    h ∙ ap (λ z. with_subtree (child parent z) (keyed.entries leaf) root) l ∙ ap (λ z. with_subtree z (keyed.entries leaf) root) (sym p) ∙ ap (λ z. with_subtree path z root) rows
 
 -- no rows are no tree
 pub no_rows : (rows : List Row) → rows ≡ [] → IsLiteral (entries_in rows) → ⊥
@@ -52,12 +52,12 @@ module _ (rows rest : List Row) (first : Row) (e : rows ≡ first ∷ rest) (l :
       row_parent p a k = ap (λ z. keyed.get z p) (so_far ∙ ap tree_of_rows (take_first rows rest first i e)) ∙ tree_of_rows-parent first rest literal i row lt at p a k
 
       -- with it the tree is that of one row more
-      pub row_built : (new : Tree) → new ≡ replaced row.path (root_entries row.content) root → new ≡ tree_of_rows (take ((i + 1) + 1) rows)
+      pub row_built : (new : Tree) → new ≡ with_subtree row.path (root_entries row.content) root → new ≡ tree_of_rows (take ((i + 1) + 1) rows)
       row_built new n =
-          n ∙ ap (replaced row.path (root_entries row.content)) (so_far ∙ ap tree_of_rows (take_first rows rest first i e))
+          n ∙ ap (with_subtree row.path (root_entries row.content)) (so_far ∙ ap tree_of_rows (take_first rows rest first i e))
           ∙ by row.path refl ∙ ap tree_of_rows (sym (take_first rows rest first (i + 1) e))
         where
-          by : (p : Path) → row.path ≡ p → replaced row.path (root_entries row.content) (tree_of_rows (first ∷ take i rest)) ≡ tree_of_rows (first ∷ take (i + 1) rest)
+          by : (p : Path) → row.path ≡ p → with_subtree row.path (root_entries row.content) (tree_of_rows (first ∷ take i rest)) ≡ tree_of_rows (first ∷ take (i + 1) rest)
           by p k = last p k (ends p (λ z. row_below first rest literal i row lt at (k ∙ z)))
             where
               ends : (q : Path) → (q ≡ [] → true ≡ false) → (r : Path) × (a : Label) × (q ≡ child r a)
@@ -65,8 +65,8 @@ module _ (rows rest : List Row) (first : Row) (e : rows ≡ first ∷ rest) (l :
               ends (b ∷ []) f = ([], b, refl)
               ends (b ∷ c ∷ q) f = (let more = ends (c ∷ q) (λ z. absurd (cc)) in (b ∷ more.0, more.1, ap (λ z. b ∷ z) more.2))
 
-              last : (q : Path) → row.path ≡ q → (r : Path) × (a : Label) × (q ≡ child r a) → replaced row.path (root_entries row.content) (tree_of_rows (first ∷ take i rest)) ≡ tree_of_rows (first ∷ take (i + 1) rest)
-              last q k x = ap (λ z. replaced z (root_entries row.content) (tree_of_rows (first ∷ take i rest))) (k ∙ x.2) ∙ sym (tree_of_rows-more first rest literal i row lt at x.0 x.1 (k ∙ x.2))
+              last : (q : Path) → row.path ≡ q → (r : Path) × (a : Label) × (q ≡ child r a) → with_subtree row.path (root_entries row.content) (tree_of_rows (first ∷ take i rest)) ≡ tree_of_rows (first ∷ take (i + 1) rest)
+              last q k x = ap (λ z. with_subtree z (root_entries row.content) (tree_of_rows (first ∷ take i rest))) (k ∙ x.2) ∙ sym (tree_of_rows-more first rest literal i row lt at x.0 x.1 (k ∙ x.2))
 
   -- all rows
   pub built_all : (i : ℕ) (root : Tree) → length rest ≤ i → root ≡ tree_of_rows (take (i + 1) rows) → root ≡ tree_of_rows rows

@@ -10,10 +10,10 @@ use Rattle.cp_model.specs.Place.{Label, Path, at_target, over_limit, size}
 use Rattle.cp_model.proofs.KeyedLemmas.{get-entries}
 use Rattle.cp_model.specs.Keyed as keyed
 use Rattle.cp_model.specs.Keyed.{look}
-use Rattle.cp_model.specs.Subtrees.{is_there, below, without, replaced}
+use Rattle.cp_model.specs.Subtrees.{is_there, below, without, with_subtree}
 use Rattle.cp_model.specs.Tree.{Tree, IsTree, weight, weight_of, last_bytes, text_bytes}
 use Rattle.cp_model.proofs.Strips.{strip-append}
-use Rattle.cp_model.specs.Laws.{placed}
+use Rattle.cp_model.specs.Laws.{at_rest_or}
 use Rattle.cp_model.proofs.Lookups.{get-replaced}
 use Rattle.cp_model.proofs.SumsLemmas.{total-replaced, total-without, sum_by-moved, sum_by-one}
 use Rattle.cp_model.proofs.Sorted.{sorted-entries}
@@ -68,10 +68,10 @@ pub near_tree : (t : Tree) → IsTree t → AreNear root_spot t
 near_tree t h q i = near_place q (h.places q i)
 
 -- and so are those of a subtree
-pub near_put : (t n : Tree) (p : Path) → IsTree (replaced p (keyed.entries n) t) → AreNear (spot_at root_spot p) n
+pub near_put : (t n : Tree) (p : Path) → IsTree (with_subtree p (keyed.entries n) t) → AreNear (spot_at root_spot p) n
 near_put t n p h q i =
-    let there : is_there (replaced p (keyed.entries n) t) (p ++ q) ≡ true =
-    ap is_some (get-replaced p (keyed.entries n) t (p ++ q) ∙ ap (λ o. placed o (λ s. look s (keyed.entries n)) (keyed.get t (p ++ q))) (strip-append p q) ∙ sym (get-entries n q)) ∙ i in
+    let there : is_there (with_subtree p (keyed.entries n) t) (p ++ q) ≡ true =
+    ap is_some (get-replaced p (keyed.entries n) t (p ++ q) ∙ ap (λ o. at_rest_or o (λ s. look s (keyed.entries n)) (keyed.get t (p ++ q))) (strip-append p q) ∙ sym (get-entries n q)) ∙ i in
     subst IsNear (spot_append root_spot p q) (near_place (p ++ q) (h.places (p ++ q) there))
 
 -- ---- sums
@@ -89,7 +89,7 @@ counts_at : (j : Gauge) (p : Path) (es : List (Path × Content)) → sum_by (λ 
 counts_at j p es = same_sum (λ e. row_counts j root_spot (p ++ e.0, e.1)) (row_counts j (spot_at root_spot p)) es (λ e. ap (λ s. place_counts j s e.1) (spot_append root_spot p e.0))
 
 -- what stood at p counts no more, and what is put there does
-pub counts_replaced : (j : Gauge) (t n : Tree) (p : Path) → tree_counts j root_spot (replaced p (keyed.entries n) t) + tree_counts j (spot_at root_spot p) (sub t p) ≡ tree_counts j root_spot t + tree_counts j (spot_at root_spot p) n
+pub counts_replaced : (j : Gauge) (t n : Tree) (p : Path) → tree_counts j root_spot (with_subtree p (keyed.entries n) t) + tree_counts j (spot_at root_spot p) (sub t p) ≡ tree_counts j root_spot t + tree_counts j (spot_at root_spot p) n
 counts_replaced j t n p = omega (
   arith,
   total-replaced (row_counts j root_spot) p (keyed.entries n) t (sorted-entries n),

@@ -16,7 +16,7 @@ use Rattle.cp_model.specs.declared.row.Row.{Row}
 use Rattle.cp_model.specs.Place.{Label, Path, child}
 use Rattle.cp_model.proofs.KeyedLemmas.{same_map}
 use Rattle.cp_model.specs.Keyed as keyed
-use Rattle.cp_model.specs.Subtrees.{moved}
+use Rattle.cp_model.specs.Subtrees.{entries_under}
 use Rattle.cp_model.specs.Tree.{Tree, IsRooted}
 use Rattle.cp_tree.specs.Branch.{branch, child_rows, sub, below_label, children_len}
 use Rattle.cp_tree.proofs.BranchLemmas.{label_total, get-sub, sub-root}
@@ -72,29 +72,29 @@ pop_push xs ys x n is len = (let e : n - 1 ≡ length xs = omega (arith, ap leng
 
 -- the rows of one edge more are written
 pub rows_more : (out new total : List Row) (p : Path) (it rest : List (Label × Tree)) (a : Label) (k : Tree) → it ≡ (a, k) ∷ rest →
-    new ≡ out ++ map entry_row (moved (child p a) (keyed.entries k)) → out ++ map entry_row (moved p (child_rows it)) ≡ total → new ++ map entry_row (moved p (child_rows rest)) ≡ total
+    new ≡ out ++ map entry_row (entries_under (child p a) (keyed.entries k)) → out ++ map entry_row (entries_under p (child_rows it)) ≡ total → new ++ map entry_row (entries_under p (child_rows rest)) ≡ total
 rows_more out new total p it rest a k i n h =
-    ap (λ z. z ++ map entry_row (moved p (child_rows rest))) n
-    ∙ append_assoc out (map entry_row (moved (child p a) (keyed.entries k))) (map entry_row (moved p (child_rows rest)))
-    ∙ ap (λ z. out ++ z) (sym (map-append entry_row (moved (child p a) (keyed.entries k)) (moved p (child_rows rest)))
-    ∙ ap (map entry_row) (ap (λ z. z ++ moved p (child_rows rest)) (sym (moved-below_label p a (keyed.entries k))) ∙ sym (moved-append p (below_label a (keyed.entries k)) (child_rows rest)) ∙ ap (λ z. moved p (child_rows z)) (sym i)))
+    ap (λ z. z ++ map entry_row (entries_under p (child_rows rest))) n
+    ∙ append_assoc out (map entry_row (entries_under (child p a) (keyed.entries k))) (map entry_row (entries_under p (child_rows rest)))
+    ∙ ap (λ z. out ++ z) (sym (map-append entry_row (entries_under (child p a) (keyed.entries k)) (entries_under p (child_rows rest)))
+    ∙ ap (map entry_row) (ap (λ z. z ++ entries_under p (child_rows rest)) (sym (moved-below_label p a (keyed.entries k))) ∙ sym (moved-append p (below_label a (keyed.entries k)) (child_rows rest)) ∙ ap (λ z. entries_under p (child_rows z)) (sym i)))
     ∙ h
 
-moved-none : (p : Path) → moved {X = Content} p [] ≡ []
-unfolding moved
+moved-none : (p : Path) → entries_under {X = Content} p [] ≡ []
+unfolding entries_under
 moved-none p = refl
 
 -- the rows of a root and all its edges are written
 pub rows_all : (m : Tree) (x : Content) (es it all : List (Label × Tree)) (before first out : List Row) (p : Path) (row : Row) → branch x es ≡ m → IsGood x es → all ≡ es → it ≡ [] →
     first ≡ before ++ row ∷ [] → row.path ≡ p → row.content ≡ x →
-    out ++ map entry_row (moved p (child_rows it)) ≡ first ++ map entry_row (moved p (child_rows all)) → out ≡ before ++ map entry_row (moved p (keyed.entries m))
+    out ++ map entry_row (entries_under p (child_rows it)) ≡ first ++ map entry_row (entries_under p (child_rows all)) → out ≡ before ++ map entry_row (entries_under p (keyed.entries m))
 rows_all m x es it all before first out p row view g a i f rp rx h =
-    let ends : out ≡ first ++ map entry_row (moved p (child_rows all)) = sym (append-nil out) ∙ ap (λ z. out ++ map entry_row z) (sym (moved-none p)) ∙ ap (λ z. out ++ map entry_row (moved p (child_rows z))) (sym i) ∙ h in
+    let ends : out ≡ first ++ map entry_row (entries_under p (child_rows all)) = sym (append-nil out) ∙ ap (λ z. out ++ map entry_row z) (sym (moved-none p)) ∙ ap (λ z. out ++ map entry_row (entries_under p (child_rows z))) (sym i) ∙ h in
     let is_row : row ≡ entry_row (p, x) = λ j. record { path = rp j; content = rx j } in
-    let rows : map entry_row (moved p (keyed.entries m)) ≡ entry_row (p, x) ∷ map entry_row (moved p (child_rows all)) =
-    ap (λ z. map entry_row (moved p (keyed.entries z))) (sym view) ∙ ap (map entry_row) (moved-branch p x es g.sorted) ∙ ap (λ z. entry_row (p, x) ∷ map entry_row (moved p (child_rows z))) (sym a) in
-    ends ∙ ap (λ z. z ++ map entry_row (moved p (child_rows all))) f ∙ append_assoc before (row ∷ []) (map entry_row (moved p (child_rows all)))
-    ∙ ap (λ z. before ++ z ∷ map entry_row (moved p (child_rows all))) is_row ∙ ap (λ z. before ++ z) (sym rows)
+    let rows : map entry_row (entries_under p (keyed.entries m)) ≡ entry_row (p, x) ∷ map entry_row (entries_under p (child_rows all)) =
+    ap (λ z. map entry_row (entries_under p (keyed.entries z))) (sym view) ∙ ap (map entry_row) (moved-branch p x es g.sorted) ∙ ap (λ z. entry_row (p, x) ∷ map entry_row (entries_under p (child_rows z))) (sym a) in
+    ends ∙ ap (λ z. z ++ map entry_row (entries_under p (child_rows all))) f ∙ append_assoc before (row ∷ []) (map entry_row (entries_under p (child_rows all)))
+    ∙ ap (λ z. before ++ z ∷ map entry_row (entries_under p (child_rows all))) is_row ∙ ap (λ z. before ++ z) (sym rows)
 
 -- edges that are those of a good root rise
 pub sorted_as : {all es : List (Label × Tree)} → all ≡ es → T (is_sorted text_cmp es) → T (is_sorted text_cmp all)
@@ -120,6 +120,6 @@ gone_below m p a r e = by (keyed.get m (child p a)) refl
     by (Some c) k = (let up = r.parents p a (ap is_some k) in absurd (cc))
 
 -- the rows of an edge's tree, written at the label's place
-pub listed_child : (out new : List Row) (p at deeper : Path) (a b : Label) (k : Tree) → new ≡ out ++ map entry_row (moved deeper (keyed.entries k)) → deeper ≡ at ++ b ∷ [] → at ≡ p → b ≡ a →
-    new ≡ out ++ map entry_row (moved (child p a) (keyed.entries k))
-listed_child out new p at deeper a b k n d e l = n ∙ ap (λ q. out ++ map entry_row (moved q (keyed.entries k))) (d ∙ ap (λ q. q ++ b ∷ []) e ∙ ap (λ z. p ++ z ∷ []) l)
+pub listed_child : (out new : List Row) (p at deeper : Path) (a b : Label) (k : Tree) → new ≡ out ++ map entry_row (entries_under deeper (keyed.entries k)) → deeper ≡ at ++ b ∷ [] → at ≡ p → b ≡ a →
+    new ≡ out ++ map entry_row (entries_under (child p a) (keyed.entries k))
+listed_child out new p at deeper a b k n d e l = n ∙ ap (λ q. out ++ map entry_row (entries_under q (keyed.entries k))) (d ∙ ap (λ q. q ++ b ∷ []) e ∙ ap (λ z. p ++ z ∷ []) l)

@@ -10,7 +10,7 @@ use Rattle.cp_model.specs.declared.row.Content.TheVariants.{Node}
 use Rattle.cp_model.specs.Place.{Label, Path, child}
 use Rattle.cp_model.proofs.KeyedLemmas.{get-entries, same_map}
 use Rattle.cp_model.specs.Keyed as keyed
-use Rattle.cp_model.specs.Subtrees.{without, replaced, is_there}
+use Rattle.cp_model.specs.Subtrees.{without, with_subtree, is_there}
 use Rattle.cp_model.proofs.Lookups.{get-replaced}
 use Rattle.cp_model.specs.Tree.{Tree, IsRooted}
 use Rattle.cp_tree.specs.Branch.{branch, sub}
@@ -20,8 +20,8 @@ use Rattle.cp_tree.proofs.GoodLemmas.{IsNow, rooted-branch, changed_here, change
 use Rattle.cp_tree_box.proofs.Maps.{looked, insert-put, remove-without, written, rewritten}
 
 -- what is put at the root is the whole
-pub replaced-root : (n m : Tree) → replaced [] (keyed.entries n) m ≡ n
-replaced-root n m = same_map (replaced [] (keyed.entries n) m) n (λ r. get-replaced [] (keyed.entries n) m r ∙ sym (get-entries n r))
+pub replaced-root : (n m : Tree) → with_subtree [] (keyed.entries n) m ≡ n
+replaced-root n m = same_map (with_subtree [] (keyed.entries n) m) n (λ r. get-replaced [] (keyed.entries n) m r ∙ sym (get-entries n r))
 
 -- after a call that may fail: the tree t, or m as before
 pub record Stepped {E : Type 0} (r : Result (Unit {0}) E) (x : Content) (fs : List (Label × Tree)) (m t : Tree) : Type 0 where
@@ -36,9 +36,9 @@ module _ (m : Tree) (x : Content) (es : List (Label × Tree)) (view : branch x e
   rooted_view = subst IsRooted view (rooted-branch x es g)
 
   -- a subtree put at a label
-  pub put_here : (fs : List (Label × Tree)) (p : Path) (a : Label) (n : Tree) → p ≡ [] → keyed.get m p ≡ Some Node → IsRooted n → fs ≡ insert_entry text_cmp es a n → IsNow x fs (replaced (child p a) (keyed.entries n) m)
+  pub put_here : (fs : List (Label × Tree)) (p : Path) (a : Label) (n : Tree) → p ≡ [] → keyed.get m p ≡ Some Node → IsRooted n → fs ≡ insert_entry text_cmp es a n → IsNow x fs (with_subtree (child p a) (keyed.entries n) m)
   put_here fs p a n e node r is =
-      subst (λ q. IsNow x fs (replaced (child q a) (keyed.entries n) m)) (sym e)
+      subst (λ q. IsNow x fs (with_subtree (child q a) (keyed.entries n) m)) (sym e)
       (changed_here m x es fs a view g n (ap (keyed.get m) (sym e) ∙ node) r (sym (insert-put a n es) ∙ sym is))
 
   -- a subtree taken out
@@ -75,9 +75,9 @@ module _ (m : Tree) (x : Content) (es : List (Label × Tree)) (view : branch x e
 
     module _ (fs : List (Label × Tree)) (n : Tree) (w : fs ≡ set_value (is_at (text_cmp b)) es n) (r : IsRooted n) where
       -- a subtree put there
-      pub put_below : (rows : List (Path × Content)) → n ≡ replaced q rows k → IsNow x fs (replaced p rows m)
+      pub put_below : (rows : List (Path × Content)) → n ≡ with_subtree q rows k → IsNow x fs (with_subtree p rows m)
       put_below rows is =
-          subst (λ z. IsNow x fs (replaced z rows m)) (sym e)
+          subst (λ z. IsNow x fs (with_subtree z rows m)) (sym e)
           (changed_below m x es fs b view g q rows k n (looked b es (Some k) f) r is (written b n k es fs g.sorted (looked b es (Some k) f) w))
 
       -- what was there taken out
@@ -87,7 +87,7 @@ module _ (m : Tree) (x : Content) (es : List (Label × Tree)) (view : branch x e
           (dropped_below m x es fs b view g q k n (looked b es (Some k) f) r is (written b n k es fs g.sorted (looked b es (Some k) f) w))
 
       -- a subtree put there by a call that may fail
-      pub tried_below : {E : Type 0} (o : Result (Unit {0}) E) (rows : List (Path × Content)) → OnOk o (n ≡ replaced q rows k) → OnErr o (n ≡ k) → Stepped o x fs m (replaced p rows m)
+      pub tried_below : {E : Type 0} (o : Result (Unit {0}) E) (rows : List (Path × Content)) → OnOk o (n ≡ with_subtree q rows k) → OnErr o (n ≡ k) → Stepped o x fs m (with_subtree p rows m)
       tried_below (Ok u) rows ok err = (let now = put_below rows ok in record { good = now.good; ok = now.is; err = tt })
       tried_below (Err y) rows ok err =
           let same_edges : fs ≡ es = rewritten b n k es fs g.sorted (looked b es (Some k) f) w err in

@@ -1,5 +1,5 @@
 -- What is counted of a root and of the trees at its edges.
-use Rattle.std.specs.Prelude.{◌≡◌, ℕ, ◌+◌, ◌≤◌, ◌<◌, true, false, cond, ◌==◌, List, [], ◌∷◌, length, max, slice_index, is_some}
+use Rattle.std.specs.Prelude.{◌≡◌, ℕ, ◌+◌, ◌<◌, true, false, cond, ◌==◌, List, [], ◌∷◌, length, max, slice_index, is_some}
 use Rattle.std.proofs.Common.{sym, ap, subst, ◌∙◌, arith, set, refl}
 use Rattle.std.proofs.lemmas.List.{get_or-set_same, get_or-set_other}
 use Rattle.std.proofs.lemmas.Bool.Decides.{nat_tests}

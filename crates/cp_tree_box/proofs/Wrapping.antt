@@ -14,10 +14,10 @@ use Rattle.cp_model.specs.Place.{Label, Path, child}
 use Rattle.cp_model.proofs.KeyedLemmas.{get-entries, same_map}
 use Rattle.cp_model.specs.Keyed as keyed
 use Rattle.cp_model.specs.Keyed.{look}
-use Rattle.cp_model.specs.Subtrees.{is_there, below, moved, without, replaced}
+use Rattle.cp_model.specs.Subtrees.{is_there, below, entries_under, without, with_subtree}
 use Rattle.cp_model.specs.Tree.{Tree, IsRooted, IsTree, weight, text_bytes, IsNumber}
 use Rattle.cp_model.proofs.Strips.{append-nil, strip-append}
-use Rattle.cp_model.specs.Laws.{placed}
+use Rattle.cp_model.specs.Laws.{at_rest_or}
 use Rattle.cp_model.proofs.Lookups.{get-replaced}
 use Rattle.cp_model.proofs.SumsLemmas.{below-none, sum_by-one}
 use Rattle.cp_model.proofs.Kept.{closed-tree}
@@ -56,9 +56,9 @@ unfolding labels_at
 labels_sub n m p q e k = ap (filter_map (λ e. only_label e.0)) (sym (entries-sub n []) ∙ ap keyed.entries (sub-root n) ∙ below_is n m p q e k)
 
 -- the rows that were listed
-pub rows_at : (out first : List Row) (at : Path) (n m : Tree) (p q : Path) → out ≡ first ++ map entry_row (moved at (keyed.entries n)) → first ≡ [] → at ≡ [] → n ≡ sub m q → q ≡ p → out ≡ map entry_row (below p m)
+pub rows_at : (out first : List Row) (at : Path) (n m : Tree) (p q : Path) → out ≡ first ++ map entry_row (entries_under at (keyed.entries n)) → first ≡ [] → at ≡ [] → n ≡ sub m q → q ≡ p → out ≡ map entry_row (below p m)
 rows_at out first at n m p q o f a e k =
-    o ∙ ap (λ z. z ++ map entry_row (moved at (keyed.entries n))) f ∙ ap (λ z. map entry_row (moved z (keyed.entries n))) a
+    o ∙ ap (λ z. z ++ map entry_row (entries_under at (keyed.entries n))) f ∙ ap (λ z. map entry_row (entries_under z (keyed.entries n))) a
     ∙ ap (map entry_row) (moved-root (keyed.entries n) ∙ below_is n m p q e k)
 
 -- ---- reach
@@ -142,13 +142,13 @@ small_counts m t (deep k) = omega (arith, no_more (row_counts (deep k) root_spot
 small_counts m t (large k) = omega (arith, no_more (row_counts (large k) root_spot) (keyed.entries m) (λ e. at_most_one (spot_at root_spot e.0).size k), sum_by-one (keyed.entries m), few_places m t)
 
 -- a subtree that was put is there
-pub sub-replaced : (m n : Tree) (p : Path) → sub (replaced p (keyed.entries n) m) p ≡ n
-sub-replaced m n p = same_map (sub (replaced p (keyed.entries n) m) p) n (λ q.
-    get-sub (replaced p (keyed.entries n) m) p q ∙ get-replaced p (keyed.entries n) m (p ++ q) ∙ ap (λ o. placed o (λ s. look s (keyed.entries n)) (keyed.get m (p ++ q))) (strip-append p q) ∙ sym (get-entries n q))
+pub sub-replaced : (m n : Tree) (p : Path) → sub (with_subtree p (keyed.entries n) m) p ≡ n
+sub-replaced m n p = same_map (sub (with_subtree p (keyed.entries n) m) p) n (λ q.
+    get-sub (with_subtree p (keyed.entries n) m) p q ∙ get-replaced p (keyed.entries n) m (p ++ q) ∙ ap (λ o. at_rest_or o (λ s. look s (keyed.entries n)) (keyed.get m (p ++ q))) (strip-append p q) ∙ sym (get-entries n q))
 
 -- what is put is there
-pub put_there : (m n : Tree) (p : Path) → IsRooted n → is_there (replaced p (keyed.entries n) m) p ≡ true
-put_there m n p r = sym (ap is_some (root_of n (replaced p (keyed.entries n) m) p p (sym (sub-replaced m n p)) refl)) ∙ r.root
+pub put_there : (m n : Tree) (p : Path) → IsRooted n → is_there (with_subtree p (keyed.entries n) m) p ≡ true
+put_there m n p r = sym (ap is_some (root_of n (with_subtree p (keyed.entries n) m) p p (sym (sub-replaced m n p)) refl)) ∙ r.root
 
 none_of : (o : Option Content) → is_some o ≡ false → o ≡ None
 none_of None e = refl
@@ -158,18 +158,18 @@ none_of (Some c) e = absurd (cc)
 no_counts_below : (j : Gauge) (s : Spot) (m : Tree) (p : Path) → IsTree m → is_there m p ≡ false → tree_counts j s (sub m p) ≡ 0
 no_counts_below j s m p t f = ap (sum_by (row_counts j s)) (entries-sub m p ∙ below-none m p (closed-tree m t.rooted) (none_of (keyed.get m p) f))
 
-module _ (t : Tally) (m n : Tree) (p : Path) (w : IsTree m) (is_tally : IsTallyOf t m) (fits : IsTree (replaced p (keyed.entries n) m)) where
+module _ (t : Tally) (m n : Tree) (p : Path) (w : IsTree m) (is_tally : IsTallyOf t m) (fits : IsTree (with_subtree p (keyed.entries n) m)) where
   -- a new subtree fits what is kept
   pub insert_room : is_there m p ≡ false → (k : Tree) → k ≡ n → (j : Gauge) → tally_counts t j + tree_counts j (spot_at root_spot p) k < 2 ^ 32
-  insert_room f k e j = omega (arith, is_tally j, ap (tree_counts j (spot_at root_spot p)) e, counts_replaced j m n p, no_counts_below j (spot_at root_spot p) m p w f, small_counts (replaced p (keyed.entries n) m) fits j)
+  insert_room f k e j = omega (arith, is_tally j, ap (tree_counts j (spot_at root_spot p)) e, counts_replaced j m n p, no_counts_below j (spot_at root_spot p) m p w f, small_counts (with_subtree p (keyed.entries n) m) fits j)
 
   -- with it, what is kept is that of the new tree
-  pub inserted_tally : is_there m p ≡ false → (k : Tree) → k ≡ n → (u : Tally) → ((j : Gauge) → tally_counts u j ≡ tally_counts t j + tree_counts j (spot_at root_spot p) k) → IsTallyOf u (replaced p (keyed.entries n) m)
+  pub inserted_tally : is_there m p ≡ false → (k : Tree) → k ≡ n → (u : Tally) → ((j : Gauge) → tally_counts u j ≡ tally_counts t j + tree_counts j (spot_at root_spot p) k) → IsTallyOf u (with_subtree p (keyed.entries n) m)
   inserted_tally f k e u h j = omega (arith, h j, is_tally j, ap (tree_counts j (spot_at root_spot p)) e, counts_replaced j m n p, no_counts_below j (spot_at root_spot p) m p w f)
 
   -- a subtree in place of another fits, with both
   pub swap_room : (j : Gauge) → tally_counts t j + tree_counts j (spot_at root_spot p) n < 2 ^ 32
-  swap_room j = omega (arith, is_tally j, counts_replaced j m n p, counts_without j m p, small_counts m w j, small_counts (replaced p (keyed.entries n) m) fits j)
+  swap_room j = omega (arith, is_tally j, counts_replaced j m n p, counts_without j m p, small_counts m w j, small_counts (with_subtree p (keyed.entries n) m) fits j)
 
   module _ (u : Tally) (k : Tree) (e : k ≡ sub m p) (h : (j : Gauge) → tally_counts u j ≡ tally_counts t j + tree_counts j (spot_at root_spot p) n) where
     -- what was there is counted
@@ -177,7 +177,7 @@ module _ (t : Tally) (m n : Tree) (p : Path) (w : IsTree m) (is_tally : IsTallyO
     swap_there j = omega (arith, h j, is_tally j, ap (tree_counts j (spot_at root_spot p)) e, counts_without j m p)
 
     -- without it, what is kept is that of the new tree
-    pub swapped_tally : (v : Tally) → ((j : Gauge) → tally_counts v j + tree_counts j (spot_at root_spot p) k ≡ tally_counts u j) → IsTallyOf v (replaced p (keyed.entries n) m)
+    pub swapped_tally : (v : Tally) → ((j : Gauge) → tally_counts v j + tree_counts j (spot_at root_spot p) k ≡ tally_counts u j) → IsTallyOf v (with_subtree p (keyed.entries n) m)
     swapped_tally v g j = omega (arith, g j, h j, is_tally j, ap (tree_counts j (spot_at root_spot p)) e, counts_replaced j m n p)
 
 module _ (t : Tally) (m : Tree) (p : Path) (is_tally : IsTallyOf t m) (k : Tree) (e : k ≡ sub m p) where
@@ -247,34 +247,34 @@ module _ (m : Tree) (t : IsTree m) where
   near_cut s p n e k = subst (λ z. AreNear z n) (sym e) (near_sub m n p t k)
 
 -- and all of a subtree that is put
-pub near_new : (m n k : Tree) (p : Path) (s : Spot) → s ≡ spot_at root_spot p → IsTree (replaced p (keyed.entries n) m) → k ≡ n → AreNear s k
+pub near_new : (m n k : Tree) (p : Path) (s : Spot) → s ≡ spot_at root_spot p → IsTree (with_subtree p (keyed.entries n) m) → k ≡ n → AreNear s k
 near_new m n k p s e fits is = subst (λ z. AreNear z k) (sym e) (subst (AreNear (spot_at root_spot p)) (sym is) (near_put m n p fits))
 
 -- the tree with a subtree at a label
-pub insert_is : (new m n : Tree) (p : Path) (a b : Label) → b ≡ a → new ≡ replaced (child p b) (keyed.entries n) m → new ≡ replaced (child p a) (keyed.entries n) m
-insert_is new m n p a b e is = is ∙ ap (λ z. replaced (child p z) (keyed.entries n) m) e
+pub insert_is : (new m n : Tree) (p : Path) (a b : Label) → b ≡ a → new ≡ with_subtree (child p b) (keyed.entries n) m → new ≡ with_subtree (child p a) (keyed.entries n) m
+insert_is new m n p a b e is = is ∙ ap (λ z. with_subtree (child p z) (keyed.entries n) m) e
 
 -- that subtree
-pub insert_child : (new m n k : Tree) (p : Path) → new ≡ replaced p (keyed.entries n) m → k ≡ sub new p → k ≡ n
+pub insert_child : (new m n k : Tree) (p : Path) → new ≡ with_subtree p (keyed.entries n) m → k ≡ sub new p → k ≡ n
 insert_child new m n k p is e = e ∙ ap (λ z. sub z p) is ∙ sub-replaced m n p
 
 -- it is found
-pub insert_found : (new m n : Tree) (p : Path) → new ≡ replaced p (keyed.entries n) m → IsRooted n → keyed.get new p ≡ None → ⊥
+pub insert_found : (new m n : Tree) (p : Path) → new ≡ with_subtree p (keyed.entries n) m → IsRooted n → keyed.get new p ≡ None → ⊥
 insert_found new m n p is r e = (let there = put_there m n p r in let none = ap is_some (ap (λ z. keyed.get z p) (sym is) ∙ e) in absurd (cc))
 
 -- ---- the same change, said of other rows and another path
 
 module _ (m : Tree) (p q : Path) (es fs : List (Path × Content)) (k : q ≡ p) (e : es ≡ fs) where
-  changed_as : replaced q es m ≡ replaced p fs m
-  changed_as = ap (λ z. replaced z es m) k ∙ ap (λ z. replaced p z m) e
+  changed_as : with_subtree q es m ≡ with_subtree p fs m
+  changed_as = ap (λ z. with_subtree z es m) k ∙ ap (λ z. with_subtree p z m) e
 
-  pub fits_as : IsTree (replaced p fs m) → IsTree (replaced q es m)
+  pub fits_as : IsTree (with_subtree p fs m) → IsTree (with_subtree q es m)
   fits_as h = subst IsTree (sym changed_as) h
 
-  pub done_as : (new : Tree) → new ≡ replaced q es m → new ≡ replaced p fs m
+  pub done_as : (new : Tree) → new ≡ with_subtree q es m → new ≡ with_subtree p fs m
   done_as new h = h ∙ changed_as
 
-  pub tried_as : {E : Type 0} (r : Result (Unit {0}) E) (new : Tree) → OnOk r (new ≡ replaced q es m) → OnOk r (new ≡ replaced p fs m)
+  pub tried_as : {E : Type 0} (r : Result (Unit {0}) E) (new : Tree) → OnOk r (new ≡ with_subtree q es m) → OnOk r (new ≡ with_subtree p fs m)
   tried_as (Ok u) new h = h ∙ changed_as
   tried_as (Err y) new h = tt
 

@@ -10,7 +10,7 @@ use cp_path::{LABELS_MAX, LOC_MAX, Value};
 use cp_tree::Reach;
 use std::alloc::{AllocError, Global};
 
-/// The bytes of a text leaf.
+/// Counts the bytes of a text leaf, and 0 for all else.
 pub(crate) fn text_bytes(content: &Content) -> u64
     ensures { result ≡ text_bytes content.now }
 {
@@ -20,7 +20,7 @@ pub(crate) fn text_bytes(content: &Content) -> u64
     }
 }
 
-/// The last index at which there is more than nothing. Costs the length.
+/// Finds the last index at which the count isn't 0, or else 0. Costs the length.
 fn highest(counts: &[u32]) -> u32
     requires { length counts.now ≤ LOC_MAX }
     ensures last { (k : ℕ) → result < k → slice_index counts.now k ≡ 0 }
@@ -36,7 +36,7 @@ fn highest(counts: &[u32]) -> u32
 }
 
 impl Tally {
-    /// That of no place.
+    /// Makes the tally of no place.
     pub(crate) fn new(alloc: Global) -> Result<Tally, AllocError>
         ensures places { IfOk result (λ t. t.places ≡ 0) }
         ensures weight { IfOk result (λ t. t.weight ≡ 0) }
@@ -51,6 +51,7 @@ impl Tally {
         })
     }
 
+    /// Adds one place.
     fn add_one(&mut self, at: Spot, content: &Content)
         requires near { IsNear at }
         requires room { (g : Gauge) → tally_counts self.old g + place_counts g at content.now < 2 ^ 32 }
@@ -62,6 +63,7 @@ impl Tally {
         self.sizes[at.size as usize] += 1;
     }
 
+    /// Takes off one place.
     fn subtract_one(&mut self, at: Spot, content: &Content)
         requires near { IsNear at }
         requires there { (g : Gauge) → place_counts g at content.now ≤ tally_counts self.old g }
@@ -73,7 +75,7 @@ impl Tally {
         self.sizes[at.size as usize] -= 1;
     }
 
-    /// With the places of a subtree at this place. Costs their number.
+    /// Adds the places of a subtree that lies here. Costs their number.
     pub(crate) fn add(&mut self, at: Spot, node: &BoxNode)
         requires near { AreNear at node.now }
         requires room { (g : Gauge) → tally_counts self.old g + tree_counts g at node.now < 2 ^ 32 }
@@ -85,7 +87,7 @@ impl Tally {
         }
     }
 
-    /// Without the places of a subtree at this place. Costs their number.
+    /// Takes off the places of a subtree that lies here. Costs their number.
     pub(crate) fn subtract(&mut self, at: Spot, node: &BoxNode)
         requires near { AreNear at node.now }
         requires there { (g : Gauge) → tree_counts g at node.now ≤ tally_counts self.old g }
@@ -97,7 +99,7 @@ impl Tally {
         }
     }
 
-    /// How far the tree reaches. Costs the numbers that are kept.
+    /// Measures how far the tree reaches. Costs the numbers that are kept.
     pub(crate) fn reach(&self) -> Reach
         ensures nodes { result.nodes ≡ self.now.places }
         ensures inner { result.inner ≡ self.now.weight }
@@ -114,6 +116,7 @@ impl Tally {
         }
     }
 
+    /// Makes an equal tally. Costs the numbers that are kept.
     pub(crate) fn copy(&self) -> Result<Tally, AllocError>
         ensures { IfOk result (λ t. (g : Gauge) → tally_counts t g ≡ tally_counts self.now g) }
     {

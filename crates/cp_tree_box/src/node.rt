@@ -2,7 +2,7 @@ ghost use Rattle.std.specs.Prelude.{◌≡◌, [], ◌++◌, true, map, IfOk, On
 ghost use Rattle.std.specs.declared.option.Option.TheVariants.{None, Some};
 ghost use Rattle.cp_model.specs.Place.{child};
 ghost use Rattle.cp_model.specs.Keyed.{get, entries};
-ghost use Rattle.cp_model.specs.Subtrees.{moved, without, replaced, is_there};
+ghost use Rattle.cp_model.specs.Subtrees.{entries_under, without, with_subtree, is_there};
 ghost use Rattle.cp_model.specs.Tree.{IsRooted, IsNumber, is_node};
 ghost use Rattle.cp_model.specs.declared.row.Content.TheVariants.{Node};
 ghost use Rattle.cp_tree.specs.Branch.{sub};
@@ -44,7 +44,7 @@ impl Model for BoxNode {
     ghost size_decreases = { node_falls };
 }
 
-/// Costs the bytes of a text.
+/// Copies what stands at a place. Costs the bytes of a text.
 pub(crate) fn copy_content(content: &Content) -> Result<Content, AllocError>
     ensures { IfOk result (λ c. c ≡ content.now) }
 {
@@ -64,7 +64,7 @@ pub(crate) fn number_range(content: &Content)
 }
 
 impl BoxNode {
-    /// A root alone.
+    /// Makes a root alone.
     pub(crate) fn leaf(alloc: Global, content: Content) -> BoxNode
         ensures tree { result ≡ single content }
         ensures rooted { IsRooted result }
@@ -75,7 +75,7 @@ impl BoxNode {
         }
     }
 
-    /// The node at the place. Costs a search among siblings for each label.
+    /// Finds the node at the place. Costs a search among siblings for each label.
     pub(crate) fn find(&self, place: &[Label]) -> Option<&BoxNode>
         ensures there { IfSome result (λ n. n.now ≡ sub self.now place.now) }
         ensures rooted { IfSome result (λ n. IsRooted n.now) }
@@ -92,7 +92,7 @@ impl BoxNode {
         }
     }
 
-    /// The node at the label below the place.
+    /// Finds the node at the label below the place.
     pub(crate) fn find_child(&self, place: &[Label], label: &Label) -> Option<&BoxNode>
         ensures there { IfSome result (λ n. n.now ≡ sub self.now (child place.now label.now)) }
         ensures rooted { IfSome result (λ n. IsRooted n.now) }
@@ -113,7 +113,7 @@ impl BoxNode {
     ) -> Result<(), AllocError>
         requires node { get self.old place.now ≡ Some Node }
         requires rooted { IsRooted new }
-        ensures ok { OnOk result (self.new ≡ replaced (child place.now label) (entries new) self.old) }
+        ensures ok { OnOk result (self.new ≡ with_subtree (child place.now label) (entries new) self.old) }
         ensures err { OnErr result (self.new ≡ self.old) }
         ensures whole { IsRooted self.new }
     {
@@ -129,11 +129,11 @@ impl BoxNode {
         }
     }
 
-    /// The subtree at `place` becomes `new`, and is given back.
+    /// Replaces the subtree at `place` by `new`, and gives it back.
     pub(crate) fn swap(&mut self, place: &[Label], new: BoxNode) -> BoxNode
         requires there { is_there self.old place.now ≡ true }
         requires rooted { IsRooted new }
-        ensures changed { self.new ≡ replaced place.now (entries new) self.old }
+        ensures changed { self.new ≡ with_subtree place.now (entries new) self.old }
         ensures back { result ≡ sub self.old place.now }
         ensures whole { IsRooted self.new }
     {
@@ -165,6 +165,7 @@ impl BoxNode {
         }
     }
 
+    /// Says whether it is a node, and no leaf.
     pub(crate) fn is_node(&self) -> bool
         ensures { result ≡ is_node (get self.now []) }
     {
@@ -174,7 +175,7 @@ impl BoxNode {
         }
     }
 
-    /// The labels below, in order. Costs their bytes.
+    /// Lists the labels below, in order. Costs their bytes.
     pub(crate) fn labels(&self, alloc: Global) -> Result<Vec<Label>, AllocError>
         ensures { IfOk result (λ v. v.items ≡ labels_at self.now []) }
     {
@@ -185,7 +186,7 @@ impl BoxNode {
         Ok(labels)
     }
 
-    /// Costs the places and their labels.
+    /// Makes an equal node. Costs the places and their labels.
     pub(crate) fn copy(&self, alloc: Global) -> Result<BoxNode, AllocError>
         ensures { IfOk result (λ t. t ≡ self.now) }
     {
@@ -197,14 +198,14 @@ impl BoxNode {
         Ok(BoxNode { content, children })
     }
 
-    /// The rows of the node at the place `at`, in order.
+    /// Adds the rows of the node, which stands at the place `at`, in order.
     pub(crate) fn rows_into(
         &self,
         alloc: Global,
         at: &mut Vec<Label>,
         out: &mut Vec<Row>,
     ) -> Result<(), AllocError>
-        ensures rows { OnOk result (out.new.items ≡ out.old.items ++ map entry_row (moved at.old.items (entries self.now))) }
+        ensures rows { OnOk result (out.new.items ≡ out.old.items ++ map entry_row (entries_under at.old.items (entries self.now))) }
         ensures same_place { OnOk result (at.new.items ≡ at.old.items) }
     {
         let content = copy_content(&self.content)?;

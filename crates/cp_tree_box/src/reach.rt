@@ -9,6 +9,7 @@ use crate::spot::Spot;
 use cp_model::{Content, PLACE_WEIGHT};
 use cp_tree::Reach;
 
+/// Extends the reach by one place.
 fn reach_place(reach: &mut Reach, at: Spot, content: &Content)
     requires nodes { reach.old.nodes + 1 < 2 ^ 32 }
     requires inner { reach.old.inner + place_counts weighs at content.now < 2 ^ 32 }
@@ -23,7 +24,7 @@ fn reach_place(reach: &mut Reach, at: Spot, content: &Content)
     reach.size = reach.size.max(at.size);
 }
 
-/// The reach with the places of a subtree that lies there. Costs their number.
+/// Extends the reach by the places of a subtree that lies there. Costs their number.
 fn reach_subtree(reach: &mut Reach, at: Spot, node: &BoxNode)
     requires near { AreNear at node.now }
     requires nodes { reach.old.nodes + tree_counts places at node.now < 2 ^ 32 }
@@ -36,7 +37,7 @@ fn reach_subtree(reach: &mut Reach, at: Spot, node: &BoxNode)
     }
 }
 
-/// How far the tree of the node reaches. Costs its places.
+/// Measures how far the tree of the node reaches. Costs its places.
 pub(crate) fn reach_of(node: &BoxNode) -> Reach
     requires near { AreNear root_spot node.now }
     requires nodes { tree_counts places root_spot node.now < 2 ^ 32 }

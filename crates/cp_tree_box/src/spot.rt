@@ -12,6 +12,7 @@ pub(crate) struct Spot {
 }
 
 impl Spot {
+    /// Gives the place of a root.
     pub(crate) fn root() -> Spot
         ensures { result ≡ root_spot }
     {
@@ -22,7 +23,7 @@ impl Spot {
         }
     }
 
-    /// One label further down.
+    /// Goes one label further down.
     pub(crate) fn child(self, label: &Label) -> Spot
         requires { IsNear (child_spot self label.now) }
         ensures { result ≡ child_spot self label.now }
@@ -35,7 +36,7 @@ impl Spot {
         }
     }
 
-    /// These labels further down. Costs their number.
+    /// Goes these labels further down. Costs their number.
     pub(crate) fn below(self, labels: &[Label]) -> Spot
         requires { IsNear (spot_at self labels.now) }
         ensures { result ≡ spot_at self labels.now }

@@ -2,7 +2,7 @@ ghost use Rattle.std.specs.Prelude.{◌≡◌, true, false, OnOk, OnErr};
 ghost use Rattle.std.specs.declared.option.Option.TheVariants.{Some};
 ghost use Rattle.cp_model.specs.Place.{child};
 ghost use Rattle.cp_model.specs.Keyed.{get, entries};
-ghost use Rattle.cp_model.specs.Subtrees.{is_there, replaced};
+ghost use Rattle.cp_model.specs.Subtrees.{is_there, with_subtree};
 ghost use Rattle.cp_model.specs.Tree.{IsRooted, IsTree};
 ghost use Rattle.cp_model.specs.declared.row.Content.TheVariants.{Node};
 ghost use Rattle.cp_tree.proofs.Alike.{IsTree-prop};
@@ -32,13 +32,13 @@ pub struct BoxTree {
 }
 
 impl BoxTree {
-    /// A new subtree at a new label.
+    /// Adds a subtree at a new label.
     fn insert(&mut self, place: &[Label], label: &Label, new: BoxNode) -> Result<(), AllocError>
         requires node { get self.old.root place.now ≡ Some Node }
         requires free { is_there self.old.root (child place.now label.now) ≡ false }
         requires rooted { IsRooted new }
-        requires fits { IsTree (replaced (child place.now label.now) (entries new) self.old.root) }
-        ensures ok { OnOk result (self.new.root ≡ replaced (child place.now label.now) (entries new) self.old.root) }
+        requires fits { IsTree (with_subtree (child place.now label.now) (entries new) self.old.root) }
+        ensures ok { OnOk result (self.new.root ≡ with_subtree (child place.now label.now) (entries new) self.old.root) }
         ensures err { OnErr result (self.new.root ≡ self.old.root) }
     {
         let at = Spot::root().below(place).child(label);
@@ -50,12 +50,12 @@ impl BoxTree {
         Ok(())
     }
 
-    /// The subtree at the place becomes `new`.
+    /// Replaces the subtree at the place by `new`.
     fn swap(&mut self, place: &[Label], new: BoxNode)
         requires there { is_there self.old.root place.now ≡ true }
         requires rooted { IsRooted new }
-        requires fits { IsTree (replaced place.now (entries new) self.old.root) }
-        ensures { self.new.root ≡ replaced place.now (entries new) self.old.root }
+        requires fits { IsTree (with_subtree place.now (entries new) self.old.root) }
+        ensures { self.new.root ≡ with_subtree place.now (entries new) self.old.root }
     {
         let at = Spot::root().below(place);
         self.tally.add(at, &new);
@@ -63,7 +63,7 @@ impl BoxTree {
         self.tally.subtract(at, &old);
     }
 
-    /// The node at a place that is there.
+    /// Finds the node at a place that is there.
     fn node(&self, place: &[Label]) -> &BoxNode
         requires { is_there self.now.root place.now ≡ true }
         ensures at { result.now ≡ sub self.now.root place.now }
@@ -109,12 +109,12 @@ impl TreeRep for BoxTree {
         }
     }
 
-    /// Costs the labels.
+    /// Lists the labels below a node. Costs their bytes.
     fn labels_of(&self, alloc: Global, place: &Path) -> Result<Vec<Label>, AllocError> {
         self.node(place.labels()).labels(alloc)
     }
 
-    /// Costs the subtree, but 1,089 steps at most at the root.
+    /// Measures the subtree at the place. Costs the subtree, and at the root the numbers that are kept.
     fn reach(&self, place: &Path) -> Reach {
         if place.labels().is_empty() {
             return self.tally.reach();

@@ -4,7 +4,7 @@ use Rattle.csv.specs.Records.{field_at, fields_of}
 use Rattle.cp_path.specs.declared.value.Value.TheVariants.{Text}
 use Rattle.cp_model.specs.declared.row.Content.TheVariants.{Leaf}
 use Rattle.cp_model.specs.Place.{child}
-use Rattle.cp_model.specs.Subtrees.{replaced}
+use Rattle.cp_model.specs.Subtrees.{with_subtree}
 use Rattle.cp_tree.specs.Rows.{root_entries}
 use Rattle.cp_csv.specs.CsvTrees.{is_long_label, is_long_text, with_fields}
 use Rattle.cp_csv.specs.Steps.{IsEmptyRow, fields_weight}
@@ -60,7 +60,7 @@ loop-label-preserved g c =
     let text : drop i fs ≡ f ∷ drop (i + 1) fs = some_at fs i f e in
     let step : fields_weight (drop i hs) (drop i fs) ≡ 16 + length h + length f + fields_weight (drop (i + 1) hs) (drop (i + 1) fs) = ap (λ z. fields_weight z (drop i fs)) label ∙ ap (fields_weight (h ∷ drop (i + 1) hs)) text in
     let place : c.in_ok-place.place ≡ row ∷ [] = c.in_ok-place.ensures ∙ ap (λ r. child r row) c.root.ensures in
-    let put : t1 ≡ replaced (row ∷ h ∷ []) (root_entries (Leaf (Text f))) t = c.in_ok-insert_leaf-in-Some.ensures.ok ∙ ap (λ p. replaced (child p h) (root_entries c.in_ok-leaf_of-in-Some.field-0) t) place ∙ ap (λ d. replaced (row ∷ h ∷ []) (root_entries d) t) c.in_ok-leaf_of-in-Some.ensures in
+    let put : t1 ≡ with_subtree (row ∷ h ∷ []) (root_entries (Leaf (Text f))) t = c.in_ok-insert_leaf-in-Some.ensures.ok ∙ ap (λ p. with_subtree (child p h) (root_entries c.in_ok-leaf_of-in-Some.field-0) t) place ∙ ap (λ d. with_subtree (row ∷ h ∷ []) (root_entries d) t) c.in_ok-leaf_of-in-Some.ensures in
     let is = next_put t1 t row h f (drop (i + 1) hs) (g.met.R.TreeRep.is_tree c.loop-label.tree) (subst (IsEmptyRow t row) label inv.bare) put in
     record {
       next = tt;

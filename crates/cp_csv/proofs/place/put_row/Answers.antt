@@ -3,7 +3,7 @@ use Rattle.csv.specs.Records.{fields_of}
 use Rattle.cp_model.specs.declared.row.Content.TheVariants.{Node}
 use Rattle.cp_model.specs.Keyed as keyed
 use Rattle.cp_model.specs.Place.{child}
-use Rattle.cp_model.specs.Subtrees.{replaced, is_there}
+use Rattle.cp_model.specs.Subtrees.{with_subtree, is_there}
 use Rattle.cp_model.proofs.SumsLemmas.{len_insert_new, weight_insert_new}
 use Rattle.cp_model.specs.Tree.{weight}
 use Rattle.cp_tree.specs.Rows.{root_entries}
@@ -55,7 +55,7 @@ put_fields-requires-clause-bare g c =
     let tree = g.met.R.TreeRep.is_tree c.args.tree.now in
     let free : is_there t (row ∷ []) ≡ false = search rules in
     let none = none_is (keyed.get t (row ∷ [])) free in
-    let same : t1 ≡ keyed.insert t (row ∷ []) Node = c.in_ok-insert_leaf.ensures.ok ∙ ap (λ p. replaced (child p row) (root_entries Node) t) c.root-root.ensures ∙ leaf-insert t (row ∷ []) Node tree.rooted none in
+    let same : t1 ≡ keyed.insert t (row ∷ []) Node = c.in_ok-insert_leaf.ensures.ok ∙ ap (λ p. with_subtree (child p row) (root_entries Node) t) c.root-root.ensures ∙ leaf-insert t (row ∷ []) Node tree.rooted none in
     subst (λ z. IsEmptyRow z row hs) (sym same) (new_bare t row hs tree.rooted none c.requires.columns.apart)
 
 pub put_fields-requires-clause-few : goal.put_fields-requires-clause-few
@@ -66,7 +66,7 @@ put_fields-requires-clause-few g c =
     let tree = g.met.R.TreeRep.is_tree c.args.tree.now in
     let free : is_there t (row ∷ []) ≡ false = search rules in
     let none = none_is (keyed.get t (row ∷ [])) free in
-    let same : t1 ≡ keyed.insert t (row ∷ []) Node = c.in_ok-insert_leaf.ensures.ok ∙ ap (λ p. replaced (child p row) (root_entries Node) t) c.root-root.ensures ∙ leaf-insert t (row ∷ []) Node tree.rooted none in
+    let same : t1 ≡ keyed.insert t (row ∷ []) Node = c.in_ok-insert_leaf.ensures.ok ∙ ap (λ p. with_subtree (child p row) (root_entries Node) t) c.root-root.ensures ∙ leaf-insert t (row ∷ []) Node tree.rooted none in
     omega (arith, ap keyed.len same, len_insert_new t (row ∷ []) Node none, c.if-len-from.false, c.len.ensures, c.count.ensures, c.from.ensures, tree.within.nodes)
 
 pub put_fields-requires-clause-light : goal.put_fields-requires-clause-light
@@ -77,7 +77,7 @@ put_fields-requires-clause-light g c =
     let tree = g.met.R.TreeRep.is_tree c.args.tree.now in
     let free : is_there t (row ∷ []) ≡ false = search rules in
     let none = none_is (keyed.get t (row ∷ [])) free in
-    let same : t1 ≡ keyed.insert t (row ∷ []) Node = c.in_ok-insert_leaf.ensures.ok ∙ ap (λ p. replaced (child p row) (root_entries Node) t) c.root-root.ensures ∙ leaf-insert t (row ∷ []) Node tree.rooted none in
+    let same : t1 ≡ keyed.insert t (row ∷ []) Node = c.in_ok-insert_leaf.ensures.ok ∙ ap (λ p. with_subtree (child p row) (root_entries Node) t) c.root-root.ensures ∙ leaf-insert t (row ∷ []) Node tree.rooted none in
     omega (arith, ap weight same, weight_insert_new t (row ∷ []) Node none, c.if-weight.false, c.weight.ensures, ap length c.as_str.ensures.text, c.fields_weight.ensures.weight, tree.within.weighs)
 
 pub returns-clause-put : goal.returns-clause-put
@@ -90,7 +90,7 @@ returns-clause-put g c =
     let tree = g.met.R.TreeRep.is_tree c.args.tree.now in
     let free : is_there t (row ∷ []) ≡ false = search rules in
     let none = none_is (keyed.get t (row ∷ [])) free in
-    let same : t1 ≡ keyed.insert t (row ∷ []) Node = c.in_ok-insert_leaf.ensures.ok ∙ ap (λ p. replaced (child p row) (root_entries Node) t) c.root-root.ensures ∙ leaf-insert t (row ∷ []) Node tree.rooted none in
+    let same : t1 ≡ keyed.insert t (row ∷ []) Node = c.in_ok-insert_leaf.ensures.ok ∙ ap (λ p. with_subtree (child p row) (root_entries Node) t) c.root-root.ensures ∙ leaf-insert t (row ∷ []) Node tree.rooted none in
     c.in_ok-put_fields.ensures.put ∙ ap (with_fields row hs fs) same
 
 pub returns-clause-told : goal.returns-clause-told

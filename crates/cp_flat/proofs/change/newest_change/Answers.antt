@@ -2,7 +2,7 @@ use Rattle.std.proofs.Common.{◌≡◌, ◌≤◌, ◌<◌, refl, sym, ap, ◌�
 use Rattle.cp_model.specs.Leaps.{last}
 use Rattle.cp_rows.specs.Steps.{steps_in}
 use Rattle.cp_rows.proofs.Steps.{row_of-within}
-use Rattle.cp_flat.specs.Changes.{said}
+use Rattle.cp_flat.specs.Changes.{rows_tell}
 use Rattle.cp_flat.proofs.Changes.{last-zero, said_none, said_at, said_zero, said_change, said_same}
 use Rattle.cp_flat.proofs.change.newest_change.Goals as goal
 
@@ -52,4 +52,4 @@ returns c =
     λ p e.
     let rs = c.args.rows.now.list in
     let z : 0 ≡ c.loop-high.high = omega (arith, c.loop-high-test.false) in
-    sym (last-zero (said rs (steps_in p 0 rs)) p) ∙ ap (λ h. last (said rs (steps_in p 0 rs)) h p) z ∙ c.loop-high.invariant.same p e
+    sym (last-zero (rows_tell rs (steps_in p 0 rs)) p) ∙ ap (λ h. last (rows_tell rs (steps_in p 0 rs)) h p) z ∙ c.loop-high.invariant.same p e

@@ -1,17 +1,17 @@
 use Rattle.std.proofs.Common.{◌∙◌, sym, ap}
 use Rattle.std.specs.Option.{option_map}
-use Rattle.cp_program.specs.Starts.{asked}
+use Rattle.cp_program.specs.Starts.{start_asked}
 use Rattle.cp_program.proofs.Whole.{called, called-usage}
 use Rattle.cp_program.proofs.run.run_cpdb.Goals as goal
 
 pub returns-clause-call : goal.returns-clause-call
 returns-clause-call g c =
-    let fits = sym c.start_of.ensures ∙ ap (option_map asked) c.in-Some.is in
+    let fits = sym c.start_of.ensures ∙ ap (option_map start_asked) c.in-Some.is in
     rw fits
-    (called (asked c.in-Some.start) (g.F.Files.found c.args.files.now) _ _ _ _ _ _ _ _ c.scratch-end.result _ c.code-2.ensures c.scratch-end.ensures.ran c.scratch-end.ensures.causes)
+    (called (start_asked c.in-Some.start) (g.F.Files.found c.args.files.now) _ _ _ _ _ _ _ _ c.scratch-end.result _ c.code-2.ensures c.scratch-end.ensures.ran c.scratch-end.ensures.causes)
 
 pub returns-in_default-clause-call : goal.returns-in_default-clause-call
 returns-in_default-clause-call g c =
-    let fits = sym c.start_of.ensures ∙ ap (option_map asked) c.in_default.is in
+    let fits = sym c.start_of.ensures ∙ ap (option_map start_asked) c.in_default.is in
     rw fits
     (called-usage (g.F.Files.found c.args.files.now) _ _ _ _ _ _ _ _ _ _ c.code.ensures c.last_line.ensures.wrote c.last_line.ensures.later)

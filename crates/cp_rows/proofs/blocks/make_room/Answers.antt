@@ -1,6 +1,6 @@
 use Rattle.std.proofs.Common.{◌≡◌, ◌/◌, ◌++◌, ◌∷◌, [], length, sym, ap, subst, ◌∙◌, arith, rules}
 use Rattle.cp_rows.specs.declared.limits.TheConstants.{BLOCK_LEN}
-use Rattle.cp_rows.specs.Blocks.{joined, AreBlocks}
+use Rattle.cp_rows.specs.Blocks.{all_records, AreBlocks}
 use Rattle.cp_rows.proofs.Joined.{joined-full, has_room, one_full}
 use Rattle.cp_rows.proofs.blocks.make_room.Goals as goal
 
@@ -15,7 +15,7 @@ returns-clause-same c =
     let full = c.args.full.now.items in
     let last = c.args.last.now in
     let grown = c.push_reserved.ensures.items ∙ ap (λ xs. xs ++ c.replace.result ∷ []) c.reserve.ensures.items ∙ ap (λ x. full ++ x ∷ []) c.replace.ensures.value in
-    ap (λ xs. joined xs c.replace.new.dest) grown ∙ ap (joined (full ++ last ∷ [])) (c.replace.ensures.after ∙ c.new.ensures) ∙ joined-full full last
+    ap (λ xs. all_records xs c.replace.new.dest) grown ∙ ap (all_records (full ++ last ∷ [])) (c.replace.ensures.after ∙ c.new.ensures) ∙ joined-full full last
 
 pub returns-clause-blocks : goal.returns-clause-blocks
 returns-clause-blocks c =

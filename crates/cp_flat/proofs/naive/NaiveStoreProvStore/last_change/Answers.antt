@@ -1,6 +1,6 @@
 use Rattle.std.proofs.Common.{◌≡◌, sym, ap, subst, ◌∙◌}
 use Rattle.cp_model.specs.declared.kind.Kind.TheVariants.{N}
-use Rattle.cp_store.specs.Changes.{seen, change_at}
+use Rattle.cp_store.specs.Changes.{change_told, change_at}
 use Rattle.cp_flat.proofs.Found.{change-outside, change-inside}
 use Rattle.cp_flat.proofs.naive.NaiveStoreProvStore.last_change.Goals as goal
 
@@ -13,5 +13,5 @@ newest_change-requires c = record { place = c.args.loc.now.path; is = c.as_slice
 pub returns-clause-found : goal.returns-clause-found
 returns-clause-found c =
     let rows = c.self.inside.rows in
-    subst (λ v. seen c.in_ok-newest_change.field-0 ≡ change_at N v.list c.args.t c.args.loc.now) c.self.view_is
-    (change-inside rows.list c.args.t c.args.loc.now (seen c.in_ok-newest_change.field-0) (sym c.if-not-is_target.ensures) (c.in_ok-newest_change.ensures c.args.loc.now.path (c.as_slice.ensures.value ∙ c.in_ok-key.ensures)))
+    subst (λ v. change_told c.in_ok-newest_change.field-0 ≡ change_at N v.list c.args.t c.args.loc.now) c.self.view_is
+    (change-inside rows.list c.args.t c.args.loc.now (change_told c.in_ok-newest_change.field-0) (sym c.if-not-is_target.ensures) (c.in_ok-newest_change.ensures c.args.loc.now.path (c.as_slice.ensures.value ∙ c.in_ok-key.ensures)))

@@ -1,6 +1,6 @@
 use Rattle.std.proofs.Common.{◌≡◌, ◌++◌, ◌+◌, ◌≤◌, map}
 use Rattle.cp_model.specs.Keyed.{len}
-use Rattle.cp_model.specs.Subtrees.{moved}
+use Rattle.cp_model.specs.Subtrees.{entries_under}
 use Rattle.cp_tree.specs.Branch.{child_rows, children_len}
 use Rattle.cp_tree.specs.Rows.{entry_row}
 use Rattle.cp_tree_box.proofs.node.BoxNode.+rows_into.Given as goal
@@ -8,7 +8,7 @@ use Rattle.cp_tree_box.proofs.node.BoxNode.+rows_into.Given as goal
 abbrev pub invariant-loop-label : goal.invariant-loop-label
 invariant-loop-label l = record {
   same_place : l.at.items ≡ l.initial.at.items;
-  rows : l.out.items ++ map entry_row (moved l.initial.at.items (child_rows l.label-iterator)) ≡ l.initial.out.items ++ map entry_row (moved l.initial.at.items (child_rows l.initial.label-iterator));
+  rows : l.out.items ++ map entry_row (entries_under l.initial.at.items (child_rows l.label-iterator)) ≡ l.initial.out.items ++ map entry_row (entries_under l.initial.at.items (child_rows l.initial.label-iterator));
   fewer : children_len l.label-iterator + 1 ≤ len l.fn.self;
 }
 
