@@ -27,8 +27,7 @@ fn call_of(alloc: Global, line: Line<'_>, words: &str) -> Result<Case, AllocErro
     let mut case = Case::new(alloc, line.text)?;
     case.real = true;
     for (key, rest) in [("words", words), ("in", "-"), ("out", "")] {
-        case.parts
-            .push(Part::new(alloc, line.number, key, rest)?)?;
+        case.parts.push(Part::new(alloc, line.number, key, rest)?)?;
     }
     Ok(case)
 }

@@ -11,7 +11,7 @@ ghost use Rattle.cp_engine.specs.Reaching.{reach_with, alone_at, literal_reach, 
 
 use crate::sources::Sources;
 use cp_model::{Literal, NODES_MAX, Op, PLACE_WEIGHT, Refusal, WEIGHT_MAX};
-use cp_path::{LABELS_MAX, LOC_MAX, Label, Loc, Value, LABEL_MAX};
+use cp_path::{LABEL_MAX, LABELS_MAX, LOC_MAX, Label, Loc, Value};
 use cp_tree::{Reach, TreeRep};
 
 /// The first case that refuses the operation on this tree with these sources, if there is one. Takes no memory. Costs

@@ -1,4 +1,4 @@
-use cp_model::{Op, OpList, ENTRY_MAX, OPS_MAX};
+use cp_model::{ENTRY_MAX, OPS_MAX, Op, OpList};
 use cp_record::op_length;
 use std::alloc::{AllocError, Global};
 use std::marker::Model;

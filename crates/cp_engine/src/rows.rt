@@ -17,7 +17,7 @@ ghost use Rattle.cp_model.specs.declared.record.RowMark.TheVariants as mark;
 
 use crate::sources::Sources;
 use cp_model::{LitList, Literal, Op, RowList};
-use cp_path::{Label, Loc, Path, LABELS_MAX};
+use cp_path::{LABELS_MAX, Label, Loc, Path};
 use cp_record::{PackedRecords, RecOp};
 use cp_tree::TreeRep;
 use std::alloc::{AllocError, Global};

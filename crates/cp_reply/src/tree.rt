@@ -6,7 +6,7 @@ ghost use Rattle.cp_model.specs.Trees.{between, groups, tree_at, tree_text};
 ghost use Rattle.cp_reply.specs.Runs.{rows_seen, all_seen, leaves, run_length, edge, edges, IsNextRun};
 
 use cp_model::{Content, Row};
-use cp_path::{Label, Value, LABELS_MAX};
+use cp_path::{LABELS_MAX, Label, Value};
 use std::alloc::{AllocError, Global};
 
 /// The first rows below a node, which share their label there, and the rows after them.
