@@ -1,6 +1,6 @@
 //! Plays the cases of files: whole calls of the program over files, inputs and outputs in memory, and calls of the layers below.
 //!
-//! The words are the number of the request up to which cases hold, and the names of files: of cases in the form that `sheet`
+//! The words are the stage of the program up to which cases hold, a number, and the names of files: of cases in the form that `sheet`
 //! tells, of documents with examples, which end in `.md`, and of scripts, which end in `.cpdb` and have beside them, ending in
 //! `.out`, what they write. Each case that differs gets a line of standard error; the one line of the output counts them.
 #![tactic(auto)]
@@ -65,7 +65,7 @@ fn play_case(
     Ok(())
 }
 
-/// Plays the cases that hold up to this request, and writes a line for each that differs.
+/// Plays the cases that hold up to this stage, and writes a line for each that differs.
 fn play_sheet(
     rt: &(impl Files + Eprint + AllocGlobal),
     file: &str,

@@ -1,6 +1,6 @@
 //! Reads files of cases.
 //!
-//! A case is `case NAME`, then `since N`, the request from which it holds, then its parts in order. A table is the same with
+//! A case is `case NAME`, then `since N`, the stage of the program from which it holds, then its parts in order. A table is the same with
 //! `table NAME` and, as its last lines, rows `- COLUMN -> COLUMN`: it is played once for each row, with the row's columns in
 //! place of `@1`, `@2` and `@3`. Parts before the first case, below `common`, come first in every case. Empty lines, and lines
 //! that begin with `#`, are passed over.
@@ -33,7 +33,7 @@ pub(crate) struct Row {
 #[derive(Drop)]
 pub(crate) struct Case {
     pub(crate) name: String,
-    /// The request from which it holds.
+    /// The stage of the program from which it holds.
     pub(crate) since: u64,
     /// Whether its files are the real ones, by their paths.
     pub(crate) real: bool,
