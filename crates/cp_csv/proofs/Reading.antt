@@ -1,7 +1,7 @@
 -- Each record takes a byte, so the records of a text come one after the other.
 use Rattle.std.proofs.Common.{◌≡◌, ℕ, zero, suc, ◌+◌, ◌<◌, ◌≤◌, ◌==◌, ◌&&◌, Bool, true, false, List, [], ◌∷◌, ◌++◌, length, Option, Some, None, if◌then◌else◌, refl, sym, ap, subst, ◌∙◌, arith, add-one}
 use Rattle.csv.specs.Machine.{Read, step, in_field, start_field, start_record, after_end, ends_with, is_byte, is_end, ends_at_end, next_record, fields_after, field_after}
-use Rattle.csv.specs.Reading.{records_from, records_next, default_config}
+use Rattle.csv.specs.Reading.{records_from, records_next, default_config, Reached, ReadRecord, source_of, reader_config, reader_state}
 use Rattle.csv.specs.declared.parser.Config.{Config}
 use Rattle.csv.specs.declared.parser.Terminator.{Terminator}
 use Rattle.csv.specs.declared.parser.Terminator.TheVariants as term
@@ -10,7 +10,6 @@ use Rattle.csv.specs.declared.parser.State.TheVariants as st
 use Rattle.csv.specs.declared.parser.Action.{Action}
 use Rattle.csv.specs.declared.parser.Action.TheVariants as act
 use Rattle.csv.specs.declared.reader.Reader.{Reader}
-use Rattle.csv.specs.Reading.{Reached, ReadRecord, source_of, reader_config, reader_state}
 use Rattle.csv.proofs.ReadFacts.{rows-more, rows-end}
 use Rattle.std.specs.Borrow.{Bor}
 use Rattle.cp_csv.specs.Steps.{all_from, slice_bytes}

@@ -12,7 +12,7 @@ use Rattle.cp_model.specs.Past.{tree_of}
 use Rattle.cp_model.specs.Rows.{full_rows}
 use Rattle.cp_model.specs.History.{IsWritten, AreWritten, State, with_tid, rows_of, each_alone, after_settling, after_outcome, after_step}
 use Rattle.cp_model.proofs.Contents.{contents-applied, contents-opened}
-use Rattle.cp_model.proofs.Folds.{done_is, first-accepted, then-accepted}
+use Rattle.cp_model.proofs.Folds.{then-accepted}
 use Rattle.cp_model.specs.Laws.{AreTrees}
 use Rattle.cp_model.proofs.Kept.{tree-changed}
 use Rattle.cp_model.proofs.Alone.{step-alone, contents-alone, after-settled}

@@ -5,11 +5,10 @@ use Rattle.std.proofs.lemmas.Str.{digit_value_digit, IsUtf8-from_ascii}
 use Rattle.std.proofs.lemmas.Fmt.{IsAscii-from_digits}
 use Rattle.std.specs.List.{list_all}
 use Rattle.std.specs.Str.{IsUtf8}
-use Rattle.std.specs.Str.Parse.{AllDigits, IsNumeral, digits_value, without_leading_plus}
+use Rattle.std.specs.Str.Parse.{AllDigits, IsNumeral, digits_value, without_leading_plus, ParsesUnsigned}
 use Rattle.cp_path.specs.Text.{is_digit}
 use Rattle.cp_lang.specs.Decimal.{is_decimal, decimal_value}
 use Rattle.std.specs.Result.{result_ok}
-use Rattle.std.specs.Str.Parse.{ParsesUnsigned}
 
 pub each_digit : (x : ℕ) → is_digit x ≡ true → (48 ≤ x) × (x ≤ 57)
 each_digit x h = let p = and_parts _ _ h in (leb-true 48 x p.0, leb-true x 57 p.1)

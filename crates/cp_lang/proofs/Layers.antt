@@ -20,7 +20,7 @@ use Rattle.cp_path.specs.declared.value.Value.TheVariants as value
 use Rattle.cp_model.specs.Place.{or_else}
 use Rattle.cp_path.proofs.Same.{text_eq-same}
 use Rattle.cp_model.specs.Keyed.{look}
-use Rattle.cp_model.specs.Tree.{text_bytes, CanBeSpelled}
+use Rattle.cp_model.specs.Tree.{text_bytes, CanBeSpelled, IsNumber}
 use Rattle.cp_model.specs.History.{IsLiteral}
 use Rattle.cp_model.proofs.Rooted.{AreRows, rows-literal, spelled-after}
 use Rattle.cp_model.proofs.Sorted.{path_cmp-append, parts_of, all_of, root-first}
@@ -30,7 +30,6 @@ use Rattle.cp_model.specs.Literals.{rows_under}
 use Rattle.cp_model.specs.Trees.{Group, into_groups, groups}
 use Rattle.cp_model.specs.declared.row.Content.{Content}
 use Rattle.cp_model.specs.declared.row.Content.TheVariants.{Node, Leaf}
-use Rattle.cp_model.specs.Tree.{IsNumber}
 use Rattle.cp_lang.specs.Printer.{AreShort}
 use Rattle.cp_lang.specs.Printed.{Rows}
 

@@ -7,15 +7,12 @@ use Rattle.cp_path.specs.Text.{is_name, text_eq}
 use Rattle.cp_path.specs.Place.{Label, Path, target, size}
 use Rattle.cp_path.specs.Reading.{any_long}
 use Rattle.cp_path.specs.Spelling.{place_text, label_text}
-use Rattle.cp_path.specs.Whole.{IsWhole}
 use Rattle.cp_path.specs.declared.loc.Loc.{Loc}
-use Rattle.cp_path.specs.declared.value.Value.TheVariants as value
 use Rattle.cp_model.specs.Trees.{tree_at, levels}
 use Rattle.cp_model.specs.Literals.{literal_rows}
 use Rattle.cp_model.specs.Tree.{IsNumber}
 use Rattle.cp_model.specs.History.{IsLiteral}
 use Rattle.cp_model.specs.declared.row.Content.{Content}
-use Rattle.cp_model.specs.declared.row.Content.TheVariants.{Node, Leaf}
 use Rattle.cp_model.specs.declared.literal.Literal.{Literal}
 use Rattle.cp_model.specs.declared.op.Op.{Op}
 use Rattle.cp_model.specs.declared.op.Op.TheVariants.{Ins, Del, Copy}

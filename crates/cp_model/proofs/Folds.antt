@@ -1,7 +1,6 @@
 -- A step, operation by operation.
-use Rattle.std.specs.Prelude.{ℕ, ◌+◌, ◌≡◌, true, List, [], ◌∷◌, ◌++◌, fold, refl}
+use Rattle.std.specs.Prelude.{ℕ, ◌+◌, ◌≡◌, true, List, [], ◌∷◌, fold, refl}
 use Rattle.std.proofs.Common.{ap, subst}
-use Rattle.std.proofs.lemmas.List.Sums.{fold-append}
 use Rattle.std.specs.declared.option.Option.TheVariants.{None, Some}
 use Rattle.cp_model.specs.declared.op.Op.{Op}
 use Rattle.cp_model.specs.declared.refusal.Refusal.{Refusal}

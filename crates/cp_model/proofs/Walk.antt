@@ -8,7 +8,7 @@ use Rattle.cp_model.specs.Keyed as keyed
 use Rattle.cp_model.specs.Subtrees.{is_there}
 use Rattle.cp_model.specs.Step.{Origin, new, was, Worked, Working}
 use Rattle.cp_model.specs.Past.{Event, born, copied, lost, AgedTree, past_of, past_at, past_by, past_after, settled_at, settle, loses_child}
-use Rattle.cp_model.specs.Rows.{Effect, same, made, from, Reading, left, gone, effect, effect_at}
+use Rattle.cp_model.specs.Rows.{Effect, same, made, from, Reading, left, gone, effect}
 use Rattle.cp_model.proofs.Lookups.{get-mapped}
 
 -- the past after step t of a place p with this effect

@@ -25,8 +25,7 @@ use Rattle.cp_engine.specs.declared.txn.Txn.{Txn}
 use Rattle.cp_program.specs.Fetching.{fetch}
 use Rattle.cp_program.specs.Fetched.{FitsUnder}
 use Rattle.cp_program.specs.Job.{setting}
-use Rattle.cp_program.specs.Databases.{Stands, Opens, Turned, held_in}
-use Rattle.cp_program.specs.Databases.{Loads, why_not_loaded}
+use Rattle.cp_program.specs.Databases.{Stands, Opens, Turned, held_in, Loads, why_not_loaded}
 use Rattle.cp_program.specs.declared.database.Database.{Database}
 use Rattle.cp_program.proofs.Standing.{turned-on}
 

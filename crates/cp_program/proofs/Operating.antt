@@ -25,8 +25,7 @@ use Rattle.cp_engine.specs.declared.fault.ApplyFault.{ApplyFault}
 use Rattle.cp_engine.specs.declared.fault.ApplyFault.TheVariants as denied
 use Rattle.cp_outside.specs.FileReads.{FileTable}
 use Rattle.cp_program.specs.Job.{setting}
-use Rattle.cp_program.specs.Databases.{Stands, Opens, Turned, held_in}
-use Rattle.cp_program.specs.Databases.{progress_of}
+use Rattle.cp_program.specs.Databases.{Stands, Opens, Turned, held_in, progress_of}
 use Rattle.cp_program.specs.declared.database.Database.{Database}
 use Rattle.cp_program.proofs.Standing.{stands-with, turned-on}
 

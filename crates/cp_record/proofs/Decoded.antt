@@ -1,5 +1,5 @@
 -- The records in the bytes of records are those records.
-use Rattle.std.proofs.Common.{◌≡◌, ℕ, zero, suc, ◌+◌, ◌-◌, ◌<◌, ◌≤◌, ◌^◌, List, [], ◌∷◌, ◌++◌, Option, None, Some, refl, sym, ap, ◌∙◌, subst, append_assoc, append-nil, length, length-append, take, drop, arith}
+use Rattle.std.proofs.Common.{◌≡◌, ℕ, zero, suc, ◌+◌, ◌-◌, ◌<◌, ◌≤◌, List, [], ◌∷◌, ◌++◌, Option, None, Some, refl, sym, ap, ◌∙◌, subst, append_assoc, append-nil, length, length-append, take, drop, arith}
 use Rattle.std.proofs.lemmas.List.{take_at, drop_at}
 use Rattle.std.proofs.lemmas.List.Concat.{flat_map-append}
 use Rattle.std.proofs.lemmas.Nat.{from_be_bytes-to_be_bytes_8}
@@ -13,7 +13,6 @@ use Rattle.cp_model.specs.declared.record.RecOp.{RecOp}
 use Rattle.cp_model.specs.declared.record.RecOp.TheVariants as op
 use Rattle.cp_record.specs.Bytes.{letter, source_bytes, record_bytes, records_bytes}
 use Rattle.cp_record.specs.Kept.{IsSource, IsKept}
-use Rattle.cp_record.specs.Packed.{EndsAt}
 use Rattle.cp_record.specs.Unpacked.{text_in, labels_in, path_in, place_in, source_in, op_in, record_of, record_behind, record_in, records_within, records_in, IsPacked}
 use Rattle.cp_record.proofs.Kept.{parts, some_bytes, all_append, all_front}
 

@@ -1,8 +1,8 @@
 -- What packed records hold.
 use Rattle.cp_model.specs.declared.limits.TheConstants.{WEIGHT_MAX}
-use Rattle.std.specs.Prelude.{ℕ, ◌^◌, ◌≡◌, ◌≤◌, ◌<◌, ◌++◌, Bool, true, false, List, length, sum_by, is_some, ⊤}
+use Rattle.std.specs.Prelude.{ℕ, ◌≡◌, ◌≤◌, ◌<◌, ◌++◌, List, length, sum_by, ⊤}
 use Rattle.std.specs.List.{AllByRecursion}
-use Rattle.cp_model.specs.Place.{Path, at_target}
+use Rattle.cp_model.specs.Place.{Path}
 use Rattle.cp_model.specs.declared.row.Content.{Content}
 use Rattle.cp_model.specs.declared.literal.Literal.{Literal}
 use Rattle.cp_model.specs.declared.literal.Literal.TheVariants as literal
@@ -11,8 +11,6 @@ use Rattle.cp_model.specs.Tree.{weight_of}
 use Rattle.cp_model.specs.declared.op.Op.{Op}
 use Rattle.cp_model.specs.declared.op.Op.TheVariants.{Ins, Del, Copy}
 use Rattle.cp_model.specs.declared.record.Record.{Record}
-use Rattle.cp_model.specs.declared.record.RecOp.{RecOp}
-use Rattle.cp_model.specs.declared.record.RecOp.TheVariants as op
 use Rattle.cp_record.specs.Bytes.{records_bytes}
 
 -- the records end with one of them after so many bytes

@@ -1,18 +1,17 @@
 -- The order of rows by Tid and place.
 use Rattle.std.proofs.Common.{ℕ, suc, zero, ◌+◌, ◌<◌, ◌≤◌, ◌≡◌, Bool, true, false, refl, sym, ap, subst, ◌∙◌, arith, take, get_or}
 use Rattle.std.proofs.lemmas.Bool.{and_parts}
-use Rattle.std.specs.Prelude.{List, [], ◌∷◌, ◌++◌, length, nat_lt, ◌==◌, ◌&&◌, ◌||◌, if◌then◌else◌}
+use Rattle.std.specs.Prelude.{List, [], ◌∷◌, ◌++◌, length, nat_lt, ◌==◌, ◌&&◌, ◌||◌}
 use Rattle.std.specs.List.{list_all, slice_get}
 use Rattle.std.proofs.lemmas.Bool.Decides.{nat_tests}
 use Rattle.std.proofs.lemmas.List.Folds.{list_all-append}
-use Rattle.std.specs.declared.option.Option.TheVariants.{None, Some}
+use Rattle.std.specs.declared.option.Option.TheVariants.{Some}
 use Rattle.std.specs.declared.cmp.Ordering.{Ordering}
 use Rattle.std.specs.declared.cmp.Ordering.TheVariants.{Less, Equal, Greater}
 use Rattle.std.specs.Ordering.{is_lt, is_eq}
-use Rattle.cp_model.specs.Place.{in_target, path_cmp, path_eq}
+use Rattle.cp_model.specs.Place.{in_target, path_cmp, path_eq, Path}
 use Rattle.cp_path.specs.PathOrder.{path_ties, path_total, path_eq_equiv}
 use Rattle.cp_path.proofs.Same.{path_eq-same}
-use Rattle.cp_model.specs.Place.{Path}
 use Rattle.cp_model.specs.declared.record.Record.{Record}
 use Rattle.cp_store.specs.Changes.{goes_before, rises, is_source, is_between, AreNext}
 use Rattle.cp_rows.specs.Rows.{AreOrdered}

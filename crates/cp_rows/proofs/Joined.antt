@@ -3,7 +3,6 @@ use Rattle.std.proofs.Common.{ℕ, suc, zero, ◌+◌, ◌-◌, ◌*◌, ◌/◌
 use Rattle.std.proofs.lemmas.Bool.{cases_lt}
 use Rattle.std.specs.Prelude.{List, [], ◌∷◌, ◌++◌, length}
 use Rattle.std.specs.List.{AllByRecursion, slice_get, slice_index_or}
-use Rattle.std.specs.declared.option.Option.TheVariants.{Some}
 use Rattle.cp_model.specs.declared.record.Record.{Record}
 use Rattle.cp_rows.specs.declared.limits.TheConstants.{BLOCK_LEN}
 use Rattle.cp_rows.specs.Blocks.{all_records, AreBlocks}

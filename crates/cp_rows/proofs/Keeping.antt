@@ -1,8 +1,7 @@
 -- The rows that are kept, and one more.
-use Rattle.std.proofs.Common.{ℕ, suc, zero, ◌+◌, ◌-◌, ◌<◌, ◌≤◌, ◌≡◌, Bool, true, false, refl, sym, ap, subst, ◌∙◌, append-nil, length-append, arith}
+use Rattle.std.proofs.Common.{ℕ, ◌+◌, ◌-◌, ◌<◌, ◌≤◌, ◌≡◌, true, false, refl, sym, ap, subst, ◌∙◌, length-append, arith}
 use Rattle.std.specs.Prelude.{List, [], ◌∷◌, ◌++◌, length, nat_lt, ◌&&◌, if◌then◌else◌}
-use Rattle.std.specs.List.{list_all, flat_map, AllByRecursion}
-use Rattle.std.specs.BTreeMap.{BTreeMap}
+use Rattle.std.specs.List.{list_all, flat_map}
 use Rattle.std.specs.Map.{lookup}
 use Rattle.std.specs.Cmp.Lexicographic.{nat_list_eq_equiv}
 use Rattle.std.proofs.lemmas.Bool.Decides.{nat_tests}
@@ -20,7 +19,7 @@ use Rattle.cp_rows.specs.declared.limits.TheConstants.{BLOCK_LEN}
 use Rattle.cp_rows.specs.Blocks.{all_records, AreBlocks}
 use Rattle.cp_rows.specs.Index.{Index, steps_in_entry, is_key, steps_at}
 use Rattle.cp_rows.specs.Steps.{steps_in, AreRising}
-use Rattle.cp_rows.specs.Rows.{AreOrdered, IsKept, IsStored}
+use Rattle.cp_rows.specs.Rows.{IsKept, IsStored}
 use Rattle.cp_rows.proofs.Before.{and_of, list_all-weaker, order-more}
 use Rattle.cp_rows.proofs.Joined.{joined-more}
 use Rattle.cp_rows.proofs.Steps.{at_row, steps-more, steps-rise}

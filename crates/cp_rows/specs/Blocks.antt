@@ -1,5 +1,5 @@
 -- Records in blocks.
-use Rattle.std.specs.Prelude.{ℕ, ◌≡◌, ◌≤◌, List, [], ◌∷◌, ◌++◌, length}
+use Rattle.std.specs.Prelude.{◌≡◌, ◌≤◌, List, [], ◌∷◌, ◌++◌, length}
 use Rattle.std.specs.List.{AllByRecursion}
 use Rattle.cp_model.specs.declared.record.Record.{Record}
 use Rattle.cp_rows.specs.declared.limits.TheConstants.{BLOCK_LEN}

@@ -1,4 +1,4 @@
-use Rattle.std.proofs.Common.{◌≡◌, sym, ap, subst, ◌∙◌}
+use Rattle.std.proofs.Common.{◌≡◌, sym, subst, ◌∙◌}
 use Rattle.cp_model.specs.declared.kind.Kind.TheVariants.{N}
 use Rattle.cp_store.specs.Changes.{change_told, change_at}
 use Rattle.cp_flat.proofs.Found.{change-outside, change-inside}

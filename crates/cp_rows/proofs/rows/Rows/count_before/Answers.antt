@@ -1,4 +1,4 @@
-use Rattle.std.proofs.Common.{◌≤◌, ◌<◌, ◌+◌, ◌-◌, ◌/◌, arith}
+use Rattle.std.proofs.Common.{◌≤◌, ◌+◌, ◌-◌, ◌/◌, arith}
 use Rattle.cp_rows.proofs.Counting.{front-low, behind-high}
 use Rattle.cp_rows.proofs.rows.Rows.count_before.Goals as goal
 
