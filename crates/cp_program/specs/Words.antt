@@ -44,4 +44,3 @@ memory_line = codes "error: memory\n"
 -- the last line where too much input came
 abbrev pub too_long_line : List ℕ
 too_long_line = codes "error: input too long\n"
-

@@ -15,9 +15,9 @@ ghost use Rattle.cp_program.specs.Ends.{code_of};
 ghost use Rattle.cp_program.specs.Story.{WritesLast, WroteRefusal, IsCalm, HasCauses, RanAs, Ran, Called, counts};
 ghost use Rattle.cp_program.specs.Turns.{Follows, FollowsOne, WroteLast, Closes, RanFrom, Turned, Written, Blames, BlamesFiles, IsOwn, IsClosing, status_of, status_or_done};
 
-use crate::limits::{INPUT_MAX, PIECE_MAX};
 use crate::end::{End, Status};
 use crate::fetch::fetch;
+use crate::limits::{INPUT_MAX, PIECE_MAX};
 use crate::session::Session;
 use crate::stop::Stop;
 use cp_engine::Sources;

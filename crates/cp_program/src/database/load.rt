@@ -11,12 +11,12 @@ ghost use Rattle.cp_program.specs.Databases.{Stands, IsSession, Turned};
 ghost use Rattle.cp_program.specs.Databases.{Loads, why_not_loaded};
 ghost use Rattle.cp_program.specs.Turns.{BlamesFiles, IsOwn};
 
-use cp_model::SOURCES_MAX;
 use crate::database::Database;
 use crate::database::refusal::refused_load;
 use crate::fetch::fetch;
 use crate::stop::Stop;
 use cp_lang::{Load, Stmt};
+use cp_model::SOURCES_MAX;
 use cp_outside::Files;
 use cp_path::Name;
 use cp_reply::{Reply, Why};

@@ -1,6 +1,5 @@
 use Rattle.cp_program.specs.declared.limits.TheConstants.{INPUT_MAX}
 use Rattle.std.proofs.Common.{◌≡◌, ◌≤◌, ◌-◌}
-
 use Rattle.cp_program.specs.Turns.{FollowsOne, Turned}
 use Rattle.cp_program.proofs.run.turns.Given as goal
 
