@@ -1,7 +1,6 @@
 -- From what a call says of a place to what is answered to a query.
-use Rattle.std.specs.Prelude.{ℕ, ◌≡◌, ◌↔◌, ◌&&◌, Bool, true, false, List, Result, Ok, Err, IfOk, IsErrOf, IsErrAnd, refl, if◌then◌else◌}
-use Rattle.std.proofs.Common.{sym, ap, subst, ◌∙◌}
-use Rattle.std.specs.declared.option.Option.{Option}
+use Rattle.std.specs.Prelude.{ℕ, ◌≡◌, ◌↔◌, ◌&&◌, Bool, true, false, List, Result, Ok, Err, IsErrOf, IsErrAnd, refl, if◌then◌else◌}
+use Rattle.std.proofs.Common.{sym, ap, ◌∙◌}
 use Rattle.std.specs.declared.option.Option.TheVariants.{None, Some}
 use Rattle.std.proofs.lemmas.Option.{none-some}
 use Rattle.cp_path.specs.declared.loc.Loc.{Loc}
