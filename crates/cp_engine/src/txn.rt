@@ -18,7 +18,7 @@ use crate::held::{FirstTid, HeldOps};
 use crate::rows::push_op;
 use crate::sources::Sources;
 use crate::state::{Failure, TxnState};
-use cp_model::{Cause, Op, OpList, RecordList, Refusal, OPS_MAX};
+use cp_model::{Cause, OPS_MAX, Op, OpList, RecordList, Refusal};
 use cp_record::PackedRecords;
 use cp_tree::TreeRep;
 use std::alloc::{AllocError, Global};

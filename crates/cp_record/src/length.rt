@@ -5,8 +5,8 @@ ghost use Rattle.cp_model.specs.declared.row.Content.TheVariants.{Leaf};
 ghost use Rattle.cp_record.specs.Bytes.{op_length, path_length, place_length, content_length, tree_length, inserted_length};
 ghost use Rattle.cp_record.specs.Packed.{IsSmall, AreBelow, IsTreeOfRows};
 
-use cp_model::{LitList, Literal, Op, ENTRY_MAX, WEIGHT_MAX};
-use cp_path::{Label, Loc, Path, Value, LABEL_MAX};
+use cp_model::{ENTRY_MAX, LitList, Literal, Op, WEIGHT_MAX};
+use cp_path::{LABEL_MAX, Label, Loc, Path, Value};
 
 // A label behind its length.
 fn label_length(label: &Label) -> u64

@@ -10,7 +10,7 @@ ghost use Rattle.cp_record.specs.Kept.{IsLabel, IsPath, IsPlace, IsKept, is_copy
 ghost use Rattle.cp_record.specs.Packed.{Grew};
 
 use cp_model::RecOp;
-use cp_path::{Label, Loc, Path, LABELS_MAX, LABEL_MAX};
+use cp_path::{LABEL_MAX, LABELS_MAX, Label, Loc, Path};
 use std::alloc::AllocError;
 
 /// The letter of a record in ASCII.

@@ -61,23 +61,23 @@ unfolding joined
 in_block [] last n d h lt = absurd (omega (arith, lt))
 in_block (b ∷ full) last n d h lt =
     ⊎_elim (λ low.
-      let zeroth : n / BLOCK_LEN ≡ 0 = omega (arith, low) in
-      let same : n % BLOCK_LEN ≡ n = omega (arith, low) in
-      let size = h.0 in
-      let block : slice_index_or (b ∷ full) (n / BLOCK_LEN) d ≡ b = ap (λ i. slice_index_or (b ∷ full) i d) zeroth in
-      let long : length (slice_index_or (b ∷ full) (n / BLOCK_LEN) d) ≡ length b = ap length block in
-      (omega (arith, same, long, size, low), ap (λ l. slice_get l (n % BLOCK_LEN)) block ∙ ap (slice_get b) same ∙ sym (get_front b (joined full last) n (omega (arith, size, low)))))
+    let zeroth : n / BLOCK_LEN ≡ 0 = omega (arith, low) in
+    let same : n % BLOCK_LEN ≡ n = omega (arith, low) in
+    let size = h.0 in
+    let block : slice_index_or (b ∷ full) (n / BLOCK_LEN) d ≡ b = ap (λ i. slice_index_or (b ∷ full) i d) zeroth in
+    let long : length (slice_index_or (b ∷ full) (n / BLOCK_LEN) d) ≡ length b = ap length block in
+    (omega (arith, same, long, size, low), ap (λ l. slice_get l (n % BLOCK_LEN)) block ∙ ap (slice_get b) same ∙ sym (get_front b (joined full last) n (omega (arith, size, low)))))
     (λ high.
-      let m = n - BLOCK_LEN in
-      let less : n / BLOCK_LEN ≡ suc (m / BLOCK_LEN) = omega (arith, high) in
-      let rest : n % BLOCK_LEN ≡ m % BLOCK_LEN = omega (arith, high) in
-      let size = h.0 in
-      let more = in_block full last m d h.1 (omega (arith, lt, less)) in
-      let block : slice_index_or (b ∷ full) (n / BLOCK_LEN) d ≡ slice_index_or full (m / BLOCK_LEN) d = ap (λ i. slice_index_or (b ∷ full) i d) less in
-      let long : length (slice_index_or (b ∷ full) (n / BLOCK_LEN) d) ≡ length (slice_index_or full (m / BLOCK_LEN) d) = ap length block in
-      let within = more.0 in
-      let back : n - length b ≡ m = omega (arith, size) in
-      (omega (arith, rest, long, within), ap (λ l. slice_get l (n % BLOCK_LEN)) block ∙ ap (slice_get (slice_index_or full (m / BLOCK_LEN) d)) rest ∙ more.1 ∙ ap (slice_get (joined full last)) (sym back) ∙ sym (get_behind b (joined full last) n (omega (arith, size, high)))))
+    let m = n - BLOCK_LEN in
+    let less : n / BLOCK_LEN ≡ suc (m / BLOCK_LEN) = omega (arith, high) in
+    let rest : n % BLOCK_LEN ≡ m % BLOCK_LEN = omega (arith, high) in
+    let size = h.0 in
+    let more = in_block full last m d h.1 (omega (arith, lt, less)) in
+    let block : slice_index_or (b ∷ full) (n / BLOCK_LEN) d ≡ slice_index_or full (m / BLOCK_LEN) d = ap (λ i. slice_index_or (b ∷ full) i d) less in
+    let long : length (slice_index_or (b ∷ full) (n / BLOCK_LEN) d) ≡ length (slice_index_or full (m / BLOCK_LEN) d) = ap length block in
+    let within = more.0 in
+    let back : n - length b ≡ m = omega (arith, size) in
+    (omega (arith, rest, long, within), ap (λ l. slice_get l (n % BLOCK_LEN)) block ∙ ap (slice_get (slice_index_or full (m / BLOCK_LEN) d)) rest ∙ more.1 ∙ ap (slice_get (joined full last)) (sym back) ∙ sym (get_behind b (joined full last) n (omega (arith, size, high)))))
     (cases_lt n BLOCK_LEN)
 
 behind : (full : List (List Record)) (last : List Record) (k : ℕ) → AllByRecursion (λ b. length b ≡ BLOCK_LEN) full → slice_get (joined full last) (BLOCK_LEN * length full + k) ≡ slice_get last k

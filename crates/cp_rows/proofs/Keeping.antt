@@ -39,13 +39,13 @@ key_eq p q =
     elim (path_eq p q) as (λ b. path_eq p q ≡ b → text_eq (flat_map counted p) (flat_map counted q) ≡ b) [
       | true ↦ λ t. ap (λ (r : Path). text_eq (flat_map counted r) (flat_map counted q)) (path_eq-same p q t) ∙ nat_list_eq_equiv.refl (flat_map counted q)
       | false ↦ λ n.
-        elim (text_eq (flat_map counted p) (flat_map counted q)) as (λ b. text_eq (flat_map counted p) (flat_map counted q) ≡ b → b ≡ false) [
-          | false ↦ λ _. refl
-          | true ↦ λ u.
-            let same : p ≡ q = key_same p q (text_eq-same (flat_map counted p) (flat_map counted q) u) in
-            let equal : path_eq p q ≡ true = ap (λ (r : Path). path_eq r q) same ∙ path_eq_equiv.refl q in
-            absurd (cc)
-        ] refl
+          elim (text_eq (flat_map counted p) (flat_map counted q)) as (λ b. text_eq (flat_map counted p) (flat_map counted q) ≡ b → b ≡ false) [
+            | false ↦ λ _. refl
+            | true ↦ λ u.
+                let same : p ≡ q = key_same p q (text_eq-same (flat_map counted p) (flat_map counted q) u) in
+                let equal : path_eq p q ≡ true = ap (λ (r : Path). path_eq r q) same ∙ path_eq_equiv.refl q in
+                absurd (cc)
+          ] refl
     ] refl
 
 -- ---- rows

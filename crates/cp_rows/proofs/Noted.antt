@@ -35,17 +35,17 @@ module _ {X : Type 0} where
       elim (text_cmp k.items e.0.items) as (λ o. text_cmp k.items e.0.items ≡ o → lookup (is_key q) (match_ordering o ((k, v) ∷ e ∷ es) ((e.0, v) ∷ es) (e ∷ insert_entry (λ x y. text_cmp x.items y.items) es k v)) ≡ cond (is_key q k) (Some v) (cond (is_key q e.0) (Some e.1) (lookup (is_key q) es))) [
         | Less ↦ λ _. refl
         | Equal ↦ λ h.
-          let same : k.items ≡ e.0.items = same_key k.items e.0.items (ap is_eq h) in
-          ap (λ l. cond (is_eq (text_cmp q l)) (Some v) (lookup (is_key q) es)) (sym same)
-          ∙ elim (is_key q k) as (λ b. is_key q k ≡ b → cond b (Some v) (lookup (is_key q) es) ≡ cond b (Some v) (cond (is_key q e.0) (Some e.1) (lookup (is_key q) es))) [
-            | true ↦ λ _. refl
-            | false ↦ λ n. ap (λ b. cond b (Some e.1) (lookup (is_key q) es)) (sym (ap (λ l. is_eq (text_cmp q l)) (sym same) ∙ n))
-          ] refl
+            let same : k.items ≡ e.0.items = same_key k.items e.0.items (ap is_eq h) in
+            ap (λ l. cond (is_eq (text_cmp q l)) (Some v) (lookup (is_key q) es)) (sym same)
+            ∙ elim (is_key q k) as (λ b. is_key q k ≡ b → cond b (Some v) (lookup (is_key q) es) ≡ cond b (Some v) (cond (is_key q e.0) (Some e.1) (lookup (is_key q) es))) [
+              | true ↦ λ _. refl
+              | false ↦ λ n. ap (λ b. cond b (Some e.1) (lookup (is_key q) es)) (sym (ap (λ l. is_eq (text_cmp q l)) (sym same) ∙ n))
+            ] refl
         | Greater ↦ λ h.
-          elim (is_key q e.0) as (λ b. is_key q e.0 ≡ b → cond b (Some e.1) (lookup (is_key q) (insert_entry (λ x y. text_cmp x.items y.items) es k v)) ≡ cond (is_key q k) (Some v) (cond b (Some e.1) (lookup (is_key q) es))) [
-            | true ↦ λ t. ap (λ b. cond b (Some v) (Some e.1)) (sym (apart q k.items e.0.items t h))
-            | false ↦ λ _. inserted q es k v
-          ] refl
+            elim (is_key q e.0) as (λ b. is_key q e.0 ≡ b → cond b (Some e.1) (lookup (is_key q) (insert_entry (λ x y. text_cmp x.items y.items) es k v)) ≡ cond (is_key q k) (Some v) (cond b (Some e.1) (lookup (is_key q) es))) [
+              | true ↦ λ t. ap (λ b. cond b (Some v) (Some e.1)) (sym (apart q k.items e.0.items t h))
+              | false ↦ λ _. inserted q es k v
+            ] refl
       ] refl
     where
       apart : (q k r : List ℕ) → is_eq (text_cmp q r) ≡ true → text_cmp k r ≡ Greater → is_eq (text_cmp q k) ≡ false
@@ -53,10 +53,10 @@ module _ {X : Type 0} where
           elim (is_eq (text_cmp q k)) as (λ b. is_eq (text_cmp q k) ≡ b → b ≡ false) [
             | false ↦ λ _. refl
             | true ↦ λ u.
-              let same : k ≡ r = sym (same_key q k u) ∙ same_key q r t in
-              let equal : is_eq (text_cmp k r) ≡ true = ap (λ l. is_eq (text_cmp k l)) (sym same) ∙ own_key k in
-              let not_equal : is_eq (text_cmp k r) ≡ false = ap is_eq h in
-              absurd (cc)
+                let same : k ≡ r = sym (same_key q k u) ∙ same_key q r t in
+                let equal : is_eq (text_cmp k r) ≡ true = ap (λ l. is_eq (text_cmp k l)) (sym same) ∙ own_key k in
+                let not_equal : is_eq (text_cmp k r) ≡ false = ap is_eq h in
+                absurd (cc)
           ] refl
 
   -- a key whose value is set
@@ -65,17 +65,17 @@ module _ {X : Type 0} where
   set q p (e ∷ es) w s h =
       elim (is_key p e.0) as (λ b. is_key p e.0 ≡ b → cond b (Some e.1) (lookup (is_key p) es) ≡ Some s → lookup (is_key q) (cond b ((e.0, w) ∷ es) (e ∷ set_value (is_key p) es w)) ≡ cond (text_eq q p) (Some w) (cond (is_key q e.0) (Some e.1) (lookup (is_key q) es))) [
         | true ↦ λ t _.
-          let same : p ≡ e.0.items = same_key p e.0.items t in
-          let at : is_key q e.0 ≡ text_eq q p = sym (texts_ties q e.0.items) ∙ ap (text_eq q) (sym same) in
-          elim (text_eq q p) as (λ b. is_key q e.0 ≡ b → cond (is_key q e.0) (Some w) (lookup (is_key q) es) ≡ cond b (Some w) (cond (is_key q e.0) (Some e.1) (lookup (is_key q) es))) [
-            | true ↦ λ f. ap (λ b. cond b (Some w) (lookup (is_key q) es)) f
-            | false ↦ λ f. ap (λ b. cond b (Some w) (lookup (is_key q) es)) f ∙ sym (ap (λ b. cond b (Some e.1) (lookup (is_key q) es)) f)
-          ] at
+            let same : p ≡ e.0.items = same_key p e.0.items t in
+            let at : is_key q e.0 ≡ text_eq q p = sym (texts_ties q e.0.items) ∙ ap (text_eq q) (sym same) in
+            elim (text_eq q p) as (λ b. is_key q e.0 ≡ b → cond (is_key q e.0) (Some w) (lookup (is_key q) es) ≡ cond b (Some w) (cond (is_key q e.0) (Some e.1) (lookup (is_key q) es))) [
+              | true ↦ λ f. ap (λ b. cond b (Some w) (lookup (is_key q) es)) f
+              | false ↦ λ f. ap (λ b. cond b (Some w) (lookup (is_key q) es)) f ∙ sym (ap (λ b. cond b (Some e.1) (lookup (is_key q) es)) f)
+            ] at
         | false ↦ λ n g.
-          elim (is_key q e.0) as (λ b. is_key q e.0 ≡ b → cond b (Some e.1) (lookup (is_key q) (set_value (is_key p) es w)) ≡ cond (text_eq q p) (Some w) (cond b (Some e.1) (lookup (is_key q) es))) [
-            | true ↦ λ t. ap (λ b. cond b (Some w) (Some e.1)) (sym (other q p e.0.items t n))
-            | false ↦ λ _. set q p es w s g
-          ] refl
+            elim (is_key q e.0) as (λ b. is_key q e.0 ≡ b → cond b (Some e.1) (lookup (is_key q) (set_value (is_key p) es w)) ≡ cond (text_eq q p) (Some w) (cond b (Some e.1) (lookup (is_key q) es))) [
+              | true ↦ λ t. ap (λ b. cond b (Some w) (Some e.1)) (sym (other q p e.0.items t n))
+              | false ↦ λ _. set q p es w s g
+            ] refl
       ] refl h
     where
       other : (q p r : List ℕ) → is_eq (text_cmp q r) ≡ true → is_eq (text_cmp p r) ≡ false → text_eq q p ≡ false

@@ -170,10 +170,10 @@ module _ (t : ℕ) where
           omega (arith, at_one, same)
   newest_at (s ∷ steps) (suc n) d h le at f =
       let more = newest_at steps n d h.1 (omega (arith, le)) at (λ e l.
-        let sum : suc n + 1 ≡ suc (n + 1) = omega arith in
-        let m : t < (get_or (s ∷ steps) (suc n + 1) e).tid = f e (omega (arith, l)) in
-        let same : (get_or (s ∷ steps) (suc n + 1) e).tid ≡ (get_or steps (n + 1) e).tid = ap (λ i. (get_or (s ∷ steps) i e).tid) sum in
-        omega (arith, m, same)) in
+      let sum : suc n + 1 ≡ suc (n + 1) = omega arith in
+      let m : t < (get_or (s ∷ steps) (suc n + 1) e).tid = f e (omega (arith, l)) in
+      let same : (get_or (s ∷ steps) (suc n + 1) e).tid ≡ (get_or steps (n + 1) e).tid = ap (λ i. (get_or (s ∷ steps) i e).tid) sum in
+      omega (arith, m, same)) in
       let l = later_at s steps n d h.0 (omega (arith, le)) in
       (at, past_row s steps (get_or steps n d).tid l ∙ more.1, λ u a b. past_row s steps u (omega (arith, l, a)) ∙ more.2 u a b)
 

@@ -10,4 +10,3 @@ mod rows;
 pub use index::Step;
 pub use key::key_of;
 pub use rows::Rows;
-
