@@ -84,7 +84,6 @@ fn word(alloc: Global, key: &str, word: &str) -> Result<String, PathFault> {
 }
 
 /// The statement that a text is, as it is printed.
-#[tactic(auto, using(cp_lang::proofs::Spellable::read_spellable))]
 fn printed(alloc: Global, text: &str) -> Result<String, StmtFault> {
     let statement = parse(alloc, text)?;
     Ok(print(alloc, &statement)?)

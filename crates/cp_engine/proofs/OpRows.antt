@@ -4,6 +4,7 @@ use Rattle.std.specs.Prelude.{ℕ, ◌+◌, ◌≤◌, ◌<◌, ◌≡◌, Bool,
 use Rattle.std.proofs.Common.{sym, ap, subst, ◌∙◌, arith, length-append, Result, OnOk}
 use Rattle.std.specs.declared.option.Option.TheVariants.{None, Some}
 use Rattle.cp_path.specs.declared.loc.Loc.{Loc}
+use Rattle.cp_model.specs.declared.record.Record.{Record}
 use Rattle.cp_model.specs.Place.{Label, Path, child, below_place, place_eq}
 use Rattle.cp_path.proofs.Same.{place_eq-same, place_eq-refl}
 use Rattle.cp_model.specs.Keyed.{look}
