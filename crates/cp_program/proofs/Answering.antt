@@ -1,22 +1,17 @@
 -- What is shown, and what is answered.
-use Rattle.std.specs.Prelude.{ℕ, ◌≡◌, ◌+◌, ◌&&◌, Bool, true, false, List, map, refl, if◌then◌else◌}
+use Rattle.std.specs.Prelude.{ℕ, ◌≡◌, ◌+◌, true, false, List, map, refl, if◌then◌else◌}
 use Rattle.std.proofs.Common.{sym, ap, subst, ◌∙◌}
 use Rattle.std.specs.declared.option.Option.{Option}
 use Rattle.std.specs.declared.option.Option.TheVariants.{None, Some}
 use Rattle.cp_path.specs.declared.loc.Loc.{Loc}
-use Rattle.cp_model.specs.Place.{in_target}
 use Rattle.cp_model.specs.Subtrees.{is_there, below}
 use Rattle.cp_model.specs.Tree.{Tree, Source}
 use Rattle.cp_model.specs.Step.{step}
 use Rattle.cp_model.specs.Past.{tree_of}
 use Rattle.cp_model.specs.History.{State}
-use Rattle.cp_model.proofs.Lookups.{there-mapped}
 use Rattle.cp_model.specs.Answers.{answer_to}
 use Rattle.cp_model.specs.declared.kind.Kind.TheVariants as kind
 use Rattle.cp_model.specs.declared.answer.Answer.{Answer}
-use Rattle.cp_model.specs.declared.answer.Answer.TheVariants as answer
-use Rattle.cp_model.specs.declared.answer.Trace.{Trace}
-use Rattle.cp_model.specs.declared.query.Query.TheVariants as query
 use Rattle.cp_model.specs.declared.op.Op.{Op}
 use Rattle.cp_model.specs.declared.query.Query.{Query}
 use Rattle.cp_model.specs.declared.row.Row.{Row}
