@@ -14,7 +14,7 @@ use std::alloc::{AllocError, Global};
 use std::marker::Model;
 
 /// The name of an edge: any text of at most [`LABEL_MAX`] bytes, the empty one included.
-#[derive(Clone, PartialEq, Eq, PartialOrd, Ord, Hash, Drop)]
+#[derive(PartialEq, Eq, PartialOrd, Ord, Hash, Drop)]
 pub struct Label {
     text: Text,
 }
@@ -30,6 +30,16 @@ impl Model for Label {
     ghost invariant = { λ a. length a.text ≤ LABEL_MAX };
 
     ghost inverse = { λ t. record { text = t } };
+}
+
+impl Clone for Label {
+    ghost is_clone = { λ a b. b ≡ a };
+
+    fn clone(&self) -> Result<Label, AllocError> {
+        Ok(Label {
+            text: self.text.clone()?,
+        })
+    }
 }
 
 impl Label {

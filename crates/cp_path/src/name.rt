@@ -11,7 +11,7 @@ use std::marker::Model;
 
 /// The name of a database: an ASCII letter, then ASCII letters, digits or `_`, [`NAME_MAX`] characters at most.
 /// `T` is the one that curators change.
-#[derive(Clone, PartialEq, Eq, PartialOrd, Ord, Hash, Drop)]
+#[derive(PartialEq, Eq, PartialOrd, Ord, Hash, Drop)]
 pub struct Name {
     text: Text,
 }
@@ -57,6 +57,16 @@ fn is_name(word: &[u8]) -> bool
     let begins = is_letter(word[0]);
     let is_plain = all_name_bytes(word);
     is_short && (begins && is_plain)
+}
+
+impl Clone for Name {
+    ghost is_clone = { λ a b. b ≡ a };
+
+    fn clone(&self) -> Result<Name, AllocError> {
+        Ok(Name {
+            text: self.text.clone()?,
+        })
+    }
 }
 
 impl Name {
