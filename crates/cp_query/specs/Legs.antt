@@ -20,8 +20,8 @@ use Rattle.cp_query.specs.declared.walk.Came.{Came}
 use Rattle.cp_query.specs.declared.walk.Came.TheVariants.{Back, End}
 
 -- what the steps of a store did to places, as its rows say
-abbrev pub effects_in : {P : Type 0} → Ghosts P → P → Effects
-effects_in g store = reads (g.kept_kind store) (g.kept_rows store)
+abbrev pub readings_in : {P : Type 0} → Ghosts P → P → Readings
+readings_in g store = reads (g.kept_kind store) (g.kept_rows store)
 
 -- where data came from that step u copied from the place q
 abbrev pub came_with : ℕ → Loc → Came

@@ -1,7 +1,7 @@
 //! The walk from the newest change of a place back to where its data came from.
 ghost use Rattle.std.specs.Prelude.{◌≡◌, ◌<◌, true, reverse, IfSome, IfOk};
 ghost use Rattle.cp_model.specs.Place.{in_target};
-ghost use Rattle.cp_query.specs.Legs.{came_with, inserted_by, copied_by, leg_of, leg_by, leg, effects_in, trace_from, src_from, hist_from};
+ghost use Rattle.cp_query.specs.Legs.{came_with, inserted_by, copied_by, leg_of, leg_by, leg, readings_in, trace_from, src_from, hist_from};
 ghost use Rattle.cp_store.specs.Changes.{change_told};
 ghost use Rattle.cp_store.specs.Calls.{Asks};
 ghost use Rattle.cp_store.specs.Steps.{BlamesDisk};
@@ -97,7 +97,7 @@ impl Walk {
     /// The leg at this place. Costs one look-up.
     fn leg<P: ProvStore>(self, alloc: Global, store: &mut P) -> Result<Leg, StoreFault>
         requires { in_target self.at ≡ true }
-        ensures leg { IfOk result (λ l. l ≡ leg (effects_in P.ProvStore store.old) self) }
+        ensures leg { IfOk result (λ l. l ≡ leg (readings_in P.ProvStore store.old) self) }
         ensures asks { Asks P.ProvStore BlamesDisk store.old store.new result }
     {
         let change = store.last_change(alloc, &self.at, self.high)?;
@@ -107,7 +107,7 @@ impl Walk {
     /// The segments from here back, newest first. Costs a look-up for each.
     pub fn trace<P: ProvStore>(self, alloc: Global, store: &mut P) -> Result<Trace, StoreFault>
         requires { in_target self.at ≡ true }
-        ensures answer { IfOk result (λ a. a ≡ trace_from (effects_in P.ProvStore store.old) self) }
+        ensures answer { IfOk result (λ a. a ≡ trace_from (readings_in P.ProvStore store.old) self) }
         ensures asks { Asks P.ProvStore BlamesDisk store.old store.new result }
     {
         let mut walk = self;
@@ -128,7 +128,7 @@ impl Walk {
     /// The step of the insertion at which the walk ends, if it does. Costs a look-up for each place passed.
     pub fn src<P: ProvStore>(self, alloc: Global, store: &mut P) -> Result<Option<u64>, StoreFault>
         requires { in_target self.at ≡ true }
-        ensures answer { IfOk result (λ a. a ≡ src_from (effects_in P.ProvStore store.old) self) }
+        ensures answer { IfOk result (λ a. a ≡ src_from (readings_in P.ProvStore store.old) self) }
         ensures asks { Asks P.ProvStore BlamesDisk store.old store.new result }
     {
         let mut walk = self;
@@ -145,7 +145,7 @@ impl Walk {
     /// The steps that copied the data, newest first. Costs a look-up for each place passed.
     fn copies<P: ProvStore>(self, alloc: Global, store: &mut P) -> Result<Vec<u64>, StoreFault>
         requires { in_target self.at ≡ true }
-        ensures answer { IfOk result (λ v. v.items ≡ hist_from (effects_in P.ProvStore store.old) self) }
+        ensures answer { IfOk result (λ v. v.items ≡ hist_from (readings_in P.ProvStore store.old) self) }
         ensures asks { Asks P.ProvStore BlamesDisk store.old store.new result }
     {
         let mut walk = self;
@@ -165,7 +165,7 @@ impl Walk {
     /// The steps that copied the data, rising. Costs a look-up for each place passed.
     pub fn hist<P: ProvStore>(self, alloc: Global, store: &mut P) -> Result<TidList, StoreFault>
         requires { in_target self.at ≡ true }
-        ensures answer { IfOk result (λ v. v ≡ reverse (hist_from (effects_in P.ProvStore store.old) self)) }
+        ensures answer { IfOk result (λ v. v ≡ reverse (hist_from (readings_in P.ProvStore store.old) self)) }
         ensures asks { Asks P.ProvStore BlamesDisk store.old store.new result }
     {
         let mut tids = self.copies(alloc, store)?;
