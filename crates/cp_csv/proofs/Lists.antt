@@ -130,6 +130,10 @@ seen_more q k x y e = ap (λ b. cond b true x) (sym (texts_ties k q) ∙ nat_lis
 pub repeated_more : (before : List Label) (n : ℕ) (h : Label) (hs all : List Label) → all ≡ h ∷ hs → list_any (label_eq h) before ≡ false → repeated_column before n all ≡ repeated_column (h ∷ before) (n + 1) hs
 repeated_more before n h hs all e new = ap (repeated_column before n) e ∙ ap (λ b. if b then Some n else repeated_column (h ∷ before) (n + 1) hs) new
 
+-- the next header is one that stood before
+pub repeated_here : (before : List Label) (n : ℕ) (h : Label) (hs all : List Label) → all ≡ h ∷ hs → list_any (label_eq h) before ≡ true → repeated_column before n all ≡ Some n
+repeated_here before n h hs all e old = ap (repeated_column before n) e ∙ ap (λ b. if b then Some n else repeated_column (h ∷ before) (n + 1) hs) old
+
 -- ---- why a header is refused
 
 module _ (hs : List Label) (key : Option Label) (text : list_all is_utf8 hs ≡ true) where
