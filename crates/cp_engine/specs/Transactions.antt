@@ -51,10 +51,17 @@ pub record IsGoing {R : Type 0} (view : R → Tree) (x : Txn R) (ss : List Sourc
   pub rows : x.rows ≡ (stage_after ss t n ops).records
   pub failure : x.failure ≡ None
 
+-- the transaction failed at this number, for this cause, and holds the operations before it
+pub record IsFailed {R : Type 0} (view : R → Tree) (x : Txn R) (ss : List Source) (t : Tree) (n k : ℕ) (c : Cause) : Type 0 where
+  pub ops : List Op
+  pub number : length ops + 1 ≡ k
+  pub tree : view x.tree ≡ (stage_after ss t n ops).tree
+  pub failure : x.failure ≡ Some (record { number = k; cause = c })
+
 -- the transaction stands where this progress was made from the tree t
 abbrev pub Stands : {R : Type 0} → (R → Tree) → Txn R → List Source → Tree → ℕ → Progress → Type 0
 Stands view x ss t n (going ops) = IsGoing view x ss t n ops
-Stands view x ss t n (failed k c) = x.failure ≡ Some (record { number = k; cause = c })
+Stands view x ss t n (failed k c) = IsFailed view x ss t n k c
 
 -- an operation is held behind the others, or refused by the first case that applies, or there was no memory for it
 abbrev pub Applies : {R : Type 0} → (R → Tree) → List Source → Tree → ℕ → Progress → Op → Txn R → Result ⊤ ApplyFault → Type 0

@@ -4,11 +4,12 @@ ghost use Rattle.cp_model.specs.Tree.{Tree, Source, refusal};
 ghost use Rattle.cp_model.specs.History.{IsWritten};
 ghost use Rattle.cp_model.specs.declared.op.Op.{Op};
 ghost use Rattle.cp_model.specs.declared.record.Record.{Record};
+ghost use Rattle.cp_model.specs.declared.refusal.Cause.{Cause};
 ghost use Rattle.cp_model.specs.declared.refusal.Refusal.TheVariants.{TooManyOps};
 ghost use Rattle.cp_record.specs.Bytes.{commit_length};
 ghost use Rattle.cp_engine.specs.Loaded.{sources_in};
 ghost use Rattle.cp_engine.specs.Passed.{stage_after};
-ghost use Rattle.cp_engine.specs.Transactions.{Progress, going, Stands, Applies, Finishes, IsGoing, state_of, after_unread, held_count};
+ghost use Rattle.cp_engine.specs.Transactions.{Progress, going, IsFailed, Stands, Applies, Finishes, IsGoing, state_of, after_unread, held_count};
 
 use crate::change::change;
 use crate::checks::check;
@@ -125,7 +126,8 @@ impl<R: TreeRep> Txn<R> {
 
     /// Lets the transaction fail at the operation behind the held ones.
     fn fail(&mut self, cause: Cause)
-        ensures { self.new.failure ≡ Some (record { number = length self.old.ops + 1; cause = cause }) }
+        ensures failure { self.new.failure ≡ Some (record { number = length self.old.ops + 1; cause = cause }) }
+        ensures tree { self.new.tree ≡ self.old.tree }
     {
         self.failure = Some(Failure {
             number: self.ops.len() + 1,
@@ -142,9 +144,10 @@ impl<R: TreeRep> Txn<R> {
         }
     }
 
-    /// The working tree.
+    /// The working tree. Of a failed transaction it is the tree to which the operations before the failure lead.
     pub fn tree(&self) -> &R
-        ensures { (ss : List Source) (t : Tree) (n : ℕ) (ops : List Op) → Stands R.contents self.now ss t n (going ops) → R.contents result.now ≡ (stage_after ss t n ops).tree }
+        ensures failed { (ss : List Source) (t : Tree) (n k : ℕ) (c : Cause) → (h : IsFailed R.contents self.now ss t n k c) → R.contents result.now ≡ (stage_after ss t n h.ops).tree }
+        ensures going { (ss : List Source) (t : Tree) (n : ℕ) (ops : List Op) → Stands R.contents self.now ss t n (going ops) → R.contents result.now ≡ (stage_after ss t n ops).tree }
     {
         &self.tree
     }
