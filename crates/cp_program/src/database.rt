@@ -1,4 +1,4 @@
-ghost use Rattle.std.specs.Prelude.{◌≡◌, ◌+◌, ◌<◌, ◌≤◌, ◌^◌, [], true, false, IfOk, OnOk};
+ghost use Rattle.std.specs.Prelude.{◌≡◌, ◌+◌, ◌<◌, ◌≤◌, [], true, false, IfOk, OnOk};
 ghost use Rattle.std.specs.declared.option.Option.TheVariants.{Some};
 ghost use Rattle.cp_outside.specs.FileReads.{FileTable};
 ghost use Rattle.cp_engine.specs.Loaded.{sources_in};
@@ -7,6 +7,7 @@ ghost use Rattle.cp_session.specs.Session.{Session, says, turn_of, not_read};
 ghost use Rattle.cp_program.specs.Job.{setting, begun_session, is_run, is_load};
 ghost use Rattle.cp_program.specs.Databases.{Stands, IsSession, Turned, IsWrittenStmt};
 ghost use Rattle.cp_program.specs.Turns.{BlamesFiles, IsOwn};
+ghost use Rattle.cp_program.specs.declared.limits.TheConstants.{RUNS_MAX};
 
 mod answer;
 mod commit;
@@ -61,7 +62,7 @@ impl<R: TreeRep> Database<R> {
         files: &mut F,
     ) -> Result<Option<Reply>, Stop>
         requires stands { IsSession R.contents self.old }
-        requires room { self.old.runs < 2 ^ 62 }
+        requires room { self.old.runs < RUNS_MAX }
         requires built { is_run statement ≡ true }
         requires written { IsWrittenStmt statement }
         ensures turned { IfOk result (λ r. (t : FileTable) → F.found files.old ≡ Some t → (s : Session) → Stands R.contents self.old s
@@ -81,7 +82,7 @@ impl<R: TreeRep> Database<R> {
     /// Runs a statement that reads no file.
     fn run_inside(&mut self, alloc: Global, statement: Stmt) -> Result<Option<Reply>, AllocError>
         requires stands { IsSession R.contents self.old }
-        requires room { self.old.runs < 2 ^ 62 }
+        requires room { self.old.runs < RUNS_MAX }
         requires built { is_run statement ≡ true }
         requires inside { is_load statement ≡ false }
         requires written { IsWrittenStmt statement }

@@ -1,4 +1,4 @@
-ghost use Rattle.std.specs.Prelude.{◌≡◌, ◌||◌, ◌≤◌, ◌<◌, ◌+◌, ◌^◌, false, length, IfOk, OnOk, [], ◌∷◌};
+ghost use Rattle.std.specs.Prelude.{◌≡◌, ◌||◌, ◌≤◌, ◌<◌, ◌+◌, false, length, IfOk, OnOk, [], ◌∷◌};
 ghost use Rattle.std.specs.Option.{option_to_list};
 ghost use Rattle.std.specs.declared.option.Option.TheVariants.{Some};
 ghost use Rattle.cp_outside.specs.FileReads.{FileTable};
@@ -8,6 +8,7 @@ ghost use Rattle.cp_program.specs.Job.{is_refusal};
 ghost use Rattle.cp_program.specs.Play.{Seen, start, plays, after_play, closes};
 ghost use Rattle.cp_lang.specs.Cuts.{rest_of};
 ghost use Rattle.cp_program.specs.Turns.{Follows, FollowsOne, Written, Goes, Fed, Closed, Blames, BlamesFiles, cuts_play, after_cuts};
+ghost use Rattle.cp_program.specs.declared.limits.TheConstants.{RUNS_MAX};
 
 use crate::database::Database;
 use crate::stop::Stop;
@@ -92,7 +93,7 @@ impl<R: TreeRep> Session<R> {
         output: &mut O,
     ) -> Result<(), Stop>
         requires stands { FollowsOne R.contents self.old }
-        requires room { self.old.database.runs < 2 ^ 62 }
+        requires room { self.old.database.runs < RUNS_MAX }
         ensures runs { OnOk result (self.new.database.runs ≤ self.old.database.runs + 1) }
         ensures went { (t : FileTable) → F.found files.old ≡ Some t → (s : Seen) → Follows R.contents self.old s
             → Goes R.contents (cuts_play t s (option_to_list cut)) (after_cuts t s (option_to_list cut)) self.old self.new (O.contents output.old) (O.contents output.new) result }
@@ -117,7 +118,7 @@ impl<R: TreeRep> Session<R> {
         output: &mut O,
     ) -> Result<(), Stop>
         requires stands { FollowsOne R.contents self.old }
-        requires room { self.old.database.runs < 2 ^ 62 }
+        requires room { self.old.database.runs < RUNS_MAX }
         ensures runs { OnOk result (self.new.database.runs ≤ self.old.database.runs + 1) }
         ensures went { (t : FileTable) → F.found files.old ≡ Some t → (s : Seen) → Follows R.contents self.old s
             → Goes R.contents (plays t s (byte ∷ [])) (after_play t s (byte ∷ [])) self.old self.new (O.contents output.old) (O.contents output.new) result }
@@ -139,7 +140,7 @@ impl<R: TreeRep> Session<R> {
         output: &mut O,
     ) -> Result<(), Stop>
         requires stands { FollowsOne R.contents self.old }
-        requires room { self.old.database.runs + length piece.now ≤ 2 ^ 62 }
+        requires room { self.old.database.runs + length piece.now ≤ RUNS_MAX }
         ensures runs { OnOk result (self.new.database.runs ≤ self.old.database.runs + length piece.now) }
         ensures went { (t : FileTable) → F.found files.old ≡ Some t → (s : Seen) → Follows R.contents self.old s
             → Fed R.contents t s piece.now self.old self.new (O.contents output.old) (O.contents output.new) result }
@@ -161,7 +162,7 @@ impl<R: TreeRep> Session<R> {
         output: &mut O,
     ) -> Result<(), Stop>
         requires stands { FollowsOne R.contents self.old }
-        requires room { self.old.database.runs < 2 ^ 62 }
+        requires room { self.old.database.runs < RUNS_MAX }
         ensures runs { OnOk result (self.new.database.runs ≤ self.old.database.runs + 1) }
         ensures went { (t : FileTable) → F.found files.old ≡ Some t → (s : Seen) → Follows R.contents self.old s
             → Closed t s self.old self.new (O.contents output.old) (O.contents output.new) result }

@@ -1,11 +1,12 @@
 //! The turn that a cut of the input brings: what its text says, run on the database.
-ghost use Rattle.std.specs.Prelude.{◌≡◌, ◌<◌, ◌≤◌, ◌+◌, ◌^◌, IfOk, OnOk};
+ghost use Rattle.std.specs.Prelude.{◌≡◌, ◌<◌, ◌≤◌, ◌+◌, IfOk, OnOk};
 ghost use Rattle.std.specs.declared.option.Option.TheVariants.{Some};
 ghost use Rattle.cp_outside.specs.FileReads.{FileTable};
 ghost use Rattle.cp_session.specs.Session.{Session, turn, turn_of, not_read};
 ghost use Rattle.cp_program.specs.Job.{setting, reading, is_run};
 ghost use Rattle.cp_program.specs.Databases.{Stands, IsSession, Turned};
 ghost use Rattle.cp_program.specs.Turns.{Reads, BlamesFiles, IsOwn};
+ghost use Rattle.cp_program.specs.declared.limits.TheConstants.{RUNS_MAX};
 
 use crate::database::Database;
 use crate::stop::Stop;
@@ -33,7 +34,7 @@ fn refuse<R: TreeRep>(
     why: Why,
 ) -> Result<Reply, AllocError>
     requires stands { IsSession R.contents database.old }
-    requires room { database.old.runs < 2 ^ 62 }
+    requires room { database.old.runs < RUNS_MAX }
     ensures turned { IfOk result (λ r. (s : Session) → Stands R.contents database.old s → Turned R.contents (not_read s why) database.new (Some r)) }
     ensures runs { OnOk result (database.new.runs ≤ database.old.runs + 1) }
 {
@@ -71,7 +72,7 @@ fn run_text<R: TreeRep, F: Files>(
     files: &mut F,
 ) -> Result<Option<Reply>, Stop>
     requires stands { IsSession R.contents database.old }
-    requires room { database.old.runs < 2 ^ 62 }
+    requires room { database.old.runs < RUNS_MAX }
     ensures turned { IfOk result (λ r. (t : FileTable) → F.found files.old ≡ Some t → (s : Session) → Stands R.contents database.old s
         → Turned R.contents (turn_of (setting t) s (reading text.now)) database.new r) }
     ensures stands { OnOk result (IsSession R.contents database.new) }
@@ -94,7 +95,7 @@ pub(crate) fn reply_to<R: TreeRep, F: Files>(
     files: &mut F,
 ) -> Result<Option<Reply>, Stop>
     requires stands { IsSession R.contents database.old }
-    requires room { database.old.runs < 2 ^ 62 }
+    requires room { database.old.runs < RUNS_MAX }
     ensures turned { IfOk result (λ r. (t : FileTable) → F.found files.old ≡ Some t → (s : Session) → Stands R.contents database.old s
         → Turned R.contents (turn (setting t) s cut) database.new r) }
     ensures stands { OnOk result (IsSession R.contents database.new) }

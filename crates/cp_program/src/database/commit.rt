@@ -1,9 +1,10 @@
-ghost use Rattle.std.specs.Prelude.{◌≡◌, ◌+◌, ◌<◌, ◌≤◌, ◌^◌, IfOk};
+ghost use Rattle.std.specs.Prelude.{◌≡◌, ◌+◌, ◌<◌, ◌≤◌, IfOk};
 ghost use Rattle.std.specs.declared.option.Option.TheVariants.{Some};
 ghost use Rattle.cp_outside.specs.FileReads.{FileTable};
 ghost use Rattle.cp_session.specs.Session.{Session, says, turn_of};
 ghost use Rattle.cp_program.specs.Job.{setting};
 ghost use Rattle.cp_program.specs.Databases.{Stands, IsSession, Turned, Makes};
+ghost use Rattle.cp_program.specs.declared.limits.TheConstants.{RUNS_MAX};
 
 use crate::database::Database;
 use crate::database::refusal::refused_commit;
@@ -18,7 +19,7 @@ impl<R: TreeRep> Database<R> {
     /// Keeps what a transaction has made.
     fn keep(&mut self, alloc: Global, step: Step<R>) -> Result<Reply, AllocError>
         requires makes { (s : Session) × Makes R.contents self.old step s }
-        requires room { self.old.runs < 2 ^ 62 }
+        requires room { self.old.runs < RUNS_MAX }
         ensures turned { IfOk result (λ r. (t : FileTable) (s : Session) → Makes R.contents self.old step s → Turned R.contents (turn_of (setting t) s (says Stmt.Commit)) self.new (Some r)) }
         ensures runs { self.new.runs ≡ self.old.runs }
     {
@@ -39,7 +40,7 @@ impl<R: TreeRep> Database<R> {
     /// Commits the open transaction, which is closed also where it is refused.
     pub(super) fn commit(&mut self, alloc: Global) -> Result<Reply, AllocError>
         requires stands { IsSession R.contents self.old }
-        requires room { self.old.runs < 2 ^ 62 }
+        requires room { self.old.runs < RUNS_MAX }
         ensures turned { IfOk result (λ r. (t : FileTable) (s : Session) → Stands R.contents self.old s → Turned R.contents (turn_of (setting t) s (says Stmt.Commit)) self.new (Some r)) }
         ensures runs { self.new.runs ≡ self.old.runs }
     {

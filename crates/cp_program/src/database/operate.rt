@@ -1,4 +1,4 @@
-ghost use Rattle.std.specs.Prelude.{◌≡◌, ◌+◌, ◌<◌, ◌≤◌, ◌^◌, IfOk, OnOk};
+ghost use Rattle.std.specs.Prelude.{◌≡◌, ◌+◌, ◌<◌, ◌≤◌, IfOk, OnOk};
 ghost use Rattle.std.specs.declared.option.Option.TheVariants.{None};
 ghost use Rattle.cp_model.specs.History.{IsWritten};
 ghost use Rattle.cp_reply.specs.declared.reply.Why.{Why as WhyValue};
@@ -7,6 +7,7 @@ ghost use Rattle.cp_session.specs.Session.{Session, says, turn_of, not_read};
 ghost use Rattle.cp_program.specs.Job.{setting};
 ghost use Rattle.cp_program.specs.Databases.{Stands, IsSession, Turned};
 ghost use Rattle.cp_program.specs.Databases.{IsOpened};
+ghost use Rattle.cp_program.specs.declared.limits.TheConstants.{RUNS_MAX};
 
 use crate::database::Database;
 use crate::database::refusal::{refused, why_of};
@@ -22,7 +23,7 @@ impl<R: TreeRep> Database<R> {
     /// Takes the open transaction out, or begins one.
     fn take_opened(&mut self, alloc: Global) -> Result<Txn<R>, AllocError>
         requires stands { IsSession R.contents self.old }
-        requires room { self.old.runs < 2 ^ 62 }
+        requires room { self.old.runs < RUNS_MAX }
         ensures opened { IfOk result (λ x. IsOpened R.contents self.old x) }
         ensures taken { self.new ≡ record self.old { transaction = None } }
     {
@@ -35,7 +36,7 @@ impl<R: TreeRep> Database<R> {
     /// Runs an operation in the open transaction, or in one that it begins.
     pub(super) fn operate(&mut self, alloc: Global, op: Op) -> Result<Option<Reply>, AllocError>
         requires stands { IsSession R.contents self.old }
-        requires room { self.old.runs < 2 ^ 62 }
+        requires room { self.old.runs < RUNS_MAX }
         requires written { IsWritten op }
         ensures turned { IfOk result (λ r. (t : FileTable) (s : Session) → Stands R.contents self.old s → Turned R.contents (turn_of (setting t) s (says (Stmt.Op op))) self.new r) }
         ensures runs { OnOk result (self.new.runs ≤ self.old.runs + 1) }
@@ -55,7 +56,7 @@ impl<R: TreeRep> Database<R> {
     /// A text that can't be read counts as an operation that is refused.
     pub(crate) fn spoil(&mut self, alloc: Global) -> Result<(), AllocError>
         requires stands { IsSession R.contents self.old }
-        requires room { self.old.runs < 2 ^ 62 }
+        requires room { self.old.runs < RUNS_MAX }
         ensures stands { OnOk result ((s : Session) → (w : WhyValue) → Stands R.contents self.old s → Stands R.contents self.new (not_read s w).next) }
         ensures runs { OnOk result (self.new.runs ≤ self.old.runs + 1) }
     {

@@ -4,7 +4,7 @@ use Rattle.cp_program.proofs.database.Database.current_tree.Goals.{in-Some+in_de
 
 pub returns-in-Going : goal.returns-in-Going
 returns-in-Going g c = λ s z.
-    tree-going g.R.TreeRep.contents c.args.self.now s z c.in-Some.transaction c.in-Some.is c.state.result c.state.ensures c.in-Going.field-0 (g.R.TreeRep.contents c.tree.result.now) c.in-Going.is c.tree.ensures
+    tree-going g.R.TreeRep.contents c.args.self.now s z c.in-Some.transaction c.in-Some.is c.state.result c.state.ensures c.in-Going.field-0 (g.R.TreeRep.contents c.tree.result.now) c.in-Going.is c.tree.ensures.going
 
 pub returns : goal.returns
 returns g c = λ s z.
