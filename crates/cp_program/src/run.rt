@@ -294,6 +294,16 @@ fn tell<O: Sink>(alloc: Global, reply: &Reply, output: &mut O) -> Result<(), Sto
     Ok(())
 }
 
+/// Writes the refusal of a start tree.
+fn tell_refusal<O: Sink>(alloc: Global, why: Why, output: &mut O) -> Result<(), Stop>
+    ensures went { Written (refused_start why) (O.contents output.old) (O.contents output.new) result }
+    ensures cause { Blames (O.faults output.old) (O.faults output.new) (O.refusals output.old) (O.refusals output.new) result }
+    ensures own { ¬ (result ≡ Err Stop.File) }
+{
+    let reply = refused_scratch(why);
+    tell(alloc, &reply, output)
+}
+
 /// A start tree is refused, and no session is run.
 fn refuse_start<O: Sink>(alloc: Global, why: Why, output: &mut O) -> End
     ensures wrote { WroteRefusal (refused_start why) (O.contents output.old) (O.contents output.new) (O.refusals output.old) (O.refusals output.new) result }
@@ -304,8 +314,7 @@ fn refuse_start<O: Sink>(alloc: Global, why: Why, output: &mut O) -> End
     ensures calm { IsCalm result (O.faults output.old) (O.faults output.new) }
     ensures blamed { result ≡ End.Output → Rose (O.faults output.old) (O.faults output.new) }
 {
-    let reply = refused_scratch(why);
-    match tell(alloc, &reply, output) {
+    match tell_refusal(alloc, why, output) {
         Ok(()) => End::Refused,
         Err(stop) => stopped(output, stop),
     }
