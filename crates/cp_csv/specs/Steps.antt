@@ -61,9 +61,9 @@ pub record IsOpen (it : ByteRecordsIntoIter (Bor (List ℕ))) : Type 0 where
 -- ---- refusals
 
 -- the answer is the refusal, if there is one, or memory ran out
-abbrev pub Tells : {X : Type 0} → Result X CsvFault → Option CsvFault → Type 0
-Tells (Ok x) o = o ≡ None
-Tells (Err e) o = (e ≡ Memory) ⊎ (o ≡ Some e)
+abbrev pub TellsRefusal : {X : Type 0} → Result X CsvFault → Option CsvFault → Type 0
+TellsRefusal (Ok x) o = o ≡ None
+TellsRefusal (Err e) o = (e ≡ Memory) ⊎ (o ≡ Some e)
 
 -- ---- columns
 

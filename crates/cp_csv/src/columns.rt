@@ -5,7 +5,7 @@ ghost use Rattle.std.specs.declared.option.Option.TheVariants.{None, Some};
 ghost use Rattle.csv.specs.Records.{fields_of};
 ghost use Rattle.cp_model.specs.Place.{label_eq, option_map};
 ghost use Rattle.cp_csv.specs.CsvTrees.{is_long_label, repeated_column, header_fault};
-ghost use Rattle.cp_csv.specs.Steps.{column_of, key_of, IsColumns, Tells};
+ghost use Rattle.cp_csv.specs.Steps.{column_of, key_of, IsColumns, TellsRefusal};
 
 use crate::fault::CsvFault;
 use cp_path::{LABEL_MAX, Label};
@@ -92,7 +92,7 @@ pub(crate) fn columns_of(
     ensures made { IfOk result (λ c. c.labels.items ≡ fields_of header) }
     ensures keyed { IfOk result (λ c. key_of (fields_of header) c.key ≡ option_map (λ k. k.now) key.entry) }
     ensures sound { IfOk result (λ c. IsColumns (fields_of header) c.key) }
-    ensures told { Tells result (header_fault (fields_of header) (option_map (λ k. k.now) key.entry)) }
+    ensures told { TellsRefusal result (header_fault (fields_of header) (option_map (λ k. k.now) key.entry)) }
 {
     let Some(fields) = text_of(header) else {
         return Err(CsvFault::NotUtf8(0));

@@ -8,7 +8,7 @@ ghost use Rattle.cp_model.specs.Place.{Path, over_limit, option_map};
 ghost use Rattle.cp_model.specs.Subtrees.{is_there};
 ghost use Rattle.cp_model.specs.declared.row.Content.TheVariants.{Node};
 ghost use Rattle.cp_csv.specs.CsvTrees.{csv_tree, row_fault, row_label, rows_tree, with_row};
-ghost use Rattle.cp_csv.specs.Steps.{IsColumns, IsOpen, IsShallow, Tells, key_of, records_left};
+ghost use Rattle.cp_csv.specs.Steps.{IsColumns, IsOpen, IsShallow, TellsRefusal, key_of, records_left};
 
 use crate::columns::{Columns, columns_of};
 use crate::fault::CsvFault;
@@ -33,7 +33,7 @@ fn add_row<R: TreeRep>(
     requires root { get (R.contents tree.old) [] ≡ Some Node }
     requires shallow { IsShallow (R.contents tree.old) }
     ensures put { OnOk result (R.contents tree.new ≡ with_row (row_label columns.now.labels.items (key_of columns.now.labels.items columns.now.key) number (fields_of raw)) columns.now.labels.items (fields_of raw) (R.contents tree.old)) }
-    ensures told { Tells result (row_fault columns.now.labels.items (key_of columns.now.labels.items columns.now.key) number (fields_of raw) (R.contents tree.old)) }
+    ensures told { TellsRefusal result (row_fault columns.now.labels.items (key_of columns.now.labels.items columns.now.key) number (fields_of raw) (R.contents tree.old)) }
     ensures root { OnOk result (get (R.contents tree.new) [] ≡ Some Node) }
     ensures grows { OnOk result (len (R.contents tree.old) < len (R.contents tree.new)) }
     ensures shallow { OnOk result (IsShallow (R.contents tree.new)) }

@@ -7,7 +7,7 @@ ghost use Rattle.cp_model.specs.declared.row.Content.TheVariants.{Node, Leaf};
 ghost use Rattle.cp_model.specs.Keyed.{get, len};
 ghost use Rattle.cp_model.specs.Tree.{weight};
 ghost use Rattle.cp_csv.specs.CsvTrees.{is_long_label, is_long_text, with_fields, with_row, tree_fault};
-ghost use Rattle.cp_csv.specs.Steps.{IsEmptyRow, IsColumns, Tells, fields_weight};
+ghost use Rattle.cp_csv.specs.Steps.{IsEmptyRow, IsColumns, TellsRefusal, fields_weight};
 
 use crate::columns::Columns;
 use crate::fault::CsvFault;
@@ -84,7 +84,7 @@ pub(crate) fn put_row<R: TreeRep>(
     requires even { length (fields_of row.now.fields) ≡ length columns.now.labels.items }
     requires texts { list_any is_long_text (fields_of row.now.fields) ≡ false }
     ensures put { OnOk result (R.contents tree.new ≡ with_row row.now.label columns.now.labels.items (fields_of row.now.fields) (R.contents tree.old)) }
-    ensures told { Tells result (tree_fault row.now.label columns.now.labels.items number (fields_of row.now.fields) (R.contents tree.old)) }
+    ensures told { TellsRefusal result (tree_fault row.now.label columns.now.labels.items number (fields_of row.now.fields) (R.contents tree.old)) }
 {
     let root = Path::root(alloc);
     if tree.has_child(&root, &row.label) {

@@ -4,7 +4,7 @@ ghost use Rattle.std.specs.Str.{is_utf8};
 ghost use Rattle.std.specs.declared.option.Option.TheVariants.{None, Some};
 ghost use Rattle.csv.specs.Records.{fields_of};
 ghost use Rattle.cp_csv.specs.CsvTrees.{row_label, field_fault, is_long_label, is_long_text};
-ghost use Rattle.cp_csv.specs.Steps.{key_of, IsColumns, Tells};
+ghost use Rattle.cp_csv.specs.Steps.{key_of, IsColumns, TellsRefusal};
 ghost use Rattle.cp_csv.specs.declared.fault.CsvFault.TheVariants.{LabelTooLong};
 
 use crate::columns::{Columns, has_longer, text_of};
@@ -23,7 +23,7 @@ pub(crate) struct Row {
 /// A label with this text, if it isn't too long.
 fn short_label(alloc: Global, text: &str) -> Result<Label, CsvFault>
     ensures text { IfOk result (λ a. a ≡ text.now) }
-    ensures told { Tells result (if is_long_label text.now then Some LabelTooLong else None) }
+    ensures told { TellsRefusal result (if is_long_label text.now then Some LabelTooLong else None) }
 {
     if text.len() > LABEL_MAX {
         return Err(CsvFault::LabelTooLong);
@@ -41,7 +41,7 @@ fn row_label(
     requires columns { IsColumns columns.now.labels.items columns.now.key }
     requires even { length (fields_of fields.now) ≡ length columns.now.labels.items }
     ensures text { IfOk result (λ a. a ≡ row_label columns.now.labels.items (key_of columns.now.labels.items columns.now.key) number (fields_of fields.now)) }
-    ensures told { Tells result (if is_long_label (row_label columns.now.labels.items (key_of columns.now.labels.items columns.now.key) number (fields_of fields.now)) then Some LabelTooLong else None) }
+    ensures told { TellsRefusal result (if is_long_label (row_label columns.now.labels.items (key_of columns.now.labels.items columns.now.key) number (fields_of fields.now)) then Some LabelTooLong else None) }
 {
     let Some(at) = columns.key else {
         let digits = number.to_string(alloc)?;
@@ -65,7 +65,7 @@ pub(crate) fn row_of(
     ensures fields { IfOk result (λ r. fields_of r.fields ≡ fields_of raw) }
     ensures even { IfOk result (λ r. length (fields_of r.fields) ≡ length columns.now.labels.items) }
     ensures texts { IfOk result (λ r. list_any is_long_text (fields_of r.fields) ≡ false) }
-    ensures told { Tells result (field_fault columns.now.labels.items (key_of columns.now.labels.items columns.now.key) number (fields_of raw)) }
+    ensures told { TellsRefusal result (field_fault columns.now.labels.items (key_of columns.now.labels.items columns.now.key) number (fields_of raw)) }
 {
     if raw.len() != columns.labels.len() {
         return Err(CsvFault::Ragged(number));

@@ -10,7 +10,7 @@ use Rattle.cp_model.specs.declared.effect.Effect.TheVariants.{Same as same}
 use Rattle.cp_model.specs.Rows.{Reading, left, read_mark}
 use Rattle.cp_model.specs.Leaps.{Readings, tells_same, last}
 use Rattle.cp_model.specs.declared.record.Record.{Record}
-use Rattle.cp_store.specs.Changes.{reading_of}
+use Rattle.cp_store.specs.Changes.{reading_of_what}
 use Rattle.cp_store.specs.declared.change.What.{What}
 use Rattle.cp_store.specs.declared.change.What.TheVariants.{New, From, Gone}
 use Rattle.cp_rows.specs.declared.index.Step.{Step}
@@ -78,14 +78,14 @@ module _ (rs : List Record) (m : List Step) (t : ℕ) (p : Path) where
       says : rows_tell rs m s.tid p ≡ reading_if w
       says = ap (λ o. own (mark_at rs o)) said_at.1 ∙ ap own at ∙ sym is
 
-      differs : (v : What) → tells_same (reading_of v) ≡ false
+      differs : (v : What) → tells_same (reading_of_what v) ≡ false
       differs New = refl
       differs (From q) = refl
       differs Gone = refl
 
       -- what the newest row has done is the newest change
-      pub said_change : (v : What) → w ≡ Some v → last (rows_tell rs m) t p ≡ Some (s.tid, reading_of v)
-      said_change v e = over ∙ last-change (rows_tell rs m) s.tid p (reading_of v) pos (says ∙ ap reading_if e) (differs v)
+      pub said_change : (v : What) → w ≡ Some v → last (rows_tell rs m) t p ≡ Some (s.tid, reading_of_what v)
+      said_change v e = over ∙ last-change (rows_tell rs m) s.tid p (reading_of_what v) pos (says ∙ ap reading_if e) (differs v)
 
       -- where it has done nothing, the search goes on below
       pub said_same : w ≡ None → last (rows_tell rs m) (s.tid - 1) p ≡ last (rows_tell rs m) t p

@@ -7,7 +7,7 @@ use Rattle.cp_model.specs.declared.effect.Effect.TheVariants.{Same as same}
 use Rattle.cp_model.specs.Rows.{Reading, left, read_nearest}
 use Rattle.cp_model.specs.declared.record.RowMark.{RowMark as Mark}
 use Rattle.cp_model.specs.declared.record.Record.{Record}
-use Rattle.cp_store.specs.Changes.{reading_of}
+use Rattle.cp_store.specs.Changes.{reading_of_what}
 use Rattle.cp_store.specs.declared.change.What.{What}
 use Rattle.cp_rows.specs.declared.index.Step.{Step}
 use Rattle.cp_rows.specs.Steps.{row_number, mark_at}
@@ -23,4 +23,4 @@ rows_tell rs steps u p = own (mark_at rs (row_number steps u))
 -- nothing done tells that the place is the same
 abbrev pub reading_if : Option What → Reading
 reading_if None = left same
-reading_if (Some w) = reading_of w
+reading_if (Some w) = reading_of_what w

@@ -26,9 +26,9 @@ use Rattle.cp_json.specs.declared.fault.JsonFault.{JsonFault}
 use Rattle.cp_json.specs.declared.fault.JsonFault.TheVariants.{NotWhole}
 use Rattle.cp_json.specs.Places.{content_of, places_below, value_places, bytes_of, place_weight}
 use Rattle.cp_model.specs.Cases.{first_case, unless}
-use Rattle.cp_json.specs.JsonTrees.{any_above, refusals, first_fraction, entry_of, value_reading, without_mark, tree_of_places, tree_of_reading, json_tree}
-use Rattle.cp_json.specs.Growing.{or_node, with_leaf, CanPut, AreNear, grown_tree, CanGrow}
-use Rattle.cp_json.specs.Ordered.{IsOrdered}
+use Rattle.cp_json.specs.JsonTrees.{any_above, refusals, first_fraction, entry_of, json_reading, without_mark, tree_of_places, tree_of_reading, json_tree}
+use Rattle.cp_json.specs.Growing.{or_node, with_leaf, CanPut, AreWithinLimits, grown_tree, CanGrow}
+use Rattle.cp_json.specs.Ordered.{HasRisingMembers}
 use Rattle.cp_path.specs.Text.{is_name}
 use Rattle.cp_json.specs.declared.survey.Survey.{Survey}
 use Rattle.cp_json.specs.Surveys.{survey_of, survey_refusals}
@@ -110,7 +110,7 @@ near_entry name ((q, Some c) ∷ es) p f s i = by (near_entry name es p a.1 b.1)
     by rest true e j = ap (λ (r : Path). over_limit (record { db = name; path = r })) (path_eq-same p q e) ∙ ap (λ x. x || nat_lt LOC_MAX (size (record { db = name; path = q }))) a.0 ∙ b.0
     by rest false e j = rest j
 
-module _ (name : List ℕ) (d : Data) (n : 1 ≤ length name) (o : IsOrdered d) (r : first_case (refusals name (value_places d)) ≡ None) (w : first_fraction (value_places d) ≡ None) where
+module _ (name : List ℕ) (d : Data) (n : 1 ≤ length name) (o : HasRisingMembers d) (r : first_case (refusals name (value_places d)) ≡ None) (w : first_fraction (value_places d) ≡ None) where
   abbrev v : Content
   v = or_node (content_of d)
 
@@ -159,7 +159,7 @@ module _ (name : List ℕ) (d : Data) (n : 1 ≤ length name) (o : IsOrdered d) 
   grown_near p i = near_entry name (value_places d) p x.low.few x.near (sym (ap (λ t. is_there t p) grown_is ∙ ap is_some (find-from_entries (filter_map entry_of (value_places d)) p)) ∙ i)
 
 -- the walk for a number that isn't whole stays within the limits
-pub near_enough : (name : List ℕ) (d : Data) → first_case (refusals name (value_places d)) ≡ None → AreNear d
+pub near_enough : (name : List ℕ) (d : Data) → first_case (refusals name (value_places d)) ≡ None → AreWithinLimits d
 near_enough name d r = near_all d (within name (value_places d) r).low
 
 -- ---- answers
@@ -180,16 +180,16 @@ pub places_not_whole : (name : List ℕ) (d : Data) (p : Path) → first_case (r
 places_not_whole name d p h k = tree_or name d None (Some (NotWhole p)) h (ap (option_map NotWhole) k)
 
 -- or else the tree
-pub places_grown : (name : List ℕ) (d : Data) (t : Tree) → 1 ≤ length name → IsOrdered d → first_case (refusals name (value_places d)) ≡ None → first_fraction (value_places d) ≡ None → t ≡ grown_tree d → tree_of_places name (value_places d) ≡ Ok t
+pub places_grown : (name : List ℕ) (d : Data) (t : Tree) → 1 ≤ length name → HasRisingMembers d → first_case (refusals name (value_places d)) ≡ None → first_fraction (value_places d) ≡ None → t ≡ grown_tree d → tree_of_places name (value_places d) ≡ Ok t
 places_grown name d t n o h k e = tree_or name d None None h (ap (option_map NotWhole) k) ∙ ap (λ z. Ok z) (sym (e ∙ grown_is name d n o h k))
 
 -- the tree of bytes that are a value
-pub json_is : (name bytes : List ℕ) (d : Data) → value_reading (without_mark bytes) ≡ Ok d → json_tree name bytes ≡ tree_of_places name (value_places d)
+pub json_is : (name bytes : List ℕ) (d : Data) → json_reading (without_mark bytes) ≡ Ok d → json_tree name bytes ≡ tree_of_places name (value_places d)
 unfolding json_tree
 json_is name bytes d h = ap (tree_of_reading name) h
 
 -- and of bytes that are none
-pub json_none : (name bytes : List ℕ) (e : JsonFault) → value_reading (without_mark bytes) ≡ Err e → json_tree name bytes ≡ Err e
+pub json_none : (name bytes : List ℕ) (e : JsonFault) → json_reading (without_mark bytes) ≡ Err e → json_tree name bytes ≡ Err e
 unfolding json_tree
 json_none name bytes e h = ap (tree_of_reading name) h
 

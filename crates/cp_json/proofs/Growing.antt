@@ -29,7 +29,7 @@ use Rattle.cp_tree.proofs.Leaves.{leaf-insert, leaf-fits}
 use Rattle.cp_json.specs.Places.{content_of, value_places, places_below, item_places, member_places, bytes_of, place_weight}
 use Rattle.cp_json.specs.JsonTrees.{entry_of}
 use Rattle.cp_json.specs.Growing.{or_node, with_leaf, CanPut}
-use Rattle.cp_json.specs.Ordered.{AllAbove, IsOrdered, ItemsOrdered, MembersOrdered}
+use Rattle.cp_json.specs.Ordered.{AllAbove, HasRisingMembers, ItemsHaveRisingMembers, AreRisingMembers}
 use Rattle.cp_json.proofs.Walking.{Entry, stepped, AllNeeds}
 use Rattle.cp_json.proofs.Looking.{IsLow}
 
@@ -154,7 +154,7 @@ fresh_kept t u p k no_members a e f = tt
 fresh_kept t u p k (member l d ms) a e f = (λ s. e l s (less_apart k l a.0) ∙ f.0 s, fresh_kept t u p k ms a.1 e f.1)
 
 mutual
-  pub listing_below : (t : Tree) (p : Path) (d : Data) → IsOrdered d → length (places_below p d) < 2 ^ 64 → keyed.get t p ≡ Some (or_node (content_of d)) → ((a : Label) (s : Path) → keyed.get t (child p a ++ s) ≡ None) → IsListing t (places_below p d)
+  pub listing_below : (t : Tree) (p : Path) (d : Data) → HasRisingMembers d → length (places_below p d) < 2 ^ 64 → keyed.get t p ≡ Some (or_node (content_of d)) → ((a : Label) (s : Path) → keyed.get t (child p a ++ s) ≡ None) → IsListing t (places_below p d)
   listing_below t p null o l n f = tt
   listing_below t p (boolean b) o l n f = tt
   listing_below t p (number m) o l n f = tt
@@ -162,7 +162,7 @@ mutual
   listing_below t p (array ds) o l n f = listing_items t p 0 ds o (omega (arith, l)) n (λ j _ _ s. f (decimal j) s)
   listing_below t p (object ms) o l n f = listing_members t p ms o l n (all_fresh t p ms f)
 
-  listing_items : (t : Tree) (p : Path) (i : ℕ) (ds : Items) → ItemsOrdered ds → i + length (item_places p i ds) < 2 ^ 64 → keyed.get t p ≡ Some Node →
+  listing_items : (t : Tree) (p : Path) (i : ℕ) (ds : Items) → ItemsHaveRisingMembers ds → i + length (item_places p i ds) < 2 ^ 64 → keyed.get t p ≡ Some Node →
       ((j : ℕ) → i ≤ j → j < 2 ^ 64 → (s : Path) → keyed.get t (child p (decimal j) ++ s) ≡ None) → IsListing t (item_places p i ds)
   listing_items t p i no_items o l n f = tt
   listing_items t p i (item d ds) o l n f =
@@ -180,7 +180,7 @@ mutual
             (λ j le lt s. stands_still t q d (child p (decimal j) ++ s) (strip_other p (decimal i) (decimal j) s (apart i j (omega (arith, le)) (omega (arith, l)) lt)) ∙ f j (omega (arith, le)) lt s)),
       )
 
-  listing_members : (t : Tree) (p : Path) (ms : Members) → MembersOrdered ms → length (member_places p ms) < 2 ^ 64 → keyed.get t p ≡ Some Node → AllFresh t p ms → IsListing t (member_places p ms)
+  listing_members : (t : Tree) (p : Path) (ms : Members) → AreRisingMembers ms → length (member_places p ms) < 2 ^ 64 → keyed.get t p ≡ Some Node → AllFresh t p ms → IsListing t (member_places p ms)
   listing_members t p no_members o l n f = tt
   listing_members t p (member k d ms) o l n f =
       let q = child p k in
@@ -206,7 +206,7 @@ range_append : (es fs : List Entry) → AllInRange es → AllInRange fs → AllI
 range_append [] fs h k = k
 range_append (e ∷ es) fs h k = (h.0, range_append es fs h.1 k)
 
-range_of : (d : Data) → IsOrdered d → IsNumber (or_node (content_of d))
+range_of : (d : Data) → HasRisingMembers d → IsNumber (or_node (content_of d))
 range_of null o = tt
 range_of (boolean true) o = tt
 range_of (boolean false) o = tt
@@ -216,7 +216,7 @@ range_of (array ds) o = tt
 range_of (object ms) o = tt
 
 mutual
-  range_below : (p : Path) (d : Data) → IsOrdered d → AllInRange (places_below p d)
+  range_below : (p : Path) (d : Data) → HasRisingMembers d → AllInRange (places_below p d)
   range_below p null o = tt
   range_below p (boolean b) o = tt
   range_below p (number n) o = tt
@@ -224,16 +224,16 @@ mutual
   range_below p (array ds) o = range_items p 0 ds o
   range_below p (object ms) o = range_members p ms o
 
-  range_items : (p : Path) (i : ℕ) (ds : Items) → ItemsOrdered ds → AllInRange (item_places p i ds)
+  range_items : (p : Path) (i : ℕ) (ds : Items) → ItemsHaveRisingMembers ds → AllInRange (item_places p i ds)
   range_items p i no_items o = tt
   range_items p i (item d ds) o = (range_of d o.0, range_append (places_below (child p (decimal i)) d) (item_places p (i + 1) ds) (range_below (child p (decimal i)) d o.0) (range_items p (i + 1) ds o.1))
 
-  range_members : (p : Path) (ms : Members) → MembersOrdered ms → AllInRange (member_places p ms)
+  range_members : (p : Path) (ms : Members) → AreRisingMembers ms → AllInRange (member_places p ms)
   range_members p no_members o = tt
   range_members p (member k d ms) o = (range_of d o.1, range_append (places_below (child p k) d) (member_places p ms) (range_below (child p k) d o.1) (range_members p ms o.2))
 
 -- so are all of a value that is read
-pub range_all : (d : Data) → IsOrdered d → AllInRange (value_places d)
+pub range_all : (d : Data) → HasRisingMembers d → AllInRange (value_places d)
 range_all d o = (range_of d o, range_below [] d o)
 
 -- ---- leaves added to a tree within the limits

@@ -18,7 +18,7 @@ use Rattle.cp_model.proofs.SumsLemmas.{last_bytes_child}
 use Rattle.cp_json.specs.Places.{content_of, value_places}
 use Rattle.cp_json.specs.JsonTrees.{any_above, fraction_path, least_path, first_fraction}
 use Rattle.cp_json.specs.Walks.{walk_below}
-use Rattle.cp_json.specs.Growing.{earlier_of, with_place, IsNear, AreNear}
+use Rattle.cp_json.specs.Growing.{earlier_of, with_place, IsWithinLimits, AreWithinLimits}
 use Rattle.cp_json.proofs.Walking.{Entry, stepped, AllNeeds, below_is, needs_below}
 
 -- ---- the least of some paths
@@ -190,10 +190,10 @@ low_first e es h =
     let b = or_parts (nat_lt LABELS_MAX (length e.0)) (any_above LABELS_MAX (λ e. length e.0) es) h.few in
     (record { near = near e a.0 b.0 }, record { short = a.1; few = b.1 })
 
-near_needs : (es : List Entry) (o : Option Path) → AreLow es → AllNeeds with_place IsNear es o
+near_needs : (es : List Entry) (o : Option Path) → AreLow es → AllNeeds with_place IsWithinLimits es o
 near_needs [] o h = tt
 near_needs (e ∷ es) o h = let l = low_first e es h in (l.0.near, near_needs es (with_place e.0 e.1 o) l.1)
 
 -- the walk stays within the limits of labels and paths
-pub near_all : (d : Data) → AreLow (value_places d) → AreNear d
-near_all d h = needs_below with_place IsNear [] d (with_place [] (content_of d) None) (near_needs (value_places d) None h).1
+pub near_all : (d : Data) → AreLow (value_places d) → AreWithinLimits d
+near_all d h = needs_below with_place IsWithinLimits [] d (with_place [] (content_of d) None) (near_needs (value_places d) None h).1

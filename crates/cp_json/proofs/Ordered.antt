@@ -21,9 +21,9 @@ use Rattle.serde_json.specs.Read.{is_integer, float_of, number_from, number_of, 
 use Rattle.cp_model.specs.Tree.{IsNumber}
 use Rattle.cp_json.specs.declared.fault.JsonFault.{JsonFault}
 use Rattle.cp_json.specs.Places.{number_content}
-use Rattle.cp_json.specs.JsonTrees.{value_reading}
+use Rattle.cp_json.specs.JsonTrees.{json_reading}
 use Rattle.cp_json.specs.Growing.{or_node}
-use Rattle.cp_json.specs.Ordered.{AllAbove, IsOrdered, ItemsOrdered, MembersOrdered}
+use Rattle.cp_json.specs.Ordered.{AllAbove, HasRisingMembers, ItemsHaveRisingMembers, AreRisingMembers}
 
 map_parts : {A B : Type 0} (f : A → B) (o : Option A) (b : B) → option_map f o ≡ Some b → (a : A) × ((o ≡ Some a) × (f a ≡ b))
 map_parts f None b h = absurd (cc)
@@ -46,10 +46,10 @@ above_put l k d (member m e ms) lt h =
       | Greater ↦ (h.0, above_put l k d ms lt h.1)
     ]
 
-put_ordered : (k : List ℕ) (d : Data) (ms : Members) → IsOrdered d → MembersOrdered ms → MembersOrdered (put k d ms)
+put_ordered : (k : List ℕ) (d : Data) (ms : Members) → HasRisingMembers d → AreRisingMembers ms → AreRisingMembers (put k d ms)
 put_ordered k d no_members od om = (tt, od, tt)
 put_ordered k d (member m e ms) od om =
-    elim (text_cmp k m) as (λ o. text_cmp k m ≡ o → MembersOrdered (match_ordering o (member k d (member m e ms)) (member m d ms) (member m e (put k d ms)))) [
+    elim (text_cmp k m) as (λ o. text_cmp k m ≡ o → AreRisingMembers (match_ordering o (member k d (member m e ms)) (member m d ms) (member m e (put k d ms)))) [
       | Less ↦ λ lt. ((lt, above_all k m ms lt om.0), od, om)
       | Equal ↦ λ _. (om.0, od, om.2)
       | Greater ↦ λ gt. (above_put m k d ms (nat_list_cmp_total.antisymm m k ∙ ap ordering_reverse gt) om.0, om.1, put_ordered k d ms od om.2)
@@ -94,23 +94,23 @@ read_number s n e =
 -- ---- values
 
 mutual
-  json_ordered : (j : json.Json) (d : Data) → of_json j ≡ Some d → IsOrdered d
-  json_ordered json.null d h = let e : null ≡ d = cc in subst IsOrdered e tt
-  json_ordered (json.boolean b) d h = let e : boolean b ≡ d = cc in subst IsOrdered e tt
-  json_ordered (json.number s) d h = let m = map_parts number (number_of s) d h in subst IsOrdered m.1.1 (read_number s m.0 m.1.0)
-  json_ordered (json.string s) d h = let e : string s ≡ d = cc in subst IsOrdered e tt
-  json_ordered (json.array js) d h = let m = map_parts array (of_items js) d h in subst IsOrdered m.1.1 (items_ordered js m.0 m.1.0)
-  json_ordered (json.object ms) d h = let m = map_parts object (of_members ms no_members) d h in subst IsOrdered m.1.1 (members_ordered ms no_members m.0 tt m.1.0)
+  json_ordered : (j : json.Json) (d : Data) → of_json j ≡ Some d → HasRisingMembers d
+  json_ordered json.null d h = let e : null ≡ d = cc in subst HasRisingMembers e tt
+  json_ordered (json.boolean b) d h = let e : boolean b ≡ d = cc in subst HasRisingMembers e tt
+  json_ordered (json.number s) d h = let m = map_parts number (number_of s) d h in subst HasRisingMembers m.1.1 (read_number s m.0 m.1.0)
+  json_ordered (json.string s) d h = let e : string s ≡ d = cc in subst HasRisingMembers e tt
+  json_ordered (json.array js) d h = let m = map_parts array (of_items js) d h in subst HasRisingMembers m.1.1 (items_ordered js m.0 m.1.0)
+  json_ordered (json.object ms) d h = let m = map_parts object (of_members ms no_members) d h in subst HasRisingMembers m.1.1 (members_ordered ms no_members m.0 tt m.1.0)
 
-  items_ordered : (js : json.Items) (ds : Items) → of_items js ≡ Some ds → ItemsOrdered ds
-  items_ordered json.no_items ds h = let e : no_items ≡ ds = cc in subst ItemsOrdered e tt
+  items_ordered : (js : json.Items) (ds : Items) → of_items js ≡ Some ds → ItemsHaveRisingMembers ds
+  items_ordered json.no_items ds h = let e : no_items ≡ ds = cc in subst ItemsHaveRisingMembers e tt
   items_ordered (json.item j js) ds h =
       let a = then_parts (λ d. option_map (item d) (of_items js)) (of_json j) ds h in
       let b = map_parts (item a.0) (of_items js) ds a.1.1 in
-      subst ItemsOrdered b.1.1 (json_ordered j a.0 a.1.0, items_ordered js b.0 b.1.0)
+      subst ItemsHaveRisingMembers b.1.1 (json_ordered j a.0 a.1.0, items_ordered js b.0 b.1.0)
 
-  members_ordered : (js : json.Members) (found ms : Members) → MembersOrdered found → of_members js found ≡ Some ms → MembersOrdered ms
-  members_ordered json.no_members found ms o h = let e : found ≡ ms = cc in subst MembersOrdered e o
+  members_ordered : (js : json.Members) (found ms : Members) → AreRisingMembers found → of_members js found ≡ Some ms → AreRisingMembers ms
+  members_ordered json.no_members found ms o h = let e : found ≡ ms = cc in subst AreRisingMembers e o
   members_ordered (json.member k j js) found ms o h =
       let a = then_parts (λ d. of_members js (put k d found)) (of_json j) ms h in
       members_ordered js (put k a.0 found) ms (put_ordered k a.0 found (json_ordered j a.0 a.1.0) o) a.1.1
@@ -121,7 +121,7 @@ read_some true None e d h = absurd (cc)
 read_some false o e d h = absurd (cc)
 
 -- a value that is read is in order
-pub read_ordered : (text : List ℕ) (d : Data) → value_reading text ≡ Ok d → IsOrdered d
+pub read_ordered : (text : List ℕ) (d : Data) → json_reading text ≡ Ok d → HasRisingMembers d
 read_ordered text d h =
     let a = then_parts of_json (option_and_then (λ p. json.if_last p.0 p.1) (json.value max_depth (tokens text))) d (read_some (is_utf8 text) (read text) NotJson d h) in
     json_ordered a.0 d a.1.1

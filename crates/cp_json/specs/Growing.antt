@@ -29,12 +29,12 @@ with_place p None o = Some (earlier_of o p)
 with_place p (Some c) o = o
 
 -- the label, and the depth of the place at it below p, are within their limits
-abbrev pub IsNear : Path → Label → Option Content → Option Path → Type 0
-IsNear p a c o = (length p < LABELS_MAX) × (length a ≤ LABEL_MAX)
+abbrev pub IsWithinLimits : Path → Label → Option Content → Option Path → Type 0
+IsWithinLimits p a c o = (length p < LABELS_MAX) × (length a ≤ LABEL_MAX)
 
 -- so are those of all places of the value
-abbrev pub AreNear : Data → Type 0
-AreNear d = NeedsBelow child with_place IsNear [] d (with_place [] (content_of d) None)
+abbrev pub AreWithinLimits : Data → Type 0
+AreWithinLimits d = NeedsBelow child with_place IsWithinLimits [] d (with_place [] (content_of d) None)
 
 -- ---- the tree
 

@@ -67,8 +67,8 @@ tree_of_reading name (Ok d) = tree_of_places name (value_places d)
 tree_of_reading name (Err e) = Err e
 
 -- the value that a text is, if it is one
-abbrev pub value_reading : List ℕ → Result Data JsonFault
-value_reading text = ok_or (if is_utf8 text then read text else None) NotJson
+abbrev pub json_reading : List ℕ → Result Data JsonFault
+json_reading text = ok_or (if is_utf8 text then read text else None) NotJson
 
 -- one byte order mark in front is dropped
 abbrev pub without_mark : List ℕ → List ℕ
@@ -76,4 +76,4 @@ without_mark bytes = if text_eq (take 3 bytes) (239 ∷ 187 ∷ 191 ∷ []) then
 
 -- the tree of the bytes of a file that is loaded under this name
 unfoldable pub json_tree : List ℕ → List ℕ → Result Tree JsonFault
-json_tree name bytes = tree_of_reading name (value_reading (without_mark bytes))
+json_tree name bytes = tree_of_reading name (json_reading (without_mark bytes))

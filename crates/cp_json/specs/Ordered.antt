@@ -14,18 +14,18 @@ AllAbove k (member l d ms) = (text_cmp k l ≡ Less) × AllAbove k ms
 
 -- the names of each object rise, and whole numbers are within their range
 abbrev mutual
-  pub IsOrdered : Data → Type 0
-  IsOrdered null = ⊤
-  IsOrdered (boolean b) = ⊤
-  IsOrdered (number n) = IsNumber (or_node (number_content n))
-  IsOrdered (string s) = ⊤
-  IsOrdered (array ds) = ItemsOrdered ds
-  IsOrdered (object ms) = MembersOrdered ms
+  pub HasRisingMembers : Data → Type 0
+  HasRisingMembers null = ⊤
+  HasRisingMembers (boolean b) = ⊤
+  HasRisingMembers (number n) = IsNumber (or_node (number_content n))
+  HasRisingMembers (string s) = ⊤
+  HasRisingMembers (array ds) = ItemsHaveRisingMembers ds
+  HasRisingMembers (object ms) = AreRisingMembers ms
 
-  pub ItemsOrdered : Items → Type 0
-  ItemsOrdered no_items = ⊤
-  ItemsOrdered (item d ds) = IsOrdered d × ItemsOrdered ds
+  pub ItemsHaveRisingMembers : Items → Type 0
+  ItemsHaveRisingMembers no_items = ⊤
+  ItemsHaveRisingMembers (item d ds) = HasRisingMembers d × ItemsHaveRisingMembers ds
 
-  pub MembersOrdered : Members → Type 0
-  MembersOrdered no_members = ⊤
-  MembersOrdered (member k d ms) = AllAbove k ms × IsOrdered d × MembersOrdered ms
+  pub AreRisingMembers : Members → Type 0
+  AreRisingMembers no_members = ⊤
+  AreRisingMembers (member k d ms) = AllAbove k ms × HasRisingMembers d × AreRisingMembers ms

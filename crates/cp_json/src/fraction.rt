@@ -4,7 +4,7 @@ ghost use Rattle.serde_json.specs.View.{view, items_view, members_view};
 ghost use Rattle.cp_json.specs.Places.{content_of, value_places};
 ghost use Rattle.cp_model.specs.Place.{child};
 ghost use Rattle.cp_json.specs.JsonTrees.{first_fraction};
-ghost use Rattle.cp_json.specs.Growing.{earlier_of, with_place, IsNear, AreNear};
+ghost use Rattle.cp_json.specs.Growing.{earlier_of, with_place, IsWithinLimits, AreWithinLimits};
 ghost use Rattle.cp_json.specs.Walks.{walk_below, walk_items, walk_members, NeedsBelow, NeedsItems, NeedsMembers};
 
 use crate::value::{index_label, is_whole};
@@ -39,7 +39,7 @@ fn look_at(first: &mut Option<Path>, at: &Path, value: &Value) -> Result<(), All
 /// Costs the places, and the bytes of their paths.
 #[tactic(auto, using(crate::proofs::Looking::first_is))]
 pub(crate) fn first_fraction(alloc: Global, value: &Value) -> Result<Option<Path>, AllocError>
-    requires near { AreNear (view value.now) }
+    requires near { AreWithinLimits (view value.now) }
     ensures { IfOk result (λ o. o ≡ first_fraction (value_places (view value.now))) }
 {
     let mut first = None;
@@ -56,7 +56,7 @@ fn look_below(
     at: &Path,
     value: &Value,
 ) -> Result<(), AllocError>
-    requires near { NeedsBelow child with_place IsNear at.now (view value.now) first.old }
+    requires near { NeedsBelow child with_place IsWithinLimits at.now (view value.now) first.old }
     ensures { OnOk result (first.new ≡ walk_below child with_place at.now (view value.now) first.old) }
 {
     match value {
@@ -73,7 +73,7 @@ fn look_at_items(
     at: &Path,
     items: &Vec<Value>,
 ) -> Result<(), AllocError>
-    requires near { NeedsItems child with_place IsNear at.now 0 (items_view items.now.items) first.old }
+    requires near { NeedsItems child with_place IsWithinLimits at.now 0 (items_view items.now.items) first.old }
     ensures { OnOk result (first.new ≡ walk_items child with_place at.now 0 (items_view items.now.items) first.old) }
 {
     let mut i = 0u64;
@@ -95,7 +95,7 @@ fn look_at_members(
     at: &Path,
     members: &Map<String, Value>,
 ) -> Result<(), AllocError>
-    requires near { NeedsMembers child with_place IsNear at.now (members_view members.now.entries) first.old }
+    requires near { NeedsMembers child with_place IsWithinLimits at.now (members_view members.now.entries) first.old }
     ensures { OnOk result (first.new ≡ walk_members child with_place at.now (members_view members.now.entries) first.old) }
 {
     for (key, member) in members.iter() {

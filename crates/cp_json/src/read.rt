@@ -8,10 +8,10 @@ ghost use Rattle.cp_path.specs.Place.{over_limit};
 ghost use Rattle.cp_model.specs.Place.{Path};
 ghost use Rattle.cp_model.specs.Subtrees.{is_there};
 ghost use Rattle.cp_json.specs.Places.{value_places};
-ghost use Rattle.cp_json.specs.JsonTrees.{without_mark, value_reading, first_fraction, tree_of_places, json_tree};
+ghost use Rattle.cp_json.specs.JsonTrees.{without_mark, json_reading, first_fraction, tree_of_places, json_tree};
 ghost use Rattle.cp_json.specs.Surveys.{survey_refusals};
-ghost use Rattle.cp_json.specs.Growing.{AreNear};
-ghost use Rattle.cp_json.specs.Ordered.{IsOrdered};
+ghost use Rattle.cp_json.specs.Growing.{AreWithinLimits};
+ghost use Rattle.cp_json.specs.Ordered.{HasRisingMembers};
 
 use crate::build::tree_of;
 use crate::fault::JsonFault;
@@ -37,7 +37,7 @@ fn without_mark(bytes: &[u8]) -> &[u8]
 /// Reads the value that the bytes are.
 #[tactic(auto, using(crate::proofs::Parsing::value_read, crate::proofs::Parsing::value_refused))]
 fn parsed(alloc: Global, text: &[u8]) -> Result<Value, JsonFault>
-    ensures answers { Answers JsonFault.Memory (value_reading text.now) (result_map_both view (λ e. e) result) }
+    ensures answers { Answers JsonFault.Memory (json_reading text.now) (result_map_both view (λ e. e) result) }
 {
     match Value::from_slice(alloc, text) {
         Ok(value) => Ok(value),
@@ -78,7 +78,7 @@ fn refusal(survey: Survey) -> Option<JsonFault>
 /// Finds the first number that isn't whole, which is looked for where there is one.
 #[tactic(auto, using(crate::proofs::Looking::none_found))]
 fn fraction(alloc: Global, survey: Survey, value: &Value) -> Result<Option<Path>, AllocError>
-    requires near { AreNear (view value.now) }
+    requires near { AreWithinLimits (view value.now) }
     requires whole { survey.whole ≡ list_all (λ e. is_some e.1) (value_places (view value.now)) }
     ensures { IfOk result (λ o. o ≡ first_fraction (value_places (view value.now))) }
 {
@@ -90,7 +90,7 @@ fn fraction(alloc: Global, survey: Survey, value: &Value) -> Result<Option<Path>
 
 /// Makes the tree of a value whose objects have each name once.
 fn tree_of_value<R: TreeRep>(alloc: Global, name: &Name, value: &Value) -> Result<R, JsonFault>
-    requires ordered { IsOrdered (view value.now) }
+    requires ordered { HasRisingMembers (view value.now) }
     ensures answers { Answers JsonFault.Memory (tree_of_places name.now (value_places (view value.now))) (result_map_both R.contents (λ e. e) result) }
     ensures places { IfOk result (λ t. (p : Path) → is_there (R.contents t) p ≡ true → over_limit (record { db = name.now; path = p }) ≡ false) }
 {

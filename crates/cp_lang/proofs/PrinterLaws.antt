@@ -23,7 +23,7 @@ use Rattle.cp_model.specs.declared.query.Form.TheVariants as form
 use Rattle.cp_lang.specs.Lexer.{word, quotes, tokens_in}
 use Rattle.cp_lang.proofs.LexerLaws.{stops_word}
 use Rattle.cp_lang.specs.Grammar.{Spot, Move, start, ins_open, ins_label, tree_colon, tree, ins_close, ins_into, ins_place, del_label, del_from, del_place, copy_origin, copy_into, copy_place, load_name, load_form, json_file, csv_file, csv_by, csv_column, asked_place, Question, asks_src, asks_hist, asks_mod, asks_trace, asks_from, show_place, records_tid, ended, goes, cant, takes, reads, end_of, by_reading, if_some, query_of, json_load, csv_load, statement_reading}
-use Rattle.cp_lang.specs.Printer.{literal_text, op_text, form_text, query_text, statement_text, IsPlace, SpellsOp, SpellsForm, SpellsQuery, IsSpellable}
+use Rattle.cp_lang.specs.Printer.{literal_text, op_text, form_text, query_text, statement_text, IsPlaceWithinLimits, SpellsOp, SpellsForm, SpellsQuery, IsSpellable}
 use Rattle.cp_lang.proofs.Layers.{literal-layers}
 use Rattle.cp_lang.proofs.Reached.{Reaches, on, from_same, to_same, space_on, mark_on, word_on, quoted_on, read_on}
 use Rattle.cp_lang.proofs.TreeReads.{literal_of, tree_on}
@@ -42,11 +42,11 @@ record WantsPlace (s : Spot) (next : Loc → Move) : Type 0 where
   bare : (u : List ℕ) → takes s (word u) ≡ by_reading (place_reading u) next
   inside : (u : List ℕ) → takes s (quotes u) ≡ by_reading (place_reading u) next
 
-place_on : (q : Loc) (next : Loc → Move) (s t : Spot) (rest : List ℕ) → IsPlace q → WantsPlace s next → stops_word rest ≡ true → next q ≡ goes t → Reaches s (place_text q ++ rest) t rest
+place_on : (q : Loc) (next : Loc → Move) (s t : Spot) (rest : List ℕ) → IsPlaceWithinLimits q → WantsPlace s next → stops_word rest ≡ true → next q ≡ goes t → Reaches s (place_text q ++ rest) t rest
 place_on q next s t rest h w e g =
     read_on place_reading next (place_text q) q s t rest (place_shape q h.name) e w.bare w.inside (place_reads_back q h.name h.short h.few h.small) g
 
-last_place : (q : Loc) (next : Loc → Move) (s t : Spot) → IsPlace q → WantsPlace s next → next q ≡ goes t → Reaches s (place_text q) t []
+last_place : (q : Loc) (next : Loc → Move) (s t : Spot) → IsPlaceWithinLimits q → WantsPlace s next → next q ≡ goes t → Reaches s (place_text q) t []
 last_place q next s t h w g = from_same (sym (append-nil (place_text q))) (place_on q next s t [] h w refl g)
 
 -- a label is wanted
@@ -170,7 +170,7 @@ load_read n m f h o k =
 
 -- ---- questions
 
-asked_read : (w : List ℕ) (k : Question) (q : Loc) → 0 < length w → has_trigger w ≡ false → takes start (word w) ≡ goes (asked_place k) → IsPlace q → IsRead (w ++ 32 ∷ place_text q) (ended (query_of k q))
+asked_read : (w : List ℕ) (k : Question) (q : Loc) → 0 < length w → has_trigger w ≡ false → takes start (word w) ≡ goes (asked_place k) → IsPlaceWithinLimits q → IsRead (w ++ 32 ∷ place_text q) (ended (query_of k q))
 unfolding takes
 asked_read w k q l b g h =
     on (word_on w start (asked_place k) (32 ∷ place_text q) l b refl g)
@@ -214,7 +214,7 @@ query_ends n (query.Records None) = refl
 query_ends n (query.Records (Some t)) = refl
 query_ends n query.Stats = refl
 
-show_read : (q : Loc) → IsPlace q → IsRead (codes "show " ++ place_text q) (ended (stmt.Show q))
+show_read : (q : Loc) → IsPlaceWithinLimits q → IsRead (codes "show " ++ place_text q) (ended (stmt.Show q))
 unfolding takes
 show_read q h =
     on (word_on (codes "show") start show_place (32 ∷ place_text q) (omega arith) refl refl refl)

@@ -25,7 +25,7 @@ use Rattle.cp_model.specs.declared.query.Query.TheVariants as query
 use Rattle.cp_lang.specs.Decimal.{is_decimal, decimal_value}
 use Rattle.cp_lang.specs.Lexer.{Shape, opens, closes, colon, comma, word, quotes, stray, Token, tokens_of}
 use Rattle.cp_lang.specs.Grammar.{Level, has_edge, node, after_tree, close_node, new_edge, at_tree, at_first, at_edge_end, at_form, after_start, reading_of, by_reading, if_some, at_word, at_open, at_close, at_colon, at_label, at_place, at_name, at_file, at_number, json_load, csv_load, Spot, Question, query_of, Move, goes, cant, bad, takes, reads, end_of, refused_or, statement_reading, start, ins_open, ins_label, tree_colon, tree, first_edge, next_edge, edge_end, ins_close, ins_into, ins_place, del_label, del_from, del_place, copy_origin, copy_into, copy_place, load_name, load_form, json_file, csv_file, csv_by, csv_column, asked_place, asks_src, asks_hist, asks_mod, asks_trace, asks_from, show_place, records_tid, ended}
-use Rattle.cp_lang.specs.Printer.{IsPlace, IsLabel, IsShortTree, IsSpellable}
+use Rattle.cp_lang.specs.Printer.{IsPlaceWithinLimits, IsShortLabel, IsShortTree, IsSpellable}
 use Rattle.cp_lang.proofs.Placing.{IsBelow, AreEdges, node-below, leaf-below, short-below, edges-insert}
 use Rattle.cp_lang.specs.Written.{IsWrittenStmt}
 use Rattle.cp_lang.specs.declared.syntax_tree.Stmt.{Stmt}
@@ -39,7 +39,7 @@ IsNew a (l ∷ ls) = has_edge a l.edges ≡ false
 
 -- a label that may be placed below these nodes
 abbrev MayCome : Label → List Level → Type 0
-MayCome a ls = IsLabel a × (length ls ≤ 63) × IsNew a ls
+MayCome a ls = IsShortLabel a × (length ls ≤ 63) × IsNew a ls
 
 -- nodes whose labels and edges are within their limits
 abbrev AreLevels : List Level → Type 0
@@ -60,15 +60,15 @@ IsGood (tree a ls) = MayCome a ls × AreLevels ls
 IsGood (first_edge ls) = AreLevels ls
 IsGood (next_edge ls) = AreLevels ls
 IsGood (edge_end ls) = AreLevels ls
-IsGood (ins_close a t) = IsLabel a × IsShortTree t
-IsGood (ins_into a t) = IsLabel a × IsShortTree t
-IsGood (ins_place a t) = IsLabel a × IsShortTree t
+IsGood (ins_close a t) = IsShortLabel a × IsShortTree t
+IsGood (ins_into a t) = IsShortLabel a × IsShortTree t
+IsGood (ins_place a t) = IsShortLabel a × IsShortTree t
 IsGood del_label = ⊤
-IsGood (del_from a) = IsLabel a
-IsGood (del_place a) = IsLabel a
+IsGood (del_from a) = IsShortLabel a
+IsGood (del_place a) = IsShortLabel a
 IsGood copy_origin = ⊤
-IsGood (copy_into q) = IsPlace q
-IsGood (copy_place q) = IsPlace q
+IsGood (copy_into q) = IsPlaceWithinLimits q
+IsGood (copy_place q) = IsPlaceWithinLimits q
 IsGood load_name = ⊤
 IsGood (load_form n) = IsOther n
 IsGood (json_file n) = IsOther n
@@ -101,10 +101,10 @@ shape-leads read colon next h = tt
 shape-leads read comma next h = tt
 shape-leads read stray next h = tt
 
-label-leads : (s : Shape) (next : Label → Move) → ((a : Label) → IsLabel a → Leads (next a)) → Leads (at_label s next)
+label-leads : (s : Shape) (next : Label → Move) → ((a : Label) → IsShortLabel a → Leads (next a)) → Leads (at_label s next)
 label-leads s next h = shape-leads label_reading s next (λ w a e. h a (label_read w a e).1)
 
-place-leads : (s : Shape) (next : Loc → Move) → ((q : Loc) → IsPlace q → Leads (next q)) → Leads (at_place s next)
+place-leads : (s : Shape) (next : Loc → Move) → ((q : Loc) → IsPlaceWithinLimits q → Leads (next q)) → Leads (at_place s next)
 place-leads s next h = shape-leads place_reading s next (λ w q e. h q (let p = place_read w q e in record { name = p.3; short = p.4; few = p.2; small = p.1 }))
 
 if-leads : (b : Bool) (t : Move) → Leads t → Leads (if b then t else cant)
@@ -211,7 +211,7 @@ close-leads [] h = tt
 close-leads (l ∷ ls) h = placed-good l.label (node l.edges) ls h.0 h.2 (node-below (length ls) l.edges h.0.1 h.1)
 
 -- a label comes
-new-leads : (ls : List Level) (a : Label) → IsLabel a → AreLevels ls → Leads (new_edge ls a)
+new-leads : (ls : List Level) (a : Label) → IsShortLabel a → AreLevels ls → Leads (new_edge ls a)
 new-leads [] a l h = tt
 new-leads (k ∷ ls) a l h = by (nat_le LABELS_MAX (suc (length ls))) (has_edge a k.edges) refl refl
   where
@@ -288,7 +288,7 @@ form-leads n colon h = tt
 form-leads n comma h = tt
 form-leads n stray h = tt
 
-asked-good : (k : Question) (q : Loc) → IsPlace q → IsSpellable (query_of k q)
+asked-good : (k : Question) (q : Loc) → IsPlaceWithinLimits q → IsSpellable (query_of k q)
 asked-good asks_src q h = h
 asked-good asks_hist q h = h
 asked-good asks_mod q h = h

@@ -28,7 +28,7 @@ use Rattle.cp_lang.proofs.LexerLaws.{tokens_space, tokens_first}
 use Rattle.cp_lang.specs.Spaces.{is_space}
 use Rattle.cp_lang.specs.Tokenized.{token_of, shape_of}
 use Rattle.cp_lang.specs.Grammar.{Spot, Move, takes, goes, cant, refused_or, by_reading, reading_of, bytes_reading, statement_reading, end_of, reads, Edges, Level, node, after_tree, close_node, at_open, at_close, at_colon, at_word, at_label, at_place, at_name, at_file, at_form, at_start, at_tree, at_first, at_edge_end, json_load, csv_load, query_of, Question, start, ins_open, ins_label, tree_colon, tree, first_edge, next_edge, edge_end, ins_close, ins_into, ins_place, del_label, del_from, del_place, copy_origin, copy_into, copy_place, load_name, load_form, json_file, csv_file, csv_by, csv_column, asked_place, show_place, ended, new_edge, has_edge, rows_of_edges}
-use Rattle.cp_lang.specs.Parser.{reading, edge_reading, Wants, Stops, Fails, IsRead, Steps, Reads, ReadsTree, spelling_fault, within, after_edge}
+use Rattle.cp_lang.specs.Parser.{reading, edge_reading, Wants, Stops, Fails, IsRead, Steps, ReadsPart, ReadsTree, spelling_fault, within, after_edge}
 use Rattle.cp_lang.specs.declared.lexer.Token.{Token}
 use Rattle.cp_lang.specs.declared.parser.Parser.{Parser}
 use Rattle.cp_lang.specs.declared.syntax_tree.Stmt.{Stmt}
@@ -114,19 +114,19 @@ steps_by p q x at step (Err e) h k = λ s next w. fails_stops p q s x at (step x
 
 -- steps that lead to the beginning of a part, and then the part
 pub joined : {X : Type 0} (p q r : Parser) (s t : Spot) (next : X → Spot) (result : Result X StmtFault)
-    → reading p s ≡ reading q t → Reads q r t next result → Reads p r s next result
+    → reading p s ≡ reading q t → ReadsPart q r t next result → ReadsPart p r s next result
 joined p q r s t next (Ok x) e h = e ∙ h
 joined p q r s t next (Err f) e h = on p q s t f e h
 
 -- the fault of a part is the fault of the whole
 pub stopped : {X : Type 0} (p q : Parser) (s : Spot) (next : X → Spot) (result : Result X StmtFault) (e : StmtFault)
-    → IsErrAnd result (λ f. f ≡ e) → Stops p s e → Reads p q s next result
+    → IsErrAnd result (λ f. f ≡ e) → Stops p s e → ReadsPart p q s next result
 stopped p q s next (Ok x) e k h = absurd k
 stopped p q s next (Err f) e k h = subst (λ v. Stops p s v) (sym k) h
 
 -- the same behind steps that lead to the part
 pub stopped_on : {X : Type 0} (p q r : Parser) (s t : Spot) (next : X → Spot) (result : Result X StmtFault) (e : StmtFault)
-    → IsErrAnd result (λ f. f ≡ e) → reading p s ≡ reading q t → Stops q t e → Reads p r s next result
+    → IsErrAnd result (λ f. f ≡ e) → reading p s ≡ reading q t → Stops q t e → ReadsPart p r s next result
 stopped_on p q r s t next result e k h m = stopped p r s next result e k (on p q s t e h m)
 
 -- a token that leads on

@@ -68,12 +68,12 @@ Steps {X} old new step result = MatchResult result
     (λ e. (s : Spot) (next : X → Spot) → Wants s (λ y. step y (λ b. goes (next b))) → Stops old s e)
 
 -- how a parser reads a part that begins at a position: it leads to the position that what was read gives, or the text is refused, or memory ran out
-abbrev pub Reads : {X : Type 0} → Parser → Parser → Spot → (X → Spot) → Result X StmtFault → Type 0
-Reads old new s next result = MatchResult result (λ x. reading old s ≡ reading new (next x)) (λ e. Stops old s e)
+abbrev pub ReadsPart : {X : Type 0} → Parser → Parser → Spot → (X → Spot) → Result X StmtFault → Type 0
+ReadsPart old new s next result = MatchResult result (λ x. reading old s ≡ reading new (next x)) (λ e. Stops old s e)
 
 -- the end of the text is wanted where a whole statement was read
-abbrev pub Finishes : Parser → Result (Unit {0}) StmtFault → Type 0
-Finishes old result = MatchResult result (λ _. (x : Stmt) → reading old (at.ended x) ≡ Ok x) (λ e. (x : Stmt) → reading old (at.ended x) ≡ Err e)
+abbrev pub ReadsEnd : Parser → Result (Unit {0}) StmtFault → Type 0
+ReadsEnd old result = MatchResult result (λ _. (x : Stmt) → reading old (at.ended x) ≡ Ok x) (λ e. (x : Stmt) → reading old (at.ended x) ≡ Err e)
 
 -- the fault of a token at this offset that is wrongly spelled
 abbrev pub spelling_fault : ℕ → PathFault → StmtFault

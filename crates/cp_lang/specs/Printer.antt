@@ -64,15 +64,15 @@ statement_text (stmt.Show q) = codes "show " ++ place_text q
 -- ---- which statements a text spells
 
 -- a place within every limit
-pub record IsPlace (q : Loc) : Type 0 where
+pub record IsPlaceWithinLimits (q : Loc) : Type 0 where
   pub name : is_name q.db ≡ true
   pub short : any_long q.path ≡ false
   pub few : length q.path ≤ LABELS_MAX
   pub small : size q ≤ LOC_MAX
 
 -- a label within its limit
-abbrev pub IsLabel : Label → Type 0
-IsLabel a = length a ≤ LABEL_MAX
+abbrev pub IsShortLabel : Label → Type 0
+IsShortLabel a = length a ≤ LABEL_MAX
 
 -- rows whose labels and numbers are within their limits, and whose ways have at most so many labels
 abbrev pub AreShort : ℕ → List (Path × Content) → Type 0
@@ -85,23 +85,23 @@ IsShortTree t = IsLiteral (literal_rows t) × AreShort (LABELS_MAX - 1) (literal
 
 -- the parts of an operation are within their limits
 abbrev pub SpellsOp : Op → Type 0
-SpellsOp (Ins p a t) = IsPlace p × IsLabel a × IsShortTree t
-SpellsOp (Del a p) = IsLabel a × IsPlace p
-SpellsOp (Copy q p) = IsPlace q × IsPlace p
+SpellsOp (Ins p a t) = IsPlaceWithinLimits p × IsShortLabel a × IsShortTree t
+SpellsOp (Del a p) = IsShortLabel a × IsPlaceWithinLimits p
+SpellsOp (Copy q p) = IsPlaceWithinLimits q × IsPlaceWithinLimits p
 
 -- a key column within its limit
 abbrev pub SpellsForm : Form → Type 0
 SpellsForm form.Json = ⊤
 SpellsForm (form.Csv None) = ⊤
-SpellsForm (form.Csv (Some a)) = IsLabel a
+SpellsForm (form.Csv (Some a)) = IsShortLabel a
 
 -- the place or number of a question is within its limits
 abbrev pub SpellsQuery : Query → Type 0
-SpellsQuery (query.Src q) = IsPlace q
-SpellsQuery (query.Hist q) = IsPlace q
-SpellsQuery (query.Mod q) = IsPlace q
-SpellsQuery (query.Trace q) = IsPlace q
-SpellsQuery (query.From q) = IsPlace q
+SpellsQuery (query.Src q) = IsPlaceWithinLimits q
+SpellsQuery (query.Hist q) = IsPlaceWithinLimits q
+SpellsQuery (query.Mod q) = IsPlaceWithinLimits q
+SpellsQuery (query.Trace q) = IsPlaceWithinLimits q
+SpellsQuery (query.From q) = IsPlaceWithinLimits q
 SpellsQuery (query.Records None) = ⊤
 SpellsQuery (query.Records (Some t)) = t < 2 ^ 64
 SpellsQuery query.Stats = ⊤
@@ -113,4 +113,4 @@ IsSpellable stmt.Commit = ⊤
 IsSpellable stmt.Abort = ⊤
 IsSpellable (stmt.Load l) = (is_name l.name ≡ true) × (text_eq l.name target ≡ false) × SpellsForm l.form
 IsSpellable (stmt.Ask q) = SpellsQuery q
-IsSpellable (stmt.Show q) = IsPlace q
+IsSpellable (stmt.Show q) = IsPlaceWithinLimits q

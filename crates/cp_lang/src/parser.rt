@@ -3,7 +3,7 @@ ghost use Rattle.cp_path.specs.Answers.{Answers};
 ghost use Rattle.cp_lang.specs.Lexer as lexer;
 ghost use Rattle.cp_lang.specs.Lexer.{tokens_of};
 ghost use Rattle.cp_lang.specs.Grammar.{Spot, Move, takes, refused_or, reads, end_of, at_open, at_close, at_colon, at_word, at_label, at_place, at_name, at_file, has_edge, rows_of_edges, node, tree, first_edge, edge_end, after_tree, statement_reading, bytes_reading, csv_load, start, ended, ins_open, ins_close, del_label, copy_origin, load_name, json_file, csv_file, show_place, records_tid};
-ghost use Rattle.cp_lang.specs.Parser.{reading, GivesToken, Passes, Steps, Reads, Finishes, IsEdgeLabel, ReadsTree, ReadsEdges, ReadsMore, within, after_verb};
+ghost use Rattle.cp_lang.specs.Parser.{reading, GivesToken, Passes, Steps, ReadsPart, ReadsEnd, IsEdgeLabel, ReadsTree, ReadsEdges, ReadsMore, within, after_verb};
 ghost use Rattle.cp_lang.specs.Printer.{IsSpellable};
 ghost use Rattle.cp_lang.specs.Tokenized.{shape_of};
 ghost use Rattle.cp_lang.specs.Written.{IsWrittenStmt};
@@ -146,7 +146,7 @@ impl<'a> Parser<'a> {
 
     /// The end of the text, behind a whole statement.
     fn finish(&mut self) -> Result<(), StmtFault>
-        ensures reads { Finishes self.old result }
+        ensures reads { ReadsEnd self.old result }
     {
         match self.next() {
             None => Ok(()),
@@ -239,7 +239,7 @@ impl<'a> Parser<'a> {
 
     /// `ins { LABEL : TREE } into PLACE`, behind its first word.
     fn insertion(&mut self) -> Result<Stmt, StmtFault>
-        ensures reads { Reads self.old self.new ins_open ended result }
+        ensures reads { ReadsPart self.old self.new ins_open ended result }
     {
         self.open()?;
         let label = self.label()?;
@@ -250,7 +250,7 @@ impl<'a> Parser<'a> {
 
     /// `} into PLACE`, behind the tree of an insertion.
     fn insertion_end(&mut self, label: Label, tree: Literal) -> Result<Stmt, StmtFault>
-        ensures reads { Reads self.old self.new (ins_close label tree) ended result }
+        ensures reads { ReadsPart self.old self.new (ins_close label tree) ended result }
     {
         self.close()?;
         self.word("into")?;
@@ -260,7 +260,7 @@ impl<'a> Parser<'a> {
 
     /// `del LABEL from PLACE`, behind its first word.
     fn deletion(&mut self) -> Result<Stmt, StmtFault>
-        ensures reads { Reads self.old self.new del_label ended result }
+        ensures reads { ReadsPart self.old self.new del_label ended result }
     {
         let label = self.label()?;
         self.word("from")?;
@@ -270,7 +270,7 @@ impl<'a> Parser<'a> {
 
     /// `copy PLACE into PLACE`, behind its first word.
     fn copying(&mut self) -> Result<Stmt, StmtFault>
-        ensures reads { Reads self.old self.new copy_origin ended result }
+        ensures reads { ReadsPart self.old self.new copy_origin ended result }
     {
         let from = self.place()?;
         self.word("into")?;
@@ -280,7 +280,7 @@ impl<'a> Parser<'a> {
 
     /// `load NAME json FILE` or `load NAME csv FILE`, perhaps with `by LABEL`, behind its first word.
     fn loading(&mut self) -> Result<Stmt, StmtFault>
-        ensures reads { Reads self.old self.new load_name ended result }
+        ensures reads { ReadsPart self.old self.new load_name ended result }
     {
         let name = self.name()?;
         let token = self.token()?;
@@ -295,7 +295,7 @@ impl<'a> Parser<'a> {
 
     /// The file behind `json`.
     fn json(&mut self, name: Name) -> Result<Stmt, StmtFault>
-        ensures reads { Reads self.old self.new (json_file name) ended result }
+        ensures reads { ReadsPart self.old self.new (json_file name) ended result }
     {
         let file = self.file()?;
         Ok(Stmt::Load(Load {
@@ -307,7 +307,7 @@ impl<'a> Parser<'a> {
 
     /// The file behind `csv`, and perhaps the key column.
     fn csv(&mut self, name: Name) -> Result<Stmt, StmtFault>
-        ensures reads { Reads self.old self.new (csv_file name) ended result }
+        ensures reads { ReadsPart self.old self.new (csv_file name) ended result }
     {
         let file = self.file()?;
         match self.next() {
@@ -324,7 +324,7 @@ impl<'a> Parser<'a> {
 
     /// `show` or `show PLACE`, behind its first word.
     fn showing(&mut self) -> Result<Stmt, StmtFault>
-        ensures reads { Reads self.old self.new show_place ended result }
+        ensures reads { ReadsPart self.old self.new show_place ended result }
     {
         match self.next() {
             None => Ok(Stmt::Show(Loc::target(self.alloc)?)),
@@ -334,7 +334,7 @@ impl<'a> Parser<'a> {
 
     /// `records` or `records NUMBER`, behind its first word.
     fn records(&mut self) -> Result<Stmt, StmtFault>
-        ensures reads { Reads self.old self.new records_tid ended result }
+        ensures reads { ReadsPart self.old self.new records_tid ended result }
     {
         match self.next() {
             None => Ok(Stmt::Ask(Query::Records(None))),
@@ -344,7 +344,7 @@ impl<'a> Parser<'a> {
 
     /// What stands behind a statement's first word.
     fn after_verb(&mut self, verb: Verb) -> Result<Stmt, StmtFault>
-        ensures reads { Reads self.old self.new (after_verb verb) ended result }
+        ensures reads { ReadsPart self.old self.new (after_verb verb) ended result }
     {
         match verb {
             Verb::Ins => self.insertion(),
@@ -366,7 +366,7 @@ impl<'a> Parser<'a> {
 
     /// A whole statement.
     fn statement(&mut self) -> Result<Stmt, StmtFault>
-        ensures reads { Reads self.old self.new start ended result }
+        ensures reads { ReadsPart self.old self.new start ended result }
     {
         let token = self.token()?;
         match verb_of(token) {

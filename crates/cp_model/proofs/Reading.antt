@@ -16,7 +16,7 @@ use Rattle.cp_model.specs.Closed.{Closed}
 use Rattle.cp_model.specs.Subtrees.{is_there}
 use Rattle.cp_model.specs.Tree.{Tree}
 use Rattle.cp_model.specs.Step.{Working}
-use Rattle.cp_model.specs.Rows.{Effect, same, made, from, Reading, left, gone, Mark, I, C, D, K, effect, gives, effect_at, full_mark, reduced_mark, effect_eq, effect_given, effect_given_by, or_same, lost_below_same, full_here, reduced_here, parent_there, full_rows, reduced_rows, within, read_mark, read_nearest, read_full, read_reduced}
+use Rattle.cp_model.specs.Rows.{Effect, same, made, from, Reading, left, gone, Mark, I, C, D, K, effect, gives, effect_at, full_mark, reduced_mark, effect_eq, effect_given, effect_given_by, or_same, lost_below_same, full_here, reduced_here, parent_there, full_rows, reduced_rows, from_if_within, read_mark, read_nearest, read_full, read_reduced}
 use Rattle.cp_model.proofs.Strips.{append-nil, path_ind, nearest-snoc, further, parent-snoc, last_label-snoc}
 use Rattle.cp_model.proofs.Marks.{find-full_rows, find-reduced_rows}
 
@@ -24,7 +24,7 @@ use Rattle.cp_model.proofs.Marks.{find-full_rows, find-reduced_rows}
 abbrev pub limited : Effect → Effect
 limited same = same
 limited made = made
-limited (from q) = within q
+limited (from q) = from_if_within q
 
 -- below a place by nothing is that place
 pub below_place-nil : (q : Loc) → below_place q [] ≡ q
@@ -34,7 +34,7 @@ below_place-nil q = ap (λ r. record { db = q.db; path = r }) (append-nil q.path
 pub read-full_mark : (e : Effect) → read_nearest (option_map (λ m. (m, [])) (full_mark e)) ≡ left (limited e)
 read-full_mark same = refl
 read-full_mark made = refl
-read-full_mark (from q) = ap (λ r. left (within r)) (below_place-nil q)
+read-full_mark (from q) = ap (λ r. left (from_if_within r)) (below_place-nil q)
 
 -- in kinds n and t the row at a place of the tree after the step reads as its effect
 pub read-full_rows : (a : Tree) (w : Working) (p : Path) (e : Effect) → effect_at w p ≡ Some e → limited e ≡ e → read_full (λ r. look r (full_rows a w)) p ≡ left e
@@ -63,7 +63,7 @@ effect_eq-same (from p) (from q) h = ap from (place_eq-same p q h)
 pub read-reduced_mark : (e : Effect) → read_mark (reduced_mark e) [] ≡ left (limited e)
 read-reduced_mark same = refl
 read-reduced_mark made = refl
-read-reduced_mark (from q) = ap (λ r. left (within r)) (below_place-nil q)
+read-reduced_mark (from q) = ap (λ r. left (from_if_within r)) (below_place-nil q)
 
 length-more : (p : Path) (a : Label) → length (p ++ a ∷ []) ≡ length p + 1
 length-more p a = grind (arith, common_steps)
@@ -91,8 +91,8 @@ told_below gone a = gone
 pub read_mark-snoc : (m : Mark) (s : Path) (a : Label) → read_mark m (s ++ a ∷ []) ≡ told_below (read_mark m s) a
 read_mark-snoc I s a = refl
 read_mark-snoc (C q) s a =
-    ap (λ r. left (within r)) (below_place-more q s a)
-    ∙ ap left (elim (over_limit (below_place q s)) as (λ b. over_limit (below_place q s) ≡ b → within (below_place (below_place q s) (a ∷ [])) ≡ limited (gives (if b then same else from (below_place q s)) a)) [
+    ap (λ r. left (from_if_within r)) (below_place-more q s a)
+    ∙ ap left (elim (over_limit (below_place q s)) as (λ b. over_limit (below_place q s) ≡ b → from_if_within (below_place (below_place q s) (a ∷ [])) ≡ limited (gives (if b then same else from (below_place q s)) a)) [
       | true ↦ λ h. ap (λ b. if b then same else from (below_place (below_place q s) (a ∷ []))) (over-more (below_place q s) a h)
       | false ↦ λ _. refl
     ] refl)

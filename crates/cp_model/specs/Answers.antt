@@ -120,15 +120,15 @@ abbrev pub has_place : State → Loc → Bool
 has_place s q = in_target q && is_there s.tree q.path
 
 -- the answer, if its place is there
-abbrev pub at_place : State → Loc → Answer → Option Answer
-at_place s q a = if has_place s q then Some a else None
+abbrev pub answer_at : State → Loc → Answer → Option Answer
+answer_at s q a = if has_place s q then Some a else None
 
 -- the answer to a query; none where its place isn't there
 unfoldable pub answer_to : State → Query → Option Answer
-answer_to s (query.Src q) = at_place s q (answer.Src (src s.tree q.path))
-answer_to s (query.Hist q) = at_place s q (answer.Tids (hist s.tree q.path))
-answer_to s (query.Mod q) = at_place s q (answer.Tids (mod_tids s.tree q.path))
-answer_to s (query.Trace q) = at_place s q (answer.Trace (trace s.now s.tree q.path))
-answer_to s (query.From q) = at_place s q (answer.From (from s.tree q.path))
+answer_to s (query.Src q) = answer_at s q (answer.Src (src s.tree q.path))
+answer_to s (query.Hist q) = answer_at s q (answer.Tids (hist s.tree q.path))
+answer_to s (query.Mod q) = answer_at s q (answer.Tids (mod_tids s.tree q.path))
+answer_to s (query.Trace q) = answer_at s q (answer.Trace (trace s.now s.tree q.path))
+answer_to s (query.From q) = answer_at s q (answer.From (from s.tree q.path))
 answer_to s (query.Records t) = Some (answer.Records (records s t))
 answer_to s query.Stats = Some (answer.Stats (stats s))

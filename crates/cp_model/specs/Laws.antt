@@ -67,7 +67,7 @@ pub record LookUps : Type 0 where
   pub alike : (t u : Tree) → ((q : Path) → keyed.get t q ≡ keyed.get u q) → t ≡ u
 
 -- the number of nodes and the weight after a replacement
-pub record Counts : Type 0 where
+pub record CountsOfReplacement : Type 0 where
   pub nodes : (p : Path) (es : List (Path × Content)) (t : Tree) → T (is_sorted path_cmp es) → keyed.len (with_subtree p es t) + length (below p t) ≡ keyed.len t + length es
   pub weights : (p : Path) (es : List (Path × Content)) (t : Tree) → T (is_sorted path_cmp es) → weight (with_subtree p es t) + sum_by (λ e. weight_of (p ++ e.0, e.1)) (below p t) ≡ weight t + sum_by weight_of (entries_under p es)
 

@@ -129,13 +129,13 @@ reduced_rows a w = rows_with_marks (reduced_here a w) (all_paths a w)
 -- ---- reading
 
 -- an effect whose place would be over a limit counts as the same
-abbrev pub within : Loc → Effect
-within q = if over_limit q then same else from q
+abbrev pub from_if_within : Loc → Effect
+from_if_within q = if over_limit q then same else from q
 
 -- what a row says of the place this far below it
 abbrev pub read_mark : Mark → Path → Reading
 read_mark I s = left made
-read_mark (C q) s = left (within (below_place q s))
+read_mark (C q) s = left (from_if_within (below_place q s))
 read_mark K s = left same
 read_mark D s = gone
 

@@ -1,4 +1,4 @@
-ghost use Rattle.cp_model.specs.Laws.{LookUps, Counts, OperationsKeepTrees, OriginsAreThere, HistoriesAreSound, RowsReadAsEffects, RecordsWalkBack};
+ghost use Rattle.cp_model.specs.Laws.{LookUps, CountsOfReplacement, OperationsKeepTrees, OriginsAreThere, HistoriesAreSound, RowsReadAsEffects, RecordsWalkBack};
 
 /// States laws of the definitions, and does nothing when it runs.
 ///
@@ -7,7 +7,7 @@ ghost use Rattle.cp_model.specs.Laws.{LookUps, Counts, OperationsKeepTrees, Orig
 /// steps, followed back from the last, give at each place the past that the replay gave it, in all four kinds.
 pub fn laws()
     ensures lookups { LookUps }
-    ensures counts { Counts }
+    ensures counts { CountsOfReplacement }
     ensures operations { OperationsKeepTrees }
     ensures origins { OriginsAreThere }
     ensures histories { HistoriesAreSound }

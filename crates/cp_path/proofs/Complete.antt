@@ -9,9 +9,9 @@ use Rattle.std.specs.List.{slice_get}
 use Rattle.json.specs.Print.{escape_byte, escape, quoted}
 use Rattle.cp_path.specs.Text.{is_letter, is_name_byte}
 use Rattle.cp_path.specs.Spelling.{is_trigger, has_trigger, label_word}
-use Rattle.cp_path.specs.Scan.{part_step, step, run, bare_step, is_label, closes, ends, accepts, StopsAt}
+use Rattle.cp_path.specs.Scan.{part_step, step, scan_over, bare_step, is_label, closes, may_end, accepts, StopsAt}
 use Rattle.cp_path.proofs.ScanLemmas.{part_run}
-use Rattle.cp_path.specs.Reading.{Begins, IsBadAt}
+use Rattle.cp_path.specs.Reading.{IsFrontOfSpelling, IsBadAt}
 use Rattle.cp_path.specs.declared.scan.Part.{Part}
 use Rattle.cp_path.specs.declared.scan.Part.TheVariants as part
 use Rattle.cp_path.specs.declared.scan.Spot.{Spot}
@@ -78,33 +78,33 @@ at_is true (Some (spot.Quoted part.Label true)) e = refl
 at_is false (Some (spot.Quoted part.Label false)) e = refl
 at_is b o e = cc
 
-empty_true : (d : Bool) → all_below (λ x. not (special x) || is_at true (run d (spot.Quoted part.Empty true) (escape_byte x))) 93 ≡ true
+empty_true : (d : Bool) → all_below (λ x. not (special x) || is_at true (scan_over d (spot.Quoted part.Empty true) (escape_byte x))) 93 ≡ true
 unfolding escape_byte
 empty_true d = refl
 
-empty_false : (d : Bool) → all_below (λ x. not (special x) || is_at (is_trigger x) (run d (spot.Quoted part.Empty false) (escape_byte x))) 93 ≡ true
+empty_false : (d : Bool) → all_below (λ x. not (special x) || is_at (is_trigger x) (scan_over d (spot.Quoted part.Empty false) (escape_byte x))) 93 ≡ true
 unfolding escape_byte
 empty_false d = refl
 
-label_true : (d : Bool) → all_below (λ x. not (special x) || is_at true (run d (spot.Quoted part.Label true) (escape_byte x))) 93 ≡ true
+label_true : (d : Bool) → all_below (λ x. not (special x) || is_at true (scan_over d (spot.Quoted part.Label true) (escape_byte x))) 93 ≡ true
 unfolding escape_byte
 label_true d = refl
 
-label_false : (d : Bool) → all_below (λ x. not (special x) || is_at (is_trigger x) (run d (spot.Quoted part.Label false) (escape_byte x))) 93 ≡ true
+label_false : (d : Bool) → all_below (λ x. not (special x) || is_at (is_trigger x) (scan_over d (spot.Quoted part.Label false) (escape_byte x))) 93 ≡ true
 unfolding escape_byte
 label_false d = refl
 
-special_run : (d : Bool) (p : Part) (t : Bool) (x : ℕ) → special x ≡ true → is_label p ≡ true → run d (spot.Quoted p t) (escape_byte x) ≡ Some (spot.Quoted part.Label (t || is_trigger x))
+special_run : (d : Bool) (p : Part) (t : Bool) (x : ℕ) → special x ≡ true → is_label p ≡ true → scan_over d (spot.Quoted p t) (escape_byte x) ≡ Some (spot.Quoted part.Label (t || is_trigger x))
 special_run d part.Begin t x h l = cc
 special_run d (part.Name n) t x h l = cc
 special_run d part.Tilde t x h l = cc
-special_run d part.Empty true x h l = at_is true _ (when (special x) _ (below (λ y. not (special y) || is_at true (run d (spot.Quoted part.Empty true) (escape_byte y))) 93 (empty_true d) x (small_special x h)) h)
-special_run d part.Empty false x h l = at_is (is_trigger x) _ (when (special x) _ (below (λ y. not (special y) || is_at (is_trigger y) (run d (spot.Quoted part.Empty false) (escape_byte y))) 93 (empty_false d) x (small_special x h)) h)
-special_run d part.Label true x h l = at_is true _ (when (special x) _ (below (λ y. not (special y) || is_at true (run d (spot.Quoted part.Label true) (escape_byte y))) 93 (label_true d) x (small_special x h)) h)
-special_run d part.Label false x h l = at_is (is_trigger x) _ (when (special x) _ (below (λ y. not (special y) || is_at (is_trigger y) (run d (spot.Quoted part.Label false) (escape_byte y))) 93 (label_false d) x (small_special x h)) h)
+special_run d part.Empty true x h l = at_is true _ (when (special x) _ (below (λ y. not (special y) || is_at true (scan_over d (spot.Quoted part.Empty true) (escape_byte y))) 93 (empty_true d) x (small_special x h)) h)
+special_run d part.Empty false x h l = at_is (is_trigger x) _ (when (special x) _ (below (λ y. not (special y) || is_at (is_trigger y) (scan_over d (spot.Quoted part.Empty false) (escape_byte y))) 93 (empty_false d) x (small_special x h)) h)
+special_run d part.Label true x h l = at_is true _ (when (special x) _ (below (λ y. not (special y) || is_at true (scan_over d (spot.Quoted part.Label true) (escape_byte y))) 93 (label_true d) x (small_special x h)) h)
+special_run d part.Label false x h l = at_is (is_trigger x) _ (when (special x) _ (below (λ y. not (special y) || is_at (is_trigger y) (scan_over d (spot.Quoted part.Label false) (escape_byte y))) 93 (label_false d) x (small_special x h)) h)
 
 abbrev EscapeRuns : Bool → Part → Part → Bool → ℕ → Type 0
-EscapeRuns d p q t x = run d (spot.Quoted p t) (escape_byte x) ≡ Some (spot.Quoted q (t || is_trigger x))
+EscapeRuns d p q t x = scan_over d (spot.Quoted p t) (escape_byte x) ≡ Some (spot.Quoted q (t || is_trigger x))
 
 escape_run : (d : Bool) (p q : Part) (t : Bool) (x : ℕ) → part_step d p x ≡ Some q → EscapeRuns d p q t x
 escape_run d p q t x e = by (special x) refl
@@ -116,18 +116,18 @@ escape_run d p q t x e = by (special x) refl
     by false h =
         let n = or_parts (x == 34) ((x == 92) || nat_lt x 32) h in
         let m = or_parts (x == 92) (nat_lt x 32) n.1 in
-        ap (run d (spot.Quoted p t)) (plain_escape x n.0 m.0 m.1) ∙ run_one d (spot.Quoted p t) x ∙ rw (n.0, m.0, m.1, e) refl
+        ap (scan_over d (spot.Quoted p t)) (plain_escape x n.0 m.0 m.1) ∙ run_one d (spot.Quoted p t) x ∙ rw (n.0, m.0, m.1, e) refl
 
-escapes_run : (d : Bool) (p q : Part) (t : Bool) (r v : List ℕ) → part_run d p r ≡ Some q → run d (spot.Quoted p t) (escape r ++ v) ≡ run d (spot.Quoted q (t || has_trigger r)) v
-escapes_run d p q t [] v e = let same : p ≡ q = cc in ap (λ a. run d (spot.Quoted a t) v) same ∙ ap (λ b. run d (spot.Quoted q b) v) (sym (or_false t))
+escapes_run : (d : Bool) (p q : Part) (t : Bool) (r v : List ℕ) → part_run d p r ≡ Some q → scan_over d (spot.Quoted p t) (escape r ++ v) ≡ scan_over d (spot.Quoted q (t || has_trigger r)) v
+escapes_run d p q t [] v e = let same : p ≡ q = cc in ap (λ a. scan_over d (spot.Quoted a t) v) same ∙ ap (λ b. scan_over d (spot.Quoted q b) v) (sym (or_false t))
 escapes_run d p q t (x ∷ r) v e =
     let n = next_part d p q x r e in
-    ap (run d (spot.Quoted p t)) (append_assoc (escape_byte x) (escape r) v)
+    ap (scan_over d (spot.Quoted p t)) (append_assoc (escape_byte x) (escape r) v)
     ∙ run_on d (spot.Quoted p t) (spot.Quoted n.0 (t || is_trigger x)) (escape_byte x) (escape r ++ v) (escape_run d p n.0 t x n.1)
     ∙ escapes_run d n.0 q (t || is_trigger x) r v n.2
-    ∙ ap (λ b. run d (spot.Quoted q b) v) (or_assoc t (is_trigger x) (has_trigger r))
+    ∙ ap (λ b. scan_over d (spot.Quoted q b) v) (or_assoc t (is_trigger x) (has_trigger r))
 
-bares_run : (d : Bool) (p q : Part) (r : List ℕ) → part_run d p r ≡ Some q → has_trigger r ≡ false → run d (spot.Bare p) r ≡ Some (spot.Bare q)
+bares_run : (d : Bool) (p q : Part) (r : List ℕ) → part_run d p r ≡ Some q → has_trigger r ≡ false → scan_over d (spot.Bare p) r ≡ Some (spot.Bare q)
 bares_run d p q [] e h = let same : p ≡ q = cc in ap (λ a. Some (spot.Bare a)) same
 bares_run d p q (x ∷ r) e h =
     let n = next_part d p q x r e in
@@ -144,34 +144,34 @@ is_start part.Label = false
 is_start part.Tilde = false
 
 abbrev Through : Bool → Part → List ℕ → Type 0
-Through d s w = (u : Spot) × (run d (spot.Start s) w ≡ Some u) × (accepts u ≡ true)
+Through d s w = (u : Spot) × (scan_over d (spot.Start s) w ≡ Some u) × (accepts u ≡ true)
 
-nothing_spelt : (d : Bool) (s : Part) → is_start s ≡ true → ends s ≡ true → Through d s (quoted [])
+nothing_spelt : (d : Bool) (s : Part) → is_start s ≡ true → may_end s ≡ true → Through d s (quoted [])
 nothing_spelt d part.Begin h e = cc
 nothing_spelt d (part.Name n) h e = cc
 nothing_spelt d part.Empty h e = (spot.Ended, refl, refl)
 nothing_spelt d part.Label h e = cc
 nothing_spelt d part.Tilde h e = cc
 
-ends_closes : (p : Part) → ends p ≡ true → closes p true ≡ true
+ends_closes : (p : Part) → may_end p ≡ true → closes p true ≡ true
 ends_closes part.Begin e = e
 ends_closes (part.Name n) e = refl
 ends_closes part.Empty e = refl
 ends_closes part.Label e = refl
 ends_closes part.Tilde e = e
 
-quoted_through : (d : Bool) (s p : Part) (r : List ℕ) → part_run d s r ≡ Some p → ends p ≡ true → has_trigger r ≡ true → Through d s (quoted r)
+quoted_through : (d : Bool) (s p : Part) (r : List ℕ) → part_run d s r ≡ Some p → may_end p ≡ true → has_trigger r ≡ true → Through d s (quoted r)
 quoted_through d s p r e h t =
-    (spot.Ended, escapes_run d s p false r (34 ∷ []) e ∙ ap (λ b. run d (spot.Quoted p b) (34 ∷ [])) t ∙ rw (ends_closes p h) refl, refl)
+    (spot.Ended, escapes_run d s p false r (34 ∷ []) e ∙ ap (λ b. scan_over d (spot.Quoted p b) (34 ∷ [])) t ∙ rw (ends_closes p h) refl, refl)
 
 cond_no : (b : Bool) (m n : Option Spot) → b ≡ false → cond b m n ≡ n
 cond_no true m n e = cc
 cond_no false m n e = refl
 
-bare_through : (d : Bool) (s p : Part) (x : ℕ) (r : List ℕ) → part_run d s (x ∷ r) ≡ Some p → ends p ≡ true → has_trigger (x ∷ r) ≡ false → Through d s (x ∷ r)
+bare_through : (d : Bool) (s p : Part) (x : ℕ) (r : List ℕ) → part_run d s (x ∷ r) ≡ Some p → may_end p ≡ true → has_trigger (x ∷ r) ≡ false → Through d s (x ∷ r)
 bare_through d s p x r e h t = (
   spot.Bare p,
-  ap (λ o. option_and_then (λ u. run d u r) o) (cond_no (x == 34) (Some (spot.Quoted s false)) (bare_step d s x) (not_quote x (or_parts (is_trigger x) (has_trigger r) t).0))
+  ap (λ o. option_and_then (λ u. scan_over d u r) o) (cond_no (x == 34) (Some (spot.Quoted s false)) (bare_step d s x) (not_quote x (or_parts (is_trigger x) (has_trigger r) t).0))
       ∙ bares_run d s p (x ∷ r) e t,
   h,
 )
@@ -179,18 +179,18 @@ bare_through d s p x r e h t = (
 pub through : (d : Bool) (s : Part) (w : List ℕ) → is_start s ≡ true → Spelt d s w → Through d s w
 through d s w i h = subst (Through d s) (sym h.4) (by h.0 h.1 h.2 h.3)
   where
-    word : (p : Part) (x : ℕ) (r : List ℕ) → part_run d s (x ∷ r) ≡ Some p → ends p ≡ true → (b : Bool) → has_trigger (x ∷ r) ≡ b → Through d s (cond b (quoted (x ∷ r)) (x ∷ r))
+    word : (p : Part) (x : ℕ) (r : List ℕ) → part_run d s (x ∷ r) ≡ Some p → may_end p ≡ true → (b : Bool) → has_trigger (x ∷ r) ≡ b → Through d s (cond b (quoted (x ∷ r)) (x ∷ r))
     word p x r e k true t = quoted_through d s p (x ∷ r) e k t
     word p x r e k false t = bare_through d s p x r e k t
 
-    by : (r : List ℕ) (p : Part) → part_run d s r ≡ Some p → ends p ≡ true → Through d s (label_word r)
-    by [] p e k = let same : s ≡ p = cc in nothing_spelt d s i (ap ends same ∙ k)
+    by : (r : List ℕ) (p : Part) → part_run d s r ≡ Some p → may_end p ≡ true → Through d s (label_word r)
+    by [] p e k = let same : s ≡ p = cc in nothing_spelt d s i (ap may_end same ∙ k)
     by (x ∷ r) p e k = word p x r e k (has_trigger (x ∷ r)) refl
 
 -- ---- each place where it stands goes on to a spelling
 
 abbrev Goes : Bool → Spot → Type 0
-Goes d u = (w : List ℕ) × (v : Spot) × (run d u w ≡ Some v) × (accepts v ≡ true)
+Goes d u = (w : List ℕ) × (v : Spot) × (scan_over d u w ≡ Some v) × (accepts v ≡ true)
 
 quoted_goes : (d : Bool) (p : Part) (t : Bool) → Goes d (spot.Quoted p t)
 quoted_goes d part.Begin true = (84 ∷ 47 ∷ 58 ∷ 34 ∷ [], spot.Ended, refl, refl)
@@ -225,14 +225,14 @@ goes d spot.Ended = ([], spot.Ended, refl, refl)
 
 -- ---- where the scan stops
 
-pub begins : (d : Bool) (s : Part) (u : Spot) (w : List ℕ) → run d (spot.Start s) w ≡ Some u → Begins (Spelt d s) w
+pub begins : (d : Bool) (s : Part) (u : Spot) (w : List ℕ) → scan_over d (spot.Start s) w ≡ Some u → IsFrontOfSpelling (Spelt d s) w
 begins d s u w e =
     let g = goes d u in
     (g.0, spelt d s g.1 (w ++ g.0) (seen d s g.1 (w ++ g.0) (run_on d (spot.Start s) u w g.0 e ∙ g.2)) g.3)
 
-dead : (d : Bool) (s t : Spot) (v w : List ℕ) (x : ℕ) (u : Spot) → run d s v ≡ Some t → step d t x ≡ None → run d s (v ++ x ∷ w) ≡ Some u → ⊥
+dead : (d : Bool) (s t : Spot) (v w : List ℕ) (x : ℕ) (u : Spot) → scan_over d s v ≡ Some t → step d t x ≡ None → scan_over d s (v ++ x ∷ w) ≡ Some u → ⊥
 dead d s t v w x u e n h =
-    let bad : None ≡ Some u = sym (run_on d s t v (x ∷ w) e ∙ ap (λ o. option_and_then (λ a. run d a w) o) n) ∙ h in cc
+    let bad : None ≡ Some u = sym (run_on d s t v (x ∷ w) e ∙ ap (λ o. option_and_then (λ a. scan_over d a w) o) n) ∙ h in cc
 
 beyond : (w : List ℕ) (at n : ℕ) (x : ℕ) → slice_get w at ≡ Some x → at < n → (v : List ℕ) × (take n w ≡ take at w ++ x ∷ v)
 beyond [] at n x e l = absurd (cc)
@@ -249,11 +249,11 @@ within (y ∷ w) (suc at) x e = let l = within w at x e in omega arith
 abbrev Stop : Bool → Part → List ℕ → ℕ → Spot → Type 0
 Stop d s w at t = ((at ≡ length w) × (accepts t ≡ false)) ⊎ ((x : ℕ) × (slice_get w at ≡ Some x) × (step d t x ≡ None))
 
-at_end : (d : Bool) (s : Part) (w : List ℕ) (at : ℕ) (t : Spot) → is_start s ≡ true → run d (spot.Start s) (take at w) ≡ Some t → at ≡ length w → accepts t ≡ false → IsBadAt (Spelt d s) w at
+at_end : (d : Bool) (s : Part) (w : List ℕ) (at : ℕ) (t : Spot) → is_start s ≡ true → scan_over d (spot.Start s) (take at w) ≡ Some t → at ≡ length w → accepts t ≡ false → IsBadAt (Spelt d s) w at
 at_end d s w at t i e l a =
     let whole : take at w ≡ w = ap (λ n. take n w) l ∙ take-length w in (
       λ k. let g = through d s w i k in
-          let same : Some t ≡ Some g.0 = sym e ∙ ap (run d (spot.Start s)) whole ∙ g.1 in
+          let same : Some t ≡ Some g.0 = sym e ∙ ap (scan_over d (spot.Start s)) whole ∙ g.1 in
           let both : t ≡ g.0 = cc in
           let bad : false ≡ true = sym a ∙ ap accepts both ∙ g.2 in cc,
       omega arith,
@@ -261,14 +261,14 @@ at_end d s w at t i e l a =
       λ n far near b. omega arith,
     )
 
-no_longer : (d : Bool) (s : Part) (w : List ℕ) (at x : ℕ) (t : Spot) → is_start s ≡ true → run d (spot.Start s) (take at w) ≡ Some t → slice_get w at ≡ Some x → step d t x ≡ None → (n : ℕ) → at < n → ¬ Begins (Spelt d s) (take n w)
+no_longer : (d : Bool) (s : Part) (w : List ℕ) (at x : ℕ) (t : Spot) → is_start s ≡ true → scan_over d (spot.Start s) (take at w) ≡ Some t → slice_get w at ≡ Some x → step d t x ≡ None → (n : ℕ) → at < n → ¬ IsFrontOfSpelling (Spelt d s) (take n w)
 no_longer d s w at x t i e f g n far b =
     let more = beyond w at n x f far in
     let go = through d s (take n w ++ b.0) i b.1 in
     dead d (spot.Start s) t (take at w) (more.0 ++ b.0) x go.0 e g
-    (ap (run d (spot.Start s)) (sym (append_assoc (take at w) (x ∷ more.0) b.0) ∙ ap (λ v. v ++ b.0) (sym more.1)) ∙ go.1)
+    (ap (scan_over d (spot.Start s)) (sym (append_assoc (take at w) (x ∷ more.0) b.0) ∙ ap (λ v. v ++ b.0) (sym more.1)) ∙ go.1)
 
-inside_word : (d : Bool) (s : Part) (w : List ℕ) (at x : ℕ) (t : Spot) → is_start s ≡ true → run d (spot.Start s) (take at w) ≡ Some t → slice_get w at ≡ Some x → step d t x ≡ None → IsBadAt (Spelt d s) w at
+inside_word : (d : Bool) (s : Part) (w : List ℕ) (at x : ℕ) (t : Spot) → is_start s ≡ true → scan_over d (spot.Start s) (take at w) ≡ Some t → slice_get w at ≡ Some x → step d t x ≡ None → IsBadAt (Spelt d s) w at
 inside_word d s w at x t i e f g =
     let short : at < length w = within w at x f in (
       λ k. no_longer d s w at x t i e f g (length w) short ([], subst (Spelt d s) (sym (append-nil (take (length w) w) ∙ take-length w)) k),
@@ -281,12 +281,12 @@ inside_word d s w at x t i e f g =
 pub stops : (d : Bool) (s : Part) (w : List ℕ) (at : ℕ) → is_start s ≡ true → StopsAt d (spot.Start s) w at → IsBadAt (Spelt d s) w at
 stops d s w at i h = by h.0 h.1 h.2
   where
-    by : (t : Spot) → run d (spot.Start s) (take at w) ≡ Some t → Stop d s w at t → IsBadAt (Spelt d s) w at
+    by : (t : Spot) → scan_over d (spot.Start s) (take at w) ≡ Some t → Stop d s w at t → IsBadAt (Spelt d s) w at
     by t e (inl k) = at_end d s w at t i e k.0 k.1
     by t e (inr k) = inside_word d s w at k.0 t i e k.1 k.2
 
 -- where it goes through, the word is a spelling
-pub goes_through : (d : Bool) (s : Part) (w : List ℕ) (u : Spot) → run d (spot.Start s) w ≡ Some u → accepts u ≡ true → Spelt d s w
+pub goes_through : (d : Bool) (s : Part) (w : List ℕ) (u : Spot) → scan_over d (spot.Start s) w ≡ Some u → accepts u ≡ true → Spelt d s w
 goes_through d s w u e a = spelt d s u w (seen d s u w e) a
 
 -- the same of two ways to say what is a spelling

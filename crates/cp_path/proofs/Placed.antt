@@ -8,7 +8,7 @@ use Rattle.std.specs.List.{list_all}
 use Rattle.cp_path.specs.Text.{is_letter, is_name_byte, is_name}
 use Rattle.cp_path.specs.Place.{Label, Path, child_place}
 use Rattle.cp_path.specs.Spelling.{escaped_text, raw_place, label_word, place_text}
-use Rattle.cp_path.specs.Scan.{part_step, label_step, ends}
+use Rattle.cp_path.specs.Scan.{part_step, label_step, may_end}
 use Rattle.cp_path.proofs.ScanLemmas.{part_run}
 use Rattle.cp_path.specs.Reading.{IsPlaceSpelling}
 use Rattle.cp_path.specs.declared.loc.Loc.{Loc}
@@ -109,7 +109,7 @@ place_on p u r (x ∷ w) h e =
 abbrev IsPlace : List ℕ → Type 0
 IsPlace r = (q : Loc) × (is_name q.db ≡ true) × (r ≡ raw_place q)
 
-place_ends : (p : Part) (r : List ℕ) → AtPlace p r → ends p ≡ true → IsPlace r
+place_ends : (p : Part) (r : List ℕ) → AtPlace p r → may_end p ≡ true → IsPlace r
 place_ends part.Begin r h e = cc
 place_ends (part.Name n) r h e = (root_place r, h.0, sym (append-nil r))
 place_ends part.Empty r h e = absurd h
@@ -149,7 +149,7 @@ begin_run (x ∷ w) n =
     rw p.1 (name_run 1 w (omega arith) p.2 ∙ ap (λ m. Some (part.Name m)) e)
 
 abbrev RunsOut : Part → Path → Type 0
-RunsOut p path = (u : Part) × (part_run true p (flat_map slashed path) ≡ Some u) × (ends u ≡ true)
+RunsOut p path = (u : Part) × (part_run true p (flat_map slashed path) ≡ Some u) × (may_end u ≡ true)
 
 labels_run : (path : Path) → RunsOut part.Label path
 labels_run [] = (part.Label, refl, refl)

@@ -4,34 +4,34 @@ use Rattle.std.proofs.lemmas.Bool.{and_parts, ltb-true, ltb-false}
 use Rattle.std.proofs.lemmas.List.{take_more}
 use Rattle.std.specs.Option.{option_map, option_and_then}
 use Rattle.cp_path.specs.Spelling.{is_trigger, has_trigger}
-use Rattle.cp_path.specs.Scan.{part_step, step, run}
+use Rattle.cp_path.specs.Scan.{part_step, step, scan_over}
 use Rattle.cp_path.proofs.ScanLemmas.{part_run}
 use Rattle.cp_path.specs.declared.scan.Part.{Part}
 use Rattle.cp_path.specs.declared.scan.Spot.{Spot}
 
-pub run-append : (d : Bool) (s : Spot) (v w : List ℕ) → run d s (v ++ w) ≡ option_and_then (λ t. run d t w) (run d s v)
+pub run-append : (d : Bool) (s : Spot) (v w : List ℕ) → scan_over d s (v ++ w) ≡ option_and_then (λ t. scan_over d t w) (scan_over d s v)
 run-append d s [] w = refl
 run-append d s (x ∷ v) w =
-    elim (step d s x) as (λ o. option_and_then (λ t. run d t (v ++ w)) o ≡ option_and_then (λ t. run d t w) (option_and_then (λ t. run d t v) o)) [ None ↦ refl | Some t ↦ run-append d t v w ]
+    elim (step d s x) as (λ o. option_and_then (λ t. scan_over d t (v ++ w)) o ≡ option_and_then (λ t. scan_over d t w) (option_and_then (λ t. scan_over d t v) o)) [ None ↦ refl | Some t ↦ run-append d t v w ]
 
 pub part_run-append : (d : Bool) (s : Part) (v w : List ℕ) → part_run d s (v ++ w) ≡ option_and_then (λ t. part_run d t w) (part_run d s v)
 part_run-append d s [] w = refl
 part_run-append d s (x ∷ v) w =
     elim (part_step d s x) as (λ o. option_and_then (λ t. part_run d t (v ++ w)) o ≡ option_and_then (λ t. part_run d t w) (option_and_then (λ t. part_run d t v) o)) [ None ↦ refl | Some t ↦ part_run-append d t v w ]
 
-pub run_on : (d : Bool) (s t : Spot) (v w : List ℕ) → run d s v ≡ Some t → run d s (v ++ w) ≡ run d t w
-run_on d s t v w e = run-append d s v w ∙ ap (λ o. option_and_then (λ u. run d u w) o) e
+pub run_on : (d : Bool) (s t : Spot) (v w : List ℕ) → scan_over d s v ≡ Some t → scan_over d s (v ++ w) ≡ scan_over d t w
+run_on d s t v w e = run-append d s v w ∙ ap (λ o. option_and_then (λ u. scan_over d u w) o) e
 
 pub part_run_on : (d : Bool) (s t : Part) (v w : List ℕ) → part_run d s v ≡ Some t → part_run d s (v ++ w) ≡ part_run d t w
 part_run_on d s t v w e = part_run-append d s v w ∙ ap (λ o. option_and_then (λ u. part_run d u w) o) e
 
-pub run_one : (d : Bool) (t : Spot) (x : ℕ) → run d t (x ∷ []) ≡ step d t x
+pub run_one : (d : Bool) (t : Spot) (x : ℕ) → scan_over d t (x ∷ []) ≡ step d t x
 run_one d t x = elim (step d t x) as (λ o. option_and_then (λ u. Some u) o ≡ o) [ None ↦ refl | Some u ↦ refl ]
 
 pub part_run_one : (d : Bool) (t : Part) (x : ℕ) → part_run d t (x ∷ []) ≡ part_step d t x
 part_run_one d t x = elim (part_step d t x) as (λ o. option_and_then (λ u. Some u) o ≡ o) [ None ↦ refl | Some u ↦ refl ]
 
-pub run_more : (d : Bool) (s t u : Spot) (v : List ℕ) (x : ℕ) → run d s v ≡ Some t → step d t x ≡ Some u → run d s (v ++ x ∷ []) ≡ Some u
+pub run_more : (d : Bool) (s t u : Spot) (v : List ℕ) (x : ℕ) → scan_over d s v ≡ Some t → step d t x ≡ Some u → scan_over d s (v ++ x ∷ []) ≡ Some u
 run_more d s t u v x e h = run_on d s t v (x ∷ []) e ∙ run_one d t x ∙ h
 
 pub part_more : (d : Bool) (s t u : Part) (v : List ℕ) (x : ℕ) → part_run d s v ≡ Some t → part_step d t x ≡ Some u → part_run d s (v ++ x ∷ []) ≡ Some u
@@ -44,12 +44,12 @@ next_part d s u x w e = by (part_step d s x) refl
     by None h = let bad : None ≡ Some u = sym (ap (λ o. option_and_then (λ t. part_run d t w) o) h) ∙ e in absurd (cc)
     by (Some t) h = (t, h, sym (ap (λ o. option_and_then (λ t. part_run d t w) o) h) ∙ e)
 
-pub next_spot : (d : Bool) (s u : Spot) (x : ℕ) (w : List ℕ) → run d s (x ∷ w) ≡ Some u → (t : Spot) × (step d s x ≡ Some t) × (run d t w ≡ Some u)
+pub next_spot : (d : Bool) (s u : Spot) (x : ℕ) (w : List ℕ) → scan_over d s (x ∷ w) ≡ Some u → (t : Spot) × (step d s x ≡ Some t) × (scan_over d t w ≡ Some u)
 next_spot d s u x w e = by (step d s x) refl
   where
-    by : (o : Option Spot) → step d s x ≡ o → (t : Spot) × (step d s x ≡ Some t) × (run d t w ≡ Some u)
-    by None h = let bad : None ≡ Some u = sym (ap (λ o. option_and_then (λ t. run d t w) o) h) ∙ e in absurd (cc)
-    by (Some t) h = (t, h, sym (ap (λ o. option_and_then (λ t. run d t w) o) h) ∙ e)
+    by : (o : Option Spot) → step d s x ≡ o → (t : Spot) × (step d s x ≡ Some t) × (scan_over d t w ≡ Some u)
+    by None h = let bad : None ≡ Some u = sym (ap (λ o. option_and_then (λ t. scan_over d t w) o) h) ∙ e in absurd (cc)
+    by (Some t) h = (t, h, sym (ap (λ o. option_and_then (λ t. scan_over d t w) o) h) ∙ e)
 
 pub or_assoc : (a b c : Bool) → ((a || b) || c) ≡ (a || (b || c))
 or_assoc true b c = refl
@@ -94,5 +94,5 @@ pub when : (b c : Bool) → (not b || c) ≡ true → b ≡ true → c ≡ true
 when true c h e = h
 when false c h e = cc
 
-pub scan_step : (d : Bool) (s t u : Spot) (w : List ℕ) (i : ℕ) → i < length w → run d s (take i w) ≡ Some t → step d t (get_or w i 0) ≡ Some u → run d s (take (i + 1) w) ≡ Some u
-scan_step d s t u w i h e g = ap (run d s) (take_more w i 0 h) ∙ run_more d s t u (take i w) (get_or w i 0) e g
+pub scan_step : (d : Bool) (s t u : Spot) (w : List ℕ) (i : ℕ) → i < length w → scan_over d s (take i w) ≡ Some t → step d t (get_or w i 0) ≡ Some u → scan_over d s (take (i + 1) w) ≡ Some u
+scan_step d s t u w i h e g = ap (scan_over d s) (take_more w i 0 h) ∙ run_more d s t u (take i w) (get_or w i 0) e g

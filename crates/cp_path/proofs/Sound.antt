@@ -10,7 +10,7 @@ use Rattle.json.specs.Print.{escape_byte, escape, quoted}
 use Rattle.cp_path.specs.Text.{text_eq, is_letter, is_name_byte}
 use Rattle.cp_path.proofs.Same.{text_eq-same}
 use Rattle.cp_path.specs.Spelling.{is_trigger, has_trigger, label_word}
-use Rattle.cp_path.specs.Scan.{part_step, label_step, step, run, bare_step, quoted_step, escape_step, is_label, closes, ends, accepts, ends_low, ends_high, is_letter_escape}
+use Rattle.cp_path.specs.Scan.{part_step, label_step, step, scan_over, bare_step, quoted_step, escape_step, is_label, closes, may_end, accepts, ends_low, ends_high, is_letter_escape}
 use Rattle.cp_path.proofs.ScanLemmas.{part_run}
 use Rattle.cp_path.specs.declared.scan.Part.{Part}
 use Rattle.cp_path.specs.declared.scan.Part.TheVariants as part
@@ -221,20 +221,20 @@ seen_step d s spot.High x u w h g = if_split (ends_high x) (Some (spot.Quoted pa
     (λ e n. none_some u n)
 seen_step d s spot.Ended x u w h g = none_some u g
 
-seen_on : (d : Bool) (s : Part) (t u : Spot) (v w : List ℕ) → Seen d s t v → run d t w ≡ Some u → Seen d s u (v ++ w)
+seen_on : (d : Bool) (s : Part) (t u : Spot) (v w : List ℕ) → Seen d s t v → scan_over d t w ≡ Some u → Seen d s u (v ++ w)
 seen_on d s t u v [] h g = subst (λ a. Seen d s u a) (sym (append-nil v)) (subst (λ a. Seen d s a v) (some_same t u g) h)
 seen_on d s t u v (x ∷ w) h g =
     let n = next_spot d t u x w g in
     subst (λ a. Seen d s u a) (append_assoc v (x ∷ []) w) (seen_on d s n.0 u (v ++ x ∷ []) w (seen_step d s t x n.0 v h n.1) n.2)
 
-pub seen : (d : Bool) (s : Part) (u : Spot) (w : List ℕ) → run d (spot.Start s) w ≡ Some u → Seen d s u w
+pub seen : (d : Bool) (s : Part) (u : Spot) (w : List ℕ) → scan_over d (spot.Start s) w ≡ Some u → Seen d s u w
 seen d s u w e = seen_on d s (spot.Start s) u [] w (refl, refl) e
 
 -- ---- where the scan may end, the word is a spelling
 
 -- a text that the parts take, and its spelling
 abbrev pub Spelt : Bool → Part → List ℕ → Type 0
-Spelt d s w = (r : List ℕ) × (p : Part) × (part_run d s r ≡ Some p) × (ends p ≡ true) × (w ≡ label_word r)
+Spelt d s w = (r : List ℕ) × (p : Part) × (part_run d s r ≡ Some p) × (may_end p ≡ true) × (w ≡ label_word r)
 
 never : (b : Bool) (m n : Option Part) → (m ≡ Some part.Empty → ⊥) → (n ≡ Some part.Empty → ⊥) → cond b m n ≡ Some part.Empty → ⊥
 never true m n f g e = f e
@@ -258,7 +258,7 @@ empty_first : (d : Bool) (s : Part) (x : ℕ) (w : List ℕ) → part_run d s (x
 empty_first d s x [] e = never_empty d s x (sym (part_run_one d s x) ∙ e)
 empty_first d s x (y ∷ w) e = let n = next_part d s part.Empty x (y ∷ w) e in empty_first d n.0 y w n.2
 
-closes_ends : (p : Part) (t : Bool) → closes p t ≡ true → ends p ≡ true
+closes_ends : (p : Part) (t : Bool) → closes p t ≡ true → may_end p ≡ true
 closes_ends part.Begin t e = e
 closes_ends (part.Name n) t e = refl
 closes_ends part.Empty t e = refl

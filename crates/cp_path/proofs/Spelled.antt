@@ -4,7 +4,7 @@ use Rattle.std.proofs.lemmas.Bool.{eqb-true}
 use Rattle.std.proofs.lemmas.Grind.{flat_map-append}
 use Rattle.cp_path.specs.Place.{Label}
 use Rattle.cp_path.specs.Spelling.{escape_label_byte, escaped_text, label_word, label_text}
-use Rattle.cp_path.specs.Scan.{part_step, label_step, ends, is_label}
+use Rattle.cp_path.specs.Scan.{part_step, label_step, may_end, is_label}
 use Rattle.cp_path.proofs.ScanLemmas.{part_run}
 use Rattle.cp_path.specs.Reading.{IsLabelSpelling}
 use Rattle.cp_path.specs.declared.scan.Part.{Part}
@@ -90,7 +90,7 @@ label_on p q r (x ∷ w) h e =
     let n = next_part false p q x w e in
     subst (λ a. AtLabel q a) (append_assoc r (x ∷ []) w) (label_on n.0 q (r ++ x ∷ []) w (label_more p n.0 x r h n.1) n.2)
 
-label_ends : (p : Part) (r : List ℕ) → AtLabel p r → ends p ≡ true → InLabel [] r
+label_ends : (p : Part) (r : List ℕ) → AtLabel p r → may_end p ≡ true → InLabel [] r
 label_ends part.Begin r h e = absurd h
 label_ends (part.Name n) r h e = absurd h
 label_ends part.Empty r h e = ([], h)

@@ -8,7 +8,7 @@ use Rattle.json.specs.Print.{quoted}
 use Rattle.cp_path.specs.Text.{is_name}
 use Rattle.cp_path.specs.Place.{Label, size}
 use Rattle.cp_path.specs.Spelling.{escaped_text, raw_place, label_word, label_text, place_text, has_trigger}
-use Rattle.cp_path.specs.Scan.{step, run, accepts, Accepts, StopsAt, pieces, place_from}
+use Rattle.cp_path.specs.Scan.{step, scan_over, accepts, Accepts, StopsAt, pieces, place_from}
 use Rattle.cp_path.specs.Reading.{any_long, IsLabelSpelling, IsPlaceSpelling, SpellsPlace, IsBadAt, IsOver, PlaceFault, LabelFault}
 use Rattle.cp_path.specs.Words.{string_reading, unquoted_text, is_accepted, reach, place_within, place_reading, label_within, label_reading}
 use Rattle.cp_path.specs.declared.loc.Loc.{Loc}
@@ -25,9 +25,9 @@ use Rattle.cp_path.specs.Laws.{IsSpelling, IsTokenShape}
 -- ---- the scan as a function
 
 accepted_accepts : (d : Bool) (s : Spot) (w : List ℕ) → is_accepted d s w ≡ true → Accepts d s w
-accepted_accepts d s w h = by (run d s w) refl h
+accepted_accepts d s w h = by (scan_over d s w) refl h
   where
-    by : (o : Option Spot) → run d s w ≡ o → unwrap_or (option_map accepts o) false ≡ true → Accepts d s w
+    by : (o : Option Spot) → scan_over d s w ≡ o → unwrap_or (option_map accepts o) false ≡ true → Accepts d s w
     by None r e = cc
     by (Some t) r e = (t, r, e)
 
@@ -48,10 +48,10 @@ halts_here d s x w h = subst (StopsAt d s (x ∷ w)) (sym (reach_next d s x w No
 halts_later : (d : Bool) (s u : Spot) (x : ℕ) (w : List ℕ) → step d s x ≡ Some u → StopsAt d u w (reach d u w) → StopsAt d s (x ∷ w) (reach d s (x ∷ w))
 halts_later d s u x w h k =
     subst (StopsAt d s (x ∷ w)) (sym (reach_next d s x w (Some u) h))
-    (k.0, ap (λ o. option_and_then (λ t. run d t (take (reach d u w) w)) o) h ∙ k.1, further d k.0 x w (reach d u w) k.2)
+    (k.0, ap (λ o. option_and_then (λ t. scan_over d t (take (reach d u w) w)) o) h ∙ k.1, further d k.0 x w (reach d u w) k.2)
 
 accepted_next : (d : Bool) (s u : Spot) (x : ℕ) (w : List ℕ) → step d s x ≡ Some u → is_accepted d s (x ∷ w) ≡ is_accepted d u w
-accepted_next d s u x w h = ap (λ o. unwrap_or (option_map accepts (option_and_then (λ t. run d t w) o)) false) h
+accepted_next d s u x w h = ap (λ o. unwrap_or (option_map accepts (option_and_then (λ t. scan_over d t w) o)) false) h
 
 reach_stops : (d : Bool) (s : Spot) (w : List ℕ) → is_accepted d s w ≡ false → StopsAt d s w (reach d s w)
 reach_stops d s [] e = (s, refl, inl (refl, e))

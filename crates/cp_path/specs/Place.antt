@@ -6,6 +6,7 @@ use Rattle.std.specs.declared.option.Option.TheVariants.{None, Some}
 use Rattle.std.specs.Option.{option_map, unwrap_or}
 use Rattle.std.specs.declared.cmp.Ordering.{Ordering}
 use Rattle.std.specs.Cmp.Lexicographic.{slice_cmp, pointwise}
+pub use Rattle.cp_path.specs.Text.{target}
 use Rattle.cp_path.specs.Text.{text_eq, text_cmp}
 use Rattle.cp_path.specs.declared.loc.Loc.{Loc}
 
@@ -32,10 +33,6 @@ path_cmp = slice_cmp text_cmp
 -- the same place
 abbrev pub place_eq : Loc → Loc → Bool
 place_eq p q = text_eq p.db q.db && path_eq p.path q.path
-
--- the database that curators change is called T
-abbrev pub target : List ℕ
-target = 84 ∷ []
 
 -- the place at this path of T
 abbrev pub at_target : Path → Loc

@@ -15,12 +15,12 @@ use Rattle.cp_path.specs.declared.value.Value.{Value}
 use Rattle.cp_path.specs.declared.value.Value.TheVariants.{Null, False, True, Whole, Text}
 
 -- some spelling begins with the word
-abbrev pub Begins : (List ℕ → Type 0) → List ℕ → Type 0
-Begins Spells w = (rest : List ℕ) × Spells (w ++ rest)
+abbrev pub IsFrontOfSpelling : (List ℕ → Type 0) → List ℕ → Type 0
+IsFrontOfSpelling Spells w = (rest : List ℕ) × Spells (w ++ rest)
 
 -- the word is no spelling, and its longest beginning that some spelling begins with has that many bytes
 abbrev pub IsBadAt : (List ℕ → Type 0) → List ℕ → ℕ → Type 0
-IsBadAt Spells w at = ¬ Spells w × (at ≤ length w) × Begins Spells (take at w) × ((n : ℕ) → at < n → n ≤ length w → ¬ Begins Spells (take n w))
+IsBadAt Spells w at = ¬ Spells w × (at ≤ length w) × IsFrontOfSpelling Spells (take at w) × ((n : ℕ) → at < n → n ≤ length w → ¬ IsFrontOfSpelling Spells (take n w))
 
 -- the word is the spelling of a label of any bytes, where it stands alone
 abbrev pub IsLabelSpelling : List ℕ → Type 0

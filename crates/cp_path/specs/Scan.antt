@@ -26,12 +26,12 @@ closes part.Label t = t
 closes part.Tilde t = false
 
 -- the text may end there
-abbrev pub ends : Part → Bool
-ends part.Begin = false
-ends (part.Name n) = true
-ends part.Empty = true
-ends part.Label = true
-ends part.Tilde = false
+abbrev pub may_end : Part → Bool
+may_end part.Begin = false
+may_end (part.Name n) = true
+may_end part.Empty = true
+may_end part.Label = true
+may_end part.Tilde = false
 
 -- one byte of a label: `~` begins an escape, and a slash ends it where another may follow
 abbrev pub label_step : Bool → ℕ → Option Part
@@ -101,7 +101,7 @@ step deep spot.Ended x = None
 -- the word may end there
 abbrev pub accepts : Spot → Bool
 accepts (spot.Start p) = false
-accepts (spot.Bare p) = ends p
+accepts (spot.Bare p) = may_end p
 accepts (spot.Quoted p t) = false
 accepts (spot.Backslash t) = false
 accepts spot.Unicode = false
@@ -112,17 +112,17 @@ accepts spot.High = false
 accepts spot.Ended = true
 
 -- where the scan stands after these bytes, if it goes over all of them
-abbrev pub run : Bool → Spot → List ℕ → Option Spot
-run deep s [] = Some s
-run deep s (x ∷ w) = option_and_then (λ t. run deep t w) (step deep s x)
+abbrev pub scan_over : Bool → Spot → List ℕ → Option Spot
+scan_over deep s [] = Some s
+scan_over deep s (x ∷ w) = option_and_then (λ t. scan_over deep t w) (step deep s x)
 
 -- the scan goes over the whole word, and may end there
 abbrev pub Accepts : Bool → Spot → List ℕ → Type 0
-Accepts deep s w = (t : Spot) × (run deep s w ≡ Some t) × (accepts t ≡ true)
+Accepts deep s w = (t : Spot) × (scan_over deep s w ≡ Some t) × (accepts t ≡ true)
 
 -- the scan stands after that many bytes, and goes no further, or may not end there
 abbrev pub StopsAt : Bool → Spot → List ℕ → ℕ → Type 0
-StopsAt deep s w at = (t : Spot) × (run deep s (take at w) ≡ Some t) × (((at ≡ length w) × (accepts t ≡ false)) ⊎ ((x : ℕ) × (slice_get w at ≡ Some x) × (step deep t x ≡ None)))
+StopsAt deep s w at = (t : Spot) × (scan_over deep s (take at w) ≡ Some t) × (((at ≡ length w) × (accepts t ≡ false)) ⊎ ((x : ℕ) × (slice_get w at ≡ Some x) × (step deep t x ≡ None)))
 
 -- the pieces between slashes, unescaped; the bytes a of the first came before, with a `~` last or not
 abbrev pub pieces : Bool → List ℕ → List ℕ → List (List ℕ)

@@ -1,6 +1,6 @@
 -- Texts as lists of bytes, and which of them are names.
 use Rattle.cp_path.specs.declared.limits.TheConstants.{NAME_MAX}
-use Rattle.std.specs.Prelude.{ℕ, Bool, List, length, nat_eq, nat_le, ◌==◌, ◌&&◌, ◌||◌, slice_index}
+use Rattle.std.specs.Prelude.{ℕ, Bool, List, length, nat_eq, nat_le, ◌==◌, ◌&&◌, ◌||◌, slice_index, [], ◌∷◌}
 use Rattle.std.specs.List.{list_all}
 use Rattle.std.specs.declared.cmp.Ordering.{Ordering}
 use Rattle.std.specs.Ordering.{nat_cmp}
@@ -29,3 +29,7 @@ is_name_byte x = is_letter x || is_digit x || (x == 95)
 -- a letter first, and letters, digits and underscores behind it, no more than a name may have
 abbrev pub is_name : List ℕ → Bool
 is_name w = nat_le 1 (length w) && (nat_le (length w) NAME_MAX && (is_letter (slice_index w 0) && list_all is_name_byte w))
+
+-- the database that curators change is called T
+abbrev pub target : List ℕ
+target = 84 ∷ []

@@ -1,6 +1,6 @@
 ghost use Rattle.std.specs.Prelude.{◌≡◌, ◌≤◌, ◌<◌, ◌↔◌, ◌⊎◌, ◌&&◌, ◌||◌, ◌==◌, ℕ, List, [], ◌∷◌, length, false, true, nat_le, slice_index, IfOk, IfErr, IsErrOf, IsTrue, string_bytes};
 ghost use Rattle.std.specs.List.{list_all};
-ghost use Rattle.cp_path.specs.Text.{text_eq, text_cmp, is_letter, is_digit, is_name_byte, is_name};
+ghost use Rattle.cp_path.specs.Text.{text_eq, text_cmp, is_letter, is_digit, is_name_byte, is_name, target};
 ghost use Rattle.cp_path.specs.declared.fault.PathFault.TheVariants as fault;
 
 use crate::fault::PathFault;
@@ -72,7 +72,7 @@ impl Clone for Name {
 impl Name {
     /// The name of the database that curators change.
     pub fn target(alloc: Global) -> Result<Name, AllocError>
-        ensures { IfOk result (λ a. a ≡ 84 ∷ []) }
+        ensures { IfOk result (λ a. a ≡ target) }
     {
         Ok(Name {
             text: Text::copy_of(alloc, "T")?,
@@ -104,7 +104,7 @@ impl Name {
 
     /// Whether it is the name of the database that curators change.
     pub fn is_target(&self) -> bool
-        ensures { result ≡ text_eq self.now (84 ∷ []) }
+        ensures { result ≡ text_eq self.now target }
     {
         self.text.as_str() == "T"
     }

@@ -10,7 +10,7 @@ use Rattle.cp_model.specs.Tree.{Tree}
 use Rattle.cp_model.specs.Past.{Aged}
 use Rattle.cp_model.proofs.Lookups.{there-mapped}
 use Rattle.cp_model.specs.History.{State}
-use Rattle.cp_model.specs.Answers.{answer_to, has_place, at_place}
+use Rattle.cp_model.specs.Answers.{answer_to, has_place, answer_at}
 use Rattle.cp_model.specs.declared.answer.Answer.{Answer}
 use Rattle.cp_model.specs.declared.kind.Kind.{Kind}
 use Rattle.cp_model.specs.declared.query.Query.{Query}
@@ -34,7 +34,7 @@ ok-not-err x e h = cc
 err-inner : {T E : Type 0} (d e : E) → IsErrOf {T = T} (Err d) e → d ≡ e
 err-inner d e h = cc
 
-module _ {k : Kind} {n : ℕ} {rs : List Record} {t : Tree} {s : State} (c : IsCommitted k n rs t s) (asked : Query) (place : Loc) (a : Answer) (is : answer_to s asked ≡ at_place s place a) where
+module _ {k : Kind} {n : ℕ} {rs : List Record} {t : Tree} {s : State} (c : IsCommitted k n rs t s) (asked : Query) (place : Loc) (a : Answer) (is : answer_to s asked ≡ answer_at s place a) where
   -- the place is in the state's tree where it is in the one that is kept
   has-place : has_place s place ≡ is_in t place
   has-place = ap (λ b. in_target place && b) (sym (there-mapped (λ _ (x : Aged). x.content) s.tree place.path) ∙ ap (λ u. is_there u place.path) c.tree)

@@ -12,8 +12,8 @@ use Rattle.cp_model.specs.declared.record.Record.{Record}
 use Rattle.cp_model.specs.declared.record.RecOp.{RecOp}
 use Rattle.cp_model.specs.declared.record.RecOp.TheVariants as op
 use Rattle.cp_record.specs.Bytes.{letter, source_bytes, record_bytes, records_bytes}
-use Rattle.cp_record.specs.Kept.{IsSource, IsKept}
-use Rattle.cp_record.specs.Unpacked.{text_in, labels_in, path_in, place_in, source_in, op_in, record_of, record_behind, record_in, records_within, records_in, IsPacked}
+use Rattle.cp_record.specs.Kept.{IsSourceOf, IsPackable}
+use Rattle.cp_record.specs.Unpacked.{text_in, labels_in, path_in, place_in, source_in, op_in, record_with, record_behind, record_in, records_within, records_in, IsPacked}
 use Rattle.cp_record.proofs.Kept.{parts, some_bytes, all_append, all_front}
 
 -- a text behind its length
@@ -59,7 +59,7 @@ abbrev copied : Loc × List ℕ → Option Loc × List ℕ
 copied m = (Some m.0, m.1)
 
 -- the source of a copy
-source_in-source : (o : RecOp) (q : Option Loc) (rest : List ℕ) → IsSource o q → source_in o (source_bytes q ++ rest) ≡ (q, rest)
+source_in-source : (o : RecOp) (q : Option Loc) (rest : List ℕ) → IsSourceOf o q → source_in o (source_bytes q ++ rest) ≡ (q, rest)
 source_in-source op.I None rest h = refl
 source_in-source op.D None rest h = refl
 source_in-source op.K None rest h = refl
@@ -82,14 +82,14 @@ abbrev behind_parts : Record → Loc → Option Loc × List ℕ → Record × Li
 behind_parts r l m = (record { tid = r.tid; op = r.op; loc = l; src = m.0 }, m.1)
 
 -- a record of this Tid and operation
-record_of-parts : (r : Record) (rest : List ℕ) → IsKept r → record_of r.tid r.op (path_bytes r.loc.path ++ (source_bytes r.src ++ rest)) ≡ (r, rest)
+record_of-parts : (r : Record) (rest : List ℕ) → IsPackable r → record_with r.tid r.op (path_bytes r.loc.path ++ (source_bytes r.src ++ rest)) ≡ (r, rest)
 record_of-parts r rest k =
     ap (source_behind r) (path_in-path r.loc.path (source_bytes r.src ++ rest))
     ∙ ap (behind_parts r (at_target r.loc.path)) (source_in-source r.op r.src rest k.source)
     ∙ ap (λ (l : Loc). behind_parts r l (r.src, rest)) (sym k.place)
 
 -- the first of some records
-pub record_in-record : (r : Record) (rest bytes : List ℕ) → IsKept r → bytes ≡ record_bytes r ++ rest → record_in bytes ≡ (r, rest)
+pub record_in-record : (r : Record) (rest bytes : List ℕ) → IsPackable r → bytes ≡ record_bytes r ++ rest → record_in bytes ≡ (r, rest)
 unfolding record_in
 record_in-record r rest bytes k e =
     let tid = to_be_bytes w64 r.tid in
@@ -99,10 +99,10 @@ record_in-record r rest bytes k e =
     let back : drop 8 bytes ≡ letter r.op ∷ more = ap (drop 8) whole ∙ drop_at tid (letter r.op ∷ more) 8 refl in
     ap (λ (n : ℕ). record_behind n (drop 8 bytes)) (ap (from_be_bytes w64) front ∙ from_be_bytes-to_be_bytes_8 r.tid k.tid)
     ∙ ap (record_behind r.tid) back
-    ∙ ap (λ (o : RecOp). record_of r.tid o more) (op_in-letter r.op)
+    ∙ ap (λ (o : RecOp). record_with r.tid o more) (op_in-letter r.op)
     ∙ record_of-parts r rest k
 
-first_within : (n : ℕ) (bytes rest : List ℕ) (r : Record) → IsKept r → 0 < length bytes → length bytes ≤ n → bytes ≡ record_bytes r ++ rest → records_within n bytes ≡ r ∷ records_within (n - 1) rest
+first_within : (n : ℕ) (bytes rest : List ℕ) (r : Record) → IsPackable r → 0 < length bytes → length bytes ≤ n → bytes ≡ record_bytes r ++ rest → records_within n bytes ≡ r ∷ records_within (n - 1) rest
 first_within zero bytes rest r k some le e = absurd (omega (arith, some, le))
 first_within (suc n) [] rest r k some le e = absurd (omega (arith, some))
 first_within (suc n) (b ∷ bytes) rest r k some le e =
@@ -113,7 +113,7 @@ within_none : (n : ℕ) → records_within n [] ≡ []
 within_none zero = refl
 within_none (suc n) = refl
 
-all_within : (n : ℕ) (rs : List Record) → AllByRecursion IsKept rs → length (records_bytes rs) ≤ n → records_within n (records_bytes rs) ≡ rs
+all_within : (n : ℕ) (rs : List Record) → AllByRecursion IsPackable rs → length (records_bytes rs) ≤ n → records_within n (records_bytes rs) ≡ rs
 unfolding records_bytes
 all_within n [] k le = within_none n
 all_within n (r ∷ rs) k le =
@@ -125,23 +125,23 @@ all_within n (r ∷ rs) k le =
     ∙ ap (λ (l : List Record). r ∷ l) (all_within (n - 1) rs k.1 (omega (arith, le, size, one, first)))
 
 -- the records in the bytes of records
-pub records_in-bytes : (rs : List Record) (bytes : List ℕ) → AllByRecursion IsKept rs → bytes ≡ records_bytes rs → records_in bytes ≡ rs
+pub records_in-bytes : (rs : List Record) (bytes : List ℕ) → AllByRecursion IsPackable rs → bytes ≡ records_bytes rs → records_in bytes ≡ rs
 unfolding records_in
 records_in-bytes rs bytes k e = ap (λ (l : List ℕ). records_within (length l) l) e ∙ all_within (length (records_bytes rs)) rs k (omega arith)
 
 -- the bytes of records that can be kept
-pub packed-bytes : (rs : List Record) (bytes : List ℕ) → AllByRecursion IsKept rs → bytes ≡ records_bytes rs → IsPacked bytes
+pub packed-bytes : (rs : List Record) (bytes : List ℕ) → AllByRecursion IsPackable rs → bytes ≡ records_bytes rs → IsPacked bytes
 packed-bytes rs bytes k e =
     let same = records_in-bytes rs bytes k e in
-    record { is = e ∙ ap records_bytes (sym same); kept = subst (λ l. AllByRecursion IsKept l) (sym same) k }
+    record { is = e ∙ ap records_bytes (sym same); kept = subst (λ l. AllByRecursion IsPackable l) (sym same) k }
 
-module _ (old new : List ℕ) (r : Record) (h : IsPacked old) (k : IsKept r) (e : new ≡ old ++ record_bytes r) where
+module _ (old new : List ℕ) (r : Record) (h : IsPacked old) (k : IsPackable r) (e : new ≡ old ++ record_bytes r) where
   bytes_more : new ≡ records_bytes (records_in old ++ r ∷ [])
   unfolding records_bytes
   bytes_more = e ∙ ap (λ (l : List ℕ). l ++ record_bytes r) h.is ∙ ap (λ (l : List ℕ). records_bytes (records_in old) ++ l) (sym (append-nil (record_bytes r))) ∙ sym (flat_map-append record_bytes (records_in old) (r ∷ []))
 
-  all_kept : AllByRecursion IsKept (records_in old ++ r ∷ [])
-  all_kept = all_append IsKept (records_in old) (r ∷ []) h.kept (k, tt)
+  all_kept : AllByRecursion IsPackable (records_in old ++ r ∷ [])
+  all_kept = all_append IsPackable (records_in old) (r ∷ []) h.kept (k, tt)
 
   -- one record more
   pub packed-more : IsPacked new
@@ -155,8 +155,8 @@ module _ (old new : List ℕ) (rs qs : List Record) (n : ℕ) (h : IsPacked old)
   unfolding records_bytes
   bytes_front = e ∙ ap (take n) h.is ∙ ap (λ (l : List Record). take n (records_bytes l)) all ∙ ap (take n) (flat_map-append record_bytes rs qs) ∙ take_at (records_bytes rs) (records_bytes qs) n (sym size)
 
-  front_kept : AllByRecursion IsKept rs
-  front_kept = all_front IsKept rs qs (subst (λ l. AllByRecursion IsKept l) all h.kept)
+  front_kept : AllByRecursion IsPackable rs
+  front_kept = all_front IsPackable rs qs (subst (λ l. AllByRecursion IsPackable l) all h.kept)
 
   -- the records in front
   pub packed-front : IsPacked new

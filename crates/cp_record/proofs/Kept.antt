@@ -12,7 +12,7 @@ use Rattle.cp_path.specs.declared.loc.Loc.{Loc}
 use Rattle.cp_model.specs.declared.record.Record.{Record}
 use Rattle.cp_model.specs.declared.record.RecOp.{RecOp}
 use Rattle.cp_record.specs.Bytes.{letter, source_bytes, record_bytes, records_bytes}
-use Rattle.cp_record.specs.Kept.{IsPath, IsSource, IsKept, IsAny, Begins}
+use Rattle.cp_record.specs.Kept.{IsPath, IsSourceOf, IsPackable, IsAny, BeginsWith}
 
 -- what holds on success holds where there is no error
 pub on_ok : {T E P : Type 0} (r : Result T E) → is_err r ≡ false → OnOk r P → P
@@ -51,7 +51,7 @@ unfolding record_bytes
 parts r rest bytes e = e ∙ regroup (to_be_bytes w64 r.tid) (path_bytes r.loc.path) (source_bytes r.src) rest (letter r.op)
 
 -- a record of T is made of these parts
-pub made : (r : Record) (t : ℕ) (o : RecOp) (db : List ℕ) (p : Path) (s : Option Loc) → IsKept r → t ≡ r.tid → o ≡ r.op → db ≡ target → p ≡ r.loc.path → s ≡ r.src →
+pub made : (r : Record) (t : ℕ) (o : RecOp) (db : List ℕ) (p : Path) (s : Option Loc) → IsPackable r → t ≡ r.tid → o ≡ r.op → db ≡ target → p ≡ r.loc.path → s ≡ r.src →
     ◌≡◌ {A = Record} (record { tid = t; op = o; loc = record { db = db; path = p }; src = s }) r
 made r t o db p s k e f d g h =
     let loc : ◌≡◌ {A = Loc} (record { db = db; path = p }) r.loc = (λ i. record { db = d i; path = g i }) ∙ sym k.place in
@@ -109,20 +109,20 @@ next_record rs k d h = ap (λ (l : List Record). flat_map record_bytes l) (drop_
 pub record Numbered (rs : List Record) (k : ℕ) : Type 0 where
   pub is : Record
   pub at : slice_get rs k ≡ Some is
-  pub kept : IsKept is
+  pub kept : IsPackable is
   pub bytes : records_bytes (drop k rs) ≡ record_bytes is ++ records_bytes (drop (k + 1) rs)
 
-pub numbered : (rs : List Record) (k : ℕ) → AllByRecursion IsKept rs → k < length rs → Numbered rs k
+pub numbered : (rs : List Record) (k : ℕ) → AllByRecursion IsPackable rs → k < length rs → Numbered rs k
 numbered [] k h le = absurd (omega (arith, le))
-numbered (r ∷ rs) k h le = record { is = get_or (r ∷ rs) k r; at = slice_get-get_or (r ∷ rs) k r le; kept = all_at IsKept (r ∷ rs) k r le h; bytes = next_record (r ∷ rs) k r le }
+numbered (r ∷ rs) k h le = record { is = get_or (r ∷ rs) k r; at = slice_get-get_or (r ∷ rs) k r le; kept = all_at IsPackable (r ∷ rs) k r le h; bytes = next_record (r ∷ rs) k r le }
 
 -- the bytes from a record on begin with it
-pub begins_numbered : (rs : List Record) (bytes : List ℕ) (k : ℕ) → Numbered rs k → bytes ≡ records_bytes (drop k rs) → Begins record_bytes IsKept bytes
+pub begins_numbered : (rs : List Record) (bytes : List ℕ) (k : ℕ) → Numbered rs k → bytes ≡ records_bytes (drop k rs) → BeginsWith record_bytes IsPackable bytes
 begins_numbered rs bytes k n e = record { first = n.is; fit = n.kept; rest = records_bytes (drop (k + 1) rs); is = e ∙ n.bytes }
 
 -- ---- the parts of the record that is read
 
-module _ (bytes : List ℕ) (b : Begins record_bytes IsKept bytes) where
+module _ (bytes : List ℕ) (b : BeginsWith record_bytes IsPackable bytes) where
   -- its Tid
   pub has_tid : 8 ≤ length bytes
   has_tid =
@@ -135,7 +135,7 @@ module _ (bytes : List ℕ) (b : Begins record_bytes IsKept bytes) where
     after_tid = (tid b.first.tid (letter b.first.op ∷ (path_bytes b.first.loc.path ++ (source_bytes b.first.src ++ b.rest))) b.fit.tid (parts b.first b.rest bytes b.is)).1
 
     -- its letter
-    pub begins_op : Begins (λ o. letter o ∷ []) IsAny after
+    pub begins_op : BeginsWith (λ o. letter o ∷ []) IsAny after
     begins_op = record { first = b.first.op; fit = tt; rest = path_bytes b.first.loc.path ++ (source_bytes b.first.src ++ b.rest); is = after_tid }
 
     module _ (o : RecOp) (behind : List ℕ) (op : (p : RecOp) (rest : List ℕ) → after ≡ letter p ∷ rest → (o ≡ p) × (behind ≡ rest)) where
@@ -143,14 +143,14 @@ module _ (bytes : List ℕ) (b : Begins record_bytes IsKept bytes) where
       after_op = op b.first.op (path_bytes b.first.loc.path ++ (source_bytes b.first.src ++ b.rest)) after_tid
 
       -- its path
-      pub begins_path : Begins path_bytes IsPath behind
+      pub begins_path : BeginsWith path_bytes IsPath behind
       begins_path = record { first = b.first.loc.path; fit = b.fit.path; rest = source_bytes b.first.src ++ b.rest; is = after_op.1 }
 
       -- its source
-      pub begins_source : (left : List ℕ) → ((p : Path) (rest : List ℕ) → behind ≡ path_bytes p ++ rest → left ≡ rest) → Begins source_bytes (IsSource o) left
+      pub begins_source : (left : List ℕ) → ((p : Path) (rest : List ℕ) → behind ≡ path_bytes p ++ rest → left ≡ rest) → BeginsWith source_bytes (IsSourceOf o) left
       begins_source left path = record {
         first = b.first.src;
-        fit = subst (λ x. IsSource x b.first.src) (sym after_op.0) b.fit.source;
+        fit = subst (λ x. IsSourceOf x b.first.src) (sym after_op.0) b.fit.source;
         rest = b.rest;
         is = path b.first.loc.path (source_bytes b.first.src ++ b.rest) after_op.1;
       }
@@ -158,7 +158,7 @@ module _ (bytes : List ℕ) (b : Begins record_bytes IsKept bytes) where
 -- the records that are read, and those that are left
 pub record Left (rs seen : List Record) (now : List ℕ) : Type 0 where
   pub next : List Record
-  pub kept : AllByRecursion IsKept next
+  pub kept : AllByRecursion IsPackable next
   pub bytes : now ≡ records_bytes next
   pub all : seen ++ next ≡ rs
 
@@ -173,17 +173,17 @@ unfolding record_bytes
 some_more q = omega arith
 
 -- what is left begins with a record, if any bytes are left
-pub left_begins : (rs seen : List Record) (now : List ℕ) → 0 < length now → Left rs seen now → Begins record_bytes IsKept now
+pub left_begins : (rs seen : List Record) (now : List ℕ) → 0 < length now → Left rs seen now → BeginsWith record_bytes IsPackable now
 unfolding records_bytes
 left_begins rs seen now n l = go l.next l.kept l.bytes
   where
-    go : (qs : List Record) → AllByRecursion IsKept qs → now ≡ records_bytes qs → Begins record_bytes IsKept now
+    go : (qs : List Record) → AllByRecursion IsPackable qs → now ≡ records_bytes qs → BeginsWith record_bytes IsPackable now
     go [] k e = let none : length now ≡ 0 = ap length e in absurd (omega arith)
     go (q ∷ qs) k e = record { first = q; fit = k.0; rest = records_bytes qs; is = e }
 
 -- the bytes behind a record are fewer
 pub left_smaller : (rs seen : List Record) (now behind : List ℕ) (r : Record) → 0 < length now → Left rs seen now
-    → ((q : Record) (rest : List ℕ) → IsKept q → now ≡ record_bytes q ++ rest → (r ≡ q) × (behind ≡ rest)) → length behind < length now
+    → ((q : Record) (rest : List ℕ) → IsPackable q → now ≡ record_bytes q ++ rest → (r ≡ q) × (behind ≡ rest)) → length behind < length now
 left_smaller rs seen now behind r n l f =
     let b = left_begins rs seen now n l in
     let size : length now ≡ length (record_bytes b.first) + length b.rest = ap length b.is ∙ length-append (record_bytes b.first) b.rest in
@@ -192,11 +192,11 @@ left_smaller rs seen now behind r n l f =
 
 -- one record is read
 pub left_one : (rs seen new : List Record) (now behind : List ℕ) (r : Record) → 0 < length now → Left rs seen now
-    → ((q : Record) (rest : List ℕ) → IsKept q → now ≡ record_bytes q ++ rest → (r ≡ q) × (behind ≡ rest)) → new ≡ seen ++ r ∷ [] → Left rs new behind
+    → ((q : Record) (rest : List ℕ) → IsPackable q → now ≡ record_bytes q ++ rest → (r ≡ q) × (behind ≡ rest)) → new ≡ seen ++ r ∷ [] → Left rs new behind
 unfolding records_bytes
 left_one rs seen new now behind r n l f g = go l.next l.kept l.bytes l.all
   where
-    go : (qs : List Record) → AllByRecursion IsKept qs → now ≡ records_bytes qs → seen ++ qs ≡ rs → Left rs new behind
+    go : (qs : List Record) → AllByRecursion IsPackable qs → now ≡ records_bytes qs → seen ++ qs ≡ rs → Left rs new behind
     go [] k e s = let none : length now ≡ 0 = ap length e in absurd (omega arith)
     go (q ∷ qs) k e s =
         let x = f q (records_bytes qs) k.0 e in

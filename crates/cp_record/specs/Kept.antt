@@ -39,19 +39,19 @@ pub record IsPlace (q : Loc) : Type 0 where
   pub path : IsPath q.path
 
 -- the source of a record of this letter: a place exactly where it is a copy
-pub record IsSource (o : RecOp) (q : Option Loc) : Type 0 where
+pub record IsSourceOf (o : RecOp) (q : Option Loc) : Type 0 where
   pub copied : is_some q ≡ is_copy o
   pub place : IfSome q IsPlace
 
 -- a record of T whose Tid has eight bytes, with a source exactly where it is a copy
-pub record IsKept (r : Record) : Type 0 where
+pub record IsPackable (r : Record) : Type 0 where
   pub tid : r.tid < 2 ^ 64
   pub place : r.loc ≡ at_target r.loc.path
   pub path : IsPath r.loc.path
-  pub source : IsSource r.op r.src
+  pub source : IsSourceOf r.op r.src
 
 -- the bytes begin with those of something fit
-pub record Begins {X : Type 0} (bytes_of : X → List ℕ) (IsFit : X → Type 0) (bytes : List ℕ) : Type 0 where
+pub record BeginsWith {X : Type 0} (bytes_of : X → List ℕ) (IsFit : X → Type 0) (bytes : List ℕ) : Type 0 where
   pub first : X
   pub fit : IsFit first
   pub rest : List ℕ

@@ -10,7 +10,7 @@ use Rattle.cp_model.specs.declared.record.Record.{Record}
 use Rattle.cp_model.specs.declared.record.RecOp.{RecOp}
 use Rattle.cp_model.specs.declared.record.RecOp.TheVariants as op
 use Rattle.cp_record.specs.Bytes.{records_bytes}
-use Rattle.cp_record.specs.Kept.{IsKept}
+use Rattle.cp_record.specs.Kept.{IsPackable}
 
 -- the text behind its length, and what follows it
 abbrev pub text_in : List ℕ → List ℕ × List ℕ
@@ -43,16 +43,16 @@ abbrev pub op_in : ℕ → RecOp
 op_in n = if n == 73 then op.I else (if n == 67 then op.C else (if n == 68 then op.D else op.K))
 
 -- the record of this Tid and operation, whose places are in the bytes, and what follows it
-abbrev pub record_of : ℕ → RecOp → List ℕ → Record × List ℕ
-record_of t o bytes =
+abbrev pub record_with : ℕ → RecOp → List ℕ → Record × List ℕ
+record_with t o bytes =
     let path = path_in bytes in
     let source = source_in o path.1 in
     (record { tid = t; op = o; loc = at_target path.0; src = source.0 }, source.1)
 
 -- the record of this Tid behind its letter, and what follows it
 abbrev pub record_behind : ℕ → List ℕ → Record × List ℕ
-record_behind t [] = record_of t op.K []
-record_behind t (n ∷ bytes) = record_of t (op_in n) bytes
+record_behind t [] = record_with t op.K []
+record_behind t (n ∷ bytes) = record_with t (op_in n) bytes
 
 -- the first record, and what follows it
 unfoldable pub record_in : List ℕ → Record × List ℕ
@@ -71,4 +71,4 @@ records_in bytes = records_within (length bytes) bytes
 -- the bytes are those of the records in them, and each of these can be kept
 pub record IsPacked (bytes : List ℕ) : Type 0 where
   pub is : bytes ≡ records_bytes (records_in bytes)
-  pub kept : AllByRecursion IsKept (records_in bytes)
+  pub kept : AllByRecursion IsPackable (records_in bytes)

@@ -6,7 +6,7 @@ ghost use Rattle.cp_path.specs.Place.{below_place};
 ghost use Rattle.cp_record.specs.Bytes.{letter, record_bytes, record_below};
 ghost use Rattle.std.specs.List.{AllByRecursion};
 ghost use Rattle.std.specs.Prelude.{is_some};
-ghost use Rattle.cp_record.specs.Kept.{IsLabel, IsPath, IsPlace, IsKept, is_copy};
+ghost use Rattle.cp_record.specs.Kept.{IsLabel, IsPath, IsPlace, IsPackable, is_copy};
 ghost use Rattle.cp_record.specs.Packed.{Grew};
 
 use cp_model::RecOp;
@@ -88,7 +88,7 @@ pub(crate) fn push_record(
     requires source { IfSome source (λ q. length q.now.path + length below.now ≤ LABELS_MAX) }
     requires source_of_copy { is_some source ≡ is_copy op }
     ensures ok { OnOk result (out.new.items ≡ out.old.items ++ record_bytes (record_below tid op base.now below.now (option_map (λ q. q.now) source.entry))) }
-    ensures kept { OnOk result (IsKept (record_below tid op base.now below.now (option_map (λ q. q.now) source.entry))) }
+    ensures kept { OnOk result (IsPackable (record_below tid op base.now below.now (option_map (λ q. q.now) source.entry))) }
     ensures err { Grew out.old.items out.new.items }
 {
     out.extend_from_slice(&tid.to_be_bytes())?;

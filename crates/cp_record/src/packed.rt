@@ -5,7 +5,7 @@ ghost use Rattle.std.specs.Option.{option_map};
 ghost use Rattle.cp_model.specs.Records.{mark_by};
 ghost use Rattle.cp_model.specs.declared.record.Record.{Record};
 ghost use Rattle.cp_record.specs.Bytes.{records_bytes, record_below};
-ghost use Rattle.cp_record.specs.Kept.{is_copy, IsKept};
+ghost use Rattle.cp_record.specs.Kept.{is_copy, IsPackable};
 ghost use Rattle.cp_record.specs.Packed.{EndsAt};
 
 use crate::pack::push_record;
@@ -103,7 +103,7 @@ impl PackedRecords {
     fn bytes_from(&self, number: usize) -> &[u8]
         requires { number < length self.now }
         ensures bytes { result.now ≡ records_bytes (drop number self.now) }
-        ensures kept { AllByRecursion IsKept self.now }
+        ensures kept { AllByRecursion IsPackable self.now }
     {
         let mut rest = self.bytes.as_slice();
         for _ in 0..number {

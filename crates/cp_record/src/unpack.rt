@@ -11,7 +11,7 @@ ghost use Rattle.cp_model.specs.Records.{mark_by};
 ghost use Rattle.cp_model.specs.declared.record.Record.{Record};
 ghost use Rattle.cp_model.specs.declared.record.RecOp.{RecOp};
 ghost use Rattle.cp_record.specs.Bytes.{letter, source_bytes, record_bytes};
-ghost use Rattle.cp_record.specs.Kept.{Begins, IsLabel, IsName, IsPath, IsPathOf, IsPlace, IsSource, IsKept, IsLetter, IsAny};
+ghost use Rattle.cp_record.specs.Kept.{BeginsWith, IsLabel, IsName, IsPath, IsPathOf, IsPlace, IsSourceOf, IsPackable, IsLetter, IsAny};
 
 use cp_model::{RecOp, Record, RowMark};
 use cp_path::{LABELS_MAX, Label, Loc, Name, Path, PathFault};
@@ -44,7 +44,7 @@ pub(crate) fn tid_at(bytes: &[u8]) -> (u64, &[u8])
 
 /// The operation of the first byte, and what follows.
 fn op_at(bytes: &[u8]) -> (RecOp, &[u8])
-    requires { Begins (λ o. letter o ∷ []) IsAny bytes.now }
+    requires { BeginsWith (λ o. letter o ∷ []) IsAny bytes.now }
     ensures { (o : RecOp) → (rest : List ℕ) → bytes.now ≡ letter o ∷ rest → (result.0 ≡ o) × (result.1.now ≡ rest) }
 {
     (op_of(bytes[0]), &bytes[1..])
@@ -52,7 +52,7 @@ fn op_at(bytes: &[u8]) -> (RecOp, &[u8])
 
 /// The bytes behind their number, and what follows.
 fn counted_at(bytes: &[u8]) -> (&[u8], &[u8])
-    requires { Begins counted_bytes IsAny bytes.now }
+    requires { BeginsWith counted_bytes IsAny bytes.now }
     ensures { (xs : List ℕ) → (rest : List ℕ) → bytes.now ≡ counted_bytes xs ++ rest → (result.0.now ≡ xs) × (result.1.now ≡ rest) }
 {
     let count = bytes[0] as usize;
@@ -61,7 +61,7 @@ fn counted_at(bytes: &[u8]) -> (&[u8], &[u8])
 
 /// The text behind its length, and what follows.
 fn text_at(bytes: &[u8]) -> (&str, &[u8])
-    requires { Begins counted_bytes IsUtf8 bytes.now }
+    requires { BeginsWith counted_bytes IsUtf8 bytes.now }
     ensures { (xs : List ℕ) → (rest : List ℕ) → bytes.now ≡ counted_bytes xs ++ rest → (result.0.now ≡ xs) × (result.1.now ≡ rest) }
 {
     let (text, rest) = counted_at(bytes);
@@ -73,7 +73,7 @@ fn text_at(bytes: &[u8]) -> (&str, &[u8])
 
 /// The label behind its length, and what follows.
 fn label_at(alloc: Global, bytes: &[u8]) -> Result<(Label, &[u8]), AllocError>
-    requires { Begins counted_bytes IsLabel bytes.now }
+    requires { BeginsWith counted_bytes IsLabel bytes.now }
     ensures { (a : List ℕ) → (rest : List ℕ) → bytes.now ≡ counted_bytes a ++ rest → IfOk result (λ y. (y.0 ≡ a) × (y.1.now ≡ rest)) }
 {
     let (text, rest) = text_at(bytes);
@@ -82,7 +82,7 @@ fn label_at(alloc: Global, bytes: &[u8]) -> Result<(Label, &[u8]), AllocError>
 
 /// The name behind its length, and what follows.
 fn name_at(alloc: Global, bytes: &[u8]) -> Result<(Name, &[u8]), AllocError>
-    requires { Begins counted_bytes IsName bytes.now }
+    requires { BeginsWith counted_bytes IsName bytes.now }
     ensures { (a : List ℕ) → (rest : List ℕ) → bytes.now ≡ counted_bytes a ++ rest → IfOk result (λ y. (y.0 ≡ a) × (y.1.now ≡ rest)) }
 {
     let (text, rest) = text_at(bytes);
@@ -107,7 +107,7 @@ fn push(path: &mut Path, label: Label) -> Result<(), AllocError>
 
 /// The path of so many labels, and what follows.
 fn labels_at(alloc: Global, count: u8, bytes: &[u8]) -> Result<(Path, &[u8]), AllocError>
-    requires { Begins (flat_map counted_bytes) (IsPathOf count) bytes.now }
+    requires { BeginsWith (flat_map counted_bytes) (IsPathOf count) bytes.now }
     ensures { (p : Path) → (rest : List ℕ) → count ≡ length p → bytes.now ≡ flat_map counted_bytes p ++ rest → IfOk result (λ y. (y.0 ≡ p) × (y.1.now ≡ rest)) }
 {
     let mut path = Path::root(alloc);
@@ -122,7 +122,7 @@ fn labels_at(alloc: Global, count: u8, bytes: &[u8]) -> Result<(Path, &[u8]), Al
 
 /// The path behind the number of its labels, and what follows.
 fn path_at(alloc: Global, bytes: &[u8]) -> Result<(Path, &[u8]), AllocError>
-    requires { Begins path_bytes IsPath bytes.now }
+    requires { BeginsWith path_bytes IsPath bytes.now }
     ensures { (p : Path) → (rest : List ℕ) → bytes.now ≡ path_bytes p ++ rest → IfOk result (λ y. (y.0 ≡ p) × (y.1.now ≡ rest)) }
 {
     labels_at(alloc, bytes[0], &bytes[1..])
@@ -130,7 +130,7 @@ fn path_at(alloc: Global, bytes: &[u8]) -> Result<(Path, &[u8]), AllocError>
 
 /// What follows so many labels.
 fn behind_labels(count: u8, bytes: &[u8]) -> &[u8]
-    requires { Begins (flat_map counted_bytes) (IsPathOf count) bytes.now }
+    requires { BeginsWith (flat_map counted_bytes) (IsPathOf count) bytes.now }
     ensures { (p : Path) → (rest : List ℕ) → count ≡ length p → bytes.now ≡ flat_map counted_bytes p ++ rest → result.now ≡ rest }
 {
     let mut rest = bytes;
@@ -143,7 +143,7 @@ fn behind_labels(count: u8, bytes: &[u8]) -> &[u8]
 
 /// What follows the path behind the number of its labels.
 fn behind_path(bytes: &[u8]) -> &[u8]
-    requires { Begins path_bytes IsPath bytes.now }
+    requires { BeginsWith path_bytes IsPath bytes.now }
     ensures { (p : Path) → (rest : List ℕ) → bytes.now ≡ path_bytes p ++ rest → result.now ≡ rest }
 {
     behind_labels(bytes[0], &bytes[1..])
@@ -151,7 +151,7 @@ fn behind_path(bytes: &[u8]) -> &[u8]
 
 /// The place of a name and a path, and what follows.
 fn place_at(alloc: Global, bytes: &[u8]) -> Result<(Loc, &[u8]), AllocError>
-    requires { Begins place_bytes IsPlace bytes.now }
+    requires { BeginsWith place_bytes IsPlace bytes.now }
     ensures { (q : Loc) → (rest : List ℕ) → bytes.now ≡ place_bytes q ++ rest → IfOk result (λ y. (y.0 ≡ q) × (y.1.now ≡ rest)) }
 {
     let (db, rest) = name_at(alloc, bytes)?;
@@ -161,8 +161,8 @@ fn place_at(alloc: Global, bytes: &[u8]) -> Result<(Loc, &[u8]), AllocError>
 
 /// Of a copy the source place, and what follows.
 fn source_at(alloc: Global, op: RecOp, bytes: &[u8]) -> Result<(Option<Loc>, &[u8]), AllocError>
-    requires { Begins source_bytes (IsSource op) bytes.now }
-    ensures { (q : Option Loc) → (rest : List ℕ) → IsSource op q → bytes.now ≡ source_bytes q ++ rest → IfOk result (λ y. (y.0 ≡ q) × (y.1.now ≡ rest)) }
+    requires { BeginsWith source_bytes (IsSourceOf op) bytes.now }
+    ensures { (q : Option Loc) → (rest : List ℕ) → IsSourceOf op q → bytes.now ≡ source_bytes q ++ rest → IfOk result (λ y. (y.0 ≡ q) × (y.1.now ≡ rest)) }
 {
     match op {
         RecOp::C => {
@@ -175,8 +175,8 @@ fn source_at(alloc: Global, op: RecOp, bytes: &[u8]) -> Result<(Option<Loc>, &[u
 
 /// What follows the source place of a copy.
 fn behind_source(op: RecOp, bytes: &[u8]) -> &[u8]
-    requires { Begins source_bytes (IsSource op) bytes.now }
-    ensures { (q : Option Loc) → (rest : List ℕ) → IsSource op q → bytes.now ≡ source_bytes q ++ rest → result.now ≡ rest }
+    requires { BeginsWith source_bytes (IsSourceOf op) bytes.now }
+    ensures { (q : Option Loc) → (rest : List ℕ) → IsSourceOf op q → bytes.now ≡ source_bytes q ++ rest → result.now ≡ rest }
 {
     match op {
         RecOp::C => {
@@ -189,8 +189,8 @@ fn behind_source(op: RecOp, bytes: &[u8]) -> &[u8]
 
 /// The first record, and what follows.
 pub(crate) fn record_at(alloc: Global, bytes: &[u8]) -> Result<(Record, &[u8]), AllocError>
-    requires { Begins record_bytes IsKept bytes.now }
-    ensures { (r : Record) → (rest : List ℕ) → IsKept r → bytes.now ≡ record_bytes r ++ rest → IfOk result (λ y. (y.0 ≡ r) × (y.1.now ≡ rest)) }
+    requires { BeginsWith record_bytes IsPackable bytes.now }
+    ensures { (r : Record) → (rest : List ℕ) → IsPackable r → bytes.now ≡ record_bytes r ++ rest → IfOk result (λ y. (y.0 ≡ r) × (y.1.now ≡ rest)) }
 {
     let (tid, rest) = tid_at(bytes);
     let (op, rest) = op_at(rest);
@@ -203,8 +203,8 @@ pub(crate) fn record_at(alloc: Global, bytes: &[u8]) -> Result<(Record, &[u8]), 
 
 /// What follows the first record.
 pub(crate) fn behind_record(bytes: &[u8]) -> &[u8]
-    requires { Begins record_bytes IsKept bytes.now }
-    ensures { (r : Record) → (rest : List ℕ) → IsKept r → bytes.now ≡ record_bytes r ++ rest → result.now ≡ rest }
+    requires { BeginsWith record_bytes IsPackable bytes.now }
+    ensures { (r : Record) → (rest : List ℕ) → IsPackable r → bytes.now ≡ record_bytes r ++ rest → result.now ≡ rest }
 {
     let (_, rest) = tid_at(bytes);
     let (op, rest) = op_at(rest);
@@ -213,8 +213,8 @@ pub(crate) fn behind_record(bytes: &[u8]) -> &[u8]
 
 /// What the first record says of its place. Its place isn't read.
 pub(crate) fn mark_at(alloc: Global, bytes: &[u8]) -> Result<RowMark, AllocError>
-    requires { Begins record_bytes IsKept bytes.now }
-    ensures { (r : Record) → (rest : List ℕ) → IsKept r → bytes.now ≡ record_bytes r ++ rest → IfOk result (λ m. m ≡ mark_by r.op r.src) }
+    requires { BeginsWith record_bytes IsPackable bytes.now }
+    ensures { (r : Record) → (rest : List ℕ) → IsPackable r → bytes.now ≡ record_bytes r ++ rest → IfOk result (λ m. m ≡ mark_by r.op r.src) }
 {
     let (_, rest) = tid_at(bytes);
     let (op, rest) = op_at(rest);

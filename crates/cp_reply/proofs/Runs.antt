@@ -18,7 +18,7 @@ use Rattle.cp_model.specs.declared.row.Content.{Content}
 use Rattle.cp_model.specs.declared.row.Content.TheVariants.{Node, Leaf}
 use Rattle.cp_model.proofs.Grouping.{joins}
 use Rattle.cp_model.specs.Trees.{Group, between, into_groups, groups, tree_at}
-use Rattle.cp_reply.specs.Runs.{rows_seen, all_seen, leaves, run_length, edge, edges, IsNextRun}
+use Rattle.cp_reply.specs.Runs.{rows_seen, all_seen, leaves, run_length, edge_text, edge_texts, IsNextRun}
 
 -- a row, seen one label further down
 pub down : Path × Content → Path × Content
@@ -123,7 +123,7 @@ groups_none d r rows e = ap (λ p. groups ((p, r.content) ∷ all_seen d rows)) 
 
 -- the first group is the run that the first row begins
 pub edges_some : (d n : ℕ) (a : Label) (r : Row) (rows : List Row) → slice_get r.path d ≡ Some a
-    → edges n (all_seen d (r ∷ rows)) ≡ edge n a (all_seen (d + 1) (r ∷ take (run_length a (all_seen d rows)) rows)) ∷ edges n (all_seen d (drop (run_length a (all_seen d rows)) rows))
+    → edge_texts n (all_seen d (r ∷ rows)) ≡ edge_text n a (all_seen (d + 1) (r ∷ take (run_length a (all_seen d rows)) rows)) ∷ edge_texts n (all_seen d (drop (run_length a (all_seen d rows)) rows))
 edges_some d n a r rows e =
     let k : ℕ = run_length a (all_seen d rows) in
     let q : Path = drop (suc d) r.path in
@@ -134,8 +134,8 @@ edges_some d n a r rows e =
     let tail : map down (take k (all_seen d rows)) ≡ all_seen (d + 1) (take k rows) = ap (map down) (take-map (rows_seen d) k rows) ∙ down_all d (take k rows) in
     let below : tree_at n ((q, r.content) ∷ kept (take k (all_seen d rows))) ≡ tree_at n (all_seen (d + 1) (r ∷ take k rows)) =
     tree_kept n (q, r.content) (take k (all_seen d rows)) ∙ ap (λ x. tree_at n (x ∷ map down (take k (all_seen d rows)))) head ∙ ap (λ xs. tree_at n (rows_seen (d + 1) r ∷ xs)) tail in
-    ap (map (λ (g : Group). edge n g.label g.rows)) first ∙ ap (λ t. (label_text a ++ (codes " : " ++ t)) ∷ edges n (drop k (all_seen d rows))) below
-    ∙ ap (λ xs. edge n a (all_seen (d + 1) (r ∷ take k rows)) ∷ edges n xs) (drop-map (rows_seen d) k rows)
+    ap (map (λ (g : Group). edge_text n g.label g.rows)) first ∙ ap (λ t. (label_text a ++ (codes " : " ++ t)) ∷ edge_texts n (drop k (all_seen d rows))) below
+    ∙ ap (λ xs. edge_text n a (all_seen (d + 1) (r ∷ take k rows)) ∷ edge_texts n xs) (drop-map (rows_seen d) k rows)
 
 -- ---- the walk over the rows
 
@@ -152,9 +152,9 @@ own_run a d r rows e =
     rw (stays, add-one) refl
 
 pub edges_run : (d n : ℕ) (a : Label) (r : Row) (rows : List Row) (k : ℕ) → slice_get r.path d ≡ Some a → k ≡ run_length a (all_seen d (r ∷ rows))
-    → edges n (all_seen d (r ∷ rows)) ≡ edge n a (all_seen (d + 1) (take k (r ∷ rows))) ∷ edges n (all_seen d (drop k (r ∷ rows)))
+    → edge_texts n (all_seen d (r ∷ rows)) ≡ edge_text n a (all_seen (d + 1) (take k (r ∷ rows))) ∷ edge_texts n (all_seen d (drop k (r ∷ rows)))
 edges_run d n a r rows k e is =
-    edges_some d n a r rows e ∙ ap (λ m. edge n a (all_seen (d + 1) (take m (r ∷ rows))) ∷ edges n (all_seen d (drop m (r ∷ rows)))) (sym (is ∙ own_run a d r rows e))
+    edges_some d n a r rows e ∙ ap (λ m. edge_text n a (all_seen (d + 1) (take m (r ∷ rows))) ∷ edge_texts n (all_seen d (drop m (r ∷ rows)))) (sym (is ∙ own_run a d r rows e))
 
 pub next_is : (d : ℕ) (rows : List Row) (i : ℕ) (row : Row) (a : Label) (below run after : List Row) (k : ℕ) → i < length rows → row ≡ get_or rows i row → slice_get row.path d ≡ Some a → d < LABELS_MAX
     → groups (all_seen d rows) ≡ groups (all_seen d (drop i rows)) → below ≡ drop i rows → k ≡ run_length a (all_seen d below) → run ≡ take k below → after ≡ drop k below
@@ -164,12 +164,12 @@ next_is d rows i row a below run after k within is label deep before cut length_
     let own : k ≡ suc (run_length a (all_seen d (drop (suc i) rows))) = length_is ∙ ap (λ xs. run_length a (all_seen d xs)) open_cut ∙ own_run a d row (drop (suc i) rows) label in
     let whole : length below + i ≡ length rows = rw cut (let l : length (drop i rows) ≡ length rows - i = length-drop i rows in omega arith) in
     let less : length after < length rows = rw after_is (let l : length (drop k below) ≡ length below - k = length-drop k below in omega arith) in
-    let part : (n : ℕ) → edges n (all_seen d below) ≡ edge n a (all_seen (d + 1) (take k below)) ∷ edges n (all_seen d (drop k below)) =
-    λ n. subst (λ (xs : List Row). edges n (all_seen d xs) ≡ edge n a (all_seen (d + 1) (take k xs)) ∷ edges n (all_seen d (drop k xs))) (sym open_cut)
+    let part : (n : ℕ) → edge_texts n (all_seen d below) ≡ edge_text n a (all_seen (d + 1) (take k below)) ∷ edge_texts n (all_seen d (drop k below)) =
+    λ n. subst (λ (xs : List Row). edge_texts n (all_seen d xs) ≡ edge_text n a (all_seen (d + 1) (take k xs)) ∷ edge_texts n (all_seen d (drop k xs))) (sym open_cut)
     (edges_run d n a row (drop (suc i) rows) k label (length_is ∙ ap (λ xs. run_length a (all_seen d xs)) open_cut)) in
     record {
-      edges_are = λ n. ap (map (λ (g : Group). edge n g.label g.rows)) (before ∙ ap (λ xs. groups (all_seen d xs)) (sym cut)) ∙ part n
-          ∙ ap (λ xs. edge n a (all_seen (d + 1) xs) ∷ edges n (all_seen d (drop k below))) (sym run_is) ∙ ap (λ xs. edge n a (all_seen (d + 1) run) ∷ edges n (all_seen d xs)) (sym after_is);
+      edges_are = λ n. ap (map (λ (g : Group). edge_text n g.label g.rows)) (before ∙ ap (λ xs. groups (all_seen d xs)) (sym cut)) ∙ part n
+          ∙ ap (λ xs. edge_text n a (all_seen (d + 1) xs) ∷ edge_texts n (all_seen d (drop k below))) (sym run_is) ∙ ap (λ xs. edge_text n a (all_seen (d + 1) run) ∷ edge_texts n (all_seen d xs)) (sym after_is);
       fewer = less;
       deep = deep;
     }
@@ -193,20 +193,20 @@ label_first : (l t : List ℕ) → (l ++ codes " : ") ++ t ≡ l ++ (codes " : "
 label_first l t = append_assoc l (codes " : ") t
 
 pub edge_step : (n m d : ℕ) (a : Label) (rest run after : List Row) (s before front whole text : List ℕ) → m ≡ n → IsNextRun d rest a run after
-    → before ++ pending s (edges n (all_seen d rest)) ≡ whole → front ≡ before ++ (s ++ (label_text a ++ codes " : ")) → text ≡ front ++ tree_at m (all_seen (d + 1) run)
-    → text ++ pending (codes ", ") (edges n (all_seen d after)) ≡ whole
+    → before ++ pending s (edge_texts n (all_seen d rest)) ≡ whole → front ≡ before ++ (s ++ (label_text a ++ codes " : ")) → text ≡ front ++ tree_at m (all_seen (d + 1) run)
+    → text ++ pending (codes ", ") (edge_texts n (all_seen d after)) ≡ whole
 edge_step n m d a rest run after s before front whole text level next inv label tree =
-    let others : List ℕ = pending (codes ", ") (edges n (all_seen d after)) in
+    let others : List ℕ = pending (codes ", ") (edge_texts n (all_seen d after)) in
     let below : List ℕ = tree_at n (all_seen (d + 1) run) in
     let all : text ≡ (before ++ (s ++ (label_text a ++ codes " : "))) ++ below = tree ∙ ap (λ k. front ++ tree_at k (all_seen (d + 1) run)) level ∙ ap (λ w. w ++ below) label in
     ap (λ w. w ++ others) all ∙ append_assoc (before ++ (s ++ (label_text a ++ codes " : "))) below others ∙ one_more before s (label_text a ++ codes " : ") below others
     ∙ ap (λ w. before ++ (s ++ (w ++ others))) (label_first (label_text a) below) ∙ ap (λ es. before ++ pending s es) (sym (next.edges_are n)) ∙ inv
 
-pub edges_end : (n d : ℕ) (rest : List Row) (s text whole : List ℕ) → groups (all_seen d rest) ≡ [] → text ++ pending s (edges n (all_seen d rest)) ≡ whole → text ≡ whole
+pub edges_end : (n d : ℕ) (rest : List Row) (s text whole : List ℕ) → groups (all_seen d rest) ≡ [] → text ++ pending s (edge_texts n (all_seen d rest)) ≡ whole → text ≡ whole
 edges_end n d rest s text whole none inv =
-    sym (append-nil text) ∙ ap (λ gs. text ++ pending s (map (λ (g : Group). edge n g.label g.rows) gs)) (sym none) ∙ inv
+    sym (append-nil text) ∙ ap (λ gs. text ++ pending s (map (λ (g : Group). edge_text n g.label g.rows) gs)) (sym none) ∙ inv
 
-tree_node : (d n : ℕ) (p : Path) (rows : List (Path × Content)) → n ≡ suc (LABELS_MAX - d) → tree_at n ((p, Node) ∷ rows) ≡ codes "{" ++ (between (codes ", ") (edges (LABELS_MAX - d) rows) ++ codes "}")
+tree_node : (d n : ℕ) (p : Path) (rows : List (Path × Content)) → n ≡ suc (LABELS_MAX - d) → tree_at n ((p, Node) ∷ rows) ≡ codes "{" ++ (between (codes ", ") (edge_texts (LABELS_MAX - d) rows) ++ codes "}")
 unfolding tree_at
 tree_node d n p rows e = ap (λ k. tree_at k ((p, Node) ∷ rows)) e
 
@@ -228,7 +228,7 @@ leaf_row d rows r below v within cut is =
     ∙ tree_leaf d (65 - d) (drop d r.path) v (all_seen d below) (omega arith)
 
 pub node_row : (d : ℕ) (rows : List Row) (r : Row) (below : List Row) → d ≤ LABELS_MAX → rows ≡ r ∷ below → r.content ≡ Node
-    → tree_at (65 - d) (all_seen d rows) ≡ codes "{" ++ (between (codes ", ") (edges (LABELS_MAX - d) (all_seen d below)) ++ codes "}")
+    → tree_at (65 - d) (all_seen d rows) ≡ codes "{" ++ (between (codes ", ") (edge_texts (LABELS_MAX - d) (all_seen d below)) ++ codes "}")
 node_row d rows r below within cut is =
     ap (λ xs. tree_at (65 - d) (all_seen d xs)) cut ∙ ap (λ c. tree_at (65 - d) ((drop d r.path, c) ∷ all_seen d below)) is
     ∙ tree_node d (65 - d) (drop d r.path) (all_seen d below) (omega arith)

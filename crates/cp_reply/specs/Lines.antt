@@ -48,11 +48,11 @@ kind_text kind.H = codes "h"
 kind_text kind.HT = codes "ht"
 
 -- the letter of a record
-abbrev pub op_text : RecOp → List ℕ
-op_text op.I = codes "I"
-op_text op.C = codes "C"
-op_text op.D = codes "D"
-op_text op.K = codes "K"
+abbrev pub letter_text : RecOp → List ℕ
+letter_text op.I = codes "I"
+letter_text op.C = codes "C"
+letter_text op.D = codes "D"
+letter_text op.K = codes "K"
 
 -- the source of a copy, behind a space
 abbrev pub source_text : Option Loc → List ℕ
@@ -61,7 +61,7 @@ source_text (Some q) = codes " " ++ place_text q
 
 -- the Tid, the letter, the place, and for a copy its source
 abbrev pub record_text : Record → List ℕ
-record_text r = decimal r.tid ++ (codes " " ++ (op_text r.op ++ (codes " " ++ (place_text r.loc ++ source_text r.src))))
+record_text r = decimal r.tid ++ (codes " " ++ (letter_text r.op ++ (codes " " ++ (place_text r.loc ++ source_text r.src))))
 
 -- a record, or none
 abbrev pub record_or_none : Option Record → List ℕ

@@ -26,15 +26,15 @@ run_length a [] = 0
 run_length a (r ∷ rows) = if leaves a r then 0 else run_length a rows + 1
 
 -- the label of an edge and the tree below it, of so many levels
-abbrev pub edge : ℕ → Label → List (Path × Content) → List ℕ
-edge n a rows = label_text a ++ (codes " : " ++ tree_at n rows)
+abbrev pub edge_text : ℕ → Label → List (Path × Content) → List ℕ
+edge_text n a rows = label_text a ++ (codes " : " ++ tree_at n rows)
 
 -- the edges of a node, of whose rows these are all but its own
-abbrev pub edges : ℕ → List (Path × Content) → List (List ℕ)
-edges n rows = map (λ g. edge n g.label g.rows) (groups rows)
+abbrev pub edge_texts : ℕ → List (Path × Content) → List (List ℕ)
+edge_texts n rows = map (λ g. edge_text n g.label g.rows) (groups rows)
 
 -- the first edge of a node is this label with the tree of the run, and the others are those of the rows after it
 pub record IsNextRun (depth : ℕ) (rows : List Row) (a : Label) (run after : List Row) : Type 0 where
-  pub edges_are : (n : ℕ) → edges n (all_seen depth rows) ≡ edge n a (all_seen (depth + 1) run) ∷ edges n (all_seen depth after)
+  pub edges_are : (n : ℕ) → edge_texts n (all_seen depth rows) ≡ edge_text n a (all_seen (depth + 1) run) ∷ edge_texts n (all_seen depth after)
   pub fewer : length after < length rows
   pub deep : depth < LABELS_MAX

@@ -1,7 +1,7 @@
 ghost use Rattle.std.specs.Prelude.{◌≡◌, ℕ, List, IfOk, string_bytes, decimal, codes, ◌++◌};
 ghost use Rattle.cp_reply.specs.Lines.{source_text, record_text, record_or_none, range_text, differs_text, verdict_text, stats_text, commit_text};
 
-use crate::word::{kind_text, op_text};
+use crate::word::{kind_text, letter_text};
 use cp_model::{LogLine, Record, Stats, Verdict};
 use cp_path::Loc;
 use std::alloc::{AllocError, Global};
@@ -24,7 +24,7 @@ pub(crate) fn record_text(alloc: Global, entry: &Record) -> Result<String, Alloc
     ensures { IfOk result (λ s. string_bytes s ≡ record_text entry.now) }
 {
     let tid = entry.tid;
-    let op = op_text(entry.op);
+    let op = letter_text(entry.op);
     let place = entry.loc.text(alloc)?;
     let source = source_text(alloc, &entry.src)?;
     format!(in alloc; "{tid} {op} {place}{source}")

@@ -3,7 +3,7 @@ ghost use Rattle.std.specs.List.{slice_get};
 ghost use Rattle.cp_path.specs.Place.{label_eq};
 ghost use Rattle.cp_path.specs.Spelling.{value_text, label_text};
 ghost use Rattle.cp_model.specs.Trees.{between, groups, tree_at, tree_text};
-ghost use Rattle.cp_reply.specs.Runs.{rows_seen, all_seen, leaves, run_length, edge, edges, IsNextRun};
+ghost use Rattle.cp_reply.specs.Runs.{rows_seen, all_seen, leaves, run_length, edge_text, edge_texts, IsNextRun};
 
 use cp_model::{Content, Row};
 use cp_path::{LABELS_MAX, Label, Value};
@@ -97,7 +97,7 @@ fn push_edges(
     depth: usize,
 ) -> Result<(), AllocError>
     requires { depth ≤ LABELS_MAX }
-    ensures { OnOk result (string_bytes text.new ≡ string_bytes text.old ++ between (codes ", ") (edges (LABELS_MAX - depth) (all_seen depth rows.now))) }
+    ensures { OnOk result (string_bytes text.new ≡ string_bytes text.old ++ between (codes ", ") (edge_texts (LABELS_MAX - depth) (all_seen depth rows.now))) }
 {
     let mut rest = rows;
     let mut separator = "";

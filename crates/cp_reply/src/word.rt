@@ -1,5 +1,5 @@
 ghost use Rattle.std.specs.Prelude.{◌≡◌};
-ghost use Rattle.cp_reply.specs.Lines.{kind_text, op_text, refused_front};
+ghost use Rattle.cp_reply.specs.Lines.{kind_text, letter_text, refused_front};
 
 use crate::reply::Of;
 use cp_model::{Kind, RecOp};
@@ -17,8 +17,8 @@ pub(crate) fn kind_text(kind: Kind) -> &'static str
 }
 
 /// The letter of a record.
-pub(crate) fn op_text(op: RecOp) -> &'static str
-    ensures { result.now ≡ op_text op }
+pub(crate) fn letter_text(op: RecOp) -> &'static str
+    ensures { result.now ≡ letter_text op }
 {
     match op {
         RecOp::I => "I",

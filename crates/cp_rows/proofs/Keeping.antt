@@ -19,7 +19,7 @@ use Rattle.cp_rows.specs.declared.limits.TheConstants.{BLOCK_LEN}
 use Rattle.cp_rows.specs.Blocks.{all_records, AreBlocks}
 use Rattle.cp_rows.specs.Index.{Index, steps_in_entry, is_key, steps_at}
 use Rattle.cp_rows.specs.Steps.{steps_in, AreRising}
-use Rattle.cp_rows.specs.Rows.{IsKept, IsStored}
+use Rattle.cp_rows.specs.Rows.{IsIndexed, IsStored}
 use Rattle.cp_rows.proofs.Before.{and_of, list_all-weaker, order-more}
 use Rattle.cp_rows.proofs.Joined.{joined-more}
 use Rattle.cp_rows.proofs.Steps.{at_row, steps-more, steps-rise}
@@ -49,7 +49,7 @@ key_eq p q =
 
 -- ---- rows
 
-kept-none : (upto : ℕ) (m : Index) → m.entries ≡ [] → IsKept [] upto m
+kept-none : (upto : ℕ) (m : Index) → m.entries ≡ [] → IsIndexed [] upto m
 unfolding steps_in steps_at
 kept-none upto m e = record { order = tt; old = refl; index = λ p. ap (λ es. steps_in_entry (lookup (is_key (flat_map counted_bytes p)) es)) e }
 
@@ -66,11 +66,11 @@ stored-none full last upto m f l e =
     subst (λ xs. IsStored xs last 0 upto m) (sym f) (subst (λ xs. IsStored [] xs 0 upto m) (sym l) none)
   where
     none : IsStored [] [] 0 upto m
-    none = record { blocks = record { each = tt; few = omega arith }; counted = ap length (sym empty_joined); kept = subst (λ rs. IsKept rs upto m) (sym empty_joined) (kept-none upto m e) }
+    none = record { blocks = record { each = tt; few = omega arith }; counted = ap length (sym empty_joined); kept = subst (λ rs. IsIndexed rs upto m) (sym empty_joined) (kept-none upto m e) }
 
 -- one row more, which all others go before, and whose step is noted
-kept-more : (rs : List Record) (upto : ℕ) (m n : Index) (r : Record) (s : Step) → IsKept rs upto m → r.tid ≤ upto → list_all (λ s. goes_before s r) rs ≡ true → s ≡ at_row r (length rs)
-    → ((key : List ℕ) → steps_at n key ≡ (if text_eq key (flat_map counted_bytes r.loc.path) then steps_at m key ++ s ∷ [] else steps_at m key)) → IsKept (rs ++ r ∷ []) upto n
+kept-more : (rs : List Record) (upto : ℕ) (m n : Index) (r : Record) (s : Step) → IsIndexed rs upto m → r.tid ≤ upto → list_all (λ s. goes_before s r) rs ≡ true → s ≡ at_row r (length rs)
+    → ((key : List ℕ) → steps_at n key ≡ (if text_eq key (flat_map counted_bytes r.loc.path) then steps_at m key ++ s ∷ [] else steps_at m key)) → IsIndexed (rs ++ r ∷ []) upto n
 kept-more rs upto m n r s k up h e note = record {
   order = order-more rs r k.order h;
   old = list_all-append (λ r. nat_lt r.tid (upto + 1)) rs (r ∷ []) ∙ and_of (list_all (λ r. nat_lt r.tid (upto + 1)) rs) (nat_lt r.tid (upto + 1) && true) k.old (and_of (nat_lt r.tid (upto + 1)) true (below r.tid up) refl);
@@ -86,11 +86,11 @@ kept-more rs upto m n r s k up h e note = record {
     below : (t : ℕ) → t ≤ upto → nat_lt t (upto + 1) ≡ true
     below t l = grind (arith, nat_tests)
 
-kept-same : (rs : List Record) (upto : ℕ) (m n : Index) → IsKept rs upto m → ((key : List ℕ) → steps_at n key ≡ steps_at m key) → IsKept rs upto n
+kept-same : (rs : List Record) (upto : ℕ) (m n : Index) → IsIndexed rs upto m → ((key : List ℕ) → steps_at n key ≡ steps_at m key) → IsIndexed rs upto n
 kept-same rs upto m n k e = record { order = k.order; old = k.old; index = λ p. e (flat_map counted_bytes p) ∙ k.index p }
 
 -- the last Tid may be a later one
-kept-later : (rs : List Record) (upto more : ℕ) (m : Index) → IsKept rs upto m → IsKept rs (upto + more) m
+kept-later : (rs : List Record) (upto more : ℕ) (m : Index) → IsIndexed rs upto m → IsIndexed rs (upto + more) m
 kept-later rs upto more m k = record { order = k.order; old = list_all-weaker (λ r. nat_lt r.tid (upto + 1)) (λ r. nat_lt r.tid (upto + more + 1)) rs (λ r e. later r.tid e) k.old; index = k.index }
   where
     later : (t : ℕ) → nat_lt t (upto + 1) ≡ true → nat_lt t (upto + more + 1) ≡ true
@@ -102,7 +102,7 @@ stored-later full last count upto more m h = record { blocks = h.blocks; counted
 module _ (full : List (List Record)) (last : List Record) (count upto : ℕ) (m : Index) (h : IsStored full last count upto m) (full2 : List (List Record)) (last2 : List Record) (same : all_records full2 last2 ≡ all_records full last) (blocks : AreBlocks full2 last2) where
   -- other blocks of the same rows
   pub stored-same : (n : Index) → ((key : List ℕ) → steps_at n key ≡ steps_at m key) → IsStored full2 last2 count upto n
-  stored-same n e = record { blocks = blocks; counted = h.counted ∙ ap length (sym same); kept = subst (λ rs. IsKept rs upto n) (sym same) (kept-same (all_records full last) upto m n h.kept e) }
+  stored-same n e = record { blocks = blocks; counted = h.counted ∙ ap length (sym same); kept = subst (λ rs. IsIndexed rs upto n) (sym same) (kept-same (all_records full last) upto m n h.kept e) }
 
   module _ (r : Record) (last3 : List Record) (is : last3 ≡ last2 ++ r ∷ []) where
     -- a row more
@@ -118,9 +118,9 @@ module _ (full : List (List Record)) (last : List Record) (count upto : ℕ) (m 
         record {
           blocks = record { each = blocks.each; few = omega (arith, size, room) };
           counted = omega (arith, total, counted_bytes);
-          kept = subst (λ rs. IsKept rs upto n) (sym joined-row) (kept-more (all_records full last) upto m n r s h.kept up before (e ∙ ap (at_row r) counted_bytes) note);
+          kept = subst (λ rs. IsIndexed rs upto n) (sym joined-row) (kept-more (all_records full last) upto m n r s h.kept up before (e ∙ ap (at_row r) counted_bytes) note);
         }
 
 -- the steps of a place rise
-pub noted-rise : (rs : List Record) (upto : ℕ) (m : Index) (p : Path) (key : List ℕ) → IsKept rs upto m → key ≡ flat_map counted_bytes p → AreRising (steps_at m key)
+pub noted-rise : (rs : List Record) (upto : ℕ) (m : Index) (p : Path) (key : List ℕ) → IsIndexed rs upto m → key ≡ flat_map counted_bytes p → AreRising (steps_at m key)
 noted-rise rs upto m p key k e = subst (λ l. AreRising l) (sym (ap (steps_at m) e ∙ k.index p)) (steps-rise p 0 rs k.order)

@@ -22,7 +22,7 @@ AreOrdered [] = Unit {0}
 AreOrdered (r ∷ rs) = (list_all (goes_before r) rs ≡ true) × AreOrdered rs
 
 -- rows in order, none after upto, and an index that has the steps of each place
-pub record IsKept (rs : List Record) (upto : ℕ) (m : Index) : Type 0 where
+pub record IsIndexed (rs : List Record) (upto : ℕ) (m : Index) : Type 0 where
   pub order : AreOrdered rs
   pub old : list_all (λ r. nat_lt r.tid (upto + 1)) rs ≡ true
   pub index : (p : Path) → steps_at m (flat_map counted_bytes p) ≡ steps_in p 0 rs
@@ -31,7 +31,7 @@ pub record IsKept (rs : List Record) (upto : ℕ) (m : Index) : Type 0 where
 pub record IsStored (full : List (List Record)) (last : List Record) (count upto : ℕ) (m : Index) : Type 0 where
   pub blocks : AreBlocks full last
   pub counted : count ≡ length (all_records full last)
-  pub kept : IsKept (all_records full last) upto m
+  pub kept : IsIndexed (all_records full last) upto m
 
 -- the key of a place: its labels, each behind its length
 pub record IsKey (key : List ℕ) : Type 0 where

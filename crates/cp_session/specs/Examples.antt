@@ -83,35 +83,35 @@ load n f = stmt.Load (record { name = codes n; form = Json; file = codes f })
 abbrev pub load_by : String → String → String → Stmt
 load_by n f k = stmt.Load (record { name = codes n; form = Csv (Some (codes k)); file = codes f })
 
-abbrev pub src : String → Stmt
-src p = stmt.Ask (query.Src (place p))
+abbrev pub ask_src : String → Stmt
+ask_src p = stmt.Ask (query.Src (place p))
 
 -- `src p/a`, where the label may have a slash
-abbrev pub src_below : String → String → Stmt
-src_below p a = stmt.Ask (query.Src (child_place (place p) (codes a)))
+abbrev pub ask_src_below : String → String → Stmt
+ask_src_below p a = stmt.Ask (query.Src (child_place (place p) (codes a)))
 
-abbrev pub hist : String → Stmt
-hist p = stmt.Ask (query.Hist (place p))
+abbrev pub ask_hist : String → Stmt
+ask_hist p = stmt.Ask (query.Hist (place p))
 
-abbrev pub mod_at : String → Stmt
-mod_at p = stmt.Ask (query.Mod (place p))
+abbrev pub ask_mod : String → Stmt
+ask_mod p = stmt.Ask (query.Mod (place p))
 
-abbrev pub trace : String → Stmt
-trace p = stmt.Ask (query.Trace (place p))
+abbrev pub ask_trace : String → Stmt
+ask_trace p = stmt.Ask (query.Trace (place p))
 
-abbrev pub from : String → Stmt
-from p = stmt.Ask (query.From (place p))
+abbrev pub ask_from : String → Stmt
+ask_from p = stmt.Ask (query.From (place p))
 
 -- `records t`
-abbrev pub records : ℕ → Stmt
-records t = stmt.Ask (query.Records (Some t))
+abbrev pub ask_records : ℕ → Stmt
+ask_records t = stmt.Ask (query.Records (Some t))
 
 -- `records`
-abbrev pub all_records : Stmt
-all_records = stmt.Ask (query.Records None)
+abbrev pub ask_all_records : Stmt
+ask_all_records = stmt.Ask (query.Records None)
 
-abbrev pub stats : Stmt
-stats = stmt.Ask query.Stats
+abbrev pub ask_stats : Stmt
+ask_stats = stmt.Ask query.Stats
 
 abbrev pub show : String → Stmt
 show p = stmt.Show (place p)
@@ -157,8 +157,8 @@ genes = tree (gene_row "ENSG01" "BRCA1" "17" ∷ gene_row "ENSG02" "TP53" "17" �
 
 -- ---- sessions
 
-abbrev pub file_named : List ℕ → FetchedFile
-file_named f =
+abbrev pub example_file : List ℕ → FetchedFile
+example_file f =
     if label_eq f (codes "s1.json") then gives first_source
     else if label_eq f (codes "s2.json") then gives second_source
     else if label_eq f (codes "s.json") then gives small_source
@@ -167,11 +167,11 @@ file_named f =
     else withholds why.NoFile
 
 -- these files, no curator's name, and room for all
-abbrev pub setting : Setting
-setting =
+abbrev pub example_setting : Setting
+example_setting =
     record {
       read = λ _. unread (why.Syntax 0);
-      fetch = λ l. file_named l.file;
+      fetch = λ l. example_file l.file;
       fits = λ _ _ _ _. true;
       has_room = λ _ _ _. true;
       curator = [];
@@ -179,7 +179,7 @@ setting =
 
 -- the same, but no entry of two operations or more is within the limits
 abbrev pub cramped_setting : Setting
-cramped_setting = record setting { fits = λ _ _ ops _. nat_lt (length ops) 2 }
+cramped_setting = record example_setting { fits = λ _ _ ops _. nat_lt (length ops) 2 }
 
 -- the same, for this curator
 abbrev pub signed_by : String → Setting → Setting
@@ -190,7 +190,7 @@ abbrev pub output_with : Setting → Kind → Tree → List Stmt → List ℕ
 output_with c k t script = flat_map lines (replies_to_statements c (fresh k t []) script)
 
 abbrev pub output : Kind → Tree → List Stmt → List ℕ
-output k t script = output_with setting k t script
+output k t script = output_with example_setting k t script
 
 -- the log of the history to which these statements lead, from an empty tree, where the clock tells these moments
 abbrev pub log_lines : Setting → Kind → List ℕ → List Stmt → List ℕ
@@ -213,7 +213,7 @@ curation =
 -- the naive kind numbers each operation and records each place that it touched; what a copy has replaced is in no past
 abbrev pub naive_kind_records_each_place : Type 0
 naive_kind_records_each_place =
-    output kind.N curated_tree (curation ++ stats ∷ mod_at "T" ∷ show "T" ∷ [])
+    output kind.N curated_tree (curation ++ ask_stats ∷ ask_mod "T" ∷ show "T" ∷ [])
     ≡ lines_of ("loaded S1 9" ∷ "loaded S2 6" ∷ "committed 1..10"
     ∷ "stats: kind n, tid 10, transactions 1, records 16, nodes 13, sources 2"
     ∷ "mod T: 1 2 4 6 7 9 10"
@@ -222,7 +222,7 @@ naive_kind_records_each_place =
 -- the transactional kind has one number for the whole transaction, and records its net effect alone
 abbrev pub transactional_kind_records_net_effects : Type 0
 transactional_kind_records_net_effects =
-    output kind.T curated_tree (curation ++ stats ∷ mod_at "T" ∷ [])
+    output kind.T curated_tree (curation ++ ask_stats ∷ ask_mod "T" ∷ [])
     ≡ lines_of ("loaded S1 9" ∷ "loaded S2 6" ∷ "committed 1"
     ∷ "stats: kind t, tid 1, transactions 1, records 13, nodes 13, sources 2"
     ∷ "mod T: 1" ∷ [])
@@ -230,7 +230,7 @@ transactional_kind_records_net_effects =
 -- the hierarchical kind has ten records for ten operations, and answers as the naive one
 abbrev pub hierarchical_kind_has_fewer_records : Type 0
 hierarchical_kind_has_fewer_records =
-    output kind.H curated_tree (curation ++ stats ∷ mod_at "T" ∷ [])
+    output kind.H curated_tree (curation ++ ask_stats ∷ ask_mod "T" ∷ [])
     ≡ lines_of ("loaded S1 9" ∷ "loaded S2 6" ∷ "committed 1..10"
     ∷ "stats: kind h, tid 10, transactions 1, records 10, nodes 13, sources 2"
     ∷ "mod T: 1 2 4 6 7 9 10" ∷ [])
@@ -238,7 +238,7 @@ hierarchical_kind_has_fewer_records =
 -- of each operation the hierarchical kind has one record: that of the place which the operation names
 abbrev pub hierarchical_kind_records_each_operation_once : Type 0
 hierarchical_kind_records_each_operation_once =
-    output kind.H curated_tree (curation ++ all_records ∷ [])
+    output kind.H curated_tree (curation ++ ask_all_records ∷ [])
     ≡ lines_of ("loaded S1 9" ∷ "loaded S2 6" ∷ "committed 1..10"
     ∷ "1 D T/c5" ∷ "2 C T/c1/y S1/a1/y" ∷ "3 I T/c2" ∷ "4 C T/c2 S1/a2" ∷ "5 I T/c2/y" ∷ "6 C T/c2/y S2/b3/y"
     ∷ "7 C T/c3 S1/a3" ∷ "8 I T/c4" ∷ "9 C T/c4 S2/b2" ∷ "10 I T/c4/y" ∷ "records: 10" ∷ [])
@@ -246,7 +246,7 @@ hierarchical_kind_records_each_operation_once =
 -- the hierarchical-transactional kind has seven; T/c2/y has one although T/c2 does, since that would imply S1/a2/y
 abbrev pub implied_records_are_left_out : Type 0
 implied_records_are_left_out =
-    output kind.HT curated_tree (curation ++ records 1 ∷ [])
+    output kind.HT curated_tree (curation ++ ask_records 1 ∷ [])
     ≡ lines_of ("loaded S1 9" ∷ "loaded S2 6" ∷ "committed 1"
     ∷ "1 C T/c1/y S1/a1/y" ∷ "1 C T/c2 S1/a2" ∷ "1 C T/c2/y S2/b3/y" ∷ "1 C T/c3 S1/a3" ∷ "1 C T/c4 S2/b2" ∷ "1 I T/c4/y" ∷ "1 D T/c5"
     ∷ "records: 7" ∷ [])
@@ -254,7 +254,7 @@ implied_records_are_left_out =
 -- a trace ends in the source, at the start tree or at the insertion
 abbrev pub pasts_end_where_data_came_from : Type 0
 pasts_end_where_data_came_from =
-    output kind.T curated_tree (curation ++ trace "T/c1/y" ∷ trace "T/c1/x" ∷ from "T/c2/x" ∷ src "T/c4/y" ∷ hist "T/c2/y" ∷ [])
+    output kind.T curated_tree (curation ++ ask_trace "T/c1/y" ∷ ask_trace "T/c1/x" ∷ ask_from "T/c2/x" ∷ ask_src "T/c4/y" ∷ ask_hist "T/c2/y" ∷ [])
     ≡ lines_of ("loaded S1 9" ∷ "loaded S2 6" ∷ "committed 1"
     ∷ "trace T/c1/y: T/c1/y@1..1 < S1/a1/y"
     ∷ "trace T/c1/x: T/c1/x@0..1 < start"
@@ -265,16 +265,16 @@ pasts_end_where_data_came_from =
 -- data that was inserted, and data of the start tree
 abbrev pub from_tells_new_and_start : Type 0
 from_tells_new_and_start =
-    output kind.N curated_tree (ins "n" (whole 7) "T" ∷ stmt.Commit ∷ from "T/n" ∷ from "T/c1/x" ∷ src "T/c1/x" ∷ [])
+    output kind.N curated_tree (ins "n" (whole 7) "T" ∷ stmt.Commit ∷ ask_from "T/n" ∷ ask_from "T/c1/x" ∷ ask_src "T/c1/x" ∷ [])
     ≡ lines_of ("committed 1" ∷ "from T/n: new at 1" ∷ "from T/c1/x: start" ∷ "src T/c1/x: none" ∷ [])
 
 -- a trace passes over the loss of a child, which changes the node and not where its data came from
 abbrev pub trace_passes_a_loss : Type 0
 trace_passes_a_loss =
     output kind.T empty_tree (ins "a" (node (edge "b" (whole 1) ∷ [])) "T" ∷ stmt.Commit ∷ del "b" "T/a" ∷ stmt.Commit
-    ∷ trace "T/a" ∷ from "T/a" ∷ mod_at "T/a"
+    ∷ ask_trace "T/a" ∷ ask_from "T/a" ∷ ask_mod "T/a"
     ∷ ins "c" null "T" ∷ copy "T/a" "T/c" ∷ stmt.Commit
-    ∷ trace "T/c" ∷ src "T/c" ∷ hist "T/c" ∷ mod_at "T/c" ∷ [])
+    ∷ ask_trace "T/c" ∷ ask_src "T/c" ∷ ask_hist "T/c" ∷ ask_mod "T/c" ∷ [])
     ≡ lines_of ("committed 1" ∷ "committed 2"
     ∷ "trace T/a: T/a@1..2 < new" ∷ "from T/a: new at 1" ∷ "mod T/a: 1 2"
     ∷ "committed 3"
@@ -284,7 +284,7 @@ trace_passes_a_loss =
 abbrev pub records_of_several_commits : Type 0
 records_of_several_commits =
     output kind.N empty_tree (ins "a" (whole 1) "T" ∷ stmt.Commit ∷ ins "b" null "T" ∷ copy "T/a" "T/b" ∷ stmt.Commit ∷ del "a" "T" ∷ stmt.Commit
-    ∷ all_records ∷ records 3 ∷ records 5 ∷ [])
+    ∷ ask_all_records ∷ ask_records 3 ∷ ask_records 5 ∷ [])
     ≡ lines_of ("committed 1" ∷ "committed 2..3" ∷ "committed 4"
     ∷ "1 I T/a" ∷ "2 I T/b" ∷ "3 C T/b T/a" ∷ "4 D T/a" ∷ "records: 4"
     ∷ "3 C T/b T/a" ∷ "records: 1"
@@ -308,7 +308,7 @@ abbrev pub moved_data_keeps_its_insertion : Type 0
 moved_data_keeps_its_insertion =
     output kind.T empty_tree (ins "a" (whole 1) "T" ∷ stmt.Commit
     ∷ ins "b" (node []) "T" ∷ copy "T/a" "T/b" ∷ del "a" "T" ∷ stmt.Commit
-    ∷ src "T/b" ∷ hist "T/b" ∷ trace "T/b" ∷ mod_at "T" ∷ from "T/b" ∷ [])
+    ∷ ask_src "T/b" ∷ ask_hist "T/b" ∷ ask_trace "T/b" ∷ ask_mod "T" ∷ ask_from "T/b" ∷ [])
     ≡ lines_of ("committed 1" ∷ "committed 2"
     ∷ "src T/b: 1" ∷ "hist T/b: 2" ∷ "trace T/b: T/b@2..2 < T/a@1..1 < new" ∷ "mod T: 1 2" ∷ "from T/b: T/a at 2" ∷ [])
 
@@ -317,14 +317,14 @@ abbrev pub naive_trace_numbers_each_operation : Type 0
 naive_trace_numbers_each_operation =
     output kind.N empty_tree (ins "a" (whole 1) "T" ∷ stmt.Commit
     ∷ ins "b" (node []) "T" ∷ copy "T/a" "T/b" ∷ del "a" "T" ∷ stmt.Commit
-    ∷ src "T/b" ∷ hist "T/b" ∷ trace "T/b" ∷ [])
+    ∷ ask_src "T/b" ∷ ask_hist "T/b" ∷ ask_trace "T/b" ∷ [])
     ≡ lines_of ("committed 1" ∷ "committed 2..4"
     ∷ "src T/b: 1" ∷ "hist T/b: 3" ∷ "trace T/b: T/b@3..4 < T/a@1..2 < new" ∷ [])
 
 -- a node may be copied into a place below itself; the copy is of what stood there before
 abbrev pub node_is_copied_into_itself : Type 0
 node_is_copied_into_itself =
-    output kind.H curated_tree (copy "T/c1" "T/c1/y" ∷ stmt.Commit ∷ records 1 ∷ show "T/c1" ∷ trace "T/c1/y/y" ∷ [])
+    output kind.H curated_tree (copy "T/c1" "T/c1/y" ∷ stmt.Commit ∷ ask_records 1 ∷ show "T/c1" ∷ ask_trace "T/c1/y/y" ∷ [])
     ≡ lines_of ("committed 1" ∷ "1 C T/c1/y T/c1" ∷ "records: 1"
     ∷ "show T/c1: {x : 1, y : {x : 1, y : 3}}"
     ∷ "trace T/c1/y/y: T/c1/y/y@1..1 < T/c1/y@0..0 < start" ∷ [])
@@ -332,13 +332,13 @@ node_is_copied_into_itself =
 -- a source that replaces the whole tree has one record where the rest is implied
 abbrev pub whole_source_has_one_record : Type 0
 whole_source_has_one_record =
-    output kind.HT curated_tree (load "S1" "s1.json" ∷ copy "S1" "T" ∷ stmt.Commit ∷ all_records ∷ hist "T" ∷ mod_at "T" ∷ [])
+    output kind.HT curated_tree (load "S1" "s1.json" ∷ copy "S1" "T" ∷ stmt.Commit ∷ ask_all_records ∷ ask_hist "T" ∷ ask_mod "T" ∷ [])
     ≡ lines_of ("loaded S1 9" ∷ "committed 1" ∷ "1 C T S1" ∷ "records: 1" ∷ "hist T: 1" ∷ "mod T: 1" ∷ [])
 
 -- and a record for each of its nine places where nothing is implied; what it replaced has none
 abbrev pub whole_source_in_full : Type 0
 whole_source_in_full =
-    output kind.T curated_tree (load "S1" "s1.json" ∷ copy "S1" "T" ∷ stmt.Commit ∷ all_records ∷ hist "T" ∷ mod_at "T" ∷ [])
+    output kind.T curated_tree (load "S1" "s1.json" ∷ copy "S1" "T" ∷ stmt.Commit ∷ ask_all_records ∷ ask_hist "T" ∷ ask_mod "T" ∷ [])
     ≡ lines_of ("loaded S1 9" ∷ "committed 1"
     ∷ "1 C T S1" ∷ "1 C T/a1 S1/a1" ∷ "1 C T/a1/x S1/a1/x" ∷ "1 C T/a1/y S1/a1/y" ∷ "1 C T/a2 S1/a2" ∷ "1 C T/a2/x S1/a2/x"
     ∷ "1 C T/a3 S1/a3" ∷ "1 C T/a3/x S1/a3/x" ∷ "1 C T/a3/y S1/a3/y" ∷ "records: 9"
@@ -356,7 +356,7 @@ pub record CopiesHold : Type 0 where
 -- a copy of a place onto itself takes a number and leaves no record, in each kind
 abbrev pub copy_onto_itself_leaves_no_record : Kind → Type 0
 copy_onto_itself_leaves_no_record k =
-    output k empty_tree (ins "a" (whole 1) "T" ∷ stmt.Commit ∷ copy "T/a" "T/a" ∷ stmt.Commit ∷ records 2 ∷ src "T/a" ∷ hist "T/a" ∷ [])
+    output k empty_tree (ins "a" (whole 1) "T" ∷ stmt.Commit ∷ copy "T/a" "T/a" ∷ stmt.Commit ∷ ask_records 2 ∷ ask_src "T/a" ∷ ask_hist "T/a" ∷ [])
     ≡ lines_of ("committed 1" ∷ "committed 2" ∷ "records: 0" ∷ "src T/a: 1" ∷ "hist T/a: none" ∷ [])
 
 -- a place that was put aside and put back inside a copied node is recorded as kept, and its past is as it was
@@ -364,7 +364,7 @@ abbrev pub kept_place_is_recorded : Type 0
 kept_place_is_recorded =
     output kind.HT (tree (edge "r" (node (edge "a" (whole 5) ∷ [])) ∷ [])) (load "S" "s.json"
     ∷ ins "tmp" (node []) "T" ∷ copy "T/r" "T/tmp" ∷ copy "S/x" "T/r" ∷ copy "T/tmp/a" "T/r/a" ∷ del "tmp" "T" ∷ stmt.Commit
-    ∷ records 1 ∷ hist "T/r/a" ∷ trace "T/r/a" ∷ show "T" ∷ [])
+    ∷ ask_records 1 ∷ ask_hist "T/r/a" ∷ ask_trace "T/r/a" ∷ show "T" ∷ [])
     ≡ lines_of ("loaded S 3" ∷ "committed 1"
     ∷ "1 C T/r S/x" ∷ "1 K T/r/a" ∷ "records: 2"
     ∷ "hist T/r/a: none" ∷ "trace T/r/a: T/r/a@0..1 < start" ∷ "show T: {r : {a : 5}}" ∷ [])
@@ -374,7 +374,7 @@ abbrev pub place_below_a_kept_one_is_kept : Type 0
 place_below_a_kept_one_is_kept =
     output kind.HT (tree (edge "r" (node (edge "a" (node (edge "b" (whole 5) ∷ [])) ∷ [])) ∷ [])) (load "S" "s.json"
     ∷ ins "tmp" (node []) "T" ∷ copy "T/r" "T/tmp" ∷ copy "S/x" "T/r" ∷ copy "T/tmp/a" "T/r/a" ∷ del "tmp" "T" ∷ stmt.Commit
-    ∷ records 1 ∷ hist "T/r/a/b" ∷ trace "T/r/a/b" ∷ from "T/r/a/b" ∷ mod_at "T/r" ∷ mod_at "T/r/a" ∷ show "T" ∷ [])
+    ∷ ask_records 1 ∷ ask_hist "T/r/a/b" ∷ ask_trace "T/r/a/b" ∷ ask_from "T/r/a/b" ∷ ask_mod "T/r" ∷ ask_mod "T/r/a" ∷ show "T" ∷ [])
     ≡ lines_of ("loaded S 3" ∷ "committed 1"
     ∷ "1 C T/r S/x" ∷ "1 K T/r/a" ∷ "records: 2"
     ∷ "hist T/r/a/b: none" ∷ "trace T/r/a/b: T/r/a/b@0..1 < start" ∷ "from T/r/a/b: start" ∷ "mod T/r: 1" ∷ "mod T/r/a: none"
@@ -384,13 +384,13 @@ place_below_a_kept_one_is_kept =
 abbrev pub round_trip_records_the_loss : Kind → Type 0
 round_trip_records_the_loss k =
     output k (tree (edge "r" (node (edge "a" (whole 1) ∷ edge "b" (whole 2) ∷ [])) ∷ [])) (ins "tmp" (node []) "T" ∷ copy "T/r" "T/tmp" ∷ del "a" "T/tmp" ∷ copy "T/tmp" "T/r" ∷ del "tmp" "T" ∷ stmt.Commit
-    ∷ records 1 ∷ mod_at "T/r" ∷ [])
+    ∷ ask_records 1 ∷ ask_mod "T/r" ∷ [])
     ≡ lines_of ("committed 1" ∷ "1 D T/r/a" ∷ "records: 1" ∷ "mod T/r: 1" ∷ [])
 
 -- data that was made and given up within a transaction leaves no record
 abbrev pub temporary_data_leaves_no_record : Type 0
 temporary_data_leaves_no_record =
-    output kind.T empty_tree (ins "a" (whole 1) "T" ∷ del "a" "T" ∷ stmt.Commit ∷ src "T" ∷ hist "T" ∷ records 1 ∷ [])
+    output kind.T empty_tree (ins "a" (whole 1) "T" ∷ del "a" "T" ∷ stmt.Commit ∷ ask_src "T" ∷ ask_hist "T" ∷ ask_records 1 ∷ [])
     ≡ lines_of ("committed 1" ∷ "src T: none" ∷ "hist T: none" ∷ "records: 0" ∷ [])
 
 pub record NetEffectsHold : Type 0 where
@@ -413,14 +413,14 @@ gene = ins "g" (node (edge "loc" (node (edge "chrom" (text "17") ∷ [])) ∷ ed
 -- a tree that is inserted at once has one record where the rest is implied
 abbrev pub inserted_tree_has_one_record : Type 0
 inserted_tree_has_one_record =
-    output kind.H empty_tree (gene ∷ stmt.Commit ∷ records 1 ∷ src "T/g/loc/chrom" ∷ show "T" ∷ [])
+    output kind.H empty_tree (gene ∷ stmt.Commit ∷ ask_records 1 ∷ ask_src "T/g/loc/chrom" ∷ show "T" ∷ [])
     ≡ lines_of ("committed 1" ∷ "1 I T/g" ∷ "records: 1" ∷ "src T/g/loc/chrom: 1"
     ∷ "show T: {g : {loc : {chrom : \"17\"}, sym : \"TP53\"}}" ∷ [])
 
 -- and a record for each of its places where nothing is implied
 abbrev pub inserted_tree_in_full : Type 0
 inserted_tree_in_full =
-    output kind.N empty_tree (gene ∷ stmt.Commit ∷ records 1 ∷ [])
+    output kind.N empty_tree (gene ∷ stmt.Commit ∷ ask_records 1 ∷ [])
     ≡ lines_of ("committed 1" ∷ "1 I T/g" ∷ "1 I T/g/loc" ∷ "1 I T/g/loc/chrom" ∷ "1 I T/g/sym" ∷ "records: 4" ∷ [])
 
 pub record InsertedTreesHold : Type 0 where
@@ -450,13 +450,13 @@ label_is_inserted_once =
 -- a query sees what is committed, and not the open transaction
 abbrev pub query_sees_what_is_committed : Type 0
 query_sees_what_is_committed =
-    output kind.N empty_tree (ins "a" (node []) "T" ∷ ins "b" (text "x") "T/a" ∷ src "T/a/b" ∷ stmt.Commit ∷ src "T/a/b" ∷ stmt.Abort ∷ [])
+    output kind.N empty_tree (ins "a" (node []) "T" ∷ ins "b" (text "x") "T/a" ∷ ask_src "T/a/b" ∷ stmt.Commit ∷ ask_src "T/a/b" ∷ stmt.Abort ∷ [])
     ≡ lines_of ("refused: no place T/a/b" ∷ "committed 1..2" ∷ "src T/a/b: 2" ∷ "aborted 0" ∷ [])
 
 -- operations whose entry is over a limit are given up
 abbrev pub commit_that_does_not_fit_is_refused : Type 0
 commit_that_does_not_fit_is_refused =
-    output_with cramped_setting kind.N empty_tree (ins "a" (whole 1) "T" ∷ ins "b" (whole 2) "T" ∷ stmt.Commit ∷ show "T" ∷ stats
+    output_with cramped_setting kind.N empty_tree (ins "a" (whole 1) "T" ∷ ins "b" (whole 2) "T" ∷ stmt.Commit ∷ show "T" ∷ ask_stats
     ∷ ins "b" (whole 2) "T" ∷ stmt.Commit ∷ show "T" ∷ [])
     ≡ lines_of ("refused commit: transaction too large" ∷ "show T: {}" ∷ "stats: kind n, tid 0, transactions 0, records 0, nodes 1, sources 0"
     ∷ "committed 1" ∷ "show T: {b : 2}" ∷ [])
@@ -464,7 +464,7 @@ commit_that_does_not_fit_is_refused =
 -- the log has each commit with its Tids, who made it and when, and the number of its operations
 abbrev pub log_tells_who_and_when : Type 0
 log_tells_who_and_when =
-    log_lines (signed_by "Ada L" setting) kind.N (1000 ∷ 2000 ∷ []) (ins "a" (whole 1) "T" ∷ stmt.Commit ∷ ins "b" (whole 2) "T" ∷ ins "c" (whole 3) "T" ∷ stmt.Commit ∷ [])
+    log_lines (signed_by "Ada L" example_setting) kind.N (1000 ∷ 2000 ∷ []) (ins "a" (whole 1) "T" ∷ stmt.Commit ∷ ins "b" (whole 2) "T" ∷ ins "c" (whole 3) "T" ∷ stmt.Commit ∷ [])
     ≡ lines_of ("commit 1 by \"Ada L\" at 1000, operations 1" ∷ "commit 2..3 by \"Ada L\" at 2000, operations 2" ∷ "log: 2" ∷ [])
 
 -- a commit that doesn't fit has taken a moment, one without operations none; where the clock tells no more the moment is 0
@@ -538,7 +538,7 @@ repeat_op (suc n) op = op ∷ repeat_op n op
 -- a transaction has 65,535 operations at most
 abbrev pub one_more_operation_is_refused : Type 0
 one_more_operation_is_refused =
-    flat_map lines (replies_to_statements setting (record (fresh kind.T curated_tree []) { opened = going (repeat_op 65535 (Copy (place "T/c1") (place "T/c3"))) }) (del "c1" "T" ∷ stmt.Abort ∷ []))
+    flat_map lines (replies_to_statements example_setting (record (fresh kind.T curated_tree []) { opened = going (repeat_op 65535 (Copy (place "T/c1") (place "T/c3"))) }) (del "c1" "T" ∷ stmt.Abort ∷ []))
     ≡ lines_of ("refused: too many operations" ∷ "aborted 65535" ∷ [])
 
 pub record RefusalsHold : Type 0 where
@@ -553,7 +553,7 @@ pub record RefusalsHold : Type 0 where
 abbrev pub row_of_a_table_is_copied : Type 0
 row_of_a_table_is_copied =
     output kind.T empty_tree (load_by "G" "g.csv" "gene" ∷ ins "tp53" (node []) "T" ∷ copy "G/ENSG02" "T/tp53" ∷ stmt.Commit
-    ∷ trace "T/tp53/symbol" ∷ show "T/tp53" ∷ [])
+    ∷ ask_trace "T/tp53/symbol" ∷ show "T/tp53" ∷ [])
     ≡ lines_of ("loaded G 13" ∷ "committed 1"
     ∷ "trace T/tp53/symbol: T/tp53/symbol@1..1 < G/ENSG02/symbol"
     ∷ "show T/tp53: {chrom : \"17\", gene : \"ENSG02\", symbol : \"TP53\"}" ∷ [])
@@ -562,7 +562,7 @@ row_of_a_table_is_copied =
 abbrev pub copied_row_has_to_be_there : Type 0
 copied_row_has_to_be_there =
     output kind.N empty_tree (load_by "G" "g.csv" "gene" ∷ ins "tp53" (node []) "T" ∷ copy "G/ENSG02" "T/tp53" ∷ stmt.Commit
-    ∷ trace "T/tp53/symbol" ∷ copy "G/X" "T" ∷ [])
+    ∷ ask_trace "T/tp53/symbol" ∷ copy "G/X" "T" ∷ [])
     ≡ lines_of ("loaded G 13" ∷ "committed 1..2"
     ∷ "trace T/tp53/symbol: T/tp53/symbol@2..2 < G/ENSG02/symbol"
     ∷ "refused: no origin G/X" ∷ [])
@@ -583,7 +583,7 @@ pub record SourcesHold : Type 0 where
 abbrev pub labels_are_escaped_and_quoted : Type 0
 labels_are_escaped_and_quoted =
     output kind.T empty_tree (ins "a/b" (whole 1) "T" ∷ ins "~" (whole 2) "T" ∷ ins "" (whole 3) "T" ∷ ins "x y" (whole 4) "T" ∷ stmt.Commit
-    ∷ src_below "T" "a/b" ∷ src_below "T" "~" ∷ src_below "T" "" ∷ src_below "T" "x y" ∷ show "T" ∷ [])
+    ∷ ask_src_below "T" "a/b" ∷ ask_src_below "T" "~" ∷ ask_src_below "T" "" ∷ ask_src_below "T" "x y" ∷ show "T" ∷ [])
     ≡ lines_of ("committed 1"
     ∷ "src T/a~1b: 1" ∷ "src T/~0: 1" ∷ "src T/: 1" ∷ "src \"T/x y\": 1"
     ∷ "show T: {\"\" : 3, a~1b : 1, \"x y\" : 4, ~0 : 2}" ∷ [])

@@ -19,15 +19,15 @@ use Rattle.cp_store.specs.declared.change.What.{What}
 use Rattle.cp_store.specs.declared.change.What.TheVariants.{New, From, Gone}
 
 -- what a change tells of its place
-abbrev pub reading_of : What → Reading
-reading_of New = left made
-reading_of (From q) = left (from q)
-reading_of Gone = gone
+abbrev pub reading_of_what : What → Reading
+reading_of_what New = left made
+reading_of_what (From q) = left (from q)
+reading_of_what Gone = gone
 
 -- the Tid of a change, and what it tells
 abbrev pub change_told : Option Change → Option (ℕ × Reading)
 change_told None = None
-change_told (Some c) = Some (c.tid, reading_of c.what)
+change_told (Some c) = Some (c.tid, reading_of_what c.what)
 
 -- the greatest Tid up to t at which the rows tell of the place other than that it is the same, with what they tell; no
 -- row is of a place of a source

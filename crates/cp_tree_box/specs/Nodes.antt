@@ -5,8 +5,8 @@ use Rattle.cp_tree.specs.Good.{IsGood}
 use Rattle.cp_tree_box.specs.declared.node.BoxNode.TheInside.{Inside}
 
 -- the tree of what stands at the node, and of the nodes below it
-abbrev pub tree_of : Inside → Tree
-tree_of a = branch a.content a.children.entries
+abbrev pub tree_inside : Inside → Tree
+tree_inside a = branch a.content a.children.entries
 
 -- the labels below rise, a leaf has none, and each leads to a rooted tree
 abbrev pub IsGoodNode : Inside → Type 0

@@ -31,9 +31,9 @@ impl Model for BoxNode {
 
     ghost coded = { code content_code };
 
-    ghost use Rattle.cp_tree_box.specs.Nodes.{tree_of, IsGoodNode};
+    ghost use Rattle.cp_tree_box.specs.Nodes.{tree_inside, IsGoodNode};
 
-    ghost view = { tree_of };
+    ghost view = { tree_inside };
 
     ghost invariant = { IsGoodNode };
 

@@ -2,7 +2,7 @@ use Rattle.std.proofs.Common.{◌++◌, ◌∷◌, ◌∙◌, ap, sym, subst}
 use Rattle.cp_path.specs.Encoding.{path_bytes}
 use Rattle.cp_model.specs.Records.{mark_by}
 use Rattle.cp_record.specs.Bytes.{letter, source_bytes}
-use Rattle.cp_record.specs.Kept.{IsSource}
+use Rattle.cp_record.specs.Kept.{IsSourceOf}
 use Rattle.cp_record.proofs.Kept.{parts, has_tid, begins_op, begins_path, begins_source}
 use Rattle.cp_record.proofs.unpack.mark_at.Goals as goal
 
@@ -24,5 +24,5 @@ returns c =
     let tid = c.tid_at.ensures r.tid (letter r.op ∷ (path_bytes r.loc.path ++ (source_bytes r.src ++ rest))) k.tid (parts r rest c.args.bytes.now e) in
     let op = c.op_at-op.ensures r.op (path_bytes r.loc.path ++ (source_bytes r.src ++ rest)) tid.1 in
     let path = c.behind_path.ensures r.loc.path (source_bytes r.src ++ rest) op.1 in
-    let source = c.in_ok-src.ensures r.src rest (subst (λ o. IsSource o r.src) (sym op.0) k.source) path in
+    let source = c.in_ok-src.ensures r.src rest (subst (λ o. IsSourceOf o r.src) (sym op.0) k.source) path in
     c.mark_of.ensures ∙ ap (λ o. mark_by o c.in_ok-src.src) op.0 ∙ ap (mark_by r.op) source.0

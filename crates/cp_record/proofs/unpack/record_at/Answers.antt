@@ -1,7 +1,7 @@
 use Rattle.std.proofs.Common.{◌++◌, ◌∷◌, sym, subst}
 use Rattle.cp_path.specs.Encoding.{path_bytes}
 use Rattle.cp_record.specs.Bytes.{letter, source_bytes}
-use Rattle.cp_record.specs.Kept.{IsSource}
+use Rattle.cp_record.specs.Kept.{IsSourceOf}
 use Rattle.cp_record.proofs.Kept.{parts, made, has_tid, begins_op, begins_path, begins_source}
 use Rattle.cp_record.proofs.unpack.record_at.Goals as goal
 
@@ -23,5 +23,5 @@ returns c =
     let tid = c.tid_at-tid.ensures r.tid (letter r.op ∷ (path_bytes r.loc.path ++ (source_bytes r.src ++ rest))) k.tid (parts r rest c.args.bytes.now e) in
     let op = c.op_at-op.ensures r.op (path_bytes r.loc.path ++ (source_bytes r.src ++ rest)) tid.1 in
     let path = c.in_ok-path.ensures r.loc.path (source_bytes r.src ++ rest) op.1 in
-    let source = c.in_ok-src.ensures r.src rest (subst (λ o. IsSource o r.src) (sym op.0) k.source) path.1 in
+    let source = c.in_ok-src.ensures r.src rest (subst (λ o. IsSourceOf o r.src) (sym op.0) k.source) path.1 in
     (made r c.tid_at-tid.result.0 c.op_at-op.result.0 c.in_ok-db.db c.in_ok-path.path c.in_ok-src.src k tid.0 op.0 c.in_ok-db.ensures path.0 source.0, source.1)

@@ -2,14 +2,14 @@ use Rattle.std.proofs.Common.{◌<◌, ◌≡◌, ◌++◌, ap, subst, ◌∙◌
 use Rattle.std.specs.List.{AllByRecursion}
 use Rattle.std.proofs.lemmas.Bool.Decides.{nat_tests}
 use Rattle.cp_record.specs.Bytes.{records_bytes}
-use Rattle.cp_record.specs.Kept.{IsKept}
+use Rattle.cp_record.specs.Kept.{IsPackable}
 use Rattle.cp_record.proofs.Kept.{left_one, left_none, left_begins, left_smaller}
 use Rattle.cp_record.proofs.packed.PackedRecords.records.Goals as goal
 
 pub loop-rest-init : goal.loop-rest-init
 loop-rest-init c = record {
   next = c.args.self.now;
-  kept = subst (λ l. AllByRecursion IsKept l) c.self.view_is c.self.invariant.kept;
+  kept = subst (λ l. AllByRecursion IsPackable l) c.self.view_is c.self.invariant.kept;
   bytes = c.as_slice-rest.ensures.value ∙ c.self.invariant.is ∙ ap records_bytes c.self.view_is;
   all = ap (λ l. l ++ c.args.self.now) c.new-items.ensures.items;
 }
