@@ -1,0 +1,123 @@
+//! Reads the examples of a document, and scripts with what they write.
+//!
+//! Examples stand in blocks that are indented by four spaces. After `< ` comes the whole input of a call of `scratch n`, and
+//! the lines below it are its output. After `$ bin/cpdb ` come the words of a session: of the lines of this block and of all
+//! later ones, those that end in a semicolon go in, and all others come out. The status is 1 where a line refuses something.
+
+use crate::sheet::{Case, Part, Sheet};
+use std::alloc::{AllocError, Global};
+
+/// What the lines of a block belong to.
+#[derive(Clone, Copy, PartialEq, Eq)]
+enum Block {
+    Prose,
+    Example,
+    Session,
+}
+
+/// A line of a document and its number.
+#[derive(Clone, Copy)]
+struct Line<'a> {
+    number: u64,
+    text: &'a str,
+}
+
+/// A case of one call with these words, over the real files, with no input and no output yet.
+fn call_of(alloc: Global, line: Line<'_>, words: &str) -> Result<Case, AllocError> {
+    let mut case = Case::new(alloc, line.text)?;
+    case.real = true;
+    for (key, rest) in [("words", words), ("in", "-"), ("out", "")] {
+        case.parts.push(Part::new(alloc, line.number, key, rest)?)?;
+    }
+    Ok(case)
+}
+
+/// Adds a line to the input or the output of the last call.
+fn add_to_last(
+    alloc: Global,
+    cases: &mut Vec<Case>,
+    goes_in: bool,
+    line: &str,
+) -> Result<(), AllocError> {
+    let Some(case) = cases.last_mut() else {
+        return Ok(());
+    };
+    match case.parts.as_mut_slice() {
+        [_, input, _] if goes_in => input.add(alloc, line),
+        [_, _, output] => output.add(alloc, line),
+        _ => Ok(()),
+    }
+}
+
+/// Takes the next line of a block.
+fn add_line(
+    alloc: Global,
+    cases: &mut Vec<Case>,
+    block: Block,
+    line: Line<'_>,
+) -> Result<Block, AllocError> {
+    if let Some(input) = line.text.strip_prefix("< ") {
+        cases.push(call_of(alloc, line, "scratch n")?)?;
+        add_to_last(alloc, cases, true, input)?;
+        return Ok(Block::Example);
+    }
+    if let Some(words) = line.text.strip_prefix("$ bin/cpdb ") {
+        cases.push(call_of(alloc, line, words)?)?;
+        return Ok(Block::Session);
+    }
+    if block != Block::Prose {
+        let goes_in = block == Block::Session && line.text.ends_with(';');
+        add_to_last(alloc, cases, goes_in, line.text)?;
+    }
+    Ok(block)
+}
+
+/// Adds the status that goes with the output of a call.
+fn add_status(alloc: Global, case: &mut Case) -> Result<(), AllocError> {
+    let refuses = case.parts.iter().any(|part| {
+        let mut lines = part.lines.iter();
+        part.key.as_str() == "out" && lines.any(|line| line.as_str().starts_with("refused"))
+    });
+    let status = if refuses { "1" } else { "0" };
+    case.parts.push(Part::new(alloc, 0, "ends", status)?)?;
+    Ok(())
+}
+
+/// The examples of a document.
+pub(crate) fn read(alloc: Global, text: &str) -> Result<Sheet, AllocError> {
+    let mut sheet = Sheet::new(alloc);
+    let mut block = Block::Prose;
+    let mut number = 0u64;
+    for line in text.split('\n') {
+        number = number.saturating_add(1);
+        if let Some(text) = line.strip_prefix("    ") {
+            block = add_line(alloc, &mut sheet.cases, block, Line { number, text })?;
+        } else if block == Block::Example {
+            block = Block::Prose;
+        }
+    }
+    for case in sheet.cases.iter_mut() {
+        add_status(alloc, case)?;
+    }
+    Ok(sheet)
+}
+
+/// The call of `scratch n` whose input is a script, and which writes this output.
+pub(crate) fn of_script(alloc: Global, script: &str, output: &str) -> Result<Sheet, AllocError> {
+    let mut sheet = Sheet::new(alloc);
+    let line = Line {
+        number: 1,
+        text: "the whole script",
+    };
+    sheet.cases.push(call_of(alloc, line, "scratch n")?)?;
+    for line in script.split_terminator('\n') {
+        add_to_last(alloc, &mut sheet.cases, true, line)?;
+    }
+    for line in output.split_terminator('\n') {
+        add_to_last(alloc, &mut sheet.cases, false, line)?;
+    }
+    for case in sheet.cases.iter_mut() {
+        add_status(alloc, case)?;
+    }
+    Ok(sheet)
+}

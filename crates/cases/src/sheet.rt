@@ -1,0 +1,187 @@
+//! Reads files of cases.
+//!
+//! A case is `case NAME`, then `since N`, the stage of the program from which it holds, then its parts in order. A table is the same with
+//! `table NAME` and, as its last lines, rows `- COLUMN -> COLUMN`: it is played once for each row, with the row's columns in
+//! place of `@1`, `@2` and `@3`. Parts before the first case, below `common`, come first in every case. Empty lines, and lines
+//! that begin with `#`, are passed over.
+//!
+//! A part is a keyword, the rest of its line, and a text: the lines below it that begin with `| `, each ended by a line feed.
+//! Where `-` stands at the end of the keyword's line, the last line feed is left out. `escape` says what `%<..>` stands for,
+//! `play` what each keyword means.
+
+use crate::escape::add_line;
+use std::alloc::{AllocError, Global};
+
+/// A keyword, the rest of its line, and the lines of the text below.
+#[derive(Drop)]
+pub(crate) struct Part {
+    /// The number of its line in the file.
+    pub(crate) line: u64,
+    pub(crate) key: String,
+    pub(crate) rest: String,
+    pub(crate) lines: Vec<String>,
+}
+
+/// A row of a table.
+#[derive(Drop)]
+pub(crate) struct Row {
+    /// The number of its line in the file.
+    pub(crate) line: u64,
+    pub(crate) columns: String,
+}
+
+#[derive(Drop)]
+pub(crate) struct Case {
+    pub(crate) name: String,
+    /// The stage of the program from which it holds.
+    pub(crate) since: u64,
+    /// Whether its files are the real ones, by their paths.
+    pub(crate) real: bool,
+    pub(crate) parts: Vec<Part>,
+    pub(crate) rows: Vec<Row>,
+}
+
+/// The cases of a file, and the parts that all of them begin with.
+#[derive(Drop)]
+pub(crate) struct Sheet {
+    pub(crate) common: Vec<Part>,
+    pub(crate) cases: Vec<Case>,
+}
+
+/// The line with a row's columns in place of `@1`, `@2` and `@3`.
+fn filled(alloc: Global, line: &str, row: Option<&Row>) -> Result<String, AllocError> {
+    let mut filled = line.to_string(alloc)?;
+    let Some(row) = row else {
+        return Ok(filled);
+    };
+    let mut marks = ["@1", "@2", "@3"].iter();
+    for column in row.columns.split(" -> ") {
+        if let Some(mark) = marks.next() {
+            filled = filled.replace(alloc, *mark, column)?;
+        }
+    }
+    Ok(filled)
+}
+
+impl Part {
+    pub(crate) fn new(alloc: Global, line: u64, key: &str, rest: &str) -> Result<Part, AllocError> {
+        Ok(Part {
+            line,
+            key: key.to_string(alloc)?,
+            rest: rest.to_string(alloc)?,
+            lines: Vec::new(alloc),
+        })
+    }
+
+    /// Adds a line to the text.
+    pub(crate) fn add(&mut self, alloc: Global, line: &str) -> Result<(), AllocError> {
+        self.lines.push(line.to_string(alloc)?)?;
+        Ok(())
+    }
+
+    /// The rest of the keyword's line, without a `-` at its end.
+    pub(crate) fn words(&self, alloc: Global, row: Option<&Row>) -> Result<String, AllocError> {
+        let rest = self.rest.as_str();
+        let words = match rest.strip_suffix(" -") {
+            Some(words) => words,
+            None if rest == "-" => "",
+            None => rest,
+        };
+        filled(alloc, words, row)
+    }
+
+    /// The text, without its last line feed where a `-` leaves it out.
+    pub(crate) fn text(&self, alloc: Global, row: Option<&Row>) -> Result<Vec<u8>, AllocError> {
+        let mut text = Vec::new(alloc);
+        for line in self.lines.iter() {
+            let line = filled(alloc, line.as_str(), row)?;
+            add_line(alloc, &mut text, line.as_str())?;
+        }
+        let rest = self.rest.as_str();
+        if rest == "-" || rest.ends_with(" -") {
+            text.pop();
+        }
+        Ok(text)
+    }
+}
+
+impl Case {
+    pub(crate) fn new(alloc: Global, name: &str) -> Result<Case, AllocError> {
+        Ok(Case {
+            name: name.to_string(alloc)?,
+            since: 0,
+            real: false,
+            parts: Vec::new(alloc),
+            rows: Vec::new(alloc),
+        })
+    }
+
+    /// Takes a line below the case's name.
+    fn add(&mut self, alloc: Global, number: u64, line: &str) -> Result<(), AllocError> {
+        if let Some(since) = line.strip_prefix("since ") {
+            self.since = since.parse::<u64>().unwrap_or(u64::MAX);
+            return Ok(());
+        }
+        if let Some(columns) = line.strip_prefix("- ") {
+            self.rows.push(Row {
+                line: number,
+                columns: columns.to_string(alloc)?,
+            })?;
+            return Ok(());
+        }
+        add_part(alloc, &mut self.parts, number, line)
+    }
+}
+
+/// Takes a line of a text, or a new part.
+fn add_part(
+    alloc: Global,
+    parts: &mut Vec<Part>,
+    number: u64,
+    line: &str,
+) -> Result<(), AllocError> {
+    let (key, rest) = line.split_once(' ').unwrap_or((line, ""));
+    match parts.last_mut() {
+        Some(part) if key == "|" => part.add(alloc, rest),
+        _ => {
+            parts.push(Part::new(alloc, number, key, rest)?)?;
+            Ok(())
+        }
+    }
+}
+
+impl Sheet {
+    pub(crate) fn new(alloc: Global) -> Sheet {
+        Sheet {
+            common: Vec::new(alloc),
+            cases: Vec::new(alloc),
+        }
+    }
+
+    /// Takes the next line.
+    fn add(&mut self, alloc: Global, number: u64, line: &str) -> Result<(), AllocError> {
+        if line.is_empty() || line == "common" || line.starts_with('#') {
+            return Ok(());
+        }
+        let name = line.strip_prefix("case ");
+        if let Some(name) = name.or(line.strip_prefix("table ")) {
+            self.cases.push(Case::new(alloc, name)?)?;
+            return Ok(());
+        }
+        match self.cases.last_mut() {
+            Some(case) => case.add(alloc, number, line),
+            None => add_part(alloc, &mut self.common, number, line),
+        }
+    }
+}
+
+/// The cases of a file.
+pub(crate) fn read(alloc: Global, text: &str) -> Result<Sheet, AllocError> {
+    let mut sheet = Sheet::new(alloc);
+    let mut number = 0u64;
+    for line in text.split('\n') {
+        number = number.saturating_add(1);
+        sheet.add(alloc, number, line)?;
+    }
+    Ok(sheet)
+}
