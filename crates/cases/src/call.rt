@@ -2,7 +2,7 @@
 
 use crate::pieces::Pieces;
 use crate::screen::Screen;
-use crate::words::{number_of, numbers_of, words_of};
+use cp_cases::{Step, number_of, numbers_of, words_of};
 use cp_host::{StdinSource, StdoutSink};
 use cp_outside::{Files, MemSink, Source};
 use cp_program::run_cpdb;
@@ -11,16 +11,16 @@ use std::alloc::{AllocError, Global};
 /// A call to come.
 #[derive(Drop)]
 pub(crate) struct Call {
-    pub(crate) words: Vec<String>,
-    pub(crate) input: Vec<u8>,
+    words: Vec<String>,
+    input: Vec<u8>,
     /// The sizes of the pieces that the input comes in.
-    pub(crate) pieces: Vec<usize>,
+    pieces: Vec<u64>,
     /// The numbers, from 1, of the reads of files, the reads of the input and the writes that fail.
     pub(crate) failing_files: Vec<u64>,
-    pub(crate) failing_reads: Vec<u64>,
-    pub(crate) failing_writes: Vec<u64>,
+    failing_reads: Vec<u64>,
+    failing_writes: Vec<u64>,
     /// How many bytes an output takes that takes them one by one; `None` for an output in memory.
-    pub(crate) room: Option<usize>,
+    room: Option<usize>,
 }
 
 /// What a call gave.
@@ -33,15 +33,11 @@ pub(crate) struct Outcome {
 }
 
 impl Call {
-    /// A call with these words after the program's name, with no input, in which nothing fails.
-    pub(crate) fn new(alloc: Global, line: &str) -> Result<Call, AllocError> {
-        let mut words = Vec::new(alloc);
-        words.push("cpdb".to_string(alloc)?)?;
-        for word in words_of(alloc, line)? {
-            words.push(word)?;
-        }
+    /// A call with no words at all, not even the program's name, with no input, in which nothing
+    /// fails.
+    pub(crate) fn bare(alloc: Global) -> Result<Call, AllocError> {
         Ok(Call {
-            words,
+            words: Vec::new(alloc),
             input: Vec::new(alloc),
             pieces: Vec::new(alloc),
             failing_files: Vec::new(alloc),
@@ -51,37 +47,72 @@ impl Call {
         })
     }
 
-    /// A call with no words at all, not even the program's name.
-    pub(crate) fn bare(alloc: Global) -> Result<Call, AllocError> {
-        let mut call = Call::new(alloc, "")?;
-        call.words.clear();
+    /// The same with these words after the program's name.
+    pub(crate) fn new(alloc: Global, line: &str) -> Result<Call, AllocError> {
+        let mut call = Call::bare(alloc)?;
+        call.words.push("cpdb".to_string(alloc)?)?;
+        for word in words_of(alloc, line)? {
+            call.words.push(word)?;
+        }
         Ok(call)
     }
 
     /// Notes what fails, and says whether the line is understood.
-    pub(crate) fn note_failures(&mut self, alloc: Global, line: &str) -> Result<bool, AllocError> {
-        let (of, rest) = line.split_once(' ').unwrap_or((line, ""));
-        let numbers = numbers_of(alloc, rest)?;
-        match of {
-            "file" => self.failing_files = numbers,
-            "input" => self.failing_reads = numbers,
-            "output" => self.failing_writes = numbers,
+    fn note_failures(&mut self, alloc: Global, line: &str) -> Result<bool, AllocError> {
+        let numbers = numbers_of(alloc, line)?;
+        if line.starts_with("file ") {
+            self.failing_files = numbers;
+        } else if line.starts_with("input ") {
+            self.failing_reads = numbers;
+        } else if line.starts_with("output ") {
+            self.failing_writes = numbers;
+        } else {
+            return Ok(false);
+        }
+        Ok(true)
+    }
+
+    /// Takes a part that is about the call; says whether it is one.
+    pub(crate) fn take(&mut self, alloc: Global, step: &Step) -> Result<bool, AllocError> {
+        let rest = step.rest.as_str();
+        match step.key.as_str() {
+            "in" => self.input = step.text.as_slice().to_vec(alloc)?,
+            "pieces" => self.pieces = numbers_of(alloc, rest)?,
+            "room" => self.room = Some(number_of(rest) as usize),
+            "fail" => return self.note_failures(alloc, rest),
             _ => return Ok(false),
         }
         Ok(true)
     }
 
-    /// Notes the sizes of the pieces that the input comes in.
-    pub(crate) fn note_pieces(&mut self, alloc: Global, line: &str) -> Result<(), AllocError> {
-        for size in numbers_of(alloc, line)? {
-            self.pieces.push(size as usize)?;
-        }
-        Ok(())
+    /// Makes the call over an output in memory, and gives the status and the output.
+    fn write_to_memory<F: Files, I: Source>(
+        &self,
+        alloc: Global,
+        files: &mut F,
+        input: &mut I,
+    ) -> Result<(u8, Vec<u8>), AllocError> {
+        let mut output = MemSink::with_faults(alloc, &self.failing_writes)?;
+        let status = run_cpdb(alloc, self.words.as_slice(), files, input, &mut output);
+        Ok((status.code, output.bytes().to_vec(alloc)?))
     }
 
-    /// Notes how many bytes the output takes.
-    pub(crate) fn note_room(&mut self, line: &str) {
-        self.room = Some(number_of(line) as usize);
+    /// Makes the call over an output that takes so many bytes, one by one, and gives the status and
+    /// what it took.
+    fn write_to_screen<F: Files, I: Source>(
+        &self,
+        alloc: Global,
+        room: usize,
+        files: &mut F,
+        input: &mut I,
+    ) -> (u8, Vec<u8>) {
+        let mut screen = Screen {
+            took: Vec::new(alloc),
+            room,
+        };
+        let mut output = StdoutSink::new(&mut screen);
+        let status = run_cpdb(alloc, self.words.as_slice(), files, input, &mut output);
+        (status.code, screen.took)
     }
 
     /// Makes the call over this input, and gives the status and the output.
@@ -91,22 +122,13 @@ impl Call {
         files: &mut F,
         input: &mut I,
     ) -> Result<(u8, Vec<u8>), AllocError> {
-        let words = self.words.as_slice();
-        if let Some(room) = self.room {
-            let mut screen = Screen {
-                took: Vec::new(alloc),
-                room,
-            };
-            let mut output = StdoutSink::new(&mut screen);
-            let status = run_cpdb(alloc, words, files, input, &mut output);
-            return Ok((status.code, screen.took));
+        match self.room {
+            Some(room) => Ok(self.write_to_screen(alloc, room, files, input)),
+            None => self.write_to_memory(alloc, files, input),
         }
-        let mut output = MemSink::with_faults(alloc, &self.failing_writes)?;
-        let status = run_cpdb(alloc, words, files, input, &mut output);
-        Ok((status.code, output.bytes().to_vec(alloc)?))
     }
 
-    /// Makes the call.
+    /// Makes the call over these files.
     pub(crate) fn make<F: Files>(
         &self,
         alloc: Global,

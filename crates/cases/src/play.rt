@@ -1,6 +1,4 @@
-//! Plays a case: takes its parts in their order, makes its calls, and compares what they give.
-//!
-//! A whole call of the program:
+//! Takes the parts of a case in their order, makes its calls, and compares what they give.
 //!
 //! | Part | Meaning |
 //! |---|---|
@@ -12,12 +10,9 @@
 //! | `fail file N ..`, `fail input N ..`, `fail output N ..` | the reads of files, reads of the input and writes that fail, from 1 |
 //! | `room N` | the output takes a byte a write, and none after N bytes |
 //!
-//! A call of a layer below: `place`, `label`, `name`, `value`, `text` with a word, `order` with places, `statement`, `offset`,
-//! `cuts SIZE` with a text, and `reply WORDS` as `replies` says.
+//! The first of these parts makes the call:
 //!
-//! What it gives, which the first of these parts makes the call for:
-//!
-//! | Part | Meaning |
+//! | Part | What it gives |
 //! |---|---|
 //! | `out` and a text | the whole output |
 //! | `starts` and a text | how the output begins |
@@ -26,33 +21,16 @@
 //! | `left N` | how many bytes of the input weren't taken |
 
 use crate::call::{Call, Outcome};
-use crate::lower;
-use crate::sheet::{Case, Part, Row};
-use crate::words::numbers_of;
+use cp_cases::{Player, Step, compare, numbers_of};
 use cp_host::HostFiles;
 use cp_outside::{MemFile, MemFiles};
 use cp_path::{Bytes, Text};
 use std::alloc::{AllocError, Global};
-use std::rt;
-
-/// What is wrong with a case, and the line that says otherwise.
-#[derive(Drop)]
-pub(crate) struct Fault {
-    pub(crate) line: u64,
-    pub(crate) text: String,
-}
-
-/// A part with a row's columns in it.
-#[derive(Drop)]
-struct Step {
-    key: String,
-    rest: String,
-    text: Vec<u8>,
-}
+use std::rt::Files;
 
 /// A case as far as it is played, over files in memory or the real ones of this runtime.
 #[derive(Drop)]
-struct Stage<'a, R> {
+pub(crate) struct Stage<'a, R> {
     runtime: &'a R,
     real: bool,
     files: Vec<MemFile>,
@@ -60,187 +38,141 @@ struct Stage<'a, R> {
     outcome: Option<Outcome>,
 }
 
-/// Says in what line the texts differ first.
-fn difference(alloc: Global, found: &[u8], wanted: &[u8]) -> Result<String, AllocError> {
-    let (Ok(found), Ok(wanted)) = (std::str::from_utf8(found), std::str::from_utf8(wanted)) else {
-        return "the output isn't UTF-8".to_string(alloc);
-    };
-    let mut number = 0u64;
-    let mut others = wanted.split('\n');
-    for one in found.split('\n') {
-        number = number.saturating_add(1);
-        let other = others.next().unwrap_or("no line");
-        if one != other {
-            return format!(in alloc; "line {number} is {one:?}, wanted {other:?}");
-        }
+/// Says that the number isn't one of those on the line; `None` where it is.
+fn compare_number(
+    alloc: Global,
+    key: &str,
+    found: u64,
+    wanted: &str,
+) -> Result<Option<String>, AllocError> {
+    if numbers_of(alloc, wanted)?.contains(&found) {
+        return Ok(None);
     }
-    format!(in alloc; "{} bytes came, wanted {}", found.len(), wanted.len())
+    Ok(Some(format!(in alloc; "{key} {found}, wanted {wanted}")?))
 }
 
-impl<R: rt::Files> Stage<'_, R> {
-    /// Makes the call that is to come.
-    fn settle(&mut self, alloc: Global) -> Result<(), AllocError> {
-        let Some(call) = self.call.take() else {
-            return Ok(());
-        };
-        let outcome = if self.real {
-            call.make(alloc, &mut HostFiles::new(self.runtime))?
-        } else {
-            let mut files = MemFiles::with_faults(alloc, &self.files, &call.failing_files)?;
-            call.make(alloc, &mut files)?
-        };
-        self.outcome = Some(outcome);
-        Ok(())
-    }
-
-    fn add_file(&mut self, alloc: Global, step: &Step) -> Result<(), AllocError> {
-        self.files.push(MemFile {
-            name: Text::copy_of(alloc, step.rest.as_str())?,
-            bytes: Bytes::copy_of(alloc, step.text.as_slice())?,
-        })?;
-        Ok(())
-    }
-
-    /// Begins the call of `scratch n` for an input to which no words belong.
-    fn begin_scratch(&mut self, alloc: Global) -> Result<(), AllocError> {
-        if self.call.is_none() {
-            self.call = Some(Call::new(alloc, "scratch n")?);
-        }
-        Ok(())
-    }
-
-    /// Takes a part that is about the call to come, and says what is wrong with it.
-    fn prepare(&mut self, alloc: Global, step: &Step) -> Result<Option<String>, AllocError> {
-        let Some(call) = &mut self.call else {
-            return Ok(Some("no call has begun".to_string(alloc)?));
-        };
-        match step.key.as_str() {
-            "in" => call.input = step.text.as_slice().to_vec(alloc)?,
-            "pieces" => call.note_pieces(alloc, step.rest.as_str())?,
-            "room" => call.note_room(step.rest.as_str()),
-            _ => {
-                if !call.note_failures(alloc, step.rest.as_str())? {
-                    return Ok(Some("what fails?".to_string(alloc)?));
-                }
-            }
-        }
-        Ok(None)
-    }
-
-    /// Makes the call if it is to come, and compares what it gave with the part.
-    fn compare(&mut self, alloc: Global, step: &Step) -> Result<Option<String>, AllocError> {
-        self.settle(alloc)?;
-        let Some(outcome) = &self.outcome else {
-            return Ok(Some("no call was made".to_string(alloc)?));
-        };
-        let output = outcome.output.as_slice();
-        let wanted = step.text.as_slice();
-        match step.key.as_str() {
-            "out" if output == wanted => Ok(None),
-            "starts" if output.starts_with(wanted) => Ok(None),
-            "out" | "starts" => Ok(Some(difference(alloc, output, wanted)?)),
-            "ends" if outcome.left > 0 => {
-                Ok(Some(format!(in alloc; "{} bytes of the input left", outcome.left)?))
-            }
-            key => {
-                let found = if key == "left" {
-                    outcome.left
-                } else {
-                    u64::from(outcome.status)
-                };
-                let rest = step.rest.as_str();
-                if numbers_of(alloc, rest)?.contains(&found) {
-                    return Ok(None);
-                }
-                Ok(Some(format!(in alloc; "{key} {found}, wanted {rest}")?))
-            }
-        }
-    }
-
-    /// Makes a call of a layer below.
-    fn call_lower(&mut self, alloc: Global, step: &Step) -> Result<Option<String>, AllocError> {
-        self.settle(alloc)?;
-        let key = step.key.as_str();
-        match lower::answer(alloc, key, step.rest.as_str(), step.text.as_slice())? {
-            Some(output) => {
-                self.outcome = Some(Outcome {
-                    status: 0,
-                    output,
-                    left: 0,
-                });
-                Ok(None)
-            }
-            None => Ok(Some(format!(in alloc; "unknown part {key:?}")?)),
-        }
-    }
-
-    /// Takes the next part, and says what is wrong.
-    fn take(&mut self, alloc: Global, step: &Step) -> Result<Option<String>, AllocError> {
-        match step.key.as_str() {
-            "file" => {
-                self.add_file(alloc, step)?;
-                Ok(None)
-            }
-            "words" => {
-                self.settle(alloc)?;
-                self.call = Some(Call::new(alloc, step.rest.as_str())?);
-                Ok(None)
-            }
-            "bare" => {
-                self.settle(alloc)?;
-                self.call = Some(Call::bare(alloc)?);
-                Ok(None)
-            }
-            "in" => {
-                self.begin_scratch(alloc)?;
-                self.prepare(alloc, step)
-            }
-            "pieces" | "room" | "fail" => self.prepare(alloc, step),
-            "out" | "starts" | "ends" | "status" | "left" => self.compare(alloc, step),
-            _ => self.call_lower(alloc, step),
-        }
+/// Says what the call gave other than the part; `None` where it gave just that.
+fn compare_outcome(
+    alloc: Global,
+    outcome: &Outcome,
+    step: &Step,
+) -> Result<Option<String>, AllocError> {
+    let output = outcome.output.as_slice();
+    let wanted = step.text.as_slice();
+    let key = step.key.as_str();
+    let rest = step.rest.as_str();
+    match key {
+        "out" => compare(alloc, output, wanted),
+        "starts" if output.starts_with(wanted) => Ok(None),
+        "starts" => compare(alloc, output, wanted),
+        "left" => compare_number(alloc, key, outcome.left, rest),
+        "ends" if outcome.left > 0 => compare_number(alloc, "left", outcome.left, "0"),
+        _ => compare_number(alloc, key, u64::from(outcome.status), rest),
     }
 }
 
-/// Whether the case has no part that calls over memory can't play yet.
-pub(crate) fn is_playable(case: &Case) -> bool {
-    !case.parts.iter().any(|part| {
-        matches!(
-            part.key.as_str(),
-            "clock" | "size" | "bytes" | "cut" | "change"
-        )
+/// The file of this name and these bytes.
+fn file_of(alloc: Global, name: &str, bytes: &[u8]) -> Result<MemFile, AllocError> {
+    Ok(MemFile {
+        name: Text::copy_of(alloc, name)?,
+        bytes: Bytes::copy_of(alloc, bytes)?,
     })
 }
 
-/// What is wrong with a case, or with a row of a table, if anything is.
-pub(crate) fn fault_of<R: rt::Files>(
-    runtime: &R,
-    alloc: Global,
-    common: &[Part],
-    case: &Case,
-    row: Option<&Row>,
-) -> Result<Option<Fault>, AllocError> {
-    let mut stage = Stage {
-        runtime,
-        real: case.real,
-        files: Vec::new(alloc),
-        call: None,
-        outcome: None,
-    };
-    for part in common.iter().chain(case.parts.iter()) {
-        let step = Step {
-            key: part.key.as_str().to_string(alloc)?,
-            rest: part.words(alloc, row)?,
-            text: part.text(alloc, row)?,
-        };
-        if let Some(text) = stage.take(alloc, &step)? {
-            let line = match row {
-                Some(row) => row.line,
-                None => part.line,
-            };
-            return Ok(Some(Fault { line, text }));
+impl<R: Files> Stage<'_, R> {
+    /// A stage on which nothing is.
+    pub(crate) fn new(alloc: Global, runtime: &R) -> Stage<'_, R> {
+        Stage {
+            runtime,
+            real: false,
+            files: Vec::new(alloc),
+            call: None,
+            outcome: None,
         }
     }
-    stage.settle(alloc)?;
-    Ok(None)
+
+    /// What the call gives, over the files of the case.
+    fn outcome_of(&self, alloc: Global, call: &Call) -> Result<Outcome, AllocError> {
+        if self.real {
+            return call.make(alloc, &mut HostFiles::new(self.runtime));
+        }
+        let mut files = MemFiles::with_faults(alloc, &self.files, &call.failing_files)?;
+        call.make(alloc, &mut files)
+    }
+
+    /// Makes the call that is to come.
+    fn settle(&mut self, alloc: Global) -> Result<(), AllocError> {
+        if let Some(call) = self.call.take() {
+            self.outcome = Some(self.outcome_of(alloc, &call)?);
+        }
+        Ok(())
+    }
+
+    /// Makes the call that is to come, and begins another.
+    fn begin_call(&mut self, alloc: Global, call: Call) -> Result<(), AllocError> {
+        self.settle(alloc)?;
+        self.call = Some(call);
+        Ok(())
+    }
+
+    /// Takes a part that begins a call or is a file; says whether it is one.
+    fn take_first(&mut self, alloc: Global, step: &Step) -> Result<bool, AllocError> {
+        let rest = step.rest.as_str();
+        match step.key.as_str() {
+            "file" => self
+                .files
+                .push(file_of(alloc, rest, step.text.as_slice())?)?,
+            "words" => self.begin_call(alloc, Call::new(alloc, rest)?)?,
+            "bare" => self.begin_call(alloc, Call::bare(alloc)?)?,
+            "in" if self.call.is_none() => self.call = Some(Call::new(alloc, "scratch n")?),
+            _ => return Ok(false),
+        }
+        Ok(step.key.as_str() != "in")
+    }
+
+    /// Takes a part that is about the call to come; says whether it is one.
+    fn take_about_call(&mut self, alloc: Global, step: &Step) -> Result<bool, AllocError> {
+        match &mut self.call {
+            Some(call) => call.take(alloc, step),
+            None => Ok(false),
+        }
+    }
+
+    /// Makes the call if it is to come, and says what it gave other than the part.
+    fn take_last(&mut self, alloc: Global, step: &Step) -> Result<Option<String>, AllocError> {
+        self.settle(alloc)?;
+        match (&self.outcome, step.key.as_str()) {
+            (Some(outcome), "out" | "starts" | "ends" | "status" | "left") => {
+                compare_outcome(alloc, outcome, step)
+            }
+            _ => Ok(Some("this part can't stand here".to_string(alloc)?)),
+        }
+    }
+}
+
+impl<R: Files> Player for Stage<'_, R> {
+    fn can_take(&self, key: &str) -> bool {
+        !matches!(key, "clock" | "size" | "bytes" | "cut" | "change")
+    }
+
+    fn begin(&mut self, alloc: Global, real: bool) {
+        self.real = real;
+        self.files = Vec::new(alloc);
+        self.call = None;
+        self.outcome = None;
+    }
+
+    fn take(&mut self, alloc: Global, step: &Step) -> Result<Option<String>, AllocError> {
+        if self.take_first(alloc, step)? {
+            return Ok(None);
+        }
+        if self.take_about_call(alloc, step)? {
+            return Ok(None);
+        }
+        self.take_last(alloc, step)
+    }
+
+    fn end(&mut self, alloc: Global) -> Result<(), AllocError> {
+        self.settle(alloc)
+    }
 }

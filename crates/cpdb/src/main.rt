@@ -1,10 +1,20 @@
 //! The program: the real files, input and output, and the one call that does everything.
 #![tactic(auto)]
 
+ghost use Rattle.std.specs.Prelude.{◌≡◌};
+ghost use Rattle.std.specs.Process.{exit_status};
+
 use cp_host::{HostFiles, StdinSource, StdoutSink};
-use cp_program::run_cpdb;
+use cp_program::{Status, run_cpdb};
 use std::io::ErrorKind;
 use std::process::ExitCode;
+
+/// The exit status with which the process ends: that of the call.
+fn exit_of(status: Status) -> ExitCode
+    ensures { exit_status result ≡ status.code }
+{
+    ExitCode::from(status.code)
+}
 
 fn main(rt: HostRuntime) -> ExitCode {
     let alloc = rt.alloc();
@@ -20,5 +30,5 @@ fn main(rt: HostRuntime) -> ExitCode {
     let mut input = StdinSource::new(rt.stdin());
     let mut output = StdoutSink::new(rt.stdout());
     let status = run_cpdb(alloc, words.as_slice(), &mut files, &mut input, &mut output);
-    ExitCode::from(status.code)
+    exit_of(status)
 }

@@ -72,20 +72,30 @@ fn add_line(
     Ok(block)
 }
 
-/// Adds the status that goes with the output of a call.
-fn add_status(alloc: Global, case: &mut Case) -> Result<(), AllocError> {
-    let refuses = case.parts.iter().any(|part| {
-        let mut lines = part.lines.iter();
-        part.key.as_str() == "out" && lines.any(|line| line.as_str().starts_with("refused"))
-    });
-    let status = if refuses { "1" } else { "0" };
-    case.parts.push(Part::new(alloc, 0, "ends", status)?)?;
+/// Whether the case's output refuses something.
+fn refuses(case: &Case) -> bool {
+    let [_, _, output] = case.parts.as_slice() else {
+        return false;
+    };
+    for line in output.lines.iter() {
+        if line.as_str().starts_with("refused") {
+            return true;
+        }
+    }
+    false
+}
+
+/// Adds the status that goes with the output of each call.
+fn add_statuses(alloc: Global, cases: &mut [Case]) -> Result<(), AllocError> {
+    for case in cases.iter_mut() {
+        let status = if refuses(case) { "1" } else { "0" };
+        case.parts.push(Part::new(alloc, 0, "ends", status)?)?;
+    }
     Ok(())
 }
 
-/// The examples of a document.
-pub(crate) fn read(alloc: Global, text: &str) -> Result<Sheet, AllocError> {
-    let mut sheet = Sheet::new(alloc);
+/// Adds the examples of a document.
+pub(crate) fn add_examples(alloc: Global, sheet: &mut Sheet, text: &str) -> Result<(), AllocError> {
     let mut block = Block::Prose;
     let mut number = 0u64;
     for line in text.split('\n') {
@@ -96,15 +106,16 @@ pub(crate) fn read(alloc: Global, text: &str) -> Result<Sheet, AllocError> {
             block = Block::Prose;
         }
     }
-    for case in sheet.cases.iter_mut() {
-        add_status(alloc, case)?;
-    }
-    Ok(sheet)
+    add_statuses(alloc, &mut sheet.cases)
 }
 
-/// The call of `scratch n` whose input is a script, and which writes this output.
-pub(crate) fn of_script(alloc: Global, script: &str, output: &str) -> Result<Sheet, AllocError> {
-    let mut sheet = Sheet::new(alloc);
+/// Adds the call of `scratch n` whose input is a script, and which writes this output.
+pub(crate) fn add_script(
+    alloc: Global,
+    sheet: &mut Sheet,
+    script: &str,
+    output: &str,
+) -> Result<(), AllocError> {
     let line = Line {
         number: 1,
         text: "the whole script",
@@ -116,8 +127,5 @@ pub(crate) fn of_script(alloc: Global, script: &str, output: &str) -> Result<She
     for line in output.split_terminator('\n') {
         add_to_last(alloc, &mut sheet.cases, false, line)?;
     }
-    for case in sheet.cases.iter_mut() {
-        add_status(alloc, case)?;
-    }
-    Ok(sheet)
+    add_statuses(alloc, &mut sheet.cases)
 }

@@ -7,7 +7,7 @@
 //!
 //! A part is a keyword, the rest of its line, and a text: the lines below it that begin with `| `, each ended by a line feed.
 //! Where `-` stands at the end of the keyword's line, the last line feed is left out. `escape` says what `%<..>` stands for,
-//! `play` what each keyword means.
+//! and each program that plays cases what its keywords mean.
 
 use crate::escape::add_line;
 use std::alloc::{AllocError, Global};
@@ -20,6 +20,15 @@ pub(crate) struct Part {
     pub(crate) key: String,
     pub(crate) rest: String,
     pub(crate) lines: Vec<String>,
+}
+
+/// A part as it is taken: with a row's columns in it.
+#[derive(Drop)]
+pub struct Step {
+    pub key: String,
+    /// The rest of the keyword's line, without the `-` at its end.
+    pub rest: String,
+    pub text: Vec<u8>,
 }
 
 /// A row of a table.
@@ -44,23 +53,36 @@ pub(crate) struct Case {
 /// The cases of a file, and the parts that all of them begin with.
 #[derive(Drop)]
 pub(crate) struct Sheet {
+    /// The file's name.
+    pub(crate) name: String,
     pub(crate) common: Vec<Part>,
     pub(crate) cases: Vec<Case>,
 }
 
-/// The line with a row's columns in place of `@1`, `@2` and `@3`.
-fn filled(alloc: Global, line: &str, row: Option<&Row>) -> Result<String, AllocError> {
+/// The mark that stands for a row's column with this number, from 0.
+fn mark_of(column: usize) -> &'static str {
+    match column {
+        0 => "@1",
+        1 => "@2",
+        _ => "@3",
+    }
+}
+
+/// The line with these columns in place of `@1`, `@2` and `@3`.
+fn with_columns(alloc: Global, line: &str, columns: &str) -> Result<String, AllocError> {
     let mut filled = line.to_string(alloc)?;
-    let Some(row) = row else {
-        return Ok(filled);
-    };
-    let mut marks = ["@1", "@2", "@3"].iter();
-    for column in row.columns.split(" -> ") {
-        if let Some(mark) = marks.next() {
-            filled = filled.replace(alloc, *mark, column)?;
-        }
+    for (number, column) in columns.split(" -> ").enumerate() {
+        filled = filled.replace(alloc, mark_of(number), column)?;
     }
     Ok(filled)
+}
+
+/// The line with a row's columns in it.
+fn filled(alloc: Global, line: &str, row: Option<&Row>) -> Result<String, AllocError> {
+    match row {
+        Some(row) => with_columns(alloc, line, row.columns.as_str()),
+        None => line.to_string(alloc),
+    }
 }
 
 impl Part {
@@ -80,7 +102,7 @@ impl Part {
     }
 
     /// The rest of the keyword's line, without a `-` at its end.
-    pub(crate) fn words(&self, alloc: Global, row: Option<&Row>) -> Result<String, AllocError> {
+    fn words(&self, alloc: Global, row: Option<&Row>) -> Result<String, AllocError> {
         let rest = self.rest.as_str();
         let words = match rest.strip_suffix(" -") {
             Some(words) => words,
@@ -91,7 +113,7 @@ impl Part {
     }
 
     /// The text, without its last line feed where a `-` leaves it out.
-    pub(crate) fn text(&self, alloc: Global, row: Option<&Row>) -> Result<Vec<u8>, AllocError> {
+    fn text(&self, alloc: Global, row: Option<&Row>) -> Result<Vec<u8>, AllocError> {
         let mut text = Vec::new(alloc);
         for line in self.lines.iter() {
             let line = filled(alloc, line.as_str(), row)?;
@@ -102,6 +124,15 @@ impl Part {
             text.pop();
         }
         Ok(text)
+    }
+
+    /// The part with a row's columns in it.
+    pub(crate) fn step(&self, alloc: Global, row: Option<&Row>) -> Result<Step, AllocError> {
+        Ok(Step {
+            key: self.key.as_str().to_string(alloc)?,
+            rest: self.words(alloc, row)?,
+            text: self.text(alloc, row)?,
+        })
     }
 }
 
@@ -151,11 +182,12 @@ fn add_part(
 }
 
 impl Sheet {
-    pub(crate) fn new(alloc: Global) -> Sheet {
-        Sheet {
+    pub(crate) fn new(alloc: Global, name: &str) -> Result<Sheet, AllocError> {
+        Ok(Sheet {
+            name: name.to_string(alloc)?,
             common: Vec::new(alloc),
             cases: Vec::new(alloc),
-        }
+        })
     }
 
     /// Takes the next line.
@@ -173,15 +205,14 @@ impl Sheet {
             None => add_part(alloc, &mut self.common, number, line),
         }
     }
-}
 
-/// The cases of a file.
-pub(crate) fn read(alloc: Global, text: &str) -> Result<Sheet, AllocError> {
-    let mut sheet = Sheet::new(alloc);
-    let mut number = 0u64;
-    for line in text.split('\n') {
-        number = number.saturating_add(1);
-        sheet.add(alloc, number, line)?;
+    /// Takes the lines of a file of cases.
+    pub(crate) fn add_lines(&mut self, alloc: Global, text: &str) -> Result<(), AllocError> {
+        let mut number = 0u64;
+        for line in text.split('\n') {
+            number = number.saturating_add(1);
+            self.add(alloc, number, line)?;
+        }
+        Ok(())
     }
-    Ok(sheet)
 }
