@@ -235,10 +235,7 @@ fn from_answer(alloc: Global, request: &Request<'_>) -> Result<FromAnswer, PathF
     match request.word {
         "start" => Ok(FromAnswer::Start),
         "new" => Ok(FromAnswer::New(tid)),
-        _ => Ok(FromAnswer::At(
-            Loc::read(alloc, line_at(request.text, 1))?,
-            tid,
-        )),
+        _ => Ok(FromAnswer::At(Loc::read(alloc, line_at(request.text, 1))?, tid)),
     }
 }
 
@@ -277,11 +274,7 @@ fn record_differs(alloc: Global, request: &Request<'_>) -> Result<Reply, PathFau
 }
 
 /// Adds the lines of a reply with places, records or commits, and says whether these are its words.
-fn push_read(
-    alloc: Global,
-    request: &Request<'_>,
-    out: &mut Vec<u8>,
-) -> Result<bool, PathFault> {
+fn push_read(alloc: Global, request: &Request<'_>, out: &mut Vec<u8>) -> Result<bool, PathFault> {
     let reply = match request.word {
         "records" => records(alloc, request)?,
         "log" => log(alloc, request)?,
@@ -296,11 +289,7 @@ fn push_read(
 }
 
 /// Adds the lines of a reply, and says whether these are the words of one.
-fn push_lines(
-    alloc: Global,
-    request: &Request<'_>,
-    out: &mut Vec<u8>,
-) -> Result<bool, PathFault> {
+fn push_lines(alloc: Global, request: &Request<'_>, out: &mut Vec<u8>) -> Result<bool, PathFault> {
     if let Some(reply) = reply_of_numbers(request).or(refusal(request.word)) {
         lines(alloc, &reply, out)?;
         return Ok(true);

@@ -71,11 +71,7 @@ fn cuts_of(alloc: Global, input: &[u8], size: usize) -> Result<Vec<Cut>, AllocEr
 
 /// The cuts of an input that comes in pieces of this size, each on a line: `= ` and a text,
 /// `too long`, and `~ ` and a text that the input's end leaves unfinished.
-pub(crate) fn cuts(
-    alloc: Global,
-    size: &str,
-    input: &[u8],
-) -> Result<Option<Vec<u8>>, AllocError> {
+pub(crate) fn cuts(alloc: Global, size: &str, input: &[u8]) -> Result<Option<Vec<u8>>, AllocError> {
     let cuts = cuts_of(alloc, input, number_of(size) as usize)?;
     let mut lines = Vec::new(alloc);
     for cut in cuts.iter() {
