@@ -273,8 +273,8 @@ fn record_differs(alloc: Global, request: &Request<'_>) -> Result<Reply, PathFau
     })
 }
 
-/// Adds the lines of a reply with places, records or commits, and says whether these are its words.
-fn push_read(alloc: Global, request: &Request<'_>, out: &mut Vec<u8>) -> Result<bool, PathFault> {
+/// The replies that have places, records or commits; `None` for other words.
+fn reply_of_text(alloc: Global, request: &Request<'_>) -> Result<Option<Reply>, PathFault> {
     let reply = match request.word {
         "records" => records(alloc, request)?,
         "log" => log(alloc, request)?,
@@ -282,19 +282,34 @@ fn push_read(alloc: Global, request: &Request<'_>, out: &mut Vec<u8>) -> Result<
         "new" | "start" | "at" => from(alloc, request)?,
         "tree" => tree_differs(alloc, request)?,
         "differs" => record_differs(alloc, request)?,
-        _ => return Ok(false),
+        _ => return Ok(None),
     };
-    lines(alloc, &reply, out)?;
-    Ok(true)
+    Ok(Some(reply))
 }
 
-/// Adds the lines of a reply, and says whether these are the words of one.
-fn push_lines(alloc: Global, request: &Request<'_>, out: &mut Vec<u8>) -> Result<bool, PathFault> {
-    if let Some(reply) = reply_of_numbers(request).or(refusal(request.word)) {
-        lines(alloc, &reply, out)?;
-        return Ok(true);
+/// The reply of these words and this text; `None` where they are none.
+fn reply_of(alloc: Global, request: &Request<'_>) -> Result<Option<Reply>, PathFault> {
+    match reply_of_numbers(request).or(refusal(request.word)) {
+        Some(reply) => Ok(Some(reply)),
+        None => reply_of_text(alloc, request),
     }
-    push_read(alloc, request, out)
+}
+
+/// Adds the lines of a reply.
+fn push_lines(alloc: Global, reply: Reply, out: &mut Vec<u8>) -> Result<(), AllocError> {
+    lines(alloc, &reply, out)
+}
+
+/// The lines of a reply.
+fn lines_alone(alloc: Global, reply: Reply) -> Result<Vec<u8>, AllocError> {
+    let mut out = Vec::new(alloc);
+    push_lines(alloc, reply, &mut out)?;
+    Ok(out)
+}
+
+/// The bytes of a text.
+fn bytes_of(alloc: Global, text: &str) -> Result<Vec<u8>, AllocError> {
+    text.as_bytes().to_vec(alloc)
 }
 
 /// The lines of the reply of these words and this text; `None` where they are none.
@@ -311,10 +326,9 @@ pub(crate) fn lines_of(
         numbers: numbers.as_slice(),
         text: std::str::from_utf8(text).unwrap_or(""),
     };
-    let mut out = Vec::new(alloc);
-    match push_lines(alloc, &request, &mut out) {
-        Ok(true) => Ok(Some(out)),
-        Ok(false) => Ok(None),
-        Err(fault) => Ok(Some(fault.to_string(alloc)?.as_bytes().to_vec(alloc)?)),
+    match reply_of(alloc, &request) {
+        Ok(Some(reply)) => Ok(Some(lines_alone(alloc, reply)?)),
+        Ok(None) => Ok(None),
+        Err(fault) => Ok(Some(bytes_of(alloc, fault.to_string(alloc)?.as_str())?)),
     }
 }
