@@ -1,5 +1,5 @@
 -- What a write took, and which of its errors blame the output.
-use Rattle.std.specs.Prelude.{ℕ, ◌≤◌, List, length, take, Result, IfOk, ⊤}
+use Rattle.std.specs.Prelude.{ℕ, ◌≤◌, ◌<◌, List, length, take, Result, IfOk, ⊤}
 use Rattle.std.specs.declared.option.Option.{Option}
 use Rattle.std.specs.Io.KnownBytes.{Appends}
 use Rattle.cp_outside.specs.declared.sink.SinkFault.{SinkFault}
@@ -17,3 +17,7 @@ TakesSome result bytes = IfOk result (λ n. (1 ≤ n) × (n ≤ length bytes))
 -- A front part of the bytes was taken: none, some or all of them.
 abbrev pub TakesPart : Option (List ℕ) → Option (List ℕ) → List ℕ → Type 0
 TakesPart old new bytes = (n : ℕ) × (n ≤ length bytes) × Appends old new (take n bytes)
+
+-- The same, and not all of them.
+abbrev pub TakesLess : Option (List ℕ) → Option (List ℕ) → List ℕ → Type 0
+TakesLess old new bytes = (n : ℕ) × (n < length bytes) × Appends old new (take n bytes)

@@ -3,7 +3,7 @@ ghost use Rattle.std.specs.Prelude.{◌<◌, ℕ, List, length, OnOk, OnErr};
 ghost use Rattle.std.specs.declared.option.Option.{Option};
 ghost use Rattle.std.specs.Io.KnownBytes.{WriteAppends, Appends};
 ghost use Rattle.cp_outside.specs.Causes.{Accounts, AnyError};
-ghost use Rattle.cp_outside.specs.Sinks.{BlamesOutput, TakesSome, TakesPart};
+ghost use Rattle.cp_outside.specs.Sinks.{BlamesOutput, TakesSome, TakesLess};
 
 use std::alloc::{AllocError, AllocFailed};
 use thiserror::Error;
@@ -63,11 +63,12 @@ pub trait Sink {
 }
 
 /// Writes all of `bytes`, in as many writes as the sink wants, and gives up at the first that it
-/// refuses. After an error a front part of the bytes was taken, which may be none of them.
+/// refuses. After an error a front part of the bytes was taken, which may be none, and isn't all of
+/// them.
 pub fn write_all<O: Sink>(output: &mut O, bytes: &[u8]) -> Result<(), SinkFault>
     ensures all { OnOk result (Appends (O.contents output.old) (O.contents output.new) bytes.now) }
     ensures part { OnErr result
-        (TakesPart (O.contents output.old) (O.contents output.new) bytes.now) }
+        (TakesLess (O.contents output.old) (O.contents output.new) bytes.now) }
     ensures cause { Accounts BlamesOutput (O.faults output.old) (O.faults output.new) result }
     ensures refused { Accounts AnyError (O.refusals output.old) (O.refusals output.new) result }
 {

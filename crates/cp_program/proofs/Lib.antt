@@ -5,6 +5,7 @@ mod Answering
 mod Loading
 mod Fetched
 pub mod Readings
+mod ReadCounts
 pub mod Plays
 pub mod Runs
 pub mod Whole

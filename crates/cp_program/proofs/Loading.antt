@@ -10,7 +10,7 @@ use Rattle.cp_path.specs.Text.{is_name}
 use Rattle.cp_model.specs.Place.{label_eq, target}
 use Rattle.cp_model.specs.Tree.{Tree, IsTree, Source, source}
 use Rattle.cp_model.specs.Past.{tree_of}
-use Rattle.cp_model.specs.History.{State, load, after_load, then_entry, CanLoad, CanFollow}
+use Rattle.cp_model.specs.History.{State, replay, load, after_load, then_entry, CanLoad, CanFollow}
 use Rattle.cp_model.proofs.Histories.{replay-snoc, legal-snoc}
 use Rattle.cp_lang.specs.declared.syntax_tree.Load.{Load}
 use Rattle.cp_lang.specs.declared.syntax_tree.Stmt.TheVariants as stmt
@@ -25,7 +25,8 @@ use Rattle.cp_engine.specs.declared.txn.Txn.{Txn}
 use Rattle.cp_program.specs.Fetching.{fetch}
 use Rattle.cp_program.specs.Fetched.{FitsUnder}
 use Rattle.cp_program.specs.Job.{setting}
-use Rattle.cp_program.specs.Databases.{Stands, Opens, Turned, held_in, Loads, why_not_loaded}
+use Rattle.cp_program.specs.Databases.{Stands, Opens, Turned, held_in, Loads}
+use Rattle.cp_program.specs.Loads.{why_not_loaded, load_reads, reads_unless}
 use Rattle.cp_program.specs.declared.database.Database.{Database}
 use Rattle.cp_program.proofs.Standing.{turned-on}
 
@@ -75,6 +76,10 @@ module _ {R : Type 0} (view : R → Tree) (d : Database R) (s : Session) (z : St
   pub why-none : is_some d.transaction ≡ false → is_some (source (sources_in view d.sources) name) ≡ false → length (sources_in view d.sources) == SOURCES_MAX ≡ false → None ≡ why_not_loaded t s.opened name
   why-none e new many = rw (is_shut e, ap (λ ss. is_some (source ss name)) (sym z.sources) ∙ new, ap (λ ss. length ss == SOURCES_MAX) (sym z.sources) ∙ many) refl
 
+  -- what is in the way says how many files the load reads
+  pub reads-unless : (w : Option Why) → w ≡ why_not_loaded t s.opened name → load_reads s (replay s.history) name ≡ reads_unless w
+  reads-unless w e = ap (λ o. load_reads s o name) z.replayed ∙ ap reads_unless (sym e)
+
   -- there are no more sources than there may be
   pub bounded-loaded : length (sources_in view d.sources) ≤ SOURCES_MAX
   bounded-loaded = subst (λ ss. length ss ≤ SOURCES_MAX) (sym z.sources) z.bounded
@@ -88,7 +93,7 @@ module _ {R : Type 0} (view : R → Tree) (d m : Database R) (s : Session) (z : 
   opened_on ss (failed k c) e h = absurd (subst (λ y. Opens view y z.state.sources (tree_of z.state.tree) (z.state.now + 1) (failed k c)) e h)
 
   -- the tree is a source of the session's history
-  pub stands-loaded : is_name name ≡ true → label_eq name target ≡ false → IsTree u → FitsUnder name u → is_some (source (sources_in view d.sources) name) ≡ false → length (sources_in view d.sources) < 32 → d.transaction ≡ None
+  pub stands-loaded : is_name name ≡ true → label_eq name target ≡ false → IsTree u → FitsUnder name u → is_some (source (sources_in view d.sources) name) ≡ false → length (sources_in view d.sources) < SOURCES_MAX → d.transaction ≡ None
       → m.tree ≡ d.tree → sources_in view m.sources ≡ sources_in view d.sources ++ record { name = name; tree = u } ∷ [] → m.store ≡ d.store → m.transaction ≡ None → m.runs ≡ d.runs
       → Stands view m (with_entry s (load name u))
   stands-loaded named other tree fits new few shut same added store none runs =

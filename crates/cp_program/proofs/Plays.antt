@@ -1,7 +1,9 @@
 -- Bytes played one after another, and what was written for them.
 use Rattle.std.proofs.Common.{◌≡◌, ℕ, ◌+◌, ◌<◌, get_or, List, [], ◌∷◌, ◌++◌, take, drop, length, Bool, true, false, Option, Result, Ok, Err, OnOk, refl, sym, ap, ◌∙◌, subst, append_assoc, append-nil, arith}
 use Rattle.std.proofs.Math.Bool.{or_assoc}
-use Rattle.std.specs.Prelude.{◌||◌, ⊤}
+use Rattle.std.specs.Prelude.{◌||◌, ⊤, nat_lt, if◌then◌else◌}
+use Rattle.cp_lang.specs.declared.limits.TheConstants.{STATEMENT_MAX}
+use Rattle.cp_lang.specs.Spaces.{is_blank}
 use Rattle.std.specs.List.{flat_map, list_any}
 use Rattle.std.specs.declared.option.Option.TheVariants.{None, Some}
 use Rattle.std.proofs.Math.Seq.{take-append-add, take-append_seam}
@@ -13,21 +15,24 @@ use Rattle.cp_outside.specs.FileReads.{FileTable}
 use Rattle.cp_outside.specs.Sinks.{TakesPart}
 use Rattle.std.proofs.KnownBytes.{Appends-nil, Appends-trans}
 use Rattle.cp_lang.specs.declared.cut.Cut.{Cut}
+use Rattle.cp_lang.specs.declared.cut.Cut.TheVariants.{Text, TooLong, Unfinished}
 use Rattle.cp_lang.specs.Cuts.{Scan, scan_byte, scan_bytes, rest_of}
 use Rattle.cp_lang.proofs.Pieces.{scan-append, cuts-append}
 use Rattle.cp_lang.specs.CutterState.{CutterState, held_of, byte_cuts, byte_held}
 use Rattle.cp_lang.proofs.Bytewise.{byte_cuts-is, byte_held-is}
 use Rattle.cp_reply.specs.Lines.{lines}
 use Rattle.cp_reply.specs.declared.reply.Reply.{Reply}
-use Rattle.cp_session.specs.Session.{Session, turn, replies_to, session_after}
+use Rattle.cp_session.specs.Session.{Session, Setting, turn, replies_to, session_after}
 use Rattle.cp_session.proofs.Appended.{replies_to-append, session_after-append}
-use Rattle.cp_program.specs.Job.{Ended, output_of, setting, is_refusal}
+use Rattle.cp_program.specs.Job.{Report, report_of, setting, is_refusal, cut_reads, reads_in}
+use Rattle.cp_program.specs.Outside.{KnownFiles, KnownOutput, World, HasRead}
 use Rattle.cp_program.specs.Play.{Seen, plays, after_play, closes, plays_all}
 use Rattle.cp_model.specs.Tree.{Tree}
 use Rattle.cp_program.specs.Databases.{Stands, IsSession, Turned}
 use Rattle.cp_program.specs.declared.session.Session.{Session as Kept}
 use Rattle.cp_program.specs.declared.database.Database.{Database}
-use Rattle.cp_program.specs.Turns.{Follows, FollowsOne, Written, Goes, Fed, Closed, cuts_play, after_cuts}
+use Rattle.cp_program.specs.Turns.{Follows, FollowsOne, WritesOrStops, StopReads, IsOwnStop, Goes, Fed, RunsLast, cuts_play, after_cuts}
+use Rattle.cp_program.proofs.ReadCounts.{read-then}
 use Rattle.cp_program.specs.declared.stop.Stop.{Stop}
 use Rattle.cp_program.specs.declared.stop.Stop.TheVariants.{Output, Full, File, Memory}
 
@@ -39,18 +44,28 @@ or-false false = refl
 
 -- ---- lines one after another
 
--- what was written first, and then
-abbrev pub joined : Ended → Ended → Ended
-joined e f = record { out = e.out ++ f.out; refused = e.refused || f.refused }
+-- what was done first, and then
+abbrev pub joined : Report → Report → Report
+joined e f = record { out = e.out ++ f.out; refused = e.refused || f.refused; reads = e.reads + f.reads }
 
-ended : List ℕ → Bool → Ended
-ended out refused = record { out = out; refused = refused }
+report : List ℕ → Bool → ℕ → Report
+report out refused reads = record { out = out; refused = refused; reads = reads }
+
+-- the lines of replies, where so many files were read
+told : List Reply → ℕ → Report
+told rs n = report (flat_map lines rs) (list_any is_refusal rs) n
 
 -- the lines of replies one after another
-pub told-append : (xs ys : List Reply) → output_of (xs ++ ys) ≡ joined (output_of xs) (output_of ys)
-unfolding ended
-told-append xs ys =
-    ap (λ o. ended o (list_any is_refusal (xs ++ ys))) (flat_map-append lines xs ys) ∙ ap (ended (flat_map lines xs ++ flat_map lines ys)) (list_any-append is_refusal xs ys)
+told-append : (xs ys : List Reply) (n : ℕ) → told (xs ++ ys) n ≡ report (flat_map lines xs ++ flat_map lines ys) (list_any is_refusal xs || list_any is_refusal ys) n
+unfolding told report
+told-append xs ys n =
+    ap (λ o. report o (list_any is_refusal (xs ++ ys)) n) (flat_map-append lines xs ys) ∙ ap (λ b. report (flat_map lines xs ++ flat_map lines ys) b n) (list_any-append is_refusal xs ys)
+
+-- the files that cuts read one after another
+reads_in-append : (c : Setting) (s : Session) (xs ys : List Cut) → reads_in c s (xs ++ ys) ≡ reads_in c s xs + reads_in c (session_after c s xs) ys
+unfolding reads_in session_after
+reads_in-append c s [] ys = omega arith
+reads_in-append c s (x ∷ xs) ys = omega (arith, reads_in-append c (turn c s x).next xs ys)
 
 -- ---- parts of texts
 
@@ -71,6 +86,22 @@ nothing-more b m a xs h k = subst (Appends b a) (append-nil xs) (Appends-trans b
 pub split_at : (xs : List ℕ) (i : ℕ) → i < length xs → xs ≡ take i xs ++ get_or xs i 0 ∷ drop (i + 1) xs
 split_at xs i h =
     sym (take-append-drop (i + 1) xs) ∙ ap (λ z. z ++ drop (i + 1) xs) (take_more xs i 0 h) ∙ append_assoc (take i xs) (get_or xs i 0 ∷ []) (drop (i + 1) xs)
+
+-- cuts of which none is the text of a statement
+AreUnread : List Cut → Type 0
+AreUnread [] = ⊤
+AreUnread (Text x ∷ cuts) = ⊥
+AreUnread (TooLong ∷ cuts) = AreUnread cuts
+AreUnread (Unfinished x ∷ cuts) = AreUnread cuts
+
+-- what is left at the end of the input is none
+rest-unread : (c : Scan) → AreUnread (rest_of c)
+unfolding AreUnread
+rest-unread c =
+    elim (is_blank c.text) as (λ b. AreUnread (if b then [] else (if nat_lt STATEMENT_MAX (length c.text) then TooLong ∷ [] else Unfinished c.text ∷ []))) [
+      | true ↦ tt
+      | false ↦ elim (nat_lt STATEMENT_MAX (length c.text)) as (λ b. AreUnread (if b then TooLong ∷ [] else Unfinished c.text ∷ [])) [ true ↦ tt | false ↦ tt ]
+    ]
 
 seen : Scan → Session → Seen
 seen c s = record { scan = c; session = s }
@@ -105,14 +136,19 @@ one-told view old new d (Ok x) f i h l = (record { scan = f.0.scan; session = i.
 one-told view old new d (Err e) f i h l = tt
 
 module _ (files : FileTable) where
-  -- the lines for cuts one after another
-  pub cuts-then : (s : Session) (xs ys : List Cut) → output_of (replies_to (setting files) s (xs ++ ys)) ≡ joined (output_of (replies_to (setting files) s xs)) (output_of (replies_to (setting files) (session_after (setting files) s xs) ys))
-  cuts-then s xs ys = ap output_of (replies_to-append (setting files) s xs ys) ∙ told-append (replies_to (setting files) s xs) (replies_to (setting files) (session_after (setting files) s xs) ys)
+  -- what cuts do one after another
+  pub cuts-then : (s : Session) (xs ys : List Cut) → report_of files s (xs ++ ys) ≡ joined (report_of files s xs) (report_of files (session_after (setting files) s xs) ys)
+  unfolding told report
+  cuts-then s xs ys =
+      let c = setting files in
+      ap (λ rs. told rs (reads_in c s (xs ++ ys))) (replies_to-append c s xs ys)
+      ∙ told-append (replies_to c s xs) (replies_to c (session_after c s xs) ys) (reads_in c s (xs ++ ys))
+      ∙ ap (report (flat_map lines (replies_to c s xs) ++ flat_map lines (replies_to c (session_after c s xs) ys)) (list_any is_refusal (replies_to c s xs) || list_any is_refusal (replies_to c (session_after c s xs) ys))) (reads_in-append c s xs ys)
 
   -- bytes are played in any pieces
   pub plays-append : (s : Seen) (xs ys : List ℕ) → plays files s (xs ++ ys) ≡ joined (plays files s xs) (plays files (after_play files s xs) ys)
   unfolding plays after_play
-  plays-append s xs ys = ap (λ c. output_of (replies_to (setting files) s.session c)) (cuts-append s.scan xs ys) ∙ cuts-then s.session (scan_bytes s.scan xs).cuts (scan_bytes (scan_bytes s.scan xs).scan ys).cuts
+  plays-append s xs ys = ap (λ c. report_of files s.session c) (cuts-append s.scan xs ys) ∙ cuts-then s.session (scan_bytes s.scan xs).cuts (scan_bytes (scan_bytes s.scan xs).scan ys).cuts
 
   -- what is seen behind them is the same
   pub after-append : (s : Seen) (xs ys : List ℕ) → after_play files s (xs ++ ys) ≡ after_play files (after_play files s xs) ys
@@ -127,9 +163,13 @@ module _ (files : FileTable) where
   unfolding plays plays_all after_play closes
   all-closes s xs = cuts-then s.session (scan_bytes s.scan xs).cuts (rest_of (scan_bytes s.scan xs).scan)
 
-  joined-assoc : (d e f : Ended) → joined (joined d e) f ≡ joined d (joined e f)
-  unfolding ended
-  joined-assoc d e f = ap (λ o. ended o ((d.refused || e.refused) || f.refused)) (append_assoc d.out e.out f.out) ∙ ap (ended (d.out ++ (e.out ++ f.out))) (or_assoc d.refused e.refused f.refused)
+  joined-assoc : (d e f : Report) → joined (joined d e) f ≡ joined d (joined e f)
+  unfolding report
+  joined-assoc d e f =
+      let sum : (d.reads + e.reads) + f.reads ≡ d.reads + (e.reads + f.reads) = omega arith in
+      ap (λ o. report o ((d.refused || e.refused) || f.refused) ((d.reads + e.reads) + f.reads)) (append_assoc d.out e.out f.out)
+      ∙ ap (λ b. report (d.out ++ (e.out ++ f.out)) b ((d.reads + e.reads) + f.reads)) (or_assoc d.refused e.refused f.refused)
+      ∙ ap (report (d.out ++ (e.out ++ f.out)) (d.refused || (e.refused || f.refused))) sum
 
   -- the rest may begin with bytes that are played
   pub all-append : (s : Seen) (xs ys : List ℕ) → plays_all files s (xs ++ ys) ≡ joined (plays files s xs) (plays_all files (after_play files s xs) ys)
@@ -140,45 +180,70 @@ module _ (files : FileTable) where
       ∙ joined-assoc (plays files s xs) (plays files (after_play files s xs) ys) (closes files (after_play files (after_play files s xs) ys))
       ∙ ap (joined (plays files s xs)) (sym (all-closes (after_play files s xs) ys))
 
-  -- no byte writes nothing
-  pub plays-none : (s : Seen) → (plays files s []).out ≡ []
-  unfolding plays scan_bytes replies_to
-  plays-none s = refl
+  -- no byte does nothing
+  pub plays-none : (s : Seen) → ((plays files s []).out ≡ []) × ((plays files s []).reads ≡ 0)
+  unfolding plays scan_bytes replies_to reads_in
+  plays-none s = (refl, refl)
 
   -- at the end of the input
   pub all-none : (s : Seen) → plays_all files s [] ≡ closes files s
   unfolding plays_all closes scan_bytes
   all-none s = refl
 
+  -- the cut at the end reads no file
+  pub closes-reads : (s : Seen) → (closes files s).reads ≡ 0
+  unfolding closes reads_in AreUnread
+  closes-reads s = none s.session (rest_of s.scan) (rest-unread s.scan)
+    where
+      none : (u : Session) (cuts : List Cut) → AreUnread cuts → reads_in (setting files) u cuts ≡ 0
+      none u [] a = refl
+      none u (Text x ∷ cuts) a = absurd a
+      none u (TooLong ∷ cuts) a = omega (arith, none (turn (setting files) u TooLong).next cuts a)
+      none u (Unfinished x ∷ cuts) a = omega (arith, none (turn (setting files) u (Unfinished x)).next cuts a)
+
   -- ---- cuts
 
+  -- the reads of one cut
+  one_read : (s : Session) (cut : Cut) → cut_reads s cut ≡ reads_in (setting files) s (cut ∷ [])
+  unfolding reads_in
+  one_read s cut = omega arith
+
   -- a cut brought no reply
-  pub ran-silent : {R : Type 0} (view : R → Tree) (s : Seen) (cut : Cut) (old new : Kept R) (a : Option (List ℕ)) → Turned view (turn (setting files) s.session cut) new.database None → new.cutter ≡ held_of s.scan → new.refused ≡ old.refused
-      → Goes view (cuts_play files s (cut ∷ [])) (after_cuts files s (cut ∷ [])) old new a a (Ok tt)
+  pub ran-silent : {R : Type 0} (view : R → Tree) (s : Seen) (cut : Cut) (old new : Kept R) (b a : KnownFiles) (o : KnownOutput) → Turned view (turn (setting files) s.session cut) new.database None → HasRead b a (cut_reads s.session cut) → new.cutter ≡ held_of s.scan → new.refused ≡ old.refused
+      → Goes view (cuts_play files s (cut ∷ [])) (after_cuts files s (cut ∷ [])) old new (record { files = b; output = o }) (record { files = a; output = o }) (Ok tt)
   unfolding replies_to session_after
-  ran-silent view s cut old new a t h f = rw (sym t.0) ((h, t.1), f ∙ or-false old.refused, Appends-nil a)
+  ran-silent view s cut old new b a o t n h f = rw (sym t.0) ((h, t.1), f ∙ or-false old.refused, Appends-nil o.contents, subst (HasRead b a) (one_read s.session cut) n)
 
   -- the lines of a cut's reply were written
-  pub ran-said : {R : Type 0} (view : R → Tree) (s : Seen) (cut : Cut) (r : Reply) (old mid new : Kept R) (b a : Option (List ℕ)) (result : Result ⊤ Stop)
-      → Turned view (turn (setting files) s.session cut) mid.database (Some r) → mid.cutter ≡ held_of s.scan → mid.refused ≡ old.refused
-      → Written (lines r) b a result → OnOk result (new.cutter ≡ mid.cutter) → OnOk result (new.database ≡ mid.database) → OnOk result (new.refused ≡ (mid.refused || is_refusal r))
+  pub ran-said : {R : Type 0} (view : R → Tree) (s : Seen) (cut : Cut) (r : Reply) (old mid new : Kept R) (b a : World) (result : Result ⊤ Stop)
+      → Turned view (turn (setting files) s.session cut) mid.database (Some r) → HasRead b.files a.files (cut_reads s.session cut) → mid.cutter ≡ held_of s.scan → mid.refused ≡ old.refused
+      → WritesOrStops (lines r) b.output.contents a.output.contents result → OnOk result (new.cutter ≡ mid.cutter) → OnOk result (new.database ≡ mid.database) → OnOk result (new.refused ≡ (mid.refused || is_refusal r))
       → Goes view (cuts_play files s (cut ∷ [])) (after_cuts files s (cut ∷ [])) old new b a result
   unfolding replies_to session_after
-  ran-said view s cut r old mid new b a (Ok x) t h f w h' l' f' =
+  ran-said view s cut r old mid new b a (Ok x) t n h f w h' l' f' =
       rw (sym t.0) (
         (h' ∙ h, subst (λ z. Stands view z (turn (setting files) s.session cut).next) (sym l') t.1),
         f' ∙ ap (λ v. v || is_refusal r) f ∙ ap (λ v. old.refused || v) (or-false (is_refusal r)),
-        subst (Appends b a) (sym (append-nil (lines r))) w,
+        subst (Appends b.output.contents a.output.contents) (sym (append-nil (lines r))) w,
+        subst (HasRead b.files a.files) (one_read s.session cut) n,
       )
-  ran-said view s cut r old mid new b a (Err Output) t h f w h' l' f' = rw (sym t.0) (subst (TakesPart b a) (sym (append-nil (lines r))) w)
-  ran-said view s cut r old mid new b a (Err Full) t h f w h' l' f' = rw (sym t.0) (subst (TakesPart b a) (sym (append-nil (lines r))) w)
-  ran-said view s cut r old mid new b a (Err File) t h f w h' l' f' = w
-  ran-said view s cut r old mid new b a (Err Memory) t h f w h' l' f' = w
+  ran-said view s cut r old mid new b a (Err Output) t n h f w h' l' f' = rw (sym t.0) (subst (TakesPart b.output.contents a.output.contents) (sym (append-nil (lines r))) w)
+  ran-said view s cut r old mid new b a (Err Full) t n h f w h' l' f' = rw (sym t.0) (subst (TakesPart b.output.contents a.output.contents) (sym (append-nil (lines r))) w)
+  ran-said view s cut r old mid new b a (Err File) t n h f w h' l' f' = absurd w
+  ran-said view s cut r old mid new b a (Err Memory) t n h f w h' l' f' = w
+
+  -- a cut stopped the session before its reply
+  pub ran-stopped_early : {R : Type 0} (view : R → Tree) (s : Seen) (cut : Cut) (old new : Kept R) (b a : KnownFiles) (o : KnownOutput) (e : Stop) → IsOwnStop e → StopReads (cut_reads s.session cut) b a e
+      → Goes view (cuts_play files s (cut ∷ [])) (after_cuts files s (cut ∷ [])) old new (record { files = b; output = o }) (record { files = a; output = o }) (Err e)
+  ran-stopped_early view s cut old new b a o Output own n = absurd own
+  ran-stopped_early view s cut old new b a o Full own n = absurd own
+  ran-stopped_early view s cut old new b a o File own n = (sym (one_read s.session cut) ∙ n.0, Appends-nil o.contents, n.1)
+  ran-stopped_early view s cut old new b a o Memory own n = Appends-nil o.contents
 
   -- no cut
-  pub ran-none : {R : Type 0} (view : R → Tree) (s : Seen) (k : Kept R) (a : Option (List ℕ)) → Follows view k s → Goes view (cuts_play files s []) (after_cuts files s []) k k a a (Ok tt)
-  unfolding replies_to session_after
-  ran-none view s k a h = (h, or-false k.refused, Appends-nil a)
+  pub ran-none : {R : Type 0} (view : R → Tree) (s : Seen) (k : Kept R) (a : World) → Follows view k s → Goes view (cuts_play files s []) (after_cuts files s []) k k a a (Ok tt)
+  unfolding replies_to session_after reads_in
+  ran-none view s k a h = (h, or-false k.refused, Appends-nil a.output.contents, refl)
 
   -- ---- bytes
 
@@ -186,7 +251,7 @@ module _ (files : FileTable) where
   pub plays-one : (s : Seen) (x : ℕ) → (plays files s (x ∷ []) ≡ cuts_play files s (byte_cuts (held_of s.scan) x)) × (after_play files s (x ∷ []) ≡ after_cuts files (record { scan = (scan_byte s.scan x).scan; session = s.session }) (byte_cuts (held_of s.scan) x))
   unfolding plays after_play scan_bytes seen
   plays-one s x = (
-    ap (λ c. output_of (replies_to (setting files) s.session c)) one,
+    ap (λ c. report_of files s.session c) one,
     ap (λ c. seen (scan_byte s.scan x).scan (session_after (setting files) s.session c)) one,
   )
     where
@@ -194,7 +259,7 @@ module _ (files : FileTable) where
       one = append-nil (scan_byte s.scan x).cuts ∙ sym (byte_cuts-is s.scan x)
 
   -- the cut that a byte ends was run
-  pub pushed : {R : Type 0} (view : R → Tree) (s : Seen) (x : ℕ) (cuts : List Cut) (old mid new : Kept R) (b a : Option (List ℕ)) (result : Result ⊤ Stop)
+  pub pushed : {R : Type 0} (view : R → Tree) (s : Seen) (x : ℕ) (cuts : List Cut) (old mid new : Kept R) (b a : World) (result : Result ⊤ Stop)
       → Follows view old s → cuts ≡ byte_cuts old.cutter x → mid.cutter ≡ byte_held old.cutter x → mid.database ≡ old.database → mid.refused ≡ old.refused
       → ((t : Seen) → Follows view mid t → Goes view (cuts_play files t cuts) (after_cuts files t cuts) mid new b a result)
       → Goes view (plays files s (x ∷ [])) (after_play files s (x ∷ [])) old new b a result
@@ -208,57 +273,73 @@ module _ (files : FileTable) where
 
       moved : (v : Result ⊤ Stop) → Goes view (cuts_play files t (byte_cuts (held_of s.scan) x)) (after_cuts files t (byte_cuts (held_of s.scan) x)) mid new b a v
           → Goes view (cuts_play files s (byte_cuts (held_of s.scan) x)) (after_cuts files t (byte_cuts (held_of s.scan) x)) old new b a v
-      moved (Ok y) g = (g.0, g.1 ∙ ap (λ z. z || (cuts_play files t (byte_cuts (held_of s.scan) x)).refused) r, g.2)
+      moved (Ok y) g = (g.0, g.1 ∙ ap (λ z. z || (cuts_play files t (byte_cuts (held_of s.scan) x)).refused) r, g.2, g.3)
       moved (Err Output) g = g
       moved (Err Full) g = g
       moved (Err File) g = g
       moved (Err Memory) g = g
 
   -- no byte is played at once
-  pub goes-none : {R : Type 0} (view : R → Tree) (s : Seen) (k : Kept R) (a : Option (List ℕ)) → Follows view k s → Goes view (plays files s []) (after_play files s []) k k a a (Ok tt)
-  unfolding plays after_play scan_bytes replies_to session_after
-  goes-none view s k a h = (h, or-false k.refused, Appends-nil a)
+  pub goes-none : {R : Type 0} (view : R → Tree) (s : Seen) (k : Kept R) (a : World) → Follows view k s → Goes view (plays files s []) (after_play files s []) k k a a (Ok tt)
+  unfolding plays after_play scan_bytes replies_to session_after reads_in
+  goes-none view s k a h = (h, or-false k.refused, Appends-nil a.output.contents, refl)
 
   -- bytes, and then others
-  pub goes-then : {R : Type 0} (view : R → Tree) (s : Seen) (xs ys : List ℕ) (old mid new : Kept R) (b m a : Option (List ℕ)) → Goes view (plays files s xs) (after_play files s xs) old mid b m (Ok tt)
+  pub goes-then : {R : Type 0} (view : R → Tree) (s : Seen) (xs ys : List ℕ) (old mid new : Kept R) (b m a : World) → Goes view (plays files s xs) (after_play files s xs) old mid b m (Ok tt)
       → Goes view (plays files (after_play files s xs) ys) (after_play files (after_play files s xs) ys) mid new m a (Ok tt) → Goes view (plays files s (xs ++ ys)) (after_play files s (xs ++ ys)) old new b a (Ok tt)
   goes-then view s xs ys old mid new b m a g h =
       rw (plays-append s xs ys, after-append s xs ys) (
         h.0,
         h.1 ∙ ap (λ z. z || (plays files (after_play files s xs) ys).refused) g.1 ∙ or_assoc old.refused (plays files s xs).refused (plays files (after_play files s xs) ys).refused,
-        Appends-trans b m a (plays files s xs).out (plays files (after_play files s xs) ys).out g.2 h.2,
+        Appends-trans b.output.contents m.output.contents a.output.contents (plays files s xs).out (plays files (after_play files s xs) ys).out g.2 h.2,
+        read-then b.files m.files a.files (plays files s xs).reads (plays files (after_play files s xs) ys).reads g.3 h.3,
       )
 
   -- a byte at which the session stops, whatever would come next
-  pub fed-stopped : {R : Type 0} (view : R → Tree) (s : Seen) (xs : List ℕ) (x : ℕ) (ys : List ℕ) (old mid new : Kept R) (b m a : Option (List ℕ)) (e : Stop) → Goes view (plays files s xs) (after_play files s xs) old mid b m (Ok tt)
+  pub fed-stopped : {R : Type 0} (view : R → Tree) (s : Seen) (xs : List ℕ) (x : ℕ) (ys : List ℕ) (old mid new : Kept R) (b m a : World) (e : Stop) → Goes view (plays files s xs) (after_play files s xs) old mid b m (Ok tt)
       → Goes view (plays files (after_play files s xs) (x ∷ [])) (after_play files (after_play files s xs) (x ∷ [])) mid new m a (Err e) → Fed view files s (xs ++ x ∷ ys) old new b a (Err e)
   fed-stopped view s xs x ys old mid new b m a Output g h =
       rw (plays-append s xs (x ∷ ys), plays-append (after_play files s xs) (x ∷ []) ys)
-      (part-then b m a (plays files s xs).out _ g.2 (part-more m a (plays files (after_play files s xs) (x ∷ [])).out _ h))
+      (part-then b.output.contents m.output.contents a.output.contents (plays files s xs).out _ g.2 (part-more m.output.contents a.output.contents (plays files (after_play files s xs) (x ∷ [])).out _ h))
   fed-stopped view s xs x ys old mid new b m a Full g h =
       rw (plays-append s xs (x ∷ ys), plays-append (after_play files s xs) (x ∷ []) ys)
-      (part-then b m a (plays files s xs).out _ g.2 (part-more m a (plays files (after_play files s xs) (x ∷ [])).out _ h))
+      (part-then b.output.contents m.output.contents a.output.contents (plays files s xs).out _ g.2 (part-more m.output.contents a.output.contents (plays files (after_play files s xs) (x ∷ [])).out _ h))
   fed-stopped view s xs x ys old mid new b m a File g h =
-      (length xs, omega (arith, length-append xs (x ∷ ys)), rw (take-append_seam xs (x ∷ ys)) (nothing-more b m a (plays files s xs).out g.2 h))
+      let front : take (length xs) (xs ++ x ∷ ys) ≡ xs = take-append_seam xs (x ∷ ys) in
+      let one : take (length xs + 1) (xs ++ x ∷ ys) ≡ xs ++ x ∷ [] = take-append-add xs (x ∷ ys) 1 in
+      record {
+        at = length xs;
+        inside = omega (arith, length-append xs (x ∷ ys));
+        load = ap (λ zs. (plays files s zs).reads) one ∙ ap (λ (r : Report). r.reads) (plays-append s xs (x ∷ [])) ∙ ap (λ n. (plays files s xs).reads + n) h.0 ∙ sym (ap (λ zs. (plays files s zs).reads + 1) front);
+        wrote = subst (λ zs. Appends b.output.contents a.output.contents (plays files s zs).out) (sym front) (nothing-more b.output.contents m.output.contents a.output.contents (plays files s xs).out g.2 h.1);
+        read = subst (λ zs. HasRead b.files a.files ((plays files s zs).reads + 1)) (sym front) (read-then b.files m.files a.files (plays files s xs).reads 1 g.3 h.2);
+      }
   fed-stopped view s xs x ys old mid new b m a Memory g h =
-      (length xs, omega (arith, length-append xs (x ∷ ys)), rw (take-append_seam xs (x ∷ ys)) (nothing-more b m a (plays files s xs).out g.2 h))
+      (length xs, omega (arith, length-append xs (x ∷ ys)), rw (take-append_seam xs (x ∷ ys)) (nothing-more b.output.contents m.output.contents a.output.contents (plays files s xs).out g.2 h))
 
   -- ---- the end of the input
 
   -- the cut at the end was run
-  pub closed : {R : Type 0} (view : R → Tree) (s : Seen) (cuts : List Cut) (old mid new : Kept R) (b a : Option (List ℕ)) (result : Result ⊤ Stop)
+  pub ran-last : {R : Type 0} (view : R → Tree) (s : Seen) (cuts : List Cut) (old mid new : Kept R) (b a : World) (result : Result ⊤ Stop)
       → Follows view old s → ((c : Scan) → old.cutter ≡ held_of c → cuts ≡ rest_of c) → mid.database ≡ old.database → mid.refused ≡ old.refused
-      → ((t : Seen) → Follows view mid t → Goes view (cuts_play files t cuts) (after_cuts files t cuts) mid new b a result) → (c : Scan) → mid.cutter ≡ held_of c → Closed files s old new b a result
+      → ((t : Seen) → Follows view mid t → Goes view (cuts_play files t cuts) (after_cuts files t cuts) mid new b a result) → (c : Scan) → mid.cutter ≡ held_of c → RunsLast files s old new b a result
   unfolding closes
-  closed view s cuts old mid new b a result f rest l r go c h =
+  ran-last view s cuts old mid new b a result f rest l r go c h =
       moved result (go (record { scan = c; session = s.session }) (h, subst (λ z. Stands view z s.session) (sym l) f.1))
     where
-      same : output_of (replies_to (setting files) s.session cuts) ≡ output_of (replies_to (setting files) s.session (rest_of s.scan))
-      same = ap (λ z. output_of (replies_to (setting files) s.session z)) (rest s.scan f.0)
+      same : report_of files s.session cuts ≡ report_of files s.session (rest_of s.scan)
+      same = ap (λ z. report_of files s.session z) (rest s.scan f.0)
 
-      moved : (v : Result ⊤ Stop) → Goes view (cuts_play files (record { scan = c; session = s.session }) cuts) (after_cuts files (record { scan = c; session = s.session }) cuts) mid new b a v → Closed files s old new b a v
-      moved (Ok y) g = (g.1 ∙ ap (λ z. z || (output_of (replies_to (setting files) s.session cuts)).refused) r ∙ ap (λ (e : Ended). old.refused || e.refused) same, subst (λ (e : Ended). Appends b a e.out) same g.2)
-      moved (Err Output) g = subst (λ (e : Ended). TakesPart b a e.out) same g
-      moved (Err Full) g = subst (λ (e : Ended). TakesPart b a e.out) same g
-      moved (Err File) g = g
+      none : (report_of files s.session cuts).reads ≡ 0
+      none = ap (λ (e : Report). e.reads) same ∙ closes-reads s
+
+      moved : (v : Result ⊤ Stop) → Goes view (cuts_play files (record { scan = c; session = s.session }) cuts) (after_cuts files (record { scan = c; session = s.session }) cuts) mid new b a v → RunsLast files s old new b a v
+      moved (Ok y) g = (
+        g.1 ∙ ap (λ z. z || (report_of files s.session cuts).refused) r ∙ ap (λ (e : Report). old.refused || e.refused) same,
+        subst (λ (e : Report). Appends b.output.contents a.output.contents e.out) same g.2,
+        subst (HasRead b.files a.files) none g.3,
+      )
+      moved (Err Output) g = subst (λ (e : Report). TakesPart b.output.contents a.output.contents e.out) same g
+      moved (Err Full) g = subst (λ (e : Report). TakesPart b.output.contents a.output.contents e.out) same g
+      moved (Err File) g = absurd (omega (arith, none, g.0))
       moved (Err Memory) g = g

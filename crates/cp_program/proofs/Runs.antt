@@ -1,259 +1,356 @@
 -- A run is its first turns, and then the rest.
 use Rattle.cp_program.specs.declared.limits.TheConstants.{INPUT_MAX, PIECE_MAX}
-use Rattle.std.proofs.Common.{◌≡◌, ℕ, ◌+◌, ◌≤◌, ◌<◌, List, [], ◌++◌, take, length, Bool, Option, Err, inl, inr, refl, sym, ap, ◌∙◌, subst, append_assoc, append-nil, arith}
+use Rattle.std.proofs.Common.{◌≡◌, ℕ, ◌+◌, ◌≤◌, ◌<◌, List, [], ◌++◌, take, length, Bool, Err, inl, inr, refl, sym, ap, ◌∙◌, subst, append_assoc, append-nil, arith}
 use Rattle.std.proofs.Math.Bool.{or_assoc}
-use Rattle.std.specs.Prelude.{◌||◌}
+use Rattle.std.specs.Prelude.{◌||◌, ⊤, OnOk, Result}
 use Rattle.std.proofs.Math.Seq.{take-append-add}
 use Rattle.std.proofs.lemmas.List.{length-append}
 use Rattle.std.specs.Io.KnownBytes.{Appends, Consumes, Keeps, IsAtEnd}
-use Rattle.cp_outside.specs.Causes.{Rose}
-use Rattle.std.specs.declared.option.Option.TheVariants.{Some}
+use Rattle.cp_outside.specs.Causes.{Accounts, Rose}
 use Rattle.cp_outside.specs.FileReads.{FileTable}
-use Rattle.cp_outside.specs.Sinks.{TakesPart}
 use Rattle.std.proofs.KnownBytes.{Appends-trans, Consumes-trans, Consumes-nil, Consumes-kept}
 use Rattle.cp_program.specs.Words.{input_line, file_line, memory_line, too_long_line}
-use Rattle.cp_program.specs.Job.{Ended}
+use Rattle.cp_program.specs.Job.{Report}
+use Rattle.cp_program.specs.Outside.{KnownInput, KnownFiles, KnownOutput, World, Outside, world_of, HasRead, HasReadSome, IsTable}
 use Rattle.cp_program.specs.Play.{Seen, plays, after_play, closes, plays_all}
-use Rattle.cp_program.specs.Story.{WritesLast, WroteRefusal, Took, IsCalm}
+use Rattle.cp_program.specs.Story.{Writes, StopsIn, WritesLast, RefusedStart, AllDone, OutputStopped, Did, HasCauses, result_of}
 use Rattle.cp_model.specs.Tree.{Tree}
 use Rattle.cp_program.specs.declared.session.Session.{Session as Kept}
-use Rattle.cp_program.specs.Turns.{Follows, Written, Fed, Closed, with_refusal, WroteOn, RanFrom, Turned, WroteLast, Closes, IsClosing, status_of}
+use Rattle.cp_program.specs.Turns.{Follows, StopRefuses, WritesOrStops, Fed, RunsLast, with_refusal, work_from, RanFrom, TookPiece, IsSteady, WritesStop, Closes, IsClosing, end_of}
 use Rattle.cp_program.specs.declared.end.End.{End}
 use Rattle.cp_program.specs.declared.end.End.TheVariants as how
 use Rattle.cp_program.specs.declared.stop.Stop.{Stop}
 use Rattle.cp_program.specs.declared.stop.Stop.TheVariants.{Output, Full, File, Memory}
-use Rattle.cp_program.proofs.Plays.{plays-append, all-append, all-closes, all-none, plays-none, goes-none, goes-then, part-then, part-more}
+use Rattle.cp_program.proofs.Standing.{on-ok}
+use Rattle.cp_program.proofs.ReadCounts.{read-then, some-then, table-first, table-second}
+use Rattle.cp_program.proofs.Plays.{plays-append, all-append, all-none, closes-reads, plays-none, goes-none, goes-then, part-then}
 
--- ---- counts of refusals
+-- the outside, of its parts
+abbrev pub parts : KnownInput → KnownFiles → KnownOutput → Outside
+parts i f o = record { input = i; files = f; output = o }
 
--- a rise after a count that never falls is a rise from before
-pub rose-later : (a b c : ℕ) → a ≤ b → Rose b c → Rose a c
-rose-later a b c h r = omega arith
+abbrev pub both : KnownFiles → KnownOutput → World
+both f o = record { files = f; output = o }
 
--- a rise stays one when the count goes on
-pub rose-on : (a b c : ℕ) → Rose a b → b ≤ c → Rose a c
-rose-on a b c r h = omega arith
+-- ---- lines one after another
 
--- ---- last lines
-
--- a last line behind what was written before
-pub last-behind : (b m a : Option (List ℕ)) (r s t : ℕ) (xs ys last : List ℕ) → r ≤ s → Appends b m xs → WritesLast m a s t ys last → WritesLast b a r t (xs ++ ys) last
-last-behind b m a r s t xs ys last le h w = elim w [
-  | inl whole ↦ inl (subst (Appends b a) (sym (append_assoc xs ys last)) (Appends-trans b m a xs (ys ++ last) h whole))
-  | inr part ↦ inr (rose-later r s t le part.0, part.1, part.2, subst (Appends b a) (sym (append_assoc xs ys (take part.1 last))) (Appends-trans b m a xs (ys ++ take part.1 last) h part.3))
+-- a last line after what was written before
+pub last-after : (b m a : KnownOutput) (xs ys last : List ℕ) → Writes b m xs → WritesLast m a ys last → WritesLast b a (xs ++ ys) last
+last-after b m a xs ys last h w = elim w [
+  | inl whole ↦ inl (whole.0 ∙ h.0, subst (Appends b.contents a.contents) (sym (append_assoc xs ys last)) (Appends-trans b.contents m.contents a.contents xs (ys ++ last) h.1 whole.1))
+  | inr part ↦ inr (
+    subst (λ n. Rose n a.refusals) h.0 part.0,
+    part.1,
+    part.2,
+    subst (Appends b.contents a.contents) (sym (append_assoc xs ys (take part.1 last))) (Appends-trans b.contents m.contents a.contents xs (ys ++ take part.1 last) h.1 part.3),
+  )
 ]
 
+-- a last line after nothing
+last-alone : (b m a : KnownOutput) (last : List ℕ) → Writes b m [] → WritesLast m a [] last → WritesLast b a [] last
+last-alone b m a last h w = last-after b m a [] [] last h w
+
+-- the output stopped after what was written before
+pub stops-after : (b m a : KnownOutput) (xs ys : List ℕ) → Writes b m xs → StopsIn m a ys → StopsIn b a (xs ++ ys)
+stops-after b m a xs ys h w = (subst (λ n. Rose n a.refusals) h.0 w.0, part-then b.contents m.contents a.contents xs ys h.1 w.1)
+
+-- ---- sessions that go on
+
 module _ (files : FileTable) where
-  -- a last line behind nothing
-  pub last-first : (b a : Option (List ℕ)) (r t : ℕ) (s : Seen) (last : List ℕ) → WritesLast b a r t [] last → WritesLast b a r t (plays files s []).out last
-  last-first b a r t s last w = subst (λ z. WritesLast b a r t z last) (sym (plays-none files s)) w
+  -- a last line after no byte
+  last-first : (b a : KnownOutput) (s : Seen) (last : List ℕ) → WritesLast b a [] last → WritesLast b a (plays files s []).out last
+  last-first b a s last w = subst (λ z. WritesLast b a z last) (sym (plays-none files s).0) w
 
-  -- ---- a run after played bytes
+  -- whether a refusal was written, after the bytes and then the rest
+  refused-then : (s : Seen) (f : Bool) (xs ys : List ℕ) → (with_refusal f (plays_all files s (xs ++ ys))).refused ≡ (with_refusal (f || (plays files s xs).refused) (plays_all files (after_play files s xs) ys)).refused
+  refused-then s f xs ys = ap (λ (e : Report). f || e.refused) (all-append files s xs ys) ∙ sym (or_assoc f (plays files s xs).refused (plays_all files (after_play files s xs) ys).refused)
 
-  -- whether a refusal was written, behind the bytes and then the rest
-  pub refused-then : (s : Seen) (f : Bool) (xs ys : List ℕ) → (with_refusal f (plays_all files s (xs ++ ys))).refused ≡ (with_refusal (f || (plays files s xs).refused) (plays_all files (after_play files s xs) ys)).refused
-  refused-then s f xs ys = ap (λ (e : Ended). f || e.refused) (all-append files s xs ys) ∙ sym (or_assoc f (plays files s xs).refused (plays_all files (after_play files s xs) ys).refused)
+  -- all that was written, and all that was read, after the bytes and then the rest
+  out-then : (s : Seen) (xs ys : List ℕ) → (plays_all files s (xs ++ ys)).out ≡ (plays files s xs).out ++ (plays_all files (after_play files s xs) ys).out
+  out-then s xs ys = ap (λ (e : Report). e.out) (all-append files s xs ys)
 
-  -- all that was written, behind the bytes and then the rest
-  pub out-then : (s : Seen) (xs ys : List ℕ) → (plays_all files s (xs ++ ys)).out ≡ (plays files s xs).out ++ (plays_all files (after_play files s xs) ys).out
-  out-then s xs ys = ap (λ (e : Ended). e.out) (all-append files s xs ys)
+  all_read-then : (s : Seen) (xs ys : List ℕ) → (plays_all files s (xs ++ ys)).reads ≡ (plays files s xs).reads + (plays_all files (after_play files s xs) ys).reads
+  all_read-then s xs ys = ap (λ (e : Report). e.reads) (all-append files s xs ys)
 
-  -- what the bytes write, and then others
-  pub played-then : (s : Seen) (xs ys : List ℕ) → (plays files s (xs ++ ys)).out ≡ (plays files s xs).out ++ (plays files (after_play files s xs) ys).out
-  played-then s xs ys = ap (λ (e : Ended). e.out) (plays-append files s xs ys)
+  -- what the bytes write and read, and then others
+  played-then : (s : Seen) (xs ys : List ℕ) → (plays files s (xs ++ ys)).out ≡ (plays files s xs).out ++ (plays files (after_play files s xs) ys).out
+  played-then s xs ys = ap (λ (e : Report). e.out) (plays-append files s xs ys)
 
-  -- a front part of all that is written behind the bytes
-  all-part : (s : Seen) (xs ys : List ℕ) (b m a : Option (List ℕ)) → Appends b m (plays files s xs).out → TakesPart m a (plays_all files (after_play files s xs) ys).out → TakesPart b a (plays_all files s (xs ++ ys)).out
-  all-part s xs ys b m a h t = rw (out-then s xs ys) (part-then b m a (plays files s xs).out (plays_all files (after_play files s xs) ys).out h t)
+  reads-then : (s : Seen) (xs ys : List ℕ) → (plays files s (xs ++ ys)).reads ≡ (plays files s xs).reads + (plays files (after_play files s xs) ys).reads
+  reads-then s xs ys = ap (λ (e : Report). e.reads) (plays-append files s xs ys)
 
-  -- all that is written behind the bytes
-  all-whole : (s : Seen) (xs ys : List ℕ) (b m a : Option (List ℕ)) → Appends b m (plays files s xs).out → Appends m a (plays_all files (after_play files s xs) ys).out → Appends b a (plays_all files s (xs ++ ys)).out
-  all-whole s xs ys b m a h t = rw (out-then s xs ys) (Appends-trans b m a (plays files s xs).out (plays_all files (after_play files s xs) ys).out h t)
+  -- the same of a front part of the others
+  front-then : (s : Seen) (xs ys : List ℕ) (k : ℕ) → (plays files s (take (length xs + k) (xs ++ ys))).out ≡ (plays files s xs).out ++ (plays files (after_play files s xs) (take k ys)).out
+  front-then s xs ys k = ap (λ zs. (plays files s zs).out) (take-append-add xs ys k) ∙ played-then s xs (take k ys)
 
-  -- a last line behind the bytes
-  played-last : (s : Seen) (xs ys last : List ℕ) (b m a : Option (List ℕ)) (q r v : ℕ) → q ≤ r → Appends b m (plays files s xs).out → WritesLast m a r v (plays files (after_play files s xs) ys).out last → WritesLast b a q v (plays files s (xs ++ ys)).out last
-  played-last s xs ys last b m a q r v le h w = rw (played-then s xs ys) (last-behind b m a q r v (plays files s xs).out (plays files (after_play files s xs) ys).out last le h w)
+  front_reads-then : (s : Seen) (xs ys : List ℕ) (k : ℕ) → (plays files s (take (length xs + k) (xs ++ ys))).reads ≡ (plays files s xs).reads + (plays files (after_play files s xs) (take k ys)).reads
+  front_reads-then s xs ys k = ap (λ zs. (plays files s zs).reads) (take-append-add xs ys k) ∙ reads-then s xs (take k ys)
 
-  -- what a session writes in the end
-  abbrev all_of : Seen → Bool → List ℕ → Ended
-  all_of s f bytes = with_refusal f (plays_all files s bytes)
+  module _ (s : Seen) (f : Bool) (count : ℕ) (xs ys : List ℕ) (b m a : Outside) (h : Writes b.output m.output (plays files s xs).out) (r : HasRead b.files m.files (plays files s xs).reads) where
+    abbrev next : Seen
+    next = after_play files s xs
 
-  pub wrote-then : (s : Seen) (f : Bool) (count : ℕ) (xs ys : List ℕ) (left b m a : Option (List ℕ)) (q r v : ℕ) (e : End) → q ≤ r → Appends b m (plays files s xs).out
-      → WroteOn files (after_play files s xs) (f || (plays files s xs).refused) (count + length xs) ys left m a r v e → WroteOn files s f count (xs ++ ys) left b a q v e
-  wrote-then s f count xs ys left b m a q r v how.Done le h w = (w.0, refused-then s f xs ys ∙ w.1, all-whole s xs ys b m a h w.2)
-  wrote-then s f count xs ys left b m a q r v how.Refused le h w = (w.0, refused-then s f xs ys ∙ w.1, all-whole s xs ys b m a h w.2)
-  wrote-then s f count xs ys left b m a q r v how.Usage le h w = absurd w
-  wrote-then s f count xs ys left b m a q r v how.Input le h w = played-last s xs ys input_line b m a q r v le h w
-  wrote-then s f count xs ys left b m a q r v how.File le h w = (
-    length xs + w.0,
-    omega (arith, w.1, length-append xs ys),
-    rw (take-append-add xs ys w.0) (played-last s xs (take w.0 ys) file_line b m a q r v le h w.2),
-  )
-  wrote-then s f count xs ys left b m a q r v how.Output le h w = all-part s xs ys b m a h w
-  wrote-then s f count xs ys left b m a q r v how.Memory le h w = elim w [
-    | inl full ↦ inl (rose-later q r v le full.0, all-part s xs ys b m a h full.1)
-    | inr ran ↦ inr (
-      length xs + ran.0,
-      omega (arith, ran.1, length-append xs ys),
-      rw (take-append-add xs ys ran.0) (played-last s xs (take ran.0 ys) memory_line b m a q r v le h ran.2),
-    )
-  ]
-  wrote-then s f count xs ys left b m a q r v how.TooLong le h w = (
-    length xs + w.0,
-    omega (arith, w.1),
-    omega (arith, w.2, length-append xs ys),
-    rw (take-append-add xs ys w.0) (played-last s xs (take w.0 ys) too_long_line b m a q r v le h w.3),
-  )
+    abbrev flag : Bool
+    flag = f || (plays files s xs).refused
+
+    -- so many reads, and those of the bytes before them
+    read_all : (n k : ℕ) → k ≡ (plays files s xs).reads + n → HasRead m.files a.files n → HasRead b.files a.files k
+    read_all n k e w = subst (HasRead b.files a.files) (sym e) (read-then b.files m.files a.files (plays files s xs).reads n r w)
+
+    -- a last line, and what was written before it
+    written_last : (k : ℕ) (last : List ℕ) → WritesLast m.output a.output (plays files next (take k ys)).out last → WritesLast b.output a.output (plays files s (take (length xs + k) (xs ++ ys))).out last
+    written_last k last w =
+        subst (λ z. WritesLast b.output a.output z last) (sym (front-then s xs ys k)) (last-after b.output m.output a.output (plays files s xs).out (plays files next (take k ys)).out last h w)
+
+    all_done : (t : Bool) → AllDone (work_from files next flag) ys m a t → AllDone (work_from files s f) (xs ++ ys) b a t
+    all_done t w = record {
+      refused_is = refused-then s f xs ys ∙ w.refused_is;
+      wrote = (w.wrote.0 ∙ h.0, subst (Appends b.output.contents a.output.contents) (sym (out-then s xs ys)) (Appends-trans b.output.contents m.output.contents a.output.contents (plays files s xs).out (plays_all files next ys).out h.1 w.wrote.1));
+      read = read_all (plays_all files next ys).reads (plays_all files s (xs ++ ys)).reads (all_read-then s xs ys) w.read;
+    }
+
+    stopped : OutputStopped (work_from files next flag) ys m a → OutputStopped (work_from files s f) (xs ++ ys) b a
+    stopped v = elim v [
+      | inl part ↦ inl (subst (StopsIn b.output a.output) (sym (played-then s xs ys)) (stops-after b.output m.output a.output (plays files s xs).out (plays files next ys).out h part))
+      | inr part ↦ inr (part.0, subst (StopsIn b.output a.output) (sym (out-then s xs ys)) (stops-after b.output m.output a.output (plays files s xs).out (plays_all files next ys).out h part.1))
+    ]
+
+    -- bytes, and then the end
+    pub did-then : (e : End) → Did (work_from files next flag) (count + length xs) ys m a e → Did (work_from files s f) count (xs ++ ys) b a e
+    did-then how.Done w = all_done _ w
+    did-then how.Refused w = all_done _ w
+    did-then how.Usage w = absurd w
+    did-then how.Input w = record {
+      wrote = subst (λ z. WritesLast b.output a.output z input_line) (sym (played-then s xs ys)) (last-after b.output m.output a.output (plays files s xs).out (plays files next ys).out input_line h w.wrote);
+      read = read_all (plays files next ys).reads (plays files s (xs ++ ys)).reads (reads-then s xs ys) w.read;
+    }
+    did-then how.File w =
+        let one : (length xs + w.at) + 1 ≡ length xs + (w.at + 1) = omega arith in
+        let upto = front_reads-then s xs ys w.at in
+        let beyond : (plays files s (take ((length xs + w.at) + 1) (xs ++ ys))).reads ≡ (plays files s xs).reads + (plays files next (take (w.at + 1) ys)).reads = ap (λ n. (plays files s (take n (xs ++ ys))).reads) one ∙ front_reads-then s xs ys (w.at + 1) in
+        record {
+          at = length xs + w.at;
+          inside = omega (arith, w.inside, length-append xs ys);
+          load = omega (arith, upto, beyond, w.load);
+          wrote = written_last w.at file_line w.wrote;
+          read = read_all ((plays files next (take w.at ys)).reads + 1) ((plays files s (take (length xs + w.at) (xs ++ ys))).reads + 1) (omega (arith, upto)) w.read;
+        }
+    did-then how.Output w = stopped w
+    did-then how.Memory w = elim w [
+      | inl full ↦ inl (stopped full)
+      | inr ran ↦ inr (record { at = length xs + ran.at; within = omega (arith, ran.within, length-append xs ys); wrote = written_last ran.at memory_line ran.wrote })
+    ]
+    did-then how.TooLong w = record {
+      at = length xs + w.at;
+      within = omega (arith, w.within);
+      last_piece = omega (arith, w.last_piece, length-append xs ys);
+      wrote = written_last w.at too_long_line w.wrote;
+      read = read_all (plays files next (take w.at ys)).reads (plays files s (take (length xs + w.at) (xs ++ ys))).reads (front_reads-then s xs ys w.at) w.read;
+    }
+
+  -- ---- sessions that end
 
   -- the input failed
-  pub wrote-input : (s : Seen) (f : Bool) (count : ℕ) (left b a : Option (List ℕ)) (r v : ℕ) → WritesLast b a r v [] input_line → WroteOn files s f count [] left b a r v how.Input
-  wrote-input s f count left b a r v w = last-first b a r v s input_line w
-
-  -- the input has ended
-  pub wrote-closed : (s : Seen) (f : Bool) (count : ℕ) (left b a : Option (List ℕ)) (r v : ℕ) (e : End) → IsAtEnd left → Closes files s f b a r v e → WroteOn files s f count [] left b a r v e
-  wrote-closed s f count left b a r v how.Done end c = rw (all-none files s) (end, c.0, c.1)
-  wrote-closed s f count left b a r v how.Refused end c = rw (all-none files s) (end, c.0, c.1)
-  wrote-closed s f count left b a r v how.Usage end c = absurd c
-  wrote-closed s f count left b a r v how.Input end c = absurd c
-  wrote-closed s f count left b a r v how.File end c = (0, omega arith, last-first b a r v s file_line c)
-  wrote-closed s f count left b a r v how.Output end c = rw (all-none files s) c
-  wrote-closed s f count left b a r v how.Memory end c =
-      elim c [ inl full ↦ inl (full.0, rw (all-none files s) full.1) | inr last ↦ inr (0, omega arith, last-first b a r v s memory_line last) ]
-  wrote-closed s f count left b a r v how.TooLong end c = absurd c
+  pub did-input : (s : Seen) (f : Bool) (count : ℕ) (b a : Outside) → WritesLast b.output a.output [] input_line → HasRead b.files a.files 0 → Did (work_from files s f) count [] b a how.Input
+  did-input s f count b a w r = record { wrote = last-first b.output a.output s input_line w; read = subst (HasRead b.files a.files) (sym (plays-none files s).1) r }
 
   -- too much has come
-  pub wrote-too-long : (s : Seen) (f : Bool) (count : ℕ) (bytes : List ℕ) (left b a : Option (List ℕ)) (r v : ℕ) → count ≤ INPUT_MAX → length bytes ≤ PIECE_MAX → WritesLast b a r v [] too_long_line
-      → WroteOn files s f count bytes left b a r v how.TooLong
-  wrote-too-long s f count bytes left b a r v le piece w = (0, omega arith, omega arith, last-first b a r v s too_long_line w)
+  pub did-too-long : (s : Seen) (f : Bool) (count : ℕ) (bytes : List ℕ) (b a : Outside) → count ≤ INPUT_MAX → length bytes ≤ PIECE_MAX → WritesLast b.output a.output [] too_long_line → HasRead b.files a.files 0
+      → Did (work_from files s f) count bytes b a how.TooLong
+  did-too-long s f count bytes b a le piece w r = record {
+    at = 0;
+    within = omega (arith, le);
+    last_piece = omega (arith, piece);
+    wrote = last-first b.output a.output s too_long_line w;
+    read = subst (HasRead b.files a.files) (sym (plays-none files s).1) r;
+  }
 
-  -- a part of what the bytes write is a part of all that is written
-  part-all : (s : Seen) (bytes : List ℕ) (b a : Option (List ℕ)) → TakesPart b a (plays files s bytes).out → TakesPart b a (plays_all files s bytes).out
-  part-all s bytes b a t = rw (all-closes files s bytes) (part-more b a (plays files s bytes).out (closes files (after_play files s bytes)).out t)
+  -- the input has ended
+  module _ (s : Seen) (f : Bool) (count : ℕ) (b a : Outside) (end : IsAtEnd a.input.left) where
+    all_closed : (t : Bool) → ((f || (closes files s).refused) ≡ t) × Writes b.output a.output (closes files s).out × HasRead b.files a.files 0 → AllDone (work_from files s f) [] b a t
+    all_closed t c = record {
+      refused_is = ap (λ (e : Report). f || e.refused) (all-none files s) ∙ c.0;
+      wrote = subst (λ (e : Report). Writes b.output a.output e.out) (sym (all-none files s)) c.1;
+      read = subst (HasRead b.files a.files) (sym (ap (λ (e : Report). e.reads) (all-none files s) ∙ closes-reads files s)) c.2;
+    }
+
+    pub did-closed : (e : End) → Closes files s f (world_of b) (world_of a) e → Did (work_from files s f) count [] b a e
+    did-closed how.Done c = all_closed _ c
+    did-closed how.Refused c = all_closed _ c
+    did-closed how.Usage c = absurd c
+    did-closed how.Input c = absurd c
+    did-closed how.File c = absurd c
+    did-closed how.Output c = inr (end, subst (λ (e : Report). StopsIn b.output a.output e.out) (sym (all-none files s)) c)
+    did-closed how.Memory c = elim c [
+      | inl full ↦ inl (inr (end, subst (λ (e : Report). StopsIn b.output a.output e.out) (sym (all-none files s)) full))
+      | inr last ↦ inr (record { at = 0; within = omega arith; wrote = last-first b.output a.output s memory_line last })
+    ]
+    did-closed how.TooLong c = absurd c
 
   -- the session was stopped
-  pub wrote-stopped : {R : Type 0} (view : R → Tree) (s : Seen) (f : Bool) (old new : Kept R) (count : ℕ) (bytes : List ℕ) (left b m a : Option (List ℕ)) (r t v : ℕ) (stop : Stop) → r ≤ t → t ≤ v
-      → Fed view files s bytes old new b m (Err stop) → WroteLast m a t v stop → (stop ≡ Full → Rose r t) → WroteOn files s f count bytes left b a r v (status_of stop)
-  wrote-stopped view s f old new count bytes left b m a r t v Output rt tv g w full = rw w (part-all s bytes b m g)
-  wrote-stopped view s f old new count bytes left b m a r t v Full rt tv g w full = rw w (inl (rose-on r t v (full refl) tv, part-all s bytes b m g))
-  wrote-stopped view s f old new count bytes left b m a r t v File rt tv g w full =
-      (g.0, g.1, subst (λ z. WritesLast b a r v z file_line) (append-nil (plays files s (take g.0 bytes)).out) (last-behind b m a r t v (plays files s (take g.0 bytes)).out [] file_line rt g.2 w))
-  wrote-stopped view s f old new count bytes left b m a r t v Memory rt tv g w full =
-      inr (g.0, g.1, subst (λ z. WritesLast b a r v z memory_line) (append-nil (plays files s (take g.0 bytes)).out) (last-behind b m a r t v (plays files s (take g.0 bytes)).out [] memory_line rt g.2 w))
+  pub did-stopped : {R : Type 0} (view : R → Tree) (s : Seen) (f : Bool) (old new : Kept R) (count : ℕ) (bytes : List ℕ) (ib ia : KnownInput) (fb fm : KnownFiles) (ob om oa : KnownOutput) (stop : Stop)
+      → Fed view files s bytes old new (both fb ob) (both fm om) (Err stop) → StopRefuses ob.refusals om.refusals stop → WritesStop om oa stop → Did (work_from files s f) count bytes (parts ib fb ob) (parts ia fm oa) (end_of stop)
+  did-stopped view s f old new count bytes ib ia fb fm ob om oa Output g r w = inl (subst (λ o. StopsIn ob o (plays files s bytes).out) (sym w) (r, g))
+  did-stopped view s f old new count bytes ib ia fb fm ob om oa Full g r w = inl (inl (subst (λ o. StopsIn ob o (plays files s bytes).out) (sym w) (r, g)))
+  did-stopped view s f old new count bytes ib ia fb fm ob om oa File g r w = record {
+    at = g.at;
+    inside = g.inside;
+    load = g.load;
+    wrote = subst (λ z. WritesLast ob oa z file_line) (append-nil (plays files s (take g.at bytes)).out) (last-after ob om oa (plays files s (take g.at bytes)).out [] file_line (r, g.wrote) w);
+    read = g.read;
+  }
+  did-stopped view s f old new count bytes ib ia fb fm ob om oa Memory g r w =
+      inr (record {
+        at = g.0;
+        within = g.1;
+        wrote = subst (λ z. WritesLast ob oa z memory_line) (append-nil (plays files s (take g.0 bytes)).out) (last-after ob om oa (plays files s (take g.0 bytes)).out [] memory_line (r, g.2) w);
+      })
 
 -- ---- sessions that were stopped
 
--- a last line where nothing was written
-last-alone : (b m a : Option (List ℕ)) (r t v : ℕ) (last : List ℕ) → r ≤ t → Appends b m [] → WritesLast m a t v [] last → WritesLast b a r v [] last
-last-alone b m a r t v last le h w = last-behind b m a r t v [] [] last le h w
-
 -- the line that refuses a start tree was stopped
-pub refusal-stopped : (line : List ℕ) (b m a : Option (List ℕ)) (r t v : ℕ) (stop : Stop) → r ≤ t → t ≤ v → Written line b m (Err stop) → WroteLast m a t v stop → (stop ≡ Full → Rose r t) → (stop ≡ File → ⊥)
-    → WroteRefusal line b a r v (status_of stop)
-refusal-stopped line b m a r t v Output rt tv g w full file = rw w g
-refusal-stopped line b m a r t v Full rt tv g w full file = rw w (inl (rose-on r t v (full refl) tv, g))
-refusal-stopped line b m a r t v File rt tv g w full file = absurd (file refl)
-refusal-stopped line b m a r t v Memory rt tv g w full file = inr (last-alone b m a r t v memory_line rt g w)
+pub refusal-stopped : (line : List ℕ) (b m a : KnownOutput) (stop : Stop) → WritesOrStops line b.contents m.contents (Err stop) → StopRefuses b.refusals m.refusals stop → WritesStop m a stop → RefusedStart line b a (end_of stop)
+refusal-stopped line b m a Output g r w = subst (λ o. StopsIn b o line) (sym w) (r, g)
+refusal-stopped line b m a Full g r w = inl (subst (λ o. StopsIn b o line) (sym w) (r, g))
+refusal-stopped line b m a File g r w = absurd g
+refusal-stopped line b m a Memory g r w = inr (last-alone b m a memory_line (r, g) w)
 
 -- a session was stopped at the end of its input
-pub closes-stopped : {R : Type 0} (files : FileTable) (s : Seen) (f : Bool) (old new : Kept R) (b m a : Option (List ℕ)) (r t v : ℕ) (stop : Stop) → r ≤ t → t ≤ v → Closed files s old new b m (Err stop) → WroteLast m a t v stop
-    → (stop ≡ Full → Rose r t) → Closes files s f b a r v (status_of stop)
-closes-stopped files s f old new b m a r t v Output rt tv g w full = rw w g
-closes-stopped files s f old new b m a r t v Full rt tv g w full = rw w (inl (rose-on r t v (full refl) tv, g))
-closes-stopped files s f old new b m a r t v File rt tv g w full = last-alone b m a r t v file_line rt g w
-closes-stopped files s f old new b m a r t v Memory rt tv g w full = inr (last-alone b m a r t v memory_line rt g w)
+pub closes-stopped : {R : Type 0} (files : FileTable) (s : Seen) (f : Bool) (old new : Kept R) (fb fm : KnownFiles) (ob om oa : KnownOutput) (stop : Stop) → RunsLast files s old new (both fb ob) (both fm om) (Err stop) → StopRefuses ob.refusals om.refusals stop
+    → WritesStop om oa stop → Closes files s f (both fb ob) (both fm oa) (end_of stop)
+closes-stopped files s f old new fb fm ob om oa Output g r w = subst (λ o. StopsIn ob o (closes files s).out) (sym w) (r, g)
+closes-stopped files s f old new fb fm ob om oa Full g r w = inl (subst (λ o. StopsIn ob o (closes files s).out) (sym w) (r, g))
+closes-stopped files s f old new fb fm ob om oa File g r w = absurd g
+closes-stopped files s f old new fb fm ob om oa Memory g r w = inr (last-alone ob om oa memory_line (r, g) w)
 
--- ---- bytes that are taken
+-- the end of a stop is an end of its own
+stop-end : (stop : Stop) (P : Type 0) → ((end_of stop ≡ how.TooLong → ⊥) × (end_of stop ≡ how.Usage → ⊥) × (end_of stop ≡ how.Input → ⊥)) × OnOk (result_of (end_of stop)) P
+stop-end Output P = ((λ e. absurd (cc), λ e. absurd (cc), λ e. absurd (cc)), tt)
+stop-end Full P = ((λ e. absurd (cc), λ e. absurd (cc), λ e. absurd (cc)), tt)
+stop-end File P = ((λ e. absurd (cc), λ e. absurd (cc), λ e. absurd (cc)), tt)
+stop-end Memory P = ((λ e. absurd (cc), λ e. absurd (cc), λ e. absurd (cc)), tt)
 
--- a call that was stopped took no more than it may
-pub took-stopped : (count : ℕ) (bytes : List ℕ) (stop : Stop) → count + length bytes ≤ INPUT_MAX → Took count bytes (status_of stop)
-took-stopped count bytes Output le = le
-took-stopped count bytes Full le = le
-took-stopped count bytes File le = le
-took-stopped count bytes Memory le = le
-
--- nor did one whose input has ended
-pub took-closed : (count : ℕ) (e : End) → IsClosing e → count ≤ INPUT_MAX → Took count [] e
-took-closed count how.Done c le = omega (arith, le)
-took-closed count how.Refused c le = omega (arith, le)
-took-closed count how.Usage c le = absurd c
-took-closed count how.Input c le = absurd c
-took-closed count how.File c le = omega (arith, le)
-took-closed count how.Output c le = omega (arith, le)
-took-closed count how.Memory c le = omega (arith, le)
-took-closed count how.TooLong c le = absurd c
-
--- bytes, and then others
-pub took-then : (count : ℕ) (xs ys : List ℕ) (e : End) → Took (count + length xs) ys e → Took count (xs ++ ys) e
-took-then count xs ys how.Done t = omega (arith, t, length-append xs ys)
-took-then count xs ys how.Refused t = omega (arith, t, length-append xs ys)
-took-then count xs ys how.Usage t = absurd t
-took-then count xs ys how.Input t = omega (arith, t, length-append xs ys)
-took-then count xs ys how.File t = omega (arith, t, length-append xs ys)
-took-then count xs ys how.Output t = omega (arith, t, length-append xs ys)
-took-then count xs ys how.Memory t = omega (arith, t, length-append xs ys)
-took-then count xs ys how.TooLong t = omega (arith, t, length-append xs ys)
+-- so a session that was stopped at the end of its input has one of its ends
+pub closing-stopped : (stop : Stop) → IsClosing (end_of stop)
+closing-stopped stop = let e = (stop-end stop ⊤).0 in record { fitting = e.1; input = e.2; too_much = e.0 }
 
 -- ---- the ends of a turn
 
-module _ {R : Type 0} (view : R → Tree) (found : Option FileTable) where
+module _ {R : Type 0} (view : R → Tree) where
   -- the input failed
-  pub ran-input : (x : Kept R) (count : ℕ) (l0 l1 b a : Option (List ℕ)) (r v : ℕ) → count ≤ INPUT_MAX → Keeps l0 l1 → WritesLast b a r v [] input_line → RanFrom view found x count l0 l1 b a r v how.Input
-  ran-input x count l0 l1 b a r v le k w = ([], Consumes-kept l0 l0 l1 [] (Consumes-nil l0) k, omega (arith, le), λ files told s f. wrote-input files s x.refused count l1 b a r v w)
+  pub ran-input : (x : Kept R) (count : ℕ) (ib ia : KnownInput) (f : KnownFiles) (ob oa : KnownOutput) → count ≤ INPUT_MAX → Keeps ib.left ia.left → ia.given ≡ ib.given → WritesLast ob oa [] input_line
+      → RanFrom view x count (parts ib f ob) (parts ia f oa) how.Input
+  ran-input x count ib ia f ob oa le k given w = record {
+    taken = [];
+    took = Consumes-kept ib.left ib.left ia.left [] (Consumes-nil ib.left) k;
+    counted = omega (arith, given);
+    too_much = (λ e. absurd (cc), λ l. absurd (omega (arith, le, l)));
+    fitting = λ e. absurd (cc);
+    ended = tt;
+    did = λ files t s z. did-input files s x.refused count (parts ib f ob) (parts ia f oa) w refl;
+  }
 
   -- the input has ended
-  pub ran-closed : (x : Kept R) (count : ℕ) (l0 l1 b a : Option (List ℕ)) (r v : ℕ) (e : End) → count ≤ INPUT_MAX → Consumes l0 l1 [] → IsAtEnd l1 → IsClosing e
-      → ((files : FileTable) → found ≡ Some files → (s : Seen) → Follows view x s → Closes files s x.refused b a r v e) → RanFrom view found x count l0 l1 b a r v e
-  ran-closed x count l0 l1 b a r v e le took end own c = ([], took, took-closed count e own le, λ files told s f. wrote-closed files s x.refused count l1 b a r v e end (c files told s f))
+  pub ran-closed : (x : Kept R) (count : ℕ) (b a : Outside) (e : End) → count ≤ INPUT_MAX → Consumes b.input.left a.input.left [] → a.input.given ≡ b.input.given + 0 → IsAtEnd a.input.left → IsClosing e
+      → ((files : FileTable) → IsTable files b.files a.files → (s : Seen) → Follows view x s → Closes files s x.refused (world_of b) (world_of a) e) → RanFrom view x count b a e
+  ran-closed x count b a e le took given end own c = record {
+    taken = [];
+    took = took;
+    counted = omega (arith, given);
+    too_much = (λ h. absurd (own.too_much h), λ l. absurd (omega (arith, le, l)));
+    fitting = own.fitting;
+    ended = on-ok (result_of e) end;
+    did = λ files t s z. did-closed files s x.refused count b a end e (c files t s z);
+  }
 
   -- too much has come
-  pub ran-too-long : (x : Kept R) (count : ℕ) (bytes : List ℕ) (l0 l1 b a : Option (List ℕ)) (r v : ℕ) → count ≤ INPUT_MAX → Consumes l0 l1 bytes → INPUT_MAX < count + length bytes → length bytes ≤ PIECE_MAX
-      → WritesLast b a r v [] too_long_line → RanFrom view found x count l0 l1 b a r v how.TooLong
-  ran-too-long x count bytes l0 l1 b a r v le took past piece w = (bytes, took, past, λ files told s f. wrote-too-long files s x.refused count bytes l1 b a r v le piece w)
+  pub ran-too-long : (x : Kept R) (count : ℕ) (bytes : List ℕ) (ib ia : KnownInput) (f : KnownFiles) (ob oa : KnownOutput) → count ≤ INPUT_MAX → Consumes ib.left ia.left bytes → ia.given ≡ ib.given + length bytes → INPUT_MAX < count + length bytes → length bytes ≤ PIECE_MAX
+      → WritesLast ob oa [] too_long_line → RanFrom view x count (parts ib f ob) (parts ia f oa) how.TooLong
+  ran-too-long x count bytes ib ia f ob oa le took given past piece w = record {
+    taken = bytes;
+    took = took;
+    counted = given;
+    too_much = (λ e. past, λ l. refl);
+    fitting = λ e. absurd (cc);
+    ended = tt;
+    did = λ files t s z. did-too-long files s x.refused count bytes (parts ib f ob) (parts ia f oa) le piece w refl;
+  }
 
   -- the session was stopped
-  pub ran-stopped : (old new : Kept R) (count : ℕ) (bytes : List ℕ) (l0 l1 b m a : Option (List ℕ)) (r t v : ℕ) (stop : Stop) → count + length bytes ≤ INPUT_MAX → r ≤ t → t ≤ v
-      → Consumes l0 l1 bytes → ((files : FileTable) → found ≡ Some files → (s : Seen) → Follows view old s → Fed view files s bytes old new b m (Err stop)) → WroteLast m a t v stop → (stop ≡ Full → Rose r t)
-      → RanFrom view found old count l0 l1 b a r v (status_of stop)
-  ran-stopped old new count bytes l0 l1 b m a r t v stop le rt tv took g w full =
-      (bytes, took, took-stopped count bytes stop le, λ files told s f. wrote-stopped files view s old.refused old new count bytes l1 b m a r t v stop rt tv (g files told s f) w full)
+  pub ran-stopped : (old new : Kept R) (count : ℕ) (bytes : List ℕ) (ib ia : KnownInput) (fb fm : KnownFiles) (ob om oa : KnownOutput) (stop : Stop) → count + length bytes ≤ INPUT_MAX → Consumes ib.left ia.left bytes → ia.given ≡ ib.given + length bytes
+      → ((files : FileTable) → IsTable files fb fm → (s : Seen) → Follows view old s → Fed view files s bytes old new (both fb ob) (both fm om) (Err stop)) → StopRefuses ob.refusals om.refusals stop → WritesStop om oa stop
+      → RanFrom view old count (parts ib fb ob) (parts ia fm oa) (end_of stop)
+  ran-stopped old new count bytes ib ia fb fm ob om oa stop le took given g r w =
+      let ends = stop-end stop (IsAtEnd ia.left) in
+      record {
+        taken = bytes;
+        took = took;
+        counted = given;
+        too_much = (λ h. absurd (ends.0.0 h), λ l. absurd (omega (arith, le, l)));
+        fitting = ends.0.1;
+        ended = ends.1;
+        did = λ files t s z. did-stopped files view s old.refused old new count bytes ib ia fb fm ob om oa stop (g files t s z) r w;
+      }
 
   -- ---- turns
 
   -- no turn yet
-  pub turned-none : (k : Kept R) (l b : Option (List ℕ)) → Turned view found k k 0 0 l l b b
-  turned-none k l b = ([], Consumes-nil l, refl, λ files told s f. goes-none files view s k b f)
+  pub piece-none : (k : Kept R) (o : Outside) → TookPiece view k k 0 0 o o
+  piece-none k o = record { bytes = []; took = Consumes-nil o.input.left; counted = omega arith; sum = omega arith; played = λ files t s z. goes-none files view s k (world_of o) z }
+
+  -- turns after which nothing failed
+  pub steady-none : (o : Outside) → IsSteady o o
+  steady-none o = record { input = refl; found = refl; read = (0, refl); files = refl; output = refl; refused = refl }
+
+  pub steady-then : (b m a : Outside) → IsSteady b m → IsSteady m a → IsSteady b a
+  steady-then b m a x y = record {
+    input = y.input ∙ x.input;
+    found = y.found ∙ x.found;
+    read = some-then b.files m.files a.files x.read y.read;
+    files = y.files ∙ x.files;
+    output = y.output ∙ x.output;
+    refused = y.refused ∙ x.refused;
+  }
 
   -- one turn more
-  pub turned-more : (old mid new : Kept R) (count now later : ℕ) (l0 l1 l2 b m a : Option (List ℕ)) → Turned view found old mid count now l0 l1 b m → Turned view found mid new now later l1 l2 m a
-      → Turned view found old new count later l0 l2 b a
-  turned-more old mid new count now later l0 l1 l2 b m a x y = (
-    x.0 ++ y.0,
-    Consumes-trans l0 l1 l2 x.0 y.0 x.1 y.1,
-    omega (arith, x.2, y.2, length-append x.0 y.0),
-    λ files told s f. (let g = x.3 files told s f in goes-then files view s x.0 y.0 old mid new b m a g (y.3 files told (after_play files s x.0) g.0)),
-  )
+  pub piece-more : (old mid new : Kept R) (count now later : ℕ) (b m a : Outside) → IsSteady b m → HasReadSome m.files a.files → TookPiece view old mid count now b m → TookPiece view mid new now later m a → TookPiece view old new count later b a
+  piece-more old mid new count now later b m a steady read x y = record {
+    bytes = x.bytes ++ y.bytes;
+    took = Consumes-trans b.input.left m.input.left a.input.left x.bytes y.bytes x.took y.took;
+    counted = omega (arith, x.counted, y.counted, length-append x.bytes y.bytes);
+    sum = omega (arith, x.sum, y.sum, length-append x.bytes y.bytes);
+    played = λ files t s z.
+        (let g = x.played files (table-first b.files m.files a.files steady.read read files t) s z in
+        goes-then files view s x.bytes y.bytes old mid new (world_of b) (world_of m) (world_of a) g (y.played files (table-second b.files m.files a.files steady.read read files steady.found t) (after_play files s x.bytes) g.0));
+  }
 
   -- turns, and then a run
-  pub turned-ran : (old mid : Kept R) (now : ℕ) (l0 l1 l2 b m a : Option (List ℕ)) (q r v : ℕ) (e : End) → q ≤ r → Turned view found old mid 0 now l0 l1 b m → RanFrom view found mid now l1 l2 m a r v e
-      → RanFrom view found old 0 l0 l2 b a q v e
-  turned-ran old mid now l0 l1 l2 b m a q r v e le x w = (
-    x.0 ++ w.0,
-    Consumes-trans l0 l1 l2 x.0 w.0 x.1 w.1,
-    took-then 0 x.0 w.0 e (subst (λ n. Took n w.0 e) x.2 w.2),
-    λ files told s f.
-        (let g = x.3 files told s f in
-        let P : Bool → Type 0 = λ z. WroteOn files (after_play files s x.0) z now w.0 l2 m a r v e in
-        let Q : ℕ → Type 0 = λ n. WroteOn files (after_play files s x.0) (old.refused || (plays files s x.0).refused) n w.0 l2 m a r v e in
-        wrote-then files s old.refused 0 x.0 w.0 l2 b m a q r v e le g.2 (subst Q x.2 (subst P g.1 (w.3 files told (after_play files s x.0) g.0)))),
-  )
+  pub piece-ran : (old mid : Kept R) (now : ℕ) (b m a : Outside) (e : End) → IsSteady b m → HasReadSome m.files a.files → TookPiece view old mid 0 now b m → RanFrom view mid now m a e → RanFrom view old 0 b a e
+  piece-ran old mid now b m a e steady read x w = record {
+    taken = x.bytes ++ w.taken;
+    took = Consumes-trans b.input.left m.input.left a.input.left x.bytes w.taken x.took w.took;
+    counted = omega (arith, x.counted, w.counted, length-append x.bytes w.taken);
+    too_much = (λ h. omega (arith, w.too_much.0 h, x.sum, length-append x.bytes w.taken), λ l. w.too_much.1 (omega (arith, l, x.sum, length-append x.bytes w.taken)));
+    fitting = w.fitting;
+    ended = w.ended;
+    did = λ files t s z.
+        (let g = x.played files (table-first b.files m.files a.files steady.read read files t) s z in
+        let d = w.did files (table-second b.files m.files a.files steady.read read files steady.found t) (after_play files s x.bytes) g.0 in
+        let P : Bool → Type 0 = λ v. Did (work_from files (after_play files s x.bytes) v) now w.taken m a e in
+        let Q : ℕ → Type 0 = λ n. Did (work_from files (after_play files s x.bytes) (old.refused || (plays files s x.bytes).refused)) n w.taken m a e in
+        did-then files s old.refused 0 x.bytes w.taken b m a (steady.refused, g.2) g.3 e (subst Q x.sum (subst P g.1 d)));
+  }
 
--- a count that stayed is calm, however the call ended
-pub calm-same : (e : End) (before now : ℕ) → now ≡ before → IsCalm e before now
-calm-same how.Done before now h = h
-calm-same how.Refused before now h = h
-calm-same how.Usage before now h = tt
-calm-same how.Input before now h = tt
-calm-same how.File before now h = tt
-calm-same how.Output before now h = tt
-calm-same how.Memory before now h = tt
-calm-same how.TooLong before now h = tt
+-- a run after turns in which nothing failed has its causes
+pub causes-after : (b m a : Outside) (e : End) → IsSteady b m → HasCauses m a e → HasCauses b a e
+causes-after b m a e x c = record {
+  input = account-after (λ z. z ≡ how.Input) (result_of e) x.input c.input;
+  world = record {
+    same = c.world.same ∙ x.found;
+    files = account-after (λ z. z ≡ how.File) (result_of e) x.files c.world.files;
+    output = account-after (λ z. z ≡ how.Output) (result_of e) x.output c.world.output;
+  };
+}
+  where
+    account-after : {p q r : ℕ} (Blames : End → Type 0) (result : Result ⊤ End) → q ≡ p → Accounts Blames q r result → Accounts Blames p r result
+    account-after {p} {q} {r} Blames result same a = subst (λ n. Accounts Blames n r result) same a

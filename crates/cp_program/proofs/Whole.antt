@@ -1,85 +1,89 @@
--- A run of the program is the session's job, and where the input is told it is that of all the input.
-use Rattle.std.proofs.Common.{◌≡◌, ℕ, ◌+◌, ◌≤◌, List, [], ◌++◌, length, false, refl, inr, sym, ap, subst, ◌∙◌, append-nil, arith}
+-- A run of the program is the session's job, from its start on.
+use Rattle.std.proofs.Common.{◌≡◌, ℕ, ◌+◌, ◌≤◌, List, [], length, false, Ok, Err, refl, inl, inr, sym, ap, subst, ◌∙◌, arith}
 use Rattle.std.proofs.lemmas.List.{length-append}
-use Rattle.std.specs.Io.KnownBytes.{Consumes}
+use Rattle.std.specs.Prelude.{⊤, ◌⊎◌, OnOk, IfErr, Result}
+use Rattle.std.specs.Io.KnownBytes.{Consumes, IsAtEnd}
 use Rattle.std.specs.declared.option.Option.{Option}
 use Rattle.std.specs.declared.option.Option.TheVariants.{None, Some}
+use Rattle.cp_outside.specs.Causes.{Accounts, Rose}
 use Rattle.cp_outside.specs.FileReads.{FileTable}
 use Rattle.std.proofs.KnownBytes.{Consumes-nil}
 use Rattle.cp_model.specs.Tree.{Tree}
 use Rattle.cp_session.specs.Session.{FetchedFile, gives, withholds}
 use Rattle.cp_reply.specs.declared.reply.Why.{Why}
-use Rattle.std.specs.Prelude.{Ok, Err, ⊤}
-use Rattle.cp_program.specs.Words.{Start, usage_text, memory_line, file_line}
-use Rattle.cp_program.specs.Job.{output_so_far, job, start_given, refused_start}
+use Rattle.cp_program.specs.Words.{Start, usage_text, memory_line}
+use Rattle.cp_program.specs.Job.{job_so_far, job, start_given, start_reads, refused_start}
 use Rattle.cp_program.specs.Fetched.{Gives}
+use Rattle.cp_program.specs.Outside.{KnownInput, KnownFiles, KnownOutput, Outside, HasRead, HasReadSome, IsTable}
 use Rattle.cp_program.specs.Play.{start, plays, plays_all}
-use Rattle.cp_program.specs.Story.{WritesLast, Took, WroteRefusal, WroteFrom, RanAs, Whole, IsShort, IsAnswer, IsFaultless, Counts, counts, HasCauses, Called}
-use Rattle.cp_program.specs.Turns.{Follows, WroteOn, RanFrom, WroteLast, IsOwn, IsClosing, status_of}
+use Rattle.cp_program.specs.Story.{WritesLast, RefusedStart, Did, DidFrom, work_on, Ran, IsShort, IsFaultless, HasCauses, Called, result_of}
+use Rattle.cp_program.specs.Turns.{Follows, BlamesFiles, StopReads, IsOwnStop, work_from, RanFrom, Begun, WritesStop, end_of}
 use Rattle.cp_program.specs.Ends.{code_of}
 use Rattle.cp_program.specs.declared.session.Session.{Session as Kept}
 use Rattle.cp_program.specs.declared.end.End.{End}
 use Rattle.cp_program.specs.declared.end.End.TheVariants as how
 use Rattle.cp_program.specs.declared.stop.Stop.{Stop}
 use Rattle.cp_program.specs.declared.stop.Stop.TheVariants.{Output, Full, File, Memory}
-use Rattle.cp_program.proofs.Runs.{took-closed}
+use Rattle.cp_program.proofs.ReadCounts.{read-then, table-first, table-second}
+use Rattle.cp_program.proofs.Standing.{on-ok}
+use Rattle.cp_program.proofs.Runs.{parts}
 use Rattle.cp_program.proofs.Plays.{plays-none}
 
--- what a session writes from its start is what the whole session does
-pub wrote-is : (files : FileTable) (t : Tree) (taken : List ℕ) (left b a : Option (List ℕ)) (r s : ℕ) (e : End) → WroteOn files (start t) false 0 taken left b a r s e → WroteFrom files (gives t) taken left b a r s e
-unfolding plays plays_all output_so_far job
-wrote-is files t taken left b a r s how.Done w = w
-wrote-is files t taken left b a r s how.Refused w = w
-wrote-is files t taken left b a r s how.Usage w = w
-wrote-is files t taken left b a r s how.Input w = w
-wrote-is files t taken left b a r s how.File w = w
-wrote-is files t taken left b a r s how.Output w = w
-wrote-is files t taken left b a r s how.Memory w = w
-wrote-is files t taken left b a r s how.TooLong w = w
-
--- a run of a session that stands at its start
-pub ran-is : {R : Type 0} (view : R → Tree) (found : Option FileTable) (t : Tree) (x : Kept R) (l0 l1 b a : Option (List ℕ)) (r s : ℕ) (e : End) → Follows view x (start t) → x.refused ≡ false
-    → RanFrom view found x 0 l0 l1 b a r s e → RanAs found (λ files. gives t) l0 l1 b a r s e
-ran-is view found t x l0 l1 b a r s e f none w =
-    (w.0, w.1, w.2, λ files told. wrote-is files t w.0 l1 b a r s e (subst (λ z. WroteOn files (start t) z 0 w.0 l1 b a r s e) none (w.3 files told (start t) f)))
-
 -- no byte of the input writes nothing
-played-none : (files : FileTable) (t : Tree) → (output_so_far files t []).out ≡ []
-unfolding plays output_so_far
-played-none files t = plays-none files (start t)
+played-none : (files : FileTable) (t : Tree) → (job_so_far files t []).out ≡ []
+unfolding plays job_so_far
+played-none files t = (plays-none files (start t)).0
 
-early : (files : FileTable) (g : FetchedFile) (left b a : Option (List ℕ)) (r s : ℕ) (stop : Stop) → IsOwn {T = ⊤} (Err stop) → WroteLast b a r s stop → WroteFrom files g [] left b a r s (status_of stop)
-early files (gives t) left b a r s Output own w = absurd own
-early files (gives t) left b a r s Full own w = absurd own
-early files (gives t) left b a r s File own w = (0, omega arith, subst (λ z. WritesLast b a r s z file_line) (sym (played-none files t)) w)
-early files (gives t) left b a r s Memory own w = inr (0, omega arith, subst (λ z. WritesLast b a r s z memory_line) (sym (played-none files t)) w)
-early files (withholds y) left b a r s Output own w = absurd own
-early files (withholds y) left b a r s Full own w = absurd own
-early files (withholds y) left b a r s File own w = (refl, w)
-early files (withholds y) left b a r s Memory own w = (refl, inr w)
+-- ---- from the start tree on
 
--- a call that was stopped before it took a byte
-pub ran-early : (found : Option FileTable) (g : FileTable → FetchedFile) (l b a : Option (List ℕ)) (r s : ℕ) (stop : Stop) → IsOwn {T = ⊤} (Err stop) → WroteLast b a r s stop → RanAs found g l l b a r s (status_of stop)
-ran-early found g l b a r s stop own w = ([], Consumes-nil l, took stop own, λ files told. early files (g files) l b a r s stop own w)
+-- what a session does from its start is what the whole session does, after what was read for its start
+module _ (files : FileTable) (k : ℕ) (t : Tree) (taken : List ℕ) (i : KnownInput) (f fb : KnownFiles) (o : KnownOutput) (a : Outside) (r : HasRead f fb k) where
+  read_all : (n m : ℕ) → m ≡ k + n → HasRead fb a.files n → HasRead f a.files m
+  read_all n m e w = subst (HasRead f a.files) (sym e) (read-then f fb a.files k n r w)
+
+  did-start : (e : End) → Did (work_from files (start t) false) 0 taken (parts i fb o) a e → Did (work_on files k t) 0 taken (parts i f o) a e
+  unfolding plays plays_all job_so_far job
+  did-start how.Done w = record { refused_is = w.refused_is; wrote = w.wrote; read = read_all _ _ refl w.read }
+  did-start how.Refused w = record { refused_is = w.refused_is; wrote = w.wrote; read = read_all _ _ refl w.read }
+  did-start how.Usage w = absurd w
+  did-start how.Input w = record { wrote = w.wrote; read = read_all _ _ refl w.read }
+  did-start how.File w = record {
+    at = w.at;
+    inside = w.inside;
+    load = omega (arith, w.load);
+    wrote = w.wrote;
+    read = read_all _ _ (omega arith) w.read;
+  }
+  did-start how.Output w = w
+  did-start how.Memory w = elim w [ inl full ↦ inl full | inr ran ↦ inr (record { at = ran.at; within = ran.within; wrote = ran.wrote }) ]
+  did-start how.TooLong w = record { at = w.at; within = w.within; last_piece = w.last_piece; wrote = w.wrote; read = read_all _ _ refl w.read }
+
+-- what holds of an end at which all was done
+on-done : {P Q : Type 0} (r : Result ⊤ End) → (P → Q) → OnOk r P → OnOk r Q
+on-done (Ok x) f h = f h
+on-done (Err e) f h = tt
+
+-- a run of a session that begins on its start tree
+pub ran-begun : {R : Type 0} (view : R → Tree) (given : FileTable → FetchedFile) (k : ℕ) (x : Kept R) (i : KnownInput) (f fb : KnownFiles) (o : KnownOutput) (a : Outside) (e : End) → fb.found ≡ f.found → HasRead f fb k → HasReadSome fb a.files
+    → x.refused ≡ false → ((t : FileTable) → IsTable t f fb → Begun view (given t) (Ok x)) → RanFrom view x 0 (parts i fb o) a e → Ran given k (parts i f o) a e
+ran-begun {R} view given k x i f fb o a e same read more none begun w = record {
+  taken = w.taken;
+  took = w.took;
+  counted = w.counted;
+  too_much = (λ h. omega (arith, w.too_much.0 h), λ l. w.too_much.1 (omega (arith, l)));
+  fitting = w.fitting;
+  ended = on-done (result_of e) (λ h. inl h) w.ended;
+  did = λ files t.
+      (let first = table-first f fb a.files (k, read) more files t in
+      inr (did_from files (given files) (begun files first) (table-second f fb a.files (k, read) more files same t)));
+}
   where
-    took : (x : Stop) → IsOwn {T = ⊤} (Err x) → Took 0 [] (status_of x)
-    took Output o = absurd o
-    took Full o = absurd o
-    took File o = omega arith
-    took Memory o = omega arith
+    did_from : (files : FileTable) (g : FetchedFile) → Begun view g (Ok x) → IsTable files fb a.files → DidFrom files g k w.taken (parts i f o) a e
+    did_from files (gives t) b table =
+        did-start files k t w.taken i f fb o a read e (subst (λ v. Did (work_from files (start t) v) 0 w.taken (parts i fb o) a e) none (w.did files table (start t) b))
+    did_from files (withholds v) b table = absurd b
 
--- a start tree that is refused
-pub ran-refused : (found : Option FileTable) (g : FileTable → FetchedFile) (y : Why) (l b a : Option (List ℕ)) (r s : ℕ) (e : End) → ((files : FileTable) → found ≡ Some files → g files ≡ withholds y) → IsClosing e
-    → WroteRefusal (refused_start y) b a r s e → RanAs found g l l b a r s e
-ran-refused found g y l b a r s e is own w =
-    ([], Consumes-nil l, took-closed 0 e own (omega arith), λ files told. subst (λ z. WroteFrom files z [] l b a r s e) (sym (is files told)) (refl, w))
-
--- a session on the tree that the files give
-pub ran-given : (found : Option FileTable) (g : FileTable → FetchedFile) (t : Tree) (l0 l1 b a : Option (List ℕ)) (r s : ℕ) (e : End) → ((files : FileTable) → found ≡ Some files → g files ≡ gives t)
-    → RanAs found (λ files. gives t) l0 l1 b a r s e → RanAs found g l0 l1 b a r s e
-ran-given found g t l0 l1 b a r s e is w = (w.0, w.1, w.2, λ files told. subst (λ z. WroteFrom files z w.0 l1 b a r s e) (sym (is files told)) (w.3 files told))
-
--- what is given is told by what the code made of it
+-- what is given, by what the code made of it
 pub given-tree : {R : Type 0} (view : R → Tree) (g : FetchedFile) (x : R) → Gives view g (Ok x) → g ≡ gives (view x)
 given-tree view (gives t) x h = ap (λ z. gives z) (sym h)
 given-tree view (withholds y) x h = absurd h
@@ -88,76 +92,174 @@ pub given-why : {R : Type 0} (view : R → Tree) (g : FetchedFile) (w : Why) →
 given-why view (gives t) w h = absurd h
 given-why view (withholds y) w h = ap (λ z. withholds z) (sym h)
 
--- where the input is told, all of it has its replies
-pub whole : (files : FileTable) (g : FetchedFile) (taken : List ℕ) (l0 l1 b a : Option (List ℕ)) (r s : ℕ) (e : End) → Consumes l0 l1 taken → WroteFrom files g taken l1 b a r s e → Whole files g l0 b a e
-whole files (gives t) taken None l1 b a r s e c w = tt
-whole files (gives t) taken (Some all) None b a r s e c w = absurd c
-whole files (gives t) taken (Some all) (Some rest) b a r s how.Done c w =
-    let e : all ≡ taken = c ∙ ap (λ z. taken ++ z) w.0 ∙ append-nil taken in
-    rw e (w.1, w.2)
-whole files (gives t) taken (Some all) (Some rest) b a r s how.Refused c w =
-    let e : all ≡ taken = c ∙ ap (λ z. taken ++ z) w.0 ∙ append-nil taken in
-    rw e (w.1, w.2)
-whole files (gives t) taken (Some all) (Some rest) b a r s how.Usage c w = tt
-whole files (gives t) taken (Some all) (Some rest) b a r s how.Input c w = tt
-whole files (gives t) taken (Some all) (Some rest) b a r s how.File c w = tt
-whole files (gives t) taken (Some all) (Some rest) b a r s how.Output c w = tt
-whole files (gives t) taken (Some all) (Some rest) b a r s how.Memory c w = tt
-whole files (gives t) taken (Some all) (Some rest) b a r s how.TooLong c w = tt
-whole files (withholds y) taken l0 l1 b a r s how.Done c w = absurd w.1
-whole files (withholds y) taken l0 l1 b a r s how.Refused c w = w.1
-whole files (withholds y) taken l0 l1 b a r s how.Usage c w = tt
-whole files (withholds y) taken l0 l1 b a r s how.Input c w = tt
-whole files (withholds y) taken l0 l1 b a r s how.File c w = tt
-whole files (withholds y) taken l0 l1 b a r s how.Output c w = tt
-whole files (withholds y) taken l0 l1 b a r s how.Memory c w = tt
-whole files (withholds y) taken l0 l1 b a r s how.TooLong c w = tt
+-- a session begins on the tree that is given
+pub begun-given : {R : Type 0} (view : R → Tree) (g : FetchedFile) (tree : R) (x : Kept R) → Gives view g (Ok tree) → Follows view x (start (view tree)) → Begun view g (Ok x)
+begun-given view (gives t) tree x h f = subst (λ u. Follows view x (start u)) h f
+begun-given view (withholds v) tree x h f = absurd h
+
+pub refused-given : {R : Type 0} (view : R → Tree) (g : FetchedFile) (w : Why) → Gives view g (Err w) → Begun view g (Err w)
+refused-given view (gives t) w h = absurd h
+refused-given view (withholds v) w h = h
+
+-- ---- calls that run no session
+
+-- a start tree that is refused ends in few ways
+module _ (line : List ℕ) (o p : KnownOutput) where
+  not-ended : (e d : End) → e ≡ d → (RefusedStart line o p d → ⊥) → RefusedStart line o p e → ⊥
+  not-ended e d same never w = never (subst (λ z. RefusedStart line o p z) same w)
+
+  refused-end : (taken : List ℕ) (left : Option (List ℕ)) (e : End) → taken ≡ [] → RefusedStart line o p e → OnOk (result_of e) (IsAtEnd left ⊎ ((e ≡ how.Refused) × (taken ≡ [])))
+  refused-end taken left how.Done none w = absurd w
+  refused-end taken left how.Refused none w = inr (refl, none)
+  refused-end taken left how.Usage none w = tt
+  refused-end taken left how.Input none w = tt
+  refused-end taken left how.File none w = tt
+  refused-end taken left how.Output none w = tt
+  refused-end taken left how.Memory none w = tt
+  refused-end taken left how.TooLong none w = tt
+
+pub ran-refused : {R : Type 0} (view : R → Tree) (given : FileTable → FetchedFile) (k : ℕ) (y : Why) (i : KnownInput) (f fb : KnownFiles) (o p : KnownOutput) (e : End) → HasRead f fb k → ((t : FileTable) → IsTable t f fb → Begun view (given t) (Err y))
+    → RefusedStart (refused_start y) o p e → Ran given k (parts i f o) (parts i fb p) e
+ran-refused {R} view given k y i f fb o p e read begun w = record {
+  taken = [];
+  took = Consumes-nil i.left;
+  counted = omega arith;
+  too_much = (λ h. absurd (not-ended (refused_start y) o p e how.TooLong h (λ z. z) w), λ l. absurd (omega (arith, l)));
+  fitting = λ h. not-ended (refused_start y) o p e how.Usage h (λ z. z) w;
+  ended = refused-end (refused_start y) o p [] i.left e refl w;
+  did = λ files t. inr (did_from files (given files) (begun files t));
+}
+  where
+    did_from : (files : FileTable) (g : FetchedFile) → Begun view g (Err y) → DidFrom files g k [] (parts i f o) (parts i fb p) e
+    did_from files (gives t) b = absurd b
+    did_from files (withholds v) b = (refl, subst (λ z. RefusedStart (refused_start z) o p e) b w, λ h. read)
+
+-- a call that ran out of memory before it took a byte
+pub ran-out : (given : FileTable → FetchedFile) (k : ℕ) (i : KnownInput) (f fb : KnownFiles) (o p : KnownOutput) → WritesLast o p [] memory_line → Ran given k (parts i f o) (parts i fb p) how.Memory
+ran-out given k i f fb o p w = record {
+  taken = [];
+  took = Consumes-nil i.left;
+  counted = omega arith;
+  too_much = (λ h. absurd (cc), λ l. absurd (omega (arith, l)));
+  fitting = λ h. absurd (cc);
+  ended = tt;
+  did = λ files t. inr (did_from files (given files));
+}
+  where
+    did_from : (files : FileTable) (g : FetchedFile) → DidFrom files g k [] (parts i f o) (parts i fb p) how.Memory
+    did_from files (gives t) = inr (record { at = 0; within = omega arith; wrote = subst (λ z. WritesLast o p z memory_line) (sym (played-none files t)) w })
+    did_from files (withholds v) = (refl, inr w, λ h. absurd (cc))
+
+-- a call that was stopped before it took a byte
+pub ran-early : (given : FileTable → FetchedFile) (k : ℕ) (i : KnownInput) (f fb : KnownFiles) (o p : KnownOutput) (stop : Stop) → IsOwnStop stop → StopReads k f fb stop → WritesStop o p stop
+    → Ran given k (parts i f o) (parts i fb p) (end_of stop)
+ran-early given k i f fb o p Output own r w = absurd own
+ran-early given k i f fb o p Full own r w = absurd own
+ran-early given k i f fb o p File own r w = record {
+  taken = [];
+  took = Consumes-nil i.left;
+  counted = omega arith;
+  too_much = (λ h. absurd (cc), λ l. absurd (omega (arith, l)));
+  fitting = λ h. absurd (cc);
+  ended = tt;
+  did = λ files t. inl (refl, r.0, w, r.1);
+}
+ran-early given k i f fb o p Memory own r w = ran-out given k i f fb o p w
+
+-- ---- causes
+
+-- an end that isn't this one doesn't blame for it
+not-blamed : (d e : End) (m n : ℕ) → (e ≡ d → ⊥) → IfErr (result_of e) (λ z. z ≡ d → Rose m n)
+not-blamed d how.Done m n never = tt
+not-blamed d how.Refused m n never = tt
+not-blamed d how.Usage m n never = λ h. absurd (never h)
+not-blamed d how.Input m n never = λ h. absurd (never h)
+not-blamed d how.File m n never = λ h. absurd (never h)
+not-blamed d how.Output m n never = λ h. absurd (never h)
+not-blamed d how.Memory m n never = λ h. absurd (never h)
+not-blamed d how.TooLong m n never = λ h. absurd (never h)
+
+-- so a count that stayed has its account
+quiet : (d e : End) (m n : ℕ) → n ≡ m → (e ≡ d → ⊥) → Accounts (λ z. z ≡ d) m n (result_of e)
+quiet d e m n same never = record { later = omega (arith, same); blamed = not-blamed d e m n never; steady = on-ok (result_of e) same }
+
+-- the causes where a start tree is refused
+pub causes-refused : (line : List ℕ) (i : KnownInput) (f fb : KnownFiles) (o p : KnownOutput) (e : End) → fb.found ≡ f.found → fb.faults ≡ f.faults → RefusedStart line o p e → Accounts (λ z. z ≡ how.Output) o.faults p.faults (result_of e)
+    → HasCauses (parts i f o) (parts i fb p) e
+causes-refused line i f fb o p e found same w c = record {
+  input = quiet how.Input e i.faults i.faults refl (λ h. not-ended line o p e how.Input h (λ z. z) w);
+  world = record {
+    same = found;
+    files = quiet how.File e f.faults fb.faults same (λ h. not-ended line o p e how.File h (λ z. z) w);
+    output = c;
+  };
+}
+
+-- the causes where a call was stopped before it took a byte
+pub causes-early : (i : KnownInput) (f fb : KnownFiles) (o p : KnownOutput) (stop : Stop) → IsOwnStop stop → fb.found ≡ f.found → Accounts {T = ⊤} BlamesFiles f.faults fb.faults (Err stop) → o.faults ≤ p.faults → HasCauses (parts i f o) (parts i fb p) (end_of stop)
+causes-early i f fb o p Output own found a later = absurd own
+causes-early i f fb o p Full own found a later = absurd own
+causes-early i f fb o p File own found a later = record {
+  input = quiet how.Input how.File i.faults i.faults refl (λ h. absurd (cc));
+  world = record {
+    same = found;
+    files = record { later = a.later; blamed = λ h. a.blamed refl; steady = tt };
+    output = record { later = later; blamed = λ h. absurd (cc); steady = tt };
+  };
+}
+causes-early i f fb o p Memory own found a later = record {
+  input = quiet how.Input how.Memory i.faults i.faults refl (λ h. absurd (cc));
+  world = record {
+    same = found;
+    files = record { later = a.later; blamed = λ h. absurd (cc); steady = tt };
+    output = record { later = later; blamed = λ h. absurd (cc); steady = tt };
+  };
+}
+
+-- ---- whole calls
 
 -- where nothing failed and little came, the call ends with an answer
-pub complete : (taken : List ℕ) (l0 l1 : Option (List ℕ)) (e : End) (before now : Counts) → Consumes l0 l1 taken → Took 0 taken e → HasCauses before now e → IsShort l0 → IsFaultless before now → IsAnswer e
-complete taken l0 l1 how.Done before now w t c short calm = tt
-complete taken l0 l1 how.Refused before now w t c short calm = tt
-complete taken l0 l1 how.Usage before now w t c short calm = t
-complete taken l0 l1 how.Input before now w t c short calm = calm.input (c.input refl)
-complete taken l0 l1 how.File before now w t c short calm = calm.files (c.file refl)
-complete taken l0 l1 how.Output before now w t c short calm = calm.output (c.output refl)
-complete taken l0 l1 how.Memory before now w t c short calm = tt
-complete taken None l1 how.TooLong before now w t c short calm = short
-complete taken (Some all) None how.TooLong before now w t c short calm = w
-complete taken (Some all) (Some rest) how.TooLong before now w t c short calm =
-    let n : length all ≡ length taken + length rest = ap length w ∙ length-append taken rest in
-    absurd (omega (arith, t, n, short))
+complete : (given : FileTable → FetchedFile) (k : ℕ) (before now : Outside) (e : End) → Ran given k before now e → HasCauses before now e → IsShort before.input.left → IsFaultless before now → (e ≡ how.Done) ⊎ (e ≡ how.Refused) ⊎ (e ≡ how.Memory)
+complete given k before now how.Done w c short calm = inl refl
+complete given k before now how.Refused w c short calm = inr (inl refl)
+complete given k before now how.Usage w c short calm = absurd (w.fitting refl)
+complete given k before now how.Input w c short calm = absurd (calm.input (c.input.blamed refl))
+complete given k before now how.File w c short calm = absurd (calm.files (c.world.files.blamed refl))
+complete given k before now how.Output w c short calm = absurd (calm.output (c.world.output.blamed refl))
+complete given k before now how.Memory w c short calm = inr (inr refl)
+complete given k before now how.TooLong w c short calm = absurd (too_much before.input.left now.input.left w.took short)
+  where
+    too_much : (l m : Option (List ℕ)) → Consumes l m w.taken → IsShort l → ⊥
+    too_much None m t s = s
+    too_much (Some all) None t s = t
+    too_much (Some all) (Some rest) t s =
+        let n : length all ≡ length w.taken + length rest = ap length t ∙ length-append w.taken rest in
+        absurd (omega (arith, w.too_much.0 refl, n, s))
 
 -- a call with words that fit
-pub called : (start : Start) (found : Option FileTable) (l0 l1 b a : Option (List ℕ)) (r s : ℕ) (before now : Counts) (e : End) (code : ℕ) → code ≡ code_of e → RanAs found (λ files. start_given files start) l0 l1 b a r s e → HasCauses before now e
-    → Called (Some start) found l0 l1 b a r s before now code
-called start found l0 l1 b a r s before now e code n w c = record {
+pub called : (start : Start) (before now : Outside) (e : End) (code : ℕ) → code ≡ code_of e → Ran (λ files. start_given files start) (start_reads start) before now e → HasCauses before now e → Called (Some start) before now code
+called start before now e code n w c = record {
   end = e;
   number = n;
   ran = w;
-  whole = λ files told x is. (let same : start ≡ x = cc in subst (λ y. Whole files (start_given files y) l0 b a e) same (whole files (start_given files start) w.0 l0 l1 b a r s e w.1 (w.3 files told)));
-  complete = λ _ short calm. complete w.0 l0 l1 e before now w.1 w.2 c short calm;
+  complete = λ _ short calm. complete _ _ before now e w c short calm;
   causes = c;
 }
 
 -- a call with other words
-pub called-usage : (found : Option FileTable) (l b a : Option (List ℕ)) (r s i f o p : ℕ) (code : ℕ) → code ≡ 2 → WritesLast b a r s [] usage_text → o ≤ p → Called None found l l b a r s (counts i f o) (counts i f p) code
-called-usage found l b a r s i f o p code n w later = record {
+pub called-usage : (i : KnownInput) (f : KnownFiles) (o p : KnownOutput) (code : ℕ) → code ≡ 2 → WritesLast o p [] usage_text → o.faults ≤ p.faults → Called None (parts i f o) (parts i f p) code
+called-usage i f o p code n w later = record {
   end = how.Usage;
   number = n;
-  ran = (refl, refl, w);
-  whole = λ files told x is. absurd (cc);
+  ran = record { usage = refl; input = refl; files = refl; wrote = w };
   complete = λ is short calm. absurd (cc);
   causes = record {
-    in_later = omega arith;
-    file_later = omega arith;
-    out_later = later;
-    input = λ e. absurd (cc);
-    file = λ e. absurd (cc);
-    output = λ e. absurd (cc);
-    in_calm = tt;
-    file_calm = tt;
-    out_calm = tt;
+    input = record { later = omega arith; blamed = λ e. absurd (cc); steady = tt };
+    world = record {
+      same = refl;
+      files = record { later = omega arith; blamed = λ e. absurd (cc); steady = tt };
+      output = record { later = later; blamed = λ e. absurd (cc); steady = tt };
+    };
   };
 }
 

@@ -1,5 +1,5 @@
 -- What the program keeps of a session: the committed tree with its rows, and the open transaction.
-use Rattle.std.specs.Prelude.{ℕ, ◌≡◌, ◌+◌, ◌-◌, ◌≤◌, ◌^◌, ◌==◌, List, [], length, is_some, not, if◌then◌else◌, ⊤}
+use Rattle.std.specs.Prelude.{ℕ, ◌≡◌, ◌+◌, ◌-◌, ◌≤◌, ◌^◌, List, [], length, if◌then◌else◌, ⊤}
 use Rattle.std.specs.declared.option.Option.{Option}
 use Rattle.std.specs.declared.option.Option.TheVariants.{None, Some}
 use Rattle.cp_path.specs.declared.loc.Loc.{Loc}
@@ -11,11 +11,9 @@ use Rattle.cp_model.specs.Keyed.{len}
 use Rattle.cp_model.specs.History.{State, IsLegal, replay, load}
 use Rattle.cp_model.specs.declared.kind.Kind.TheVariants as kind
 use Rattle.cp_model.specs.declared.op.Op.{Op}
-use Rattle.cp_reply.specs.declared.reply.Why.{Why}
-use Rattle.cp_reply.specs.declared.reply.Why.TheVariants as why
 use Rattle.cp_reply.specs.declared.reply.Reply.{Reply}
 use Rattle.cp_reply.specs.declared.reply.Reply.TheVariants as reply
-use Rattle.cp_session.specs.Session.{Session, OpenTransaction, closed, going, failed, Turn, current_tree, is_closed, with_entry}
+use Rattle.cp_session.specs.Session.{Session, OpenTransaction, closed, going, failed, Turn, current_tree, with_entry}
 use Rattle.cp_engine.specs.Loaded.{sources_in}
 use Rattle.cp_engine.specs.Transactions as txn
 use Rattle.cp_engine.specs.declared.txn.Txn.{Txn}
@@ -87,14 +85,6 @@ pub record Makes {R : Type 0} (view : R → Tree) (d : Database R) (x : Step R) 
   pub ops : List Op
   pub opened : s.opened ≡ going ops
   pub step : txn.IsStep view stands.state.sources (tree_of stands.state.tree) (stands.state.now + 1) ops (2 ^ 64 - 1) x
-
--- why nothing is loaded under the name, whatever its file gives
-abbrev pub why_not_loaded : State → OpenTransaction → List ℕ → Option Why
-why_not_loaded t o n =
-    if not (is_closed o) then Some why.TransactionOpen
-    else if is_some (source t.sources n) then Some (why.SourceThere n)
-    else if length t.sources == SOURCES_MAX then Some why.TooManySources
-    else None
 
 -- the tree is kept as a source under the name, and the reply says so
 abbrev pub Loads : {R : Type 0} → (R → Tree) → Session → List ℕ → Tree → Database R → Reply → Type 0

@@ -1,5 +1,5 @@
 -- What a call replies: the session over its whole input.
-use Rattle.std.specs.Prelude.{ℕ, List, [], ◌∷◌, Bool, true, false, Result, Ok, Err, length, if◌then◌else◌}
+use Rattle.std.specs.Prelude.{ℕ, ◌+◌, List, [], ◌∷◌, Bool, true, false, Result, Ok, Err, length, if◌then◌else◌}
 use Rattle.std.specs.List.{flat_map, list_any}
 use Rattle.cp_model.specs.Place.{target}
 use Rattle.cp_model.specs.Keyed as keyed
@@ -8,6 +8,8 @@ use Rattle.cp_model.specs.declared.kind.Kind.TheVariants as kind
 use Rattle.cp_model.specs.declared.row.Content.TheVariants.{Node}
 use Rattle.cp_model.specs.declared.query.Form.TheVariants.{Json}
 use Rattle.cp_lang.specs.Cuts.{cuts_in, cuts_of}
+use Rattle.cp_lang.specs.declared.cut.Cut.{Cut}
+use Rattle.cp_lang.specs.declared.cut.Cut.TheVariants.{Text, TooLong, Unfinished}
 use Rattle.cp_lang.specs.Lexer.{tokens_of, first_offset}
 use Rattle.cp_lang.specs.Grammar.{bytes_reading}
 use Rattle.cp_lang.specs.declared.syntax_tree.Stmt.{Stmt}
@@ -22,10 +24,11 @@ use Rattle.cp_reply.specs.declared.reply.Why.{Why}
 use Rattle.cp_reply.specs.declared.reply.Why.TheVariants as why
 use Rattle.cp_reply.specs.declared.reply.Reply.{Reply}
 use Rattle.cp_reply.specs.declared.reply.Reply.TheVariants as reply
-use Rattle.cp_session.specs.Session.{TextReading, says, unread, Setting, FetchedFile, gives, Session, fresh, replies_to}
+use Rattle.cp_session.specs.Session.{TextReading, says, unread, Setting, FetchedFile, gives, Session, fresh, turn, replies_to}
 use Rattle.cp_outside.specs.FileReads.{FileTable}
 use Rattle.cp_program.specs.Words.{Start, alone, tree_in}
 use Rattle.cp_program.specs.Fetching.{fetch}
+use Rattle.cp_program.specs.Loads.{text_reads}
 
 -- ---- what a text says
 
@@ -37,15 +40,6 @@ is_run stmt.Abort = true
 is_run (stmt.Load l) = true
 is_run (stmt.Ask q) = is_answered q
 is_run (stmt.Show q) = true
-
--- a statement that reads a file
-abbrev pub is_load : Stmt → Bool
-is_load (stmt.Op op) = false
-is_load stmt.Commit = false
-is_load stmt.Abort = false
-is_load (stmt.Load l) = true
-is_load (stmt.Ask q) = false
-is_load (stmt.Show q) = false
 
 -- a statement of another kind is refused at its first token
 abbrev pub if_run : List ℕ → Stmt → TextReading
@@ -90,22 +84,41 @@ abbrev pub is_refusal : Reply → Bool
 is_refusal (reply.Refused o w) = true
 is_refusal r = false
 
--- what is written, and whether some line is a refusal
-pub record Ended : Type 0 where
+-- how many files a cut reads
+abbrev pub cut_reads : Session → Cut → ℕ
+cut_reads s (Text text) = text_reads s (reading text)
+cut_reads s TooLong = 0
+cut_reads s (Unfinished text) = 0
+
+-- how many files cuts read, one after another
+unfoldable pub reads_in : Setting → Session → List Cut → ℕ
+reads_in c s [] = 0
+reads_in c s (x ∷ xs) = cut_reads s x + reads_in c (turn c s x).next xs
+
+-- what is written, whether some line is a refusal, and how many files are read
+pub record Report : Type 0 where
   pub out : List ℕ
   pub refused : Bool
+  pub reads : ℕ
 
--- the lines of the replies
-abbrev pub output_of : List Reply → Ended
-output_of rs = record { out = flat_map lines rs; refused = list_any is_refusal rs }
+-- what cuts do, with these files
+abbrev pub report_of : FileTable → Session → List Cut → Report
+report_of files s cuts =
+    let replies = replies_to (setting files) s cuts in
+    record { out = flat_map lines replies; refused = list_any is_refusal replies; reads = reads_in (setting files) s cuts }
 
--- the statements that end in these bytes, with these files and this start tree
-unfoldable pub output_so_far : FileTable → Tree → List ℕ → Ended
-output_so_far files t bytes = output_of (replies_to (setting files) (begun_session t) (cuts_in bytes))
+-- what the statements do that end in these bytes, with these files and this start tree
+unfoldable pub job_so_far : FileTable → Tree → List ℕ → Report
+job_so_far files t bytes = report_of files (begun_session t) (cuts_in bytes)
 
--- all statements of a whole input
-unfoldable pub job : FileTable → Tree → List ℕ → Ended
-job files t bytes = output_of (replies_to (setting files) (begun_session t) (cuts_of bytes))
+-- what all statements of a whole input do
+unfoldable pub job : FileTable → Tree → List ℕ → Report
+job files t bytes = report_of files (begun_session t) (cuts_of bytes)
+
+-- how many files are read for the start tree
+abbrev pub start_reads : Start → ℕ
+start_reads alone = 0
+start_reads (tree_in file) = 1
 
 -- the line of a start tree that is refused
 abbrev pub refused_start : Why → List ℕ

@@ -1,10 +1,10 @@
 -- A session between two bytes of its input, and what the next bytes bring.
 use Rattle.std.specs.Prelude.{ℕ, List, ◌++◌}
 use Rattle.cp_lang.specs.Cuts.{Scan, scan_start, scan_bytes, rest_of}
-use Rattle.cp_session.specs.Session.{Session, replies_to, session_after}
+use Rattle.cp_session.specs.Session.{Session, session_after}
 use Rattle.cp_model.specs.Tree.{Tree}
 use Rattle.cp_outside.specs.FileReads.{FileTable}
-use Rattle.cp_program.specs.Job.{Ended, output_of, setting, begun_session}
+use Rattle.cp_program.specs.Job.{Report, report_of, setting, begun_session}
 
 -- the bytes since the last statement's end, and the state of the session
 pub record Seen : Type 0 where
@@ -15,18 +15,18 @@ pub record Seen : Type 0 where
 abbrev pub start : Tree → Seen
 start t = record { scan = scan_start; session = begun_session t }
 
--- what the cuts that end in the next bytes write
-unfoldable pub plays : FileTable → Seen → List ℕ → Ended
-plays files s bytes = output_of (replies_to (setting files) s.session (scan_bytes s.scan bytes).cuts)
+-- what the cuts that end in the next bytes do
+unfoldable pub plays : FileTable → Seen → List ℕ → Report
+plays files s bytes = report_of files s.session (scan_bytes s.scan bytes).cuts
 
 -- what is seen then
 unfoldable pub after_play : FileTable → Seen → List ℕ → Seen
 after_play files s bytes = record { scan = (scan_bytes s.scan bytes).scan; session = session_after (setting files) s.session (scan_bytes s.scan bytes).cuts }
 
--- what the cut at the end of the input writes
-unfoldable pub closes : FileTable → Seen → Ended
-closes files s = output_of (replies_to (setting files) s.session (rest_of s.scan))
+-- what the cut at the end of the input does
+unfoldable pub closes : FileTable → Seen → Report
+closes files s = report_of files s.session (rest_of s.scan)
 
--- what all the rest of an input writes
-unfoldable pub plays_all : FileTable → Seen → List ℕ → Ended
-plays_all files s bytes = output_of (replies_to (setting files) s.session ((scan_bytes s.scan bytes).cuts ++ rest_of (scan_bytes s.scan bytes).scan))
+-- what all the rest of an input does
+unfoldable pub plays_all : FileTable → Seen → List ℕ → Report
+plays_all files s bytes = report_of files s.session ((scan_bytes s.scan bytes).cuts ++ rest_of (scan_bytes s.scan bytes).scan)

@@ -1,7 +1,7 @@
 -- What the code made of the words.
 use Rattle.cp_program.specs.Words.{Start, alone, tree_in}
-use Rattle.cp_program.specs.declared.run.Start.{Start as Kept}
-use Rattle.cp_program.specs.declared.run.Start.TheVariants.{Alone, TreeIn}
+use Rattle.cp_program.specs.declared.command.Start.{Start as Kept}
+use Rattle.cp_program.specs.declared.command.Start.TheVariants.{Alone, TreeIn}
 
 -- what a session starts from
 abbrev pub start_asked : Kept → Start

@@ -1,171 +1,191 @@
--- What a call did to its input and its output, by how it ended.
+-- What a call did to the outside, by how it ended.
 use Rattle.cp_program.specs.declared.limits.TheConstants.{INPUT_MAX, PIECE_MAX}
-use Rattle.std.specs.Prelude.{◌≡◌, ◌⊎◌, ℕ, ◌≤◌, ◌<◌, ◌+◌, List, [], ◌++◌, length, take, true, false, is_some, ⊤}
+use Rattle.std.specs.Prelude.{◌≡◌, ◌⊎◌, ◌↔◌, ℕ, ◌≤◌, ◌<◌, ◌+◌, List, [], ◌++◌, length, take, Bool, true, false, is_some, Result, Ok, Err, ⊤, OnOk}
 use Rattle.std.specs.declared.option.Option.{Option}
 use Rattle.std.specs.declared.option.Option.TheVariants.{None, Some}
 use Rattle.std.specs.Io.KnownBytes.{Appends, Consumes, IsAtEnd}
-use Rattle.cp_outside.specs.Causes.{Rose}
+use Rattle.cp_outside.specs.Causes.{Accounts, Rose}
 use Rattle.cp_outside.specs.FileReads.{FileTable}
 use Rattle.cp_outside.specs.Sinks.{TakesPart}
+use Rattle.cp_model.specs.Tree.{Tree}
 use Rattle.cp_session.specs.Session.{FetchedFile, gives, withholds}
 use Rattle.cp_program.specs.Words.{Start, usage_text, input_line, file_line, memory_line, too_long_line}
-use Rattle.cp_program.specs.Job.{Ended, start_given, output_so_far, job, refused_start}
+use Rattle.cp_program.specs.Job.{Report, start_given, start_reads, job_so_far, job, refused_start}
+use Rattle.cp_program.specs.Outside.{KnownOutput, World, Outside, world_of, HasRead, IsTable}
 use Rattle.cp_program.specs.Ends.{code_of}
 use Rattle.cp_program.specs.declared.end.End.{End}
 use Rattle.cp_program.specs.declared.end.End.TheVariants as how
 
--- The output took these bytes and then the last line, which is whole unless the output refused a write.
-abbrev pub WritesLast : Option (List ℕ) → Option (List ℕ) → ℕ → ℕ → List ℕ → List ℕ → Type 0
-WritesLast before after refusals_before refusals bytes last =
-    Appends before after (bytes ++ last) ⊎ (Rose refusals_before refusals × (n : ℕ) × (n ≤ length last) × Appends before after (bytes ++ take n last))
+-- ---- what was written
 
--- How many bytes of the input were taken behind so many others: more than a call takes exactly at that end.
-abbrev pub Took : ℕ → List ℕ → End → Type 0
-Took count taken how.Done = count + length taken ≤ INPUT_MAX
-Took count taken how.Refused = count + length taken ≤ INPUT_MAX
-Took count taken how.Usage = ⊥
-Took count taken how.Input = count + length taken ≤ INPUT_MAX
-Took count taken how.File = count + length taken ≤ INPUT_MAX
-Took count taken how.Output = count + length taken ≤ INPUT_MAX
-Took count taken how.Memory = count + length taken ≤ INPUT_MAX
-Took count taken how.TooLong = INPUT_MAX < count + length taken
+-- These bytes were written, and no write was refused.
+abbrev pub Writes : KnownOutput → KnownOutput → List ℕ → Type 0
+Writes before now bytes = (now.refusals ≡ before.refusals) × Appends before.contents now.contents bytes
 
--- What the output took, by how the call ended, where these bytes of the input were taken. `plays` gives what the
--- statements that end in bytes write, and `plays_all` what a whole input's do.
-abbrev pub Wrote : (List ℕ → Ended) → (List ℕ → Ended) → ℕ → List ℕ → Option (List ℕ) → Option (List ℕ) → Option (List ℕ) → ℕ → ℕ → End → Type 0
--- all statements were run, up to the end of the input, and none was refused
-Wrote plays plays_all count taken left before after r s how.Done = IsAtEnd left × ((plays_all taken).refused ≡ false) × Appends before after (plays_all taken).out
--- all statements were run, up to the end of the input, and some line refuses one
-Wrote plays plays_all count taken left before after r s how.Refused = IsAtEnd left × ((plays_all taken).refused ≡ true) × Appends before after (plays_all taken).out
-Wrote plays plays_all count taken left before after r s how.Usage = ⊥
--- each statement that ends in what was taken was run
-Wrote plays plays_all count taken left before after r s how.Input = WritesLast before after r s (plays taken).out input_line
--- each statement that ends in a front part of the bytes was run
-Wrote plays plays_all count taken left before after r s how.File = (k : ℕ) × (k ≤ length taken) × WritesLast before after r s (plays (take k taken)).out file_line
--- a front part was written, and nothing more
-Wrote plays plays_all count taken left before after r s how.Output = TakesPart before after (plays_all taken).out
--- the output itself had no memory, or each statement that ends in a front part of the bytes was run
-Wrote plays plays_all count taken left before after r s how.Memory =
-    (Rose r s × TakesPart before after (plays_all taken).out) ⊎ ((k : ℕ) × (k ≤ length taken) × WritesLast before after r s (plays (take k taken)).out memory_line)
--- each statement that ends in all but the last piece was run
-Wrote plays plays_all count taken left before after r s how.TooLong =
-    (k : ℕ) × (count + k ≤ INPUT_MAX) × (length taken ≤ k + PIECE_MAX) × WritesLast before after r s (plays (take k taken)).out too_long_line
+-- A write was refused, and a front part of these bytes was taken before it.
+abbrev pub StopsIn : KnownOutput → KnownOutput → List ℕ → Type 0
+StopsIn before now bytes = Rose before.refusals now.refusals × TakesPart before.contents now.contents bytes
 
--- What the output took where the start tree is refused by this line.
-abbrev pub WroteRefusal : List ℕ → Option (List ℕ) → Option (List ℕ) → ℕ → ℕ → End → Type 0
-WroteRefusal line before after r s how.Done = ⊥
-WroteRefusal line before after r s how.Refused = Appends before after line
-WroteRefusal line before after r s how.Usage = ⊥
-WroteRefusal line before after r s how.Input = ⊥
-WroteRefusal line before after r s how.File = WritesLast before after r s [] file_line
-WroteRefusal line before after r s how.Output = TakesPart before after line
-WroteRefusal line before after r s how.Memory = (Rose r s × TakesPart before after line) ⊎ WritesLast before after r s [] memory_line
-WroteRefusal line before after r s how.TooLong = ⊥
+-- These bytes were written and then the last line; or a write of the last line was refused, of which less than all was taken.
+abbrev pub WritesLast : KnownOutput → KnownOutput → List ℕ → List ℕ → Type 0
+WritesLast before now bytes last =
+    Writes before now (bytes ++ last)
+    ⊎ (Rose before.refusals now.refusals × (n : ℕ) × (n < length last) × Appends before.contents now.contents (bytes ++ take n last))
 
--- The session from the start tree, or the line that refuses it, of which nothing of the input is taken.
-abbrev pub WroteFrom : FileTable → FetchedFile → List ℕ → Option (List ℕ) → Option (List ℕ) → Option (List ℕ) → ℕ → ℕ → End → Type 0
-WroteFrom files (gives t) taken left before after r s status = Wrote (output_so_far files t) (job files t) 0 taken left before after r s status
-WroteFrom files (withholds w) taken left before after r s status = (taken ≡ []) × WroteRefusal (refused_start w) before after r s status
+-- ---- what a session did
 
--- Some bytes of the input were taken, and where the files are told the session from the start tree wrote what it writes for them.
-abbrev pub RanAs : Option FileTable → (FileTable → FetchedFile) → Option (List ℕ) → Option (List ℕ) → Option (List ℕ) → Option (List ℕ) → ℕ → ℕ → End → Type 0
-RanAs found given left_before left before after r s status =
-    (taken : List ℕ) × Consumes left_before left taken × Took 0 taken status
-    × ((files : FileTable) → found ≡ Some files → WroteFrom files (given files) taken left before after r s status)
+-- What a session does for bytes of its input: for those that came so far, and for all of a whole input.
+pub record Work : Type 0 where
+  pub so_far : List ℕ → Report
+  pub whole : List ℕ → Report
 
--- The call: with words that fit, some bytes of the input were taken, and where the files are told the output took
--- what the session writes for them; with other words the usage was written and nothing taken.
-abbrev pub Ran : Option Start → Option FileTable → Option (List ℕ) → Option (List ℕ) → Option (List ℕ) → Option (List ℕ) → ℕ → ℕ → End → Type 0
-Ran (Some start) found left_before left before after r s status = RanAs found (λ files. start_given files start) left_before left before after r s status
-Ran None found left_before left before after r s status = (status ≡ how.Usage) × (left ≡ left_before) × WritesLast before after r s [] usage_text
+-- All statements of the input were run, and some line refuses one, or none does.
+pub record AllDone (work : Work) (taken : List ℕ) (before now : Outside) (refused : Bool) : Type 0 where
+  pub refused_is : (work.whole taken).refused ≡ refused
+  pub wrote : Writes before.output now.output (work.whole taken).out
+  pub read : HasRead before.files now.files (work.whole taken).reads
 
--- Where the start tree is refused by this line, it is all that is written.
-abbrev pub TellsRefusal : List ℕ → Option (List ℕ) → Option (List ℕ) → End → Type 0
-TellsRefusal line before after how.Done = ⊥
-TellsRefusal line before after how.Refused = Appends before after line
-TellsRefusal line before after how.Usage = ⊤
-TellsRefusal line before after how.Input = ⊤
-TellsRefusal line before after how.File = ⊤
-TellsRefusal line before after how.Output = ⊤
-TellsRefusal line before after how.Memory = ⊤
-TellsRefusal line before after how.TooLong = ⊤
+-- The output refused a write of what is written for the bytes; of what is written for the input's end only where it has ended.
+abbrev pub OutputStopped : Work → List ℕ → Outside → Outside → Type 0
+OutputStopped work taken before now =
+    StopsIn before.output now.output (work.so_far taken).out
+    ⊎ (IsAtEnd now.input.left × StopsIn before.output now.output (work.whole taken).out)
 
--- Where the input is told, all of it has its replies.
-abbrev pub Whole : FileTable → FetchedFile → Option (List ℕ) → Option (List ℕ) → Option (List ℕ) → End → Type 0
-Whole files (gives t) None before after status = ⊤
-Whole files (gives t) (Some all) before after how.Done = ((job files t all).refused ≡ false) × Appends before after (job files t all).out
-Whole files (gives t) (Some all) before after how.Refused = ((job files t all).refused ≡ true) × Appends before after (job files t all).out
-Whole files (gives t) (Some all) before after how.Usage = ⊤
-Whole files (gives t) (Some all) before after how.Input = ⊤
-Whole files (gives t) (Some all) before after how.File = ⊤
-Whole files (gives t) (Some all) before after how.Output = ⊤
-Whole files (gives t) (Some all) before after how.Memory = ⊤
-Whole files (gives t) (Some all) before after how.TooLong = ⊤
-Whole files (withholds w) left before after status = TellsRefusal (refused_start w) before after status
+-- A file failed: that of the load that ends with the next byte. All lines before it were written, and the last line.
+pub record FileFailed (work : Work) (taken : List ℕ) (before now : Outside) : Type 0 where
+  pub at : ℕ
+  pub inside : at < length taken
+  pub load : (work.so_far (take (at + 1) taken)).reads ≡ (work.so_far (take at taken)).reads + 1
+  pub wrote : WritesLast before.output now.output (work.so_far (take at taken)).out file_line
+  pub read : HasRead before.files now.files ((work.so_far (take at taken)).reads + 1)
 
--- At most so many bytes are there to come.
+-- Memory ran out: all lines before some byte were written, and the last line.
+pub record MemoryRanOut (work : Work) (taken : List ℕ) (before now : Outside) : Type 0 where
+  pub at : ℕ
+  pub within : at ≤ length taken
+  pub wrote : WritesLast before.output now.output (work.so_far (take at taken)).out memory_line
+
+-- The input failed: all lines for what was taken were written, and the last line.
+pub record InputFailed (work : Work) (taken : List ℕ) (before now : Outside) : Type 0 where
+  pub wrote : WritesLast before.output now.output (work.so_far taken).out input_line
+  pub read : HasRead before.files now.files (work.so_far taken).reads
+
+-- Too much came, after so many bytes before these: all lines for all but the last piece were written, and the last line.
+pub record TooMuchCame (work : Work) (count : ℕ) (taken : List ℕ) (before now : Outside) : Type 0 where
+  pub at : ℕ
+  pub within : count + at ≤ INPUT_MAX
+  pub last_piece : length taken ≤ at + PIECE_MAX
+  pub wrote : WritesLast before.output now.output (work.so_far (take at taken)).out too_long_line
+  pub read : HasRead before.files now.files (work.so_far (take at taken)).reads
+
+-- What a session did that took these bytes, after so many others, by how it ended.
+abbrev pub Did : Work → ℕ → List ℕ → Outside → Outside → End → Type 0
+Did work count taken before now how.Done = AllDone work taken before now false
+Did work count taken before now how.Refused = AllDone work taken before now true
+Did work count taken before now how.Usage = ⊥
+Did work count taken before now how.Input = InputFailed work taken before now
+Did work count taken before now how.File = FileFailed work taken before now
+Did work count taken before now how.Output = OutputStopped work taken before now
+Did work count taken before now how.Memory = OutputStopped work taken before now ⊎ MemoryRanOut work taken before now
+Did work count taken before now how.TooLong = TooMuchCame work count taken before now
+
+-- ---- what a call did
+
+-- The same, after so many reads.
+abbrev pub after_reads : ℕ → Report → Report
+after_reads reads r = record r { reads = reads + r.reads }
+
+-- The session on this tree, for which so many files were read.
+abbrev pub work_on : FileTable → ℕ → Tree → Work
+work_on files reads t =
+    record {
+      so_far = λ bytes. after_reads reads (job_so_far files t bytes);
+      whole = λ bytes. after_reads reads (job files t bytes);
+    }
+
+-- What was written where the start tree is refused by this line: by how the call ended.
+abbrev pub RefusedStart : List ℕ → KnownOutput → KnownOutput → End → Type 0
+RefusedStart line before now how.Done = ⊥
+RefusedStart line before now how.Refused = Writes before now line
+RefusedStart line before now how.Usage = ⊥
+RefusedStart line before now how.Input = ⊥
+RefusedStart line before now how.File = ⊥
+RefusedStart line before now how.Output = StopsIn before now line
+RefusedStart line before now how.Memory = StopsIn before now line ⊎ WritesLast before now [] memory_line
+RefusedStart line before now how.TooLong = ⊥
+
+-- The file of the start tree failed, which is all that was read, and the last line was written.
+abbrev pub StartFailed : ℕ → Outside → Outside → End → Type 0
+StartFailed reads before now end = (end ≡ how.File) × (reads ≡ 1) × WritesLast before.output now.output [] file_line × HasRead before.files now.files 1
+
+-- The session from the start tree, for which so many files are read; or the line that refuses it. Nothing of the input is taken where there is no start tree.
+abbrev pub DidFrom : FileTable → FetchedFile → ℕ → List ℕ → Outside → Outside → End → Type 0
+DidFrom files (gives t) reads taken before now end = Did (work_on files reads t) 0 taken before now end
+DidFrom files (withholds w) reads taken before now end = (taken ≡ []) × RefusedStart (refused_start w) before.output now.output end × (end ≡ how.Refused → HasRead before.files now.files reads)
+
+-- The end as a result: all was done, or it is why not.
+abbrev pub result_of : End → Result ⊤ End
+result_of how.Done = Ok tt
+result_of how.Refused = Ok tt
+result_of how.Usage = Err how.Usage
+result_of how.Input = Err how.Input
+result_of how.File = Err how.File
+result_of how.Output = Err how.Output
+result_of how.Memory = Err how.Memory
+result_of how.TooLong = Err how.TooLong
+
+-- A call with words that fit took these bytes of the input: all of them where all was done, unless the start tree is refused; more than a call takes exactly at that end.
+-- Where a table says what each name names, as far as the call had to know it, it did what the session from the start tree does.
+pub record Ran (given : FileTable → FetchedFile) (reads : ℕ) (before now : Outside) (end : End) : Type 0 where
+  pub taken : List ℕ
+  pub took : Consumes before.input.left now.input.left taken
+  pub counted : now.input.given ≡ before.input.given + length taken
+  pub too_much : (end ≡ how.TooLong) ↔ (INPUT_MAX < length taken)
+  pub fitting : end ≡ how.Usage → ⊥
+  pub ended : OnOk (result_of end) (IsAtEnd now.input.left ⊎ ((end ≡ how.Refused) × (taken ≡ [])))
+  pub did : (files : FileTable) → IsTable files before.files now.files → StartFailed reads before now end ⊎ DidFrom files (given files) reads taken before now end
+
+-- With words that fit no row the usage was written, and neither the input nor a file was read.
+pub record WroteUsage (before now : Outside) (end : End) : Type 0 where
+  pub usage : end ≡ how.Usage
+  pub input : now.input ≡ before.input
+  pub files : now.files ≡ before.files
+  pub wrote : WritesLast before.output now.output [] usage_text
+
+-- The words, and what was done for them.
+abbrev pub RanAs : Option Start → Outside → Outside → End → Type 0
+RanAs None before now end = WroteUsage before now end
+RanAs (Some start) before now end = Ran (λ files. start_given files start) (start_reads start) before now end
+
+-- ---- causes
+
+-- The causes of an end in files and output: counts of faults never fall; an end blames the files or the output only where their count rose, and it stayed where all was done. The files are what they were.
+pub record WorldCauses (before now : World) (end : End) : Type 0 where
+  pub same : now.files.found ≡ before.files.found
+  pub files : Accounts (λ e. e ≡ how.File) before.files.faults now.files.faults (result_of end)
+  pub output : Accounts (λ e. e ≡ how.Output) before.output.faults now.output.faults (result_of end)
+
+-- The same of the input too.
+pub record HasCauses (before now : Outside) (end : End) : Type 0 where
+  pub input : Accounts (λ e. e ≡ how.Input) before.input.faults now.input.faults (result_of end)
+  pub world : WorldCauses (world_of before) (world_of now) end
+
+-- No count of faults has risen.
+pub record IsFaultless (before now : Outside) : Type 0 where
+  pub input : Rose before.input.faults now.input.faults → ⊥
+  pub files : Rose before.files.faults now.files.faults → ⊥
+  pub output : Rose before.output.faults now.output.faults → ⊥
+
+-- At most so many bytes are known to come.
 abbrev pub IsShort : Option (List ℕ) → Type 0
 IsShort None = ⊥
 IsShort (Some all) = length all ≤ INPUT_MAX
 
--- The ends of a run in which nothing failed.
-abbrev pub IsAnswer : End → Type 0
-IsAnswer how.Done = ⊤
-IsAnswer how.Refused = ⊤
-IsAnswer how.Usage = ⊥
-IsAnswer how.Input = ⊥
-IsAnswer how.File = ⊥
-IsAnswer how.Output = ⊥
-IsAnswer how.Memory = ⊤
-IsAnswer how.TooLong = ⊥
-
--- With the statuses 0 and 1 the count stayed.
-abbrev pub IsCalm : End → ℕ → ℕ → Type 0
-IsCalm how.Done before now = now ≡ before
-IsCalm how.Refused before now = now ≡ before
-IsCalm how.Usage before now = ⊤
-IsCalm how.Input before now = ⊤
-IsCalm how.File before now = ⊤
-IsCalm how.Output before now = ⊤
-IsCalm how.Memory before now = ⊤
-IsCalm how.TooLong before now = ⊤
-
--- how often the input, the files and the output have failed
-pub record Counts : Type 0 where
-  pub input : ℕ
-  pub files : ℕ
-  pub output : ℕ
-
--- these counts
-abbrev pub counts : ℕ → ℕ → ℕ → Counts
-counts i f o = record { input = i; files = f; output = o }
-
--- The counts of faults never fall, and an end blames the input, the files or the output only where its count rose; where all was done, or a statement was refused, none has.
-pub record HasCauses (before now : Counts) (status : End) : Type 0 where
-  pub in_later : before.input ≤ now.input
-  pub file_later : before.files ≤ now.files
-  pub out_later : before.output ≤ now.output
-  pub input : status ≡ how.Input → Rose before.input now.input
-  pub file : status ≡ how.File → Rose before.files now.files
-  pub output : status ≡ how.Output → Rose before.output now.output
-  pub in_calm : IsCalm status before.input now.input
-  pub file_calm : IsCalm status before.files now.files
-  pub out_calm : IsCalm status before.output now.output
-
--- no count has risen
-pub record IsFaultless (before now : Counts) : Type 0 where
-  pub input : Rose before.input now.input → ⊥
-  pub files : Rose before.files now.files → ⊥
-  pub output : Rose before.output now.output → ⊥
-
--- One call of the program, which ended so: the status is the end's number, and the output, the input and the causes are those of the end.
-pub record Called (start : Option Start) (found : Option FileTable) (left_before left before after : Option (List ℕ)) (r s : ℕ) (counts_before counts : Counts) (code : ℕ) : Type 0 where
+-- One call of the program: it ended in some way, whose number the status is, and what it did and the causes are those of this end.
+pub record Called (start : Option Start) (before now : Outside) (code : ℕ) : Type 0 where
   pub end : End
   pub number : code ≡ code_of end
-  -- what was taken, and what was written for it
-  pub ran : Ran start found left_before left before after r s end
-  -- where files and input are told and all was done, the output is the job's, whole
-  pub whole : (files : FileTable) → found ≡ Some files → (x : Start) → start ≡ Some x → Whole files (start_given files x) left_before before after end
-  -- where nothing failed and not too much comes, the end is an answer
-  pub complete : is_some start ≡ true → IsShort left_before → IsFaultless counts_before counts → IsAnswer end
-  pub causes : HasCauses counts_before counts end
+  pub ran : RanAs start before now end
+  -- where the words fit, nothing failed and not too much comes, the end is an answer, or memory ran out
+  pub complete : is_some start ≡ true → IsShort before.input.left → IsFaultless before now → (end ≡ how.Done) ⊎ (end ≡ how.Refused) ⊎ (end ≡ how.Memory)
+  pub causes : HasCauses before now end

@@ -1,9 +1,9 @@
--- What the steps of a session did to its output: for the program's own clauses.
-use Rattle.std.specs.Prelude.{◌≡◌, ◌⊎◌, ℕ, ◌≤◌, ◌+◌, List, [], length, take, Bool, true, false, ◌||◌, Result, Ok, Err, ⊤, OnOk, IsErrOf}
+-- What the steps of a session did to files and output: for the program's own clauses.
+use Rattle.cp_program.specs.declared.limits.TheConstants.{INPUT_MAX}
+use Rattle.std.specs.Prelude.{◌≡◌, ◌⊎◌, ◌↔◌, ℕ, ◌≤◌, ◌<◌, ◌+◌, List, [], length, take, Bool, true, false, ◌||◌, Result, Ok, Err, ⊤, OnOk}
 use Rattle.std.specs.declared.option.Option.{Option}
-use Rattle.std.specs.declared.option.Option.TheVariants.{Some}
-use Rattle.std.specs.Io.KnownBytes.{Appends, Consumes}
-use Rattle.cp_outside.specs.Causes.{Rose}
+use Rattle.std.specs.Io.KnownBytes.{Appends, Consumes, IsAtEnd}
+use Rattle.cp_outside.specs.Causes.{Accounts, Rose}
 use Rattle.cp_outside.specs.FileReads.{FileTable}
 use Rattle.cp_outside.specs.Sinks.{TakesPart}
 use Rattle.cp_lang.specs.CutterState.{held_of}
@@ -11,23 +11,24 @@ use Rattle.cp_lang.specs.declared.cut.Cut.{Cut}
 use Rattle.cp_lang.specs.declared.syntax_tree.Stmt.{Stmt}
 use Rattle.cp_lang.specs.Written.{IsWrittenStmt}
 use Rattle.cp_reply.specs.declared.reply.Why.{Why}
-use Rattle.cp_session.specs.Session.{says, unread, replies_to, session_after}
+use Rattle.cp_session.specs.Session.{says, unread, session_after, FetchedFile, gives, withholds}
 use Rattle.cp_program.specs.Words.{memory_line, file_line}
-use Rattle.cp_program.specs.Job.{Ended, output_of, setting, is_run, reading}
-use Rattle.cp_program.specs.Play.{Seen, plays, after_play, closes, plays_all}
+use Rattle.cp_program.specs.Job.{Report, report_of, setting, is_run, reading}
+use Rattle.cp_program.specs.Play.{Seen, start, plays, after_play, closes, plays_all}
 use Rattle.cp_model.specs.Tree.{Tree}
 use Rattle.cp_program.specs.Databases.{Stands}
+use Rattle.cp_program.specs.Outside.{KnownFiles, KnownOutput, World, Outside, world_of, HasRead, HasReadSome, IsTable}
+use Rattle.cp_program.specs.Story.{Writes, StopsIn, WritesLast, Work, Did, result_of}
 use Rattle.cp_program.specs.declared.session.Session.{Session as Kept}
-use Rattle.cp_program.specs.Story.{WritesLast, Took, Wrote}
 use Rattle.cp_program.specs.declared.end.End.{End}
 use Rattle.cp_program.specs.declared.end.End.TheVariants as how
 use Rattle.cp_program.specs.declared.stop.Stop.{Stop}
 use Rattle.cp_program.specs.declared.stop.Stop.TheVariants.{Output, Full, File, Memory}
 
 -- What the code made of a text: a statement that is run, or why it is refused.
-abbrev pub Reads : List ℕ → Result Stmt Why → Type 0
-Reads text (Ok s) = (reading text ≡ says s) × (is_run s ≡ true) × IsWrittenStmt s
-Reads text (Err w) = reading text ≡ unread w
+abbrev pub SaysAs : List ℕ → Result Stmt Why → Type 0
+SaysAs text (Ok s) = (reading text ≡ says s) × (is_run s ≡ true) × IsWrittenStmt s
+SaysAs text (Err w) = reading text ≡ unread w
 
 -- the code stands where the session does
 abbrev pub Follows : {R : Type 0} → (R → Tree) → Kept R → Seen → Type 0
@@ -37,126 +38,190 @@ Follows view x s = (x.cutter ≡ held_of s.scan) × Stands view x.database s.ses
 abbrev pub FollowsOne : {R : Type 0} → (R → Tree) → Kept R → Type 0
 FollowsOne view x = (s : Seen) × Follows view x s
 
--- Bytes were written; or the output refused a write; or nothing was written.
-abbrev pub Written : List ℕ → Option (List ℕ) → Option (List ℕ) → Result ⊤ Stop → Type 0
-Written text before after (Ok x) = Appends before after text
-Written text before after (Err Output) = TakesPart before after text
-Written text before after (Err Full) = TakesPart before after text
-Written text before after (Err File) = Appends before after []
-Written text before after (Err Memory) = Appends before after []
+-- ---- what files and output say of a step that may stop the session
 
--- Lines were written, and the code follows what is seen then; or the output refused a write; or nothing was written.
-abbrev pub Goes : {R : Type 0} → (R → Tree) → Ended → Seen → Kept R → Kept R → Option (List ℕ) → Option (List ℕ) → Result ⊤ Stop → Type 0
-Goes view e next old new before after (Ok x) = Follows view new next × (new.refused ≡ (old.refused || e.refused)) × Appends before after e.out
-Goes view e next old new before after (Err Output) = TakesPart before after e.out
-Goes view e next old new before after (Err Full) = TakesPart before after e.out
-Goes view e next old new before after (Err File) = Appends before after []
-Goes view e next old new before after (Err Memory) = Appends before after []
+-- the file failed
+abbrev pub BlamesFiles : Stop → Type 0
+BlamesFiles stop = stop ≡ File
 
--- what these cuts write
-abbrev pub cuts_play : FileTable → Seen → List Cut → Ended
-cuts_play files s cuts = output_of (replies_to (setting files) s.session cuts)
+-- the output failed
+abbrev pub BlamesOutput : Stop → Type 0
+BlamesOutput stop = stop ≡ Output
+
+-- The files are what they were, and are blamed only where their count rose, which stays where nothing stopped.
+pub record UsesFiles {T : Type 0} (before now : KnownFiles) (result : Result T Stop) : Type 0 where
+  pub same : now.found ≡ before.found
+  pub account : Accounts BlamesFiles before.faults now.faults result
+
+-- So many files were to be read: where a file failed it was the one; where memory ran out, before or after it, some number was read.
+abbrev pub StopReads : ℕ → KnownFiles → KnownFiles → Stop → Type 0
+StopReads n before now Output = HasRead before now n
+StopReads n before now Full = HasRead before now n
+StopReads n before now File = (n ≡ 1) × HasRead before now 1
+StopReads n before now Memory = HasReadSome before now
+
+-- So many files were read, or are to be where the step stopped.
+abbrev pub Reads : {T : Type 0} → ℕ → KnownFiles → KnownFiles → Result T Stop → Type 0
+Reads n before now (Ok x) = HasRead before now n
+Reads n before now (Err stop) = StopReads n before now stop
+
+-- the stop of a step that writes nothing
+abbrev pub IsOwnStop : Stop → Type 0
+IsOwnStop Output = ⊥
+IsOwnStop Full = ⊥
+IsOwnStop File = ⊤
+IsOwnStop Memory = ⊤
+
+-- nothing was written, so that the output stopped nothing
+abbrev pub IsOwn : {T : Type 0} → Result T Stop → Type 0
+IsOwn (Ok x) = ⊤
+IsOwn (Err stop) = IsOwnStop stop
+
+-- The output refused a write exactly where it stopped the session.
+abbrev pub StopRefuses : ℕ → ℕ → Stop → Type 0
+StopRefuses before now Output = Rose before now
+StopRefuses before now Full = Rose before now
+StopRefuses before now File = now ≡ before
+StopRefuses before now Memory = now ≡ before
+
+-- It refused none where nothing stopped.
+abbrev pub Refuses : {T : Type 0} → ℕ → ℕ → Result T Stop → Type 0
+Refuses before now (Ok x) = now ≡ before
+Refuses before now (Err stop) = StopRefuses before now stop
+
+-- The output is blamed only where its count rose, which stays where nothing stopped; and it refused a write exactly where it stopped the session.
+pub record UsesOutput (before now : KnownOutput) (result : Result ⊤ Stop) : Type 0 where
+  pub account : Accounts BlamesOutput before.faults now.faults result
+  pub refuses : Refuses before.refusals now.refusals result
+
+-- Files and output both.
+pub record Uses (before now : World) (result : Result ⊤ Stop) : Type 0 where
+  pub files : UsesFiles before.files now.files result
+  pub output : UsesOutput before.output now.output result
+
+-- ---- what was written
+
+-- Bytes were written; or the output stopped in them; or nothing was written.
+abbrev pub WritesOrStops : List ℕ → Option (List ℕ) → Option (List ℕ) → Result ⊤ Stop → Type 0
+WritesOrStops text before after (Ok x) = Appends before after text
+WritesOrStops text before after (Err Output) = TakesPart before after text
+WritesOrStops text before after (Err Full) = TakesPart before after text
+WritesOrStops text before after (Err File) = ⊥
+WritesOrStops text before after (Err Memory) = Appends before after []
+
+-- What is reported was written and read, and the code follows what is seen then; or the output stopped in it; or nothing was written, and a file that failed is the one that is read.
+abbrev pub Goes : {R : Type 0} → (R → Tree) → Report → Seen → Kept R → Kept R → World → World → Result ⊤ Stop → Type 0
+Goes view r next old new before now (Ok x) =
+    Follows view new next × (new.refused ≡ (old.refused || r.refused)) × Appends before.output.contents now.output.contents r.out × HasRead before.files now.files r.reads
+Goes view r next old new before now (Err Output) = TakesPart before.output.contents now.output.contents r.out
+Goes view r next old new before now (Err Full) = TakesPart before.output.contents now.output.contents r.out
+Goes view r next old new before now (Err File) = (r.reads ≡ 1) × Appends before.output.contents now.output.contents [] × HasRead before.files now.files 1
+Goes view r next old new before now (Err Memory) = Appends before.output.contents now.output.contents []
+
+-- what these cuts do
+abbrev pub cuts_play : FileTable → Seen → List Cut → Report
+cuts_play files s cuts = report_of files s.session cuts
 
 -- the session behind these cuts
 abbrev pub after_cuts : FileTable → Seen → List Cut → Seen
 after_cuts files s cuts = record { scan = s.scan; session = session_after (setting files) s.session cuts }
 
+-- a file failed at the load that ends with the byte at this position: all before it was written and read
+pub record StopsAtLoad (files : FileTable) (s : Seen) (bytes : List ℕ) (before now : World) : Type 0 where
+  pub at : ℕ
+  pub inside : at < length bytes
+  pub load : (plays files s (take (at + 1) bytes)).reads ≡ (plays files s (take at bytes)).reads + 1
+  pub wrote : Appends before.output.contents now.output.contents (plays files s (take at bytes)).out
+  pub read : HasRead before.files now.files ((plays files s (take at bytes)).reads + 1)
+
 -- Bytes were played, or a front part of them where memory ran out or a file failed.
-abbrev pub Fed : {R : Type 0} → (R → Tree) → FileTable → Seen → List ℕ → Kept R → Kept R → Option (List ℕ) → Option (List ℕ) → Result ⊤ Stop → Type 0
-Fed view files s bytes old new before after (Ok x) = Goes view (plays files s bytes) (after_play files s bytes) old new before after (Ok x)
-Fed view files s bytes old new before after (Err Output) = TakesPart before after (plays files s bytes).out
-Fed view files s bytes old new before after (Err Full) = TakesPart before after (plays files s bytes).out
-Fed view files s bytes old new before after (Err File) = (k : ℕ) × (k ≤ length bytes) × Appends before after (plays files s (take k bytes)).out
-Fed view files s bytes old new before after (Err Memory) = (k : ℕ) × (k ≤ length bytes) × Appends before after (plays files s (take k bytes)).out
+abbrev pub Fed : {R : Type 0} → (R → Tree) → FileTable → Seen → List ℕ → Kept R → Kept R → World → World → Result ⊤ Stop → Type 0
+Fed view files s bytes old new before now (Ok x) = Goes view (plays files s bytes) (after_play files s bytes) old new before now (Ok x)
+Fed view files s bytes old new before now (Err Output) = TakesPart before.output.contents now.output.contents (plays files s bytes).out
+Fed view files s bytes old new before now (Err Full) = TakesPart before.output.contents now.output.contents (plays files s bytes).out
+Fed view files s bytes old new before now (Err File) = StopsAtLoad files s bytes before now
+Fed view files s bytes old new before now (Err Memory) = (k : ℕ) × (k ≤ length bytes) × Appends before.output.contents now.output.contents (plays files s (take k bytes)).out
 
--- The cut at the end of the input was run, and the code knows whether a refusal was written; or as with other lines.
-abbrev pub Closed : {R : Type 0} → FileTable → Seen → Kept R → Kept R → Option (List ℕ) → Option (List ℕ) → Result ⊤ Stop → Type 0
-Closed files s old new before after (Ok x) = (new.refused ≡ (old.refused || (closes files s).refused)) × Appends before after (closes files s).out
-Closed files s old new before after (Err Output) = TakesPart before after (closes files s).out
-Closed files s old new before after (Err Full) = TakesPart before after (closes files s).out
-Closed files s old new before after (Err File) = Appends before after []
-Closed files s old new before after (Err Memory) = Appends before after []
+-- The cut at the end of the input was run, and the code knows whether a refusal was written; or as with other lines. It reads no file.
+abbrev pub RunsLast : {R : Type 0} → FileTable → Seen → Kept R → Kept R → World → World → Result ⊤ Stop → Type 0
+RunsLast files s old new before now (Ok x) =
+    (new.refused ≡ (old.refused || (closes files s).refused)) × Appends before.output.contents now.output.contents (closes files s).out × HasRead before.files now.files 0
+RunsLast files s old new before now (Err Output) = TakesPart before.output.contents now.output.contents (closes files s).out
+RunsLast files s old new before now (Err Full) = TakesPart before.output.contents now.output.contents (closes files s).out
+RunsLast files s old new before now (Err File) = ⊥
+RunsLast files s old new before now (Err Memory) = Appends before.output.contents now.output.contents []
 
--- The output is blamed only where its count rose, which stays where nothing failed; and it has refused a write where it
--- stopped the session.
-pub record Blames (before now refusals_before refusals : ℕ) (result : Result ⊤ Stop) : Type 0 where
-  pub later : before ≤ now
-  pub output : IsErrOf result Output → Rose before now
-  pub steady : OnOk result (now ≡ before)
-  pub kept : refusals_before ≤ refusals
-  pub full : IsErrOf result Full → Rose refusals_before refusals
-
--- The files are blamed only where their count rose, which stays where nothing failed.
-pub record BlamesFiles {T : Type 0} (before now : ℕ) (result : Result T Stop) : Type 0 where
-  pub later : before ≤ now
-  pub file : IsErrOf result File → Rose before now
-  pub steady : OnOk result (now ≡ before)
-
--- nothing was written, so that the output stopped nothing
-abbrev pub IsOwn : {T : Type 0} → Result T Stop → Type 0
-IsOwn (Ok x) = ⊤
-IsOwn (Err Output) = ⊥
-IsOwn (Err Full) = ⊥
-IsOwn (Err File) = ⊤
-IsOwn (Err Memory) = ⊤
+-- ---- how a session ends
 
 -- the end of a call whose session stopped so
-abbrev pub status_of : Stop → End
-status_of Output = how.Output
-status_of Full = how.Memory
-status_of File = how.File
-status_of Memory = how.Memory
+abbrev pub end_of : Stop → End
+end_of Output = how.Output
+end_of Full = how.Memory
+end_of File = how.File
+end_of Memory = how.Memory
 
--- What the last line of a stop did: only want of memory and a file that failed have one.
-abbrev pub WroteLast : Option (List ℕ) → Option (List ℕ) → ℕ → ℕ → Stop → Type 0
-WroteLast before after r s Output = after ≡ before
-WroteLast before after r s Full = after ≡ before
-WroteLast before after r s File = WritesLast before after r s [] file_line
-WroteLast before after r s Memory = WritesLast before after r s [] memory_line
+-- The last line of a stop: only out of memory and a file that failed have one.
+abbrev pub WritesStop : KnownOutput → KnownOutput → Stop → Type 0
+WritesStop before now Output = now ≡ before
+WritesStop before now Full = now ≡ before
+WritesStop before now File = WritesLast before now [] file_line
+WritesStop before now Memory = WritesLast before now [] memory_line
 
--- what was written, where a refusal may have been written before
-abbrev pub with_refusal : Bool → Ended → Ended
-with_refusal refused e = record { out = e.out; refused = refused || e.refused }
+-- a report, where a refusal may have been written before
+abbrev pub with_refusal : Bool → Report → Report
+with_refusal refused r = record r { refused = refused || r.refused }
 
 -- the ends of a session whose input has ended
-abbrev pub IsClosing : End → Type 0
-IsClosing how.Done = ⊤
-IsClosing how.Refused = ⊤
-IsClosing how.Usage = ⊥
-IsClosing how.Input = ⊥
-IsClosing how.File = ⊤
-IsClosing how.Output = ⊤
-IsClosing how.Memory = ⊤
-IsClosing how.TooLong = ⊥
+pub record IsClosing (end : End) : Type 0 where
+  pub fitting : end ≡ how.Usage → ⊥
+  pub input : end ≡ how.Input → ⊥
+  pub too_much : end ≡ how.TooLong → ⊥
+
+-- the work of a session that stands at s, and maybe wrote a refusal
+abbrev pub work_from : FileTable → Seen → Bool → Work
+work_from files s refused = record { so_far = λ bytes. plays files s bytes; whole = λ bytes. with_refusal refused (plays_all files s bytes) }
 
 -- The session is over.
-abbrev pub Closes : FileTable → Seen → Bool → Option (List ℕ) → Option (List ℕ) → ℕ → ℕ → End → Type 0
-Closes files s refused before after r t how.Done = ((refused || (closes files s).refused) ≡ false) × Appends before after (closes files s).out
-Closes files s refused before after r t how.Refused = ((refused || (closes files s).refused) ≡ true) × Appends before after (closes files s).out
-Closes files s refused before after r t how.Usage = ⊥
-Closes files s refused before after r t how.Input = ⊥
-Closes files s refused before after r t how.File = WritesLast before after r t [] file_line
-Closes files s refused before after r t how.Output = TakesPart before after (closes files s).out
-Closes files s refused before after r t how.Memory = (Rose r t × TakesPart before after (closes files s).out) ⊎ WritesLast before after r t [] memory_line
-Closes files s refused before after r t how.TooLong = ⊥
-
--- What a session wrote that stands at s, after so many bytes and maybe a refusal.
-abbrev pub WroteOn : FileTable → Seen → Bool → ℕ → List ℕ → Option (List ℕ) → Option (List ℕ) → Option (List ℕ) → ℕ → ℕ → End → Type 0
-WroteOn files s refused count = Wrote (plays files s) (λ bytes. with_refusal refused (plays_all files s bytes)) count
+abbrev pub Closes : FileTable → Seen → Bool → World → World → End → Type 0
+Closes files s refused before now how.Done = ((refused || (closes files s).refused) ≡ false) × Writes before.output now.output (closes files s).out × HasRead before.files now.files 0
+Closes files s refused before now how.Refused = ((refused || (closes files s).refused) ≡ true) × Writes before.output now.output (closes files s).out × HasRead before.files now.files 0
+Closes files s refused before now how.Usage = ⊥
+Closes files s refused before now how.Input = ⊥
+Closes files s refused before now how.File = ⊥
+Closes files s refused before now how.Output = StopsIn before.output now.output (closes files s).out
+Closes files s refused before now how.Memory = StopsIn before.output now.output (closes files s).out ⊎ WritesLast before.output now.output [] memory_line
+Closes files s refused before now how.TooLong = ⊥
 
 -- The session of x, after so many bytes, ran to this end.
-abbrev pub RanFrom : {R : Type 0} → (R → Tree) → Option FileTable → Kept R → ℕ → Option (List ℕ) → Option (List ℕ) → Option (List ℕ) → Option (List ℕ) → ℕ → ℕ → End → Type 0
-RanFrom view found x count left_before left before after r t status =
-    (taken : List ℕ) × Consumes left_before left taken × Took count taken status
-    × ((files : FileTable) → found ≡ Some files → (s : Seen) → Follows view x s → WroteOn files s x.refused count taken left before after r t status)
+pub record RanFrom {R : Type 0} (view : R → Tree) (x : Kept R) (count : ℕ) (before now : Outside) (end : End) : Type 0 where
+  pub taken : List ℕ
+  pub took : Consumes before.input.left now.input.left taken
+  pub counted : now.input.given ≡ before.input.given + length taken
+  pub too_much : (end ≡ how.TooLong) ↔ (INPUT_MAX < count + length taken)
+  pub fitting : end ≡ how.Usage → ⊥
+  pub ended : OnOk (result_of end) (IsAtEnd now.input.left)
+  pub did : (files : FileTable) → IsTable files before.files now.files → (s : Seen) → Follows view x s → Did (work_from files s x.refused) count taken before now end
 
 -- The next bytes were taken and played.
-abbrev pub Turned : {R : Type 0} → (R → Tree) → Option FileTable → Kept R → Kept R → ℕ → ℕ → Option (List ℕ) → Option (List ℕ) → Option (List ℕ) → Option (List ℕ) → Type 0
-Turned view found old new count now left_before left before after =
-    (bytes : List ℕ) × Consumes left_before left bytes × (now ≡ count + length bytes)
-    × ((files : FileTable) → found ≡ Some files → (s : Seen) → Follows view old s → Goes view (plays files s bytes) (after_play files s bytes) old new before after (Ok tt))
+pub record TookPiece {R : Type 0} (view : R → Tree) (old new : Kept R) (count later : ℕ) (before now : Outside) : Type 0 where
+  pub bytes : List ℕ
+  pub took : Consumes before.input.left now.input.left bytes
+  pub counted : now.input.given ≡ before.input.given + length bytes
+  pub sum : later ≡ count + length bytes
+  pub played : (files : FileTable) → IsTable files before.files now.files → (s : Seen) → Follows view old s → Goes view (plays files s bytes) (after_play files s bytes) old new (world_of before) (world_of now) (Ok tt)
 
--- the end of a turn, if it has one
-abbrev pub status_or_done : Result ℕ End → End
-status_or_done (Ok n) = how.Done
-status_or_done (Err e) = e
+-- Turns in which nothing failed: no count of faults rose, and the output refused nothing.
+pub record IsSteady (before now : Outside) : Type 0 where
+  pub input : now.input.faults ≡ before.input.faults
+  pub found : now.files.found ≡ before.files.found
+  pub read : HasReadSome before.files now.files
+  pub files : now.files.faults ≡ before.files.faults
+  pub output : now.output.faults ≡ before.output.faults
+  pub refused : now.output.refusals ≡ before.output.refusals
+
+-- the session on the tree that is given, or why none is
+abbrev pub Begun : {R : Type 0} → (R → Tree) → FetchedFile → Result (Kept R) Why → Type 0
+Begun view (gives t) (Ok x) = Follows view x (start t)
+Begun view (gives t) (Err w) = ⊥
+Begun view (withholds v) (Ok x) = ⊥
+Begun view (withholds v) (Err w) = w ≡ v

@@ -2,13 +2,13 @@
 ghost use Rattle.std.specs.Prelude.{◌≡◌, ◌≤◌, true, false, IfOk, IfErr, OnOk, IsErrOf, ◌⊎◌};
 ghost use Rattle.std.specs.Option.{option_map};
 ghost use Rattle.std.specs.declared.option.Option.TheVariants.{Some};
-ghost use Rattle.cp_outside.specs.Causes.{Rose};
 ghost use Rattle.cp_outside.specs.FileReads.{FileTable};
 ghost use Rattle.cp_model.specs.Place.{Path as PathValue, over_limit};
 ghost use Rattle.cp_model.specs.Subtrees.{is_there};
 ghost use Rattle.cp_program.specs.Fetching.{file_gives, form_given, json_why, csv_why};
 ghost use Rattle.cp_program.specs.Fetched.{Gives, FitsUnder};
-ghost use Rattle.cp_program.specs.Turns.{BlamesFiles};
+ghost use Rattle.cp_program.specs.Outside.{known_files, HasRead, IsTable};
+ghost use Rattle.cp_program.specs.Turns.{UsesFiles, IsOwn};
 
 use crate::limits::FILE_MAX;
 use crate::stop::Stop;
@@ -116,13 +116,12 @@ pub(crate) fn fetch<R: TreeRep, F: Files>(
     form: &Form,
     file: &str,
 ) -> Result<Result<R, Why>, Stop>
-    ensures gives { IfOk result (λ r. (t : FileTable) → F.found files.old ≡ Some t → Gives R.contents (file_gives name.now form.now (t file.now)) r) }
+    ensures gives { IfOk result (λ r. (t : FileTable) → IsTable t (known_files F.Files files.old) (known_files F.Files files.new)
+        → Gives R.contents (file_gives name.now form.now (t file.now)) r) }
     ensures fits { IfOk result (λ r. IfOk r (λ t. FitsUnder name.now (R.contents t))) }
-    ensures same { F.found files.new ≡ F.found files.old }
-    ensures later { F.faults files.old ≤ F.faults files.new }
-    ensures blamed { IsErrOf result Stop.File → Rose (F.faults files.old) (F.faults files.new) }
-    ensures calm { OnOk result (F.faults files.new ≡ F.faults files.old) }
-    ensures own { IfErr result (λ stop. (stop ≡ Stop.File) ⊎ (stop ≡ Stop.Memory)) }
+    ensures used { UsesFiles (known_files F.Files files.old) (known_files F.Files files.new) result }
+    ensures read { HasRead (known_files F.Files files.old) (known_files F.Files files.new) 1 }
+    ensures own { IsOwn result }
 {
     let mut bytes = Vec::new(alloc);
     match files.read_file(file, FILE_MAX, &mut bytes)? {

@@ -2,6 +2,7 @@
 //! replies and an exit status.
 #![tactic(auto)]
 
+mod command;
 mod database;
 mod end;
 mod fetch;
@@ -9,6 +10,7 @@ mod limits;
 mod run;
 mod session;
 mod stop;
+mod tell;
 mod turn;
 
 pub use end::Status;

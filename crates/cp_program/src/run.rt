@@ -1,136 +1,35 @@
-ghost use Rattle.std.specs.Prelude.{◌≡◌, ◌⊎◌, ◌≤◌, ◌<◌, ◌+◌, ◌↔◌, ℕ, List, [], length, map, true, false, string_bytes, IfOk, IfErr, OnOk};
-ghost use Rattle.std.specs.Option.{option_map};
-ghost use Rattle.std.specs.declared.option.Option.TheVariants.{None, Some};
-ghost use Rattle.std.specs.Io.KnownBytes.{IsAtEnd};
-ghost use Rattle.cp_outside.specs.Causes.{Rose};
+//! A call: its words, the session over its input, and its end.
+ghost use Rattle.std.specs.Prelude.{◌≡◌, ◌≤◌, ◌<◌, ◌↔◌, map, false, length, string_bytes, IfOk, IfErr};
+ghost use Rattle.std.specs.declared.option.Option.TheVariants.{None};
+ghost use Rattle.cp_outside.specs.Causes.{Accounts};
 ghost use Rattle.cp_outside.specs.FileReads.{FileTable};
 ghost use Rattle.cp_reply.specs.Lines.{lines};
-ghost use Rattle.cp_program.specs.Words.{is_scratch, is_file_name, start_of, memory_line, file_line};
-ghost use Rattle.cp_program.specs.Job.{start_given, refused_start};
-ghost use Rattle.cp_session.specs.Session.{gives};
+ghost use Rattle.cp_program.specs.Words.{start_of};
+ghost use Rattle.cp_program.specs.Job.{start_given, start_reads, refused_start};
 ghost use Rattle.cp_program.specs.Fetched.{Gives};
-ghost use Rattle.cp_program.specs.Play.{Seen, start as start_on};
+ghost use Rattle.cp_program.specs.Play.{Seen};
 ghost use Rattle.cp_program.specs.Starts.{start_asked};
-ghost use Rattle.cp_program.specs.Ends.{code_of};
-ghost use Rattle.cp_program.specs.Story.{WritesLast, WroteRefusal, IsCalm, HasCauses, RanAs, Ran, Called, counts};
-ghost use Rattle.cp_program.specs.Turns.{Follows, FollowsOne, WroteLast, Closes, RanFrom, Turned, Written, Blames, BlamesFiles, IsOwn, IsClosing, status_of, status_or_done};
+ghost use Rattle.cp_program.specs.Outside.{known_files, known_output, known_world, known_outside, HasReadSome, IsTable};
+ghost use Rattle.cp_program.specs.Story.{RefusedStart, Ran, Called, WorldCauses, HasCauses, result_of};
+ghost use Rattle.cp_program.specs.Turns.{Follows, FollowsOne, Begun, WritesOrStops, UsesOutput, UsesFiles, Reads, IsOwn, IsClosing, Closes, RanFrom, TookPiece, IsSteady};
 
+use crate::command::{Start, start_of};
 use crate::end::{End, Status};
 use crate::fetch::fetch;
 use crate::limits::{INPUT_MAX, PIECE_MAX};
 use crate::session::Session;
 use crate::stop::Stop;
-use cp_engine::Sources;
-use cp_flat::NaiveStore;
+use crate::tell::{last_line, out_of_memory, stopped, tell};
 use cp_model::{Content, Form};
-use cp_outside::{Files, Sink, Source, write_all};
+use cp_outside::{Files, Sink, Source};
 use cp_path::Name;
-use cp_reply::{Of, Reply, Why, lines};
+use cp_reply::{Of, Reply, Why};
 use cp_tree::TreeRep;
 use cp_tree_box::BoxTree;
-use std::alloc::{AllocError, Global};
+use std::alloc::Global;
 
 const USAGE: &[u8] =
     b"usage: cpdb scratch KIND [JSON]\nusage: cpdb init STORE KIND [JSON]\nusage: cpdb run STORE [CURATOR]\nusage: cpdb commit STORE FILE [CURATOR]\nusage: cpdb load STORE NAME json FILE\nusage: cpdb load STORE NAME csv FILE [COLUMN]\nusage: cpdb query STORE STATEMENT\nusage: cpdb verify STORE\nusage: cpdb checkpoint STORE\nusage: cpdb gen SEED COUNT KIND\nusage: cpdb log STORE\n";
-
-/// What a session starts from.
-#[derive(Clone, Copy)]
-pub(crate) enum Start<'a> {
-    /// A root alone.
-    Alone,
-    /// The tree of the JSON file with this name.
-    TreeIn(&'a str),
-}
-
-fn is_scratch(command: &str, kind: &str) -> bool
-    ensures { result ≡ is_scratch command.now kind.now }
-{
-    let scratch = command == "scratch";
-    let naive = kind == "n";
-    scratch && naive
-}
-
-/// Whether the word may name a file.
-fn is_file_name(word: &str) -> bool
-    ensures { result ≡ is_file_name word.now }
-{
-    match word.as_bytes() {
-        [first, ..] => *first != b'-',
-        [] => false,
-    }
-}
-
-/// What the words ask for, if they fit.
-fn start_of(words: &[String]) -> Option<Start<'_>>
-    ensures { option_map start_asked result ≡ start_of (map string_bytes words.now) }
-{
-    match words {
-        [_, command, kind] => {
-            if is_scratch(command.as_str(), kind.as_str()) {
-                Some(Start::Alone)
-            } else {
-                None
-            }
-        }
-        [_, command, kind, file] => {
-            let scratch = is_scratch(command.as_str(), kind.as_str());
-            let named = is_file_name(file.as_str());
-            if scratch && named {
-                Some(Start::TreeIn(file.as_str()))
-            } else {
-                None
-            }
-        }
-        _ => None,
-    }
-}
-
-/// Writes the last line. What becomes of it doesn't change how the call ends.
-fn last_line<O: Sink>(output: &mut O, line: &[u8])
-    ensures wrote { WritesLast (O.contents output.old) (O.contents output.new) (O.refusals output.old) (O.refusals output.new) [] line.now }
-    ensures later { O.faults output.old ≤ O.faults output.new }
-    ensures kept { O.refusals output.old ≤ O.refusals output.new }
-{
-    let _ = write_all(output, line);
-}
-
-/// There was no memory to begin with, or to go on.
-fn out_of_memory<O: Sink>(output: &mut O) -> End
-    ensures end { result ≡ End.Memory }
-    ensures wrote { WritesLast (O.contents output.old) (O.contents output.new) (O.refusals output.old) (O.refusals output.new) [] memory_line }
-    ensures later { O.faults output.old ≤ O.faults output.new }
-    ensures kept { O.refusals output.old ≤ O.refusals output.new }
-{
-    last_line(output, b"error: memory\n");
-    End::Memory
-}
-
-/// A file failed.
-fn file_failed<O: Sink>(output: &mut O) -> End
-    ensures end { result ≡ End.File }
-    ensures wrote { WritesLast (O.contents output.old) (O.contents output.new) (O.refusals output.old) (O.refusals output.new) [] file_line }
-    ensures later { O.faults output.old ≤ O.faults output.new }
-    ensures kept { O.refusals output.old ≤ O.refusals output.new }
-{
-    last_line(output, b"error: file\n");
-    End::File
-}
-
-/// How a session ends that was stopped.
-fn stopped<O: Sink>(output: &mut O, stop: Stop) -> End
-    ensures status { result ≡ status_of stop }
-    ensures wrote { WroteLast (O.contents output.old) (O.contents output.new) (O.refusals output.old) (O.refusals output.new) stop }
-    ensures later { O.faults output.old ≤ O.faults output.new }
-    ensures calm { IsCalm result (O.faults output.old) (O.faults output.new) }
-    ensures kept { O.refusals output.old ≤ O.refusals output.new }
-{
-    match stop {
-        Stop::Output => End::Output,
-        Stop::Full => End::Memory,
-        Stop::File => file_failed(output),
-        Stop::Memory => out_of_memory(output),
-    }
-}
 
 /// The input has ended.
 fn closing<R: TreeRep, F: Files, O: Sink>(
@@ -140,17 +39,11 @@ fn closing<R: TreeRep, F: Files, O: Sink>(
 ) -> End
     requires stands { FollowsOne R.contents session.old }
     requires room { session.old.database.runs ≤ INPUT_MAX }
-    ensures went { (t : FileTable) → F.found files.old ≡ Some t → (s : Seen) → Follows R.contents session.old s
-        → Closes t s session.old.refused (O.contents output.old) (O.contents output.new) (O.refusals output.old) (O.refusals output.new) result }
+    ensures went { (t : FileTable) → IsTable t (known_files F.Files files.old) (known_files F.Files files.new) → (s : Seen) → Follows R.contents session.old s
+        → Closes t s session.old.refused (known_world F.Files O.Sink files.old output.old) (known_world F.Files O.Sink files.new output.new) result }
     ensures own { IsClosing result }
-    ensures same { F.found files.new ≡ F.found files.old }
-    ensures file_later { F.faults files.old ≤ F.faults files.new }
-    ensures file_calm { IsCalm result (F.faults files.old) (F.faults files.new) }
-    ensures file_blamed { result ≡ End.File → Rose (F.faults files.old) (F.faults files.new) }
-    ensures later { O.faults output.old ≤ O.faults output.new }
-    ensures kept { O.refusals output.old ≤ O.refusals output.new }
-    ensures calm { IsCalm result (O.faults output.old) (O.faults output.new) }
-    ensures blamed { result ≡ End.Output → Rose (O.faults output.old) (O.faults output.new) }
+    ensures read { HasReadSome (known_files F.Files files.old) (known_files F.Files files.new) }
+    ensures causes { WorldCauses (known_world F.Files O.Sink files.old output.old) (known_world F.Files O.Sink files.new output.new) result }
 {
     match session.close(files, output) {
         Ok(()) if session.refused() => End::Refused,
@@ -173,12 +66,20 @@ fn turn<R: TreeRep, F: Files, I: Source, O: Sink>(
     requires taken { before ≤ INPUT_MAX }
     requires room { 0 < length piece.old }
     requires bounded { length piece.old ≤ PIECE_MAX }
-    ensures goes_on { IfOk result (λ n. (before < n) × (n ≤ INPUT_MAX) × (session.new.database.runs ≤ n) × FollowsOne R.contents session.new
-        × Turned R.contents (F.found files.old) session.old session.new before n (I.left input.old) (I.left input.new) (O.contents output.old) (O.contents output.new)) }
-    ensures ends { IfErr result (λ end. RanFrom R.contents (F.found files.old) session.old before (I.left input.old) (I.left input.new) (O.contents output.old) (O.contents output.new) (O.refusals output.old) (O.refusals output.new) end) }
-    ensures same { F.found files.new ≡ F.found files.old }
-    ensures causes { HasCauses (counts (I.faults input.old) (F.faults files.old) (O.faults output.old)) (counts (I.faults input.new) (F.faults files.new) (O.faults output.new)) (status_or_done result) }
-    ensures kept { O.refusals output.old ≤ O.refusals output.new }
+    ensures goes_on { IfOk result (λ n. (before < n) × (n ≤ INPUT_MAX) × (session.new.database.runs ≤ n) × FollowsOne R.contents session.new) }
+    ensures took { IfOk result (λ n. TookPiece R.contents session.old session.new before n
+        (known_outside F.Files I.Source O.Sink files.old input.old output.old)
+        (known_outside F.Files I.Source O.Sink files.new input.new output.new)) }
+    ensures steady { IfOk result (λ n. IsSteady
+        (known_outside F.Files I.Source O.Sink files.old input.old output.old)
+        (known_outside F.Files I.Source O.Sink files.new input.new output.new)) }
+    ensures ends { IfErr result (λ end. RanFrom R.contents session.old before
+        (known_outside F.Files I.Source O.Sink files.old input.old output.old)
+        (known_outside F.Files I.Source O.Sink files.new input.new output.new) end) }
+    ensures causes { IfErr result (λ end. HasCauses
+        (known_outside F.Files I.Source O.Sink files.old input.old output.old)
+        (known_outside F.Files I.Source O.Sink files.new input.new output.new) end) }
+    ensures read { HasReadSome (known_files F.Files files.old) (known_files F.Files files.new) }
 {
     let Ok(count) = input.read(piece) else {
         last_line(output, b"error: input\n");
@@ -210,8 +111,13 @@ fn turns<R: TreeRep, F: Files, I: Source, O: Sink>(
     requires few { session.old.database.runs ≡ 0 }
     requires room { 0 < length piece.old }
     requires bounded { length piece.old ≤ PIECE_MAX }
-    ensures ran { RanFrom R.contents (F.found files.old) session.old 0 (I.left input.old) (I.left input.new) (O.contents output.old) (O.contents output.new) (O.refusals output.old) (O.refusals output.new) result }
-    ensures causes { HasCauses (counts (I.faults input.old) (F.faults files.old) (O.faults output.old)) (counts (I.faults input.new) (F.faults files.new) (O.faults output.new)) result }
+    ensures ran { RanFrom R.contents session.old 0
+        (known_outside F.Files I.Source O.Sink files.old input.old output.old)
+        (known_outside F.Files I.Source O.Sink files.new input.new output.new) result }
+    ensures causes { HasCauses
+        (known_outside F.Files I.Source O.Sink files.old input.old output.old)
+        (known_outside F.Files I.Source O.Sink files.new input.new output.new) result }
+    ensures read { HasReadSome (known_files F.Files files.old) (known_files F.Files files.new) }
 {
     let mut taken = 0;
     loop {
@@ -222,45 +128,16 @@ fn turns<R: TreeRep, F: Files, I: Source, O: Sink>(
     }
 }
 
-/// A session on this tree.
-fn begin<R: TreeRep>(alloc: Global, tree: R) -> Result<Session<R>, AllocError>
-    ensures start { IfOk result (λ x. Follows R.contents x (start_on (R.contents tree))) }
-    ensures refused { IfOk result (λ x. x.refused ≡ false) }
-    ensures runs { IfOk result (λ x. x.database.runs ≡ 0) }
-{
-    let store = NaiveStore::new(alloc, 0)?;
-    Ok(Session::new(alloc, tree, Sources::new(alloc), store))
-}
-
-/// A session over the input, from this tree.
-fn session_on<R: TreeRep, F: Files, I: Source, O: Sink>(
-    alloc: Global,
-    tree: R,
-    piece: &mut [u8],
-    files: &mut F,
-    input: &mut I,
-    output: &mut O,
-) -> End
-    requires room { 0 < length piece.old }
-    requires bounded { length piece.old ≤ PIECE_MAX }
-    ensures ran { RanAs (F.found files.old) (λ t. gives (R.contents tree)) (I.left input.old) (I.left input.new) (O.contents output.old) (O.contents output.new) (O.refusals output.old) (O.refusals output.new) result }
-    ensures causes { HasCauses (counts (I.faults input.old) (F.faults files.old) (O.faults output.old)) (counts (I.faults input.new) (F.faults files.new) (O.faults output.new)) result }
-{
-    match begin(alloc, tree) {
-        Ok(mut session) => turns(&mut session, piece, files, input, output),
-        Err(_) => out_of_memory(output),
-    }
-}
-
 /// The tree that a session starts from, or why it starts from none.
 fn start_tree<R: TreeRep, F: Files>(
     alloc: Global,
     start: Start<'_>,
     files: &mut F,
 ) -> Result<Result<R, Why>, Stop>
-    ensures gives { IfOk result (λ r. (t : FileTable) → F.found files.old ≡ Some t → Gives R.contents (start_given t (start_asked start.entry)) r) }
-    ensures same { F.found files.new ≡ F.found files.old }
-    ensures blamed { BlamesFiles (F.faults files.old) (F.faults files.new) result }
+    ensures gives { IfOk result (λ r. (t : FileTable) → IsTable t (known_files F.Files files.old) (known_files F.Files files.new)
+        → Gives R.contents (start_given t (start_asked start.entry)) r) }
+    ensures used { UsesFiles (known_files F.Files files.old) (known_files F.Files files.new) result }
+    ensures reads { Reads (start_reads (start_asked start.entry)) (known_files F.Files files.old) (known_files F.Files files.new) result }
     ensures own { IsOwn result }
 {
     match start {
@@ -269,6 +146,25 @@ fn start_tree<R: TreeRep, F: Files>(
             let name = Name::target(alloc)?;
             fetch(alloc, files, &name, &Form::Json, file)
         }
+    }
+}
+
+/// A session on its start tree, or why there is no such tree.
+fn begin<R: TreeRep, F: Files>(
+    alloc: Global,
+    start: Start<'_>,
+    files: &mut F,
+) -> Result<Result<Session<R>, Why>, Stop>
+    ensures begun { IfOk result (λ r. (t : FileTable) → IsTable t (known_files F.Files files.old) (known_files F.Files files.new)
+        → Begun R.contents (start_given t (start_asked start.entry)) r) }
+    ensures stands { IfOk result (λ r. IfOk r (λ x. FollowsOne R.contents x × (x.refused ≡ false) × (x.database.runs ≡ 0))) }
+    ensures used { UsesFiles (known_files F.Files files.old) (known_files F.Files files.new) result }
+    ensures reads { Reads (start_reads (start_asked start.entry)) (known_files F.Files files.old) (known_files F.Files files.new) result }
+    ensures own { IsOwn result }
+{
+    match start_tree::<R, F>(alloc, start, files)? {
+        Ok(tree) => Ok(Ok(Session::new(alloc, tree)?)),
+        Err(why) => Ok(Err(why)),
     }
 }
 
@@ -282,37 +178,28 @@ fn refused_scratch(why: Why) -> Reply
     }
 }
 
-/// Writes the lines of a reply.
-fn tell<O: Sink>(alloc: Global, reply: &Reply, output: &mut O) -> Result<(), Stop>
-    ensures went { Written (lines reply.now) (O.contents output.old) (O.contents output.new) result }
-    ensures cause { Blames (O.faults output.old) (O.faults output.new) (O.refusals output.old) (O.refusals output.new) result }
-    ensures own { ¬ (result ≡ Err Stop.File) }
+/// Writes the lines of a reply that stands alone.
+fn tell_alone<O: Sink>(alloc: Global, reply: &Reply, output: &mut O) -> Result<(), Stop>
+    ensures went { WritesOrStops (lines reply.now) (O.contents output.old) (O.contents output.new) result }
+    ensures used { UsesOutput (known_output O.Sink output.old) (known_output O.Sink output.new) result }
 {
     let mut text = Vec::new(alloc);
-    lines(alloc, reply, &mut text)?;
-    write_all(output, &text)?;
-    Ok(())
+    tell(alloc, reply, &mut text, output)
 }
 
 /// Writes the refusal of a start tree.
 fn tell_refusal<O: Sink>(alloc: Global, why: Why, output: &mut O) -> Result<(), Stop>
-    ensures went { Written (refused_start why) (O.contents output.old) (O.contents output.new) result }
-    ensures cause { Blames (O.faults output.old) (O.faults output.new) (O.refusals output.old) (O.refusals output.new) result }
-    ensures own { ¬ (result ≡ Err Stop.File) }
+    ensures went { WritesOrStops (refused_start why) (O.contents output.old) (O.contents output.new) result }
+    ensures used { UsesOutput (known_output O.Sink output.old) (known_output O.Sink output.new) result }
 {
     let reply = refused_scratch(why);
-    tell(alloc, &reply, output)
+    tell_alone(alloc, &reply, output)
 }
 
 /// A start tree is refused, and no session is run.
 fn refuse_start<O: Sink>(alloc: Global, why: Why, output: &mut O) -> End
-    ensures wrote { WroteRefusal (refused_start why) (O.contents output.old) (O.contents output.new) (O.refusals output.old) (O.refusals output.new) result }
-    ensures own { IsClosing result }
-    ensures no_file { ¬ (result ≡ End.File) }
-    ensures later { O.faults output.old ≤ O.faults output.new }
-    ensures kept { O.refusals output.old ≤ O.refusals output.new }
-    ensures calm { IsCalm result (O.faults output.old) (O.faults output.new) }
-    ensures blamed { result ≡ End.Output → Rose (O.faults output.old) (O.faults output.new) }
+    ensures wrote { RefusedStart (refused_start why) (known_output O.Sink output.old) (known_output O.Sink output.new) result }
+    ensures cause { Accounts (λ e. e ≡ End.Output) (O.faults output.old) (O.faults output.new) (result_of result) }
 {
     match tell_refusal(alloc, why, output) {
         Ok(()) => End::Refused,
@@ -320,28 +207,7 @@ fn refuse_start<O: Sink>(alloc: Global, why: Why, output: &mut O) -> End
     }
 }
 
-/// A session over the input, from its start.
-fn session<R: TreeRep, F: Files, I: Source, O: Sink>(
-    alloc: Global,
-    start: Start<'_>,
-    piece: &mut [u8],
-    files: &mut F,
-    input: &mut I,
-    output: &mut O,
-) -> End
-    requires room { 0 < length piece.old }
-    requires bounded { length piece.old ≤ PIECE_MAX }
-    ensures ran { RanAs (F.found files.old) (λ t. start_given t (start_asked start.entry)) (I.left input.old) (I.left input.new) (O.contents output.old) (O.contents output.new) (O.refusals output.old) (O.refusals output.new) result }
-    ensures causes { HasCauses (counts (I.faults input.old) (F.faults files.old) (O.faults output.old)) (counts (I.faults input.new) (F.faults files.new) (O.faults output.new)) result }
-{
-    match start_tree::<R, F>(alloc, start, files) {
-        Ok(Ok(tree)) => session_on(alloc, tree, piece, files, input, output),
-        Ok(Err(why)) => refuse_start(alloc, why, output),
-        Err(stop) => stopped(output, stop),
-    }
-}
-
-/// The session over the input, with room for a piece of it.
+/// The session over the input, from its start, with room for a piece of the input.
 fn scratch<R: TreeRep, F: Files, I: Source, O: Sink>(
     alloc: Global,
     start: Start<'_>,
@@ -349,12 +215,20 @@ fn scratch<R: TreeRep, F: Files, I: Source, O: Sink>(
     input: &mut I,
     output: &mut O,
 ) -> End
-    ensures ran { RanAs (F.found files.old) (λ t. start_given t (start_asked start.entry)) (I.left input.old) (I.left input.new) (O.contents output.old) (O.contents output.new) (O.refusals output.old) (O.refusals output.new) result }
-    ensures causes { HasCauses (counts (I.faults input.old) (F.faults files.old) (O.faults output.old)) (counts (I.faults input.new) (F.faults files.new) (O.faults output.new)) result }
+    ensures ran { Ran (λ t. start_given t (start_asked start.entry)) (start_reads (start_asked start.entry))
+        (known_outside F.Files I.Source O.Sink files.old input.old output.old)
+        (known_outside F.Files I.Source O.Sink files.new input.new output.new) result }
+    ensures causes { HasCauses
+        (known_outside F.Files I.Source O.Sink files.old input.old output.old)
+        (known_outside F.Files I.Source O.Sink files.new input.new output.new) result }
 {
-    match vec![in alloc; 0u8; PIECE_MAX] {
-        Ok(mut piece) => session::<R, F, I, O>(alloc, start, &mut piece, files, input, output),
-        Err(_) => out_of_memory(output),
+    let Ok(mut piece) = vec![in alloc; 0u8; PIECE_MAX] else {
+        return out_of_memory(output);
+    };
+    match begin::<R, F>(alloc, start, files) {
+        Ok(Ok(mut session)) => turns(&mut session, &mut piece, files, input, output),
+        Ok(Err(why)) => refuse_start(alloc, why, output),
+        Err(stop) => stopped(output, stop),
     }
 }
 
@@ -375,8 +249,9 @@ pub fn run_cpdb<F: Files, I: Source, O: Sink>(
     input: &mut I,
     output: &mut O,
 ) -> Status
-    ensures call { Called (start_of (map string_bytes words.now)) (F.found files.old) (I.left input.old) (I.left input.new) (O.contents output.old) (O.contents output.new) (O.refusals output.old) (O.refusals output.new)
-        (counts (I.faults input.old) (F.faults files.old) (O.faults output.old)) (counts (I.faults input.new) (F.faults files.new) (O.faults output.new)) result.code }
+    ensures call { Called (start_of (map string_bytes words.now))
+        (known_outside F.Files I.Source O.Sink files.old input.old output.old)
+        (known_outside F.Files I.Source O.Sink files.new input.new output.new) result.code }
     ensures usage { (result.code ≡ 2) ↔ (start_of (map string_bytes words.now) ≡ None) }
 {
     let Some(start) = start_of(words) else {

@@ -3,9 +3,11 @@ ghost use Rattle.std.specs.Prelude.{◌≡◌, ◌<◌, ◌≤◌, ◌+◌, IfOk
 ghost use Rattle.std.specs.declared.option.Option.TheVariants.{Some};
 ghost use Rattle.cp_outside.specs.FileReads.{FileTable};
 ghost use Rattle.cp_session.specs.Session.{Session, turn, turn_of, not_read};
-ghost use Rattle.cp_program.specs.Job.{setting, reading, is_run};
+ghost use Rattle.cp_program.specs.Job.{setting, reading, is_run, cut_reads};
+ghost use Rattle.cp_program.specs.Loads.{text_reads};
+ghost use Rattle.cp_program.specs.Outside.{known_files, IsTable};
 ghost use Rattle.cp_program.specs.Databases.{Stands, IsSession, Turned};
-ghost use Rattle.cp_program.specs.Turns.{Reads, BlamesFiles, IsOwn};
+ghost use Rattle.cp_program.specs.Turns.{SaysAs, Reads, UsesFiles, IsOwn};
 ghost use Rattle.cp_program.specs.declared.limits.TheConstants.{RUNS_MAX};
 
 use crate::database::Database;
@@ -48,7 +50,7 @@ fn refuse<R: TreeRep>(
 /// What a text says: a statement of a kind that is run, or why it is refused. Costs the text's bytes.
 #[tactic(auto, using(crate::proofs::Readings::says_run))]
 fn read(alloc: Global, text: &[u8]) -> Result<Result<Stmt, Why>, AllocError>
-    ensures { IfOk result (λ r. Reads text.now r) }
+    ensures { IfOk result (λ r. SaysAs text.now r) }
 {
     match parse_bytes(alloc, text) {
         Ok(statement) => {
@@ -73,12 +75,12 @@ fn run_text<R: TreeRep, F: Files>(
 ) -> Result<Option<Reply>, Stop>
     requires stands { IsSession R.contents database.old }
     requires room { database.old.runs < RUNS_MAX }
-    ensures turned { IfOk result (λ r. (t : FileTable) → F.found files.old ≡ Some t → (s : Session) → Stands R.contents database.old s
+    ensures turned { IfOk result (λ r. (t : FileTable) → IsTable t (known_files F.Files files.old) (known_files F.Files files.new) → (s : Session) → Stands R.contents database.old s
         → Turned R.contents (turn_of (setting t) s (reading text.now)) database.new r) }
     ensures stands { OnOk result (IsSession R.contents database.new) }
     ensures runs { OnOk result (database.new.runs ≤ database.old.runs + 1) }
-    ensures same { F.found files.new ≡ F.found files.old }
-    ensures blamed { BlamesFiles (F.faults files.old) (F.faults files.new) result }
+    ensures reads { (s : Session) → Stands R.contents database.old s → Reads (text_reads s (reading text.now)) (known_files F.Files files.old) (known_files F.Files files.new) result }
+    ensures used { UsesFiles (known_files F.Files files.old) (known_files F.Files files.new) result }
     ensures own { IsOwn result }
 {
     match read(alloc, text)? {
@@ -96,12 +98,12 @@ pub(crate) fn reply_to<R: TreeRep, F: Files>(
 ) -> Result<Option<Reply>, Stop>
     requires stands { IsSession R.contents database.old }
     requires room { database.old.runs < RUNS_MAX }
-    ensures turned { IfOk result (λ r. (t : FileTable) → F.found files.old ≡ Some t → (s : Session) → Stands R.contents database.old s
+    ensures turned { IfOk result (λ r. (t : FileTable) → IsTable t (known_files F.Files files.old) (known_files F.Files files.new) → (s : Session) → Stands R.contents database.old s
         → Turned R.contents (turn (setting t) s cut) database.new r) }
     ensures stands { OnOk result (IsSession R.contents database.new) }
     ensures runs { OnOk result (database.new.runs ≤ database.old.runs + 1) }
-    ensures same { F.found files.new ≡ F.found files.old }
-    ensures blamed { BlamesFiles (F.faults files.old) (F.faults files.new) result }
+    ensures reads { (s : Session) → Stands R.contents database.old s → Reads (cut_reads s cut) (known_files F.Files files.old) (known_files F.Files files.new) result }
+    ensures used { UsesFiles (known_files F.Files files.old) (known_files F.Files files.new) result }
     ensures own { IsOwn result }
 {
     match cut {

@@ -3,13 +3,16 @@ ghost use Rattle.std.specs.declared.option.Option.TheVariants.{Some};
 ghost use Rattle.cp_outside.specs.FileReads.{FileTable};
 ghost use Rattle.cp_model.specs.Place.{label_eq, target};
 ghost use Rattle.cp_model.specs.Tree.{source};
+ghost use Rattle.cp_model.specs.History.{replay};
 ghost use Rattle.cp_engine.specs.Loaded.{sources_in};
 ghost use Rattle.cp_session.specs.Session.{Session, says, turn_of};
 ghost use Rattle.cp_program.specs.Fetched.{FitsUnder};
 ghost use Rattle.cp_program.specs.Job.{setting};
 ghost use Rattle.cp_program.specs.Databases.{Stands, IsSession, Turned};
-ghost use Rattle.cp_program.specs.Databases.{Loads, why_not_loaded};
-ghost use Rattle.cp_program.specs.Turns.{BlamesFiles, IsOwn};
+ghost use Rattle.cp_program.specs.Databases.{Loads};
+ghost use Rattle.cp_program.specs.Loads.{why_not_loaded, load_reads};
+ghost use Rattle.cp_program.specs.Outside.{known_files, IsTable};
+ghost use Rattle.cp_program.specs.Turns.{Reads, UsesFiles, IsOwn};
 
 use crate::database::Database;
 use crate::database::refusal::refused_load;
@@ -30,7 +33,7 @@ impl<R: TreeRep> Database<R> {
         requires other { label_eq name target ≡ false }
         requires fits { FitsUnder name (R.contents tree) }
         requires new { is_some (source (sources_in R.contents self.old.sources) name) ≡ false }
-        requires few { length (sources_in R.contents self.old.sources) < 32 }
+        requires few { length (sources_in R.contents self.old.sources) < SOURCES_MAX }
         requires closed { self.old.transaction ≡ None }
         ensures loads { IfOk result (λ r. (s : Session) → Stands R.contents self.old s → Loads R.contents s name (R.contents tree) self.new r) }
         ensures runs { self.new.runs ≡ self.old.runs }
@@ -50,7 +53,7 @@ impl<R: TreeRep> Database<R> {
     fn why_not_loaded(&self, name: &Name) -> Result<Option<Why>, AllocError>
         requires stands { IsSession R.contents self.now }
         ensures why { IfOk result (λ w. (s : Session) → (z : Stands R.contents self.now s) → w ≡ why_not_loaded z.state s.opened name.now) }
-        ensures open { IfOk result (λ w. w ≡ None → (self.now.transaction ≡ None) × (is_some (source (sources_in R.contents self.now.sources) name.now) ≡ false) × (length (sources_in R.contents self.now.sources) < 32)) }
+        ensures open { IfOk result (λ w. w ≡ None → (self.now.transaction ≡ None) × (is_some (source (sources_in R.contents self.now.sources) name.now) ≡ false) × (length (sources_in R.contents self.now.sources) < SOURCES_MAX)) }
     {
         if self.transaction.is_some() {
             return Ok(Some(Why::TransactionOpen));
@@ -73,12 +76,12 @@ impl<R: TreeRep> Database<R> {
     ) -> Result<Reply, Stop>
         requires stands { IsSession R.contents self.old }
         requires other { label_eq load.name target ≡ false }
-        ensures turned { IfOk result (λ r. (t : FileTable) → F.found files.old ≡ Some t → (s : Session) → Stands R.contents self.old s
+        ensures turned { IfOk result (λ r. (t : FileTable) → IsTable t (known_files F.Files files.old) (known_files F.Files files.new) → (s : Session) → Stands R.contents self.old s
             → Turned R.contents (turn_of (setting t) s (says (Stmt.Load load))) self.new (Some r)) }
         ensures stands { OnOk result (IsSession R.contents self.new) }
         ensures runs { self.new.runs ≡ self.old.runs }
-        ensures same { F.found files.new ≡ F.found files.old }
-        ensures blamed { BlamesFiles (F.faults files.old) (F.faults files.new) result }
+        ensures reads { (s : Session) → Stands R.contents self.old s → Reads (load_reads s (replay s.history) load.name) (known_files F.Files files.old) (known_files F.Files files.new) result }
+        ensures used { UsesFiles (known_files F.Files files.old) (known_files F.Files files.new) result }
         ensures own { IsOwn result }
     {
         if let Some(why) = self.why_not_loaded(&load.name)? {

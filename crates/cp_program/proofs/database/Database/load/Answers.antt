@@ -1,5 +1,5 @@
-use Rattle.std.proofs.Common.{sym, subst, ◌∙◌}
-use Rattle.std.specs.declared.option.Option.TheVariants.{Some}
+use Rattle.std.proofs.Common.{◌≡◌, sym, subst, ◌∙◌}
+use Rattle.std.specs.declared.option.Option.TheVariants.{None, Some}
 use Rattle.cp_lang.specs.declared.syntax_tree.Load.{Load}
 use Rattle.cp_lang.specs.declared.syntax_tree.Stmt.TheVariants as stmt
 use Rattle.cp_reply.specs.declared.reply.Of.TheVariants as of
@@ -7,8 +7,13 @@ use Rattle.cp_reply.specs.declared.reply.Reply.TheVariants as reply
 use Rattle.cp_session.specs.Session.{says, turn_of}
 use Rattle.cp_program.specs.Job.{setting}
 use Rattle.cp_program.specs.Databases.{Turned}
-use Rattle.cp_program.proofs.Loading.{turned-not_loaded, turned-withheld, turned-loaded}
+use Rattle.cp_program.proofs.Loading.{turned-not_loaded, turned-withheld, turned-loaded, reads-unless}
 use Rattle.cp_program.proofs.Whole.{given-tree, given-why}
+use Rattle.cp_model.specs.History.{replay}
+use Rattle.cp_program.specs.Loads.{load_reads}
+use Rattle.cp_program.specs.Outside.{known_files}
+use Rattle.cp_program.proofs.ReadCounts.{memory-read, none-read, own-read, err-read}
+use Rattle.std.proofs.lemmas.Result.{err_from_is_err_and}
 use Rattle.cp_program.proofs.database.Database.load.Goals as goal
 
 pub returns-in-Some-clause-turned : goal.returns-in-Some-clause-turned
@@ -38,3 +43,23 @@ returns-in-Err-clause-turned g c = λ files told s z.
     (subst (λ (x : Load). Turned view (turn_of (setting files) s (says (stmt.Load x))) c.args.self.now (Some (reply.Refused of.Load c.in-Err.why))) c.load.view_is
     (turned-withheld view files c.args.self.now c.args.self.now s z _ c.in-Err.why (sym c.in_default.is ∙ c.in_ok-why.ensures.why s z)
     (given-why view _ c.in-Err.why (rw (sym c.as_str.ensures.value, sym c.in-Err.is) (c.in_ok-tree.ensures.gives files told))) z))
+
+pub returns-in_err-why-clause-reads : goal.returns-in_err-why-clause-reads
+returns-in_err-why-clause-reads g c = λ s z.
+    let b = known_files g.F.Files c.args.files.now in
+    memory-read _ b b c.from_residual.result (none-read b) (err_from_is_err_and c.from_residual.result c.from_residual.ensures.1)
+
+pub returns-in_err-tree-clause-reads : goal.returns-in_err-tree-clause-reads
+returns-in_err-tree-clause-reads g c = λ s z.
+    let view = g.R.TreeRep.contents in
+    let b = known_files g.F.Files c.args.files.now in
+    let a = known_files g.F.Files c.fetch.new.files in
+    let one = subst (λ (x : Load). load_reads s (replay s.history) x.name ≡ 1) c.load.view_is (reads-unless view c.args.self.now s z _ None (sym c.in_default.is ∙ c.in_ok-why.ensures.why s z)) in
+    err-read _ b a c.in_err-tree.field-0.0 c.from_residual-in_err-tree.result (own-read _ b a c.in_err-tree.field-0.0 c.in_err-tree.ensures.own one c.in_err-tree.ensures.read)
+    (err_from_is_err_and c.from_residual-in_err-tree.result c.from_residual-in_err-tree.ensures.1)
+
+pub returns-in_err-keep_source-in-Ok-clause-reads : goal.returns-in_err-keep_source-in-Ok-clause-reads
+returns-in_err-keep_source-in-Ok-clause-reads g c = λ s z.
+    let b = known_files g.F.Files c.args.files.now in
+    let a = known_files g.F.Files c.fetch.new.files in
+    memory-read _ b a c.from_residual-in_err-keep_source-in-Ok.result (1, c.in_ok-tree.ensures.read) (err_from_is_err_and c.from_residual-in_err-keep_source-in-Ok.result c.from_residual-in_err-keep_source-in-Ok.ensures.1)

@@ -1,18 +1,20 @@
 use Rattle.std.proofs.Common.{◌≡◌, ◌≤◌, ◌+◌, take, Ok}
-use Rattle.std.specs.declared.option.Option.TheVariants.{Some}
 use Rattle.cp_outside.specs.FileReads.{FileTable}
+use Rattle.cp_program.specs.Outside.{known_files, known_world, HasReadSome, IsTable}
 use Rattle.cp_program.specs.Play.{Seen, plays, after_play}
 use Rattle.cp_program.specs.Turns.{Follows, FollowsOne, Goes}
 use Rattle.cp_program.proofs.session.Session.feed.Given as goal
 
 abbrev pub invariant-loop-byte : goal.invariant-loop-byte
 invariant-loop-byte g l = record {
-  went : (files : FileTable) → g.F.Files.found l.initial.files ≡ Some files → (s : Seen) → Follows g.R.TreeRep.contents l.initial.self s
-      → Goes g.R.TreeRep.contents (plays files s (take l.byte-index l.piece)) (after_play files s (take l.byte-index l.piece)) l.initial.self l.self (g.O.Sink.contents l.initial.output) (g.O.Sink.contents l.output) (Ok tt);
+  went : (files : FileTable) → IsTable files (known_files g.F.Files l.initial.files) (known_files g.F.Files l.files) → (s : Seen) → Follows g.R.TreeRep.contents l.initial.self s
+      → Goes g.R.TreeRep.contents (plays files s (take l.byte-index l.piece)) (after_play files s (take l.byte-index l.piece)) l.initial.self l.self
+      (known_world g.F.Files g.O.Sink l.initial.files l.initial.output) (known_world g.F.Files g.O.Sink l.files l.output) (Ok tt);
   stays : FollowsOne g.R.TreeRep.contents l.self;
   same : g.F.Files.found l.files ≡ g.F.Files.found l.initial.files;
+  read : HasReadSome (known_files g.F.Files l.initial.files) (known_files g.F.Files l.files);
   runs : l.self.database.runs ≤ l.initial.self.database.runs + l.byte-index;
   file_steady : g.F.Files.faults l.files ≡ g.F.Files.faults l.initial.files;
   steady : g.O.Sink.faults l.output ≡ g.O.Sink.faults l.initial.output;
-  kept : g.O.Sink.refusals l.initial.output ≤ g.O.Sink.refusals l.output;
+  refused : g.O.Sink.refusals l.output ≡ g.O.Sink.refusals l.initial.output;
 }

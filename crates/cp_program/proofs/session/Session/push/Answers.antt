@@ -1,5 +1,6 @@
 use Rattle.std.proofs.Common.{refl}
 use Rattle.std.specs.Option.{option_to_list}
+use Rattle.cp_program.specs.Outside.{known_world}
 use Rattle.cp_program.proofs.Plays.{after_cutter, one-byte, pushed}
 use Rattle.cp_program.proofs.session.Session.push.Goals as goal
 
@@ -11,5 +12,5 @@ returns-clause-went g c =
     let old = c.args.self.now in
     let mid = after_cutter old c.push.new.self in
     let met = c.in_ok-cut.ensures.ok in
-    λ files told s f. pushed files g.R.TreeRep.contents s c.args.byte (option_to_list c.in_ok-cut.cut) old mid c.run.new.self (g.O.Sink.contents c.args.output.now) (g.O.Sink.contents c.run.new.output) c.run.result f
+    λ files told s f. pushed files g.R.TreeRep.contents s c.args.byte (option_to_list c.in_ok-cut.cut) old mid c.run.new.self (known_world g.F.Files g.O.Sink c.args.files.now c.args.output.now) (known_world g.F.Files g.O.Sink c.run.new.files c.run.new.output) c.run.result f
     met.0 met.1 refl refl (c.run.ensures.went files told)

@@ -1,0 +1,71 @@
+//! Lines that go to the output: replies, and the last line of a call that doesn't end with one.
+ghost use Rattle.std.specs.Prelude.{◌≡◌, ◌≤◌, [], OnErr};
+ghost use Rattle.cp_reply.specs.Lines.{lines};
+ghost use Rattle.cp_program.specs.Words.{memory_line, file_line};
+ghost use Rattle.cp_program.specs.Outside.{known_output};
+ghost use Rattle.cp_program.specs.Story.{WritesLast};
+ghost use Rattle.cp_program.specs.Turns.{WritesOrStops, WritesStop, UsesOutput, end_of};
+
+use crate::end::End;
+use crate::stop::Stop;
+use cp_outside::{Sink, write_all};
+use cp_reply::{Reply, lines};
+use std::alloc::Global;
+
+/// Writes the lines of a reply, by way of `text`, whose old contents are dropped.
+pub(crate) fn tell<O: Sink>(
+    alloc: Global,
+    reply: &Reply,
+    text: &mut Vec<u8>,
+    output: &mut O,
+) -> Result<(), Stop>
+    ensures went { WritesOrStops (lines reply.now) (O.contents output.old) (O.contents output.new) result }
+    ensures used { UsesOutput (known_output O.Sink output.old) (known_output O.Sink output.new) result }
+{
+    text.clear();
+    lines(alloc, reply, text)?;
+    write_all(output, text)?;
+    Ok(())
+}
+
+/// Writes the last line. What becomes of it doesn't change how the call ends.
+pub(crate) fn last_line<O: Sink>(output: &mut O, line: &[u8])
+    ensures wrote { WritesLast (known_output O.Sink output.old) (known_output O.Sink output.new) [] line.now }
+    ensures later { O.faults output.old ≤ O.faults output.new }
+{
+    let _ = write_all(output, line);
+}
+
+/// There was no memory to begin with, or to go on.
+pub(crate) fn out_of_memory<O: Sink>(output: &mut O) -> End
+    ensures end { result ≡ End.Memory }
+    ensures wrote { WritesLast (known_output O.Sink output.old) (known_output O.Sink output.new) [] memory_line }
+    ensures later { O.faults output.old ≤ O.faults output.new }
+{
+    last_line(output, b"error: memory\n");
+    End::Memory
+}
+
+/// A file failed.
+fn file_failed<O: Sink>(output: &mut O) -> End
+    ensures end { result ≡ End.File }
+    ensures wrote { WritesLast (known_output O.Sink output.old) (known_output O.Sink output.new) [] file_line }
+    ensures later { O.faults output.old ≤ O.faults output.new }
+{
+    last_line(output, b"error: file\n");
+    End::File
+}
+
+/// How a session ends that was stopped.
+pub(crate) fn stopped<O: Sink>(output: &mut O, stop: Stop) -> End
+    ensures end { result ≡ end_of stop }
+    ensures wrote { WritesStop (known_output O.Sink output.old) (known_output O.Sink output.new) stop }
+    ensures later { O.faults output.old ≤ O.faults output.new }
+{
+    match stop {
+        Stop::Output => End::Output,
+        Stop::Full => End::Memory,
+        Stop::File => file_failed(output),
+        Stop::Memory => out_of_memory(output),
+    }
+}
