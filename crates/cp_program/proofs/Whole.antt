@@ -162,7 +162,7 @@ ran-early given k i f fb o p File own r w = record {
   too_much = (λ h. absurd (cc), λ l. absurd (omega (arith, l)));
   fitting = λ h. absurd (cc);
   ended = tt;
-  did = λ files t. inl (refl, r.0, w, r.1);
+  did = λ files t. inl (refl, r.0, refl, w, r.1);
 }
 ran-early given k i f fb o p Memory own r w = ran-out given k i f fb o p w
 

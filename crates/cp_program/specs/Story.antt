@@ -114,9 +114,9 @@ RefusedStart line before now how.Output = StopsIn before now line
 RefusedStart line before now how.Memory = StopsIn before now line ⊎ WritesLast before now [] memory_line
 RefusedStart line before now how.TooLong = ⊥
 
--- The file of the start tree failed, which is all that was read, and the last line was written.
-abbrev pub StartFailed : ℕ → Outside → Outside → End → Type 0
-StartFailed reads before now end = (end ≡ how.File) × (reads ≡ 1) × WritesLast before.output now.output [] file_line × HasRead before.files now.files 1
+-- The file of the start tree failed, which is all that was read, nothing of the input was taken, and the last line was written.
+abbrev pub StartFailed : ℕ → List ℕ → Outside → Outside → End → Type 0
+StartFailed reads taken before now end = (end ≡ how.File) × (reads ≡ 1) × (taken ≡ []) × WritesLast before.output now.output [] file_line × HasRead before.files now.files 1
 
 -- The session from the start tree, for which so many files are read; or the line that refuses it. Nothing of the input is taken where there is no start tree.
 abbrev pub DidFrom : FileTable → FetchedFile → ℕ → List ℕ → Outside → Outside → End → Type 0
@@ -143,7 +143,7 @@ pub record Ran (given : FileTable → FetchedFile) (reads : ℕ) (before now : O
   pub too_much : (end ≡ how.TooLong) ↔ (INPUT_MAX < length taken)
   pub fitting : end ≡ how.Usage → ⊥
   pub ended : OnOk (result_of end) (IsAtEnd now.input.left ⊎ ((end ≡ how.Refused) × (taken ≡ [])))
-  pub did : (files : FileTable) → IsTable files before.files now.files → StartFailed reads before now end ⊎ DidFrom files (given files) reads taken before now end
+  pub did : (files : FileTable) → IsTable files before.files now.files → StartFailed reads taken before now end ⊎ DidFrom files (given files) reads taken before now end
 
 -- With words that fit no row the usage was written, and neither the input nor a file was read.
 pub record WroteUsage (before now : Outside) (end : End) : Type 0 where
