@@ -20,6 +20,7 @@ use Rattle.cp_model.proofs.Weights.{weight-moved}
 use Rattle.cp_tree.specs.Branch.{below_label, child_rows, branch, children_len}
 use Rattle.cp_tree.proofs.BranchLemmas.{entries-branch}
 use Rattle.cp_tree.specs.Good.{AllRooted, IsGood}
+use Rattle.cp_tree.specs.Sums.{children_weight}
 
 module _ {X : Type 0} (f : Path × X → ℕ) where
   -- the sum over the edges of that over the rows below each
@@ -59,11 +60,6 @@ module _ {X : Type 0} where
     | true ↦ λ f. (let same_tree : e.1 ≡ n = cc in omega (arith, ap keyed.len same_tree))
     | false ↦ λ f. omega (arith, len-find a n es f)
   ] is
-
--- the weight of all edges' trees, and the bytes of the edges' labels
-abbrev pub children_weight : List (Label × Tree) → ℕ
-children_weight [] = 0
-children_weight (e ∷ es) = length e.0 + weight e.1 + children_weight es
 
 weight_child : (a : Label) (n : Tree) → IsRooted n → total (λ r. weight_of (a ∷ r.0, r.1)) n ≡ length a + weight n
 unfolding weight

@@ -1,3 +1,4 @@
 pub mod Branch
 pub mod Good
 pub mod Rows
+pub mod Sums

@@ -5,7 +5,9 @@ mod build;
 mod listing;
 mod reach;
 mod rep;
+mod sums;
 
 pub use build::{graft, insert_tree};
 pub use reach::Reach;
 pub use rep::TreeRep;
+pub use sums::Sums;

@@ -27,12 +27,7 @@ use Rattle.cp_tree.proofs.Rising.{put_end}
 use Rattle.cp_tree.proofs.ListingLemmas.{moved-append, moved-below_label, moved-branch}
 use Rattle.cp_tree.proofs.Totals.{len-branch}
 use Rattle.cp_tree_box.proofs.Maps.{looked, insert-put}
-
--- nothing behind a list
--- a subtree of a subtree
-pub sub-child : (m n : Tree) (p : Path) (a : Label) → n ≡ sub m p → sub n (a ∷ []) ≡ sub m (child p a)
-sub-child m n p a e = same_map (sub n (a ∷ [])) (sub m (child p a)) (λ q.
-    get-sub n (a ∷ []) q ∙ ap (λ z. keyed.get z (a ∷ q)) e ∙ get-sub m p (a ∷ q) ∙ ap (keyed.get m) (sym (append_assoc p (a ∷ []) q)) ∙ sym (get-sub m (child p a) q))
+use Rattle.cp_tree.proofs.Answering.{sub-child}
 
 -- the child of a node that was found at p in m
 module _ (m n : Tree) (x : Content) (es : List (Label × Tree)) (p : Path) (a : Label) (at : n ≡ sub m p) (view : branch x es ≡ n) (g : IsGood x es) where
@@ -66,36 +61,6 @@ children_fewer m x es its view g e = omega (arith, ap children_len e, ap keyed.l
 pub still_fewer : (n : ℕ) (it rest : List (Label × Tree)) (a : Label) (k : Tree) → children_len it + 1 ≤ n → it ≡ (a, k) ∷ rest → children_len rest + 1 ≤ n
 still_fewer n it rest a k h e = omega (arith, h, ap children_len e)
 
--- what is pushed and taken off again leaves a list
-pub pop_push : {X : Type 0} (xs ys : List X) (x : X) (n : ℕ) → ys ≡ xs ++ x ∷ [] → n ≡ length ys → take (n - 1) ys ≡ xs
-pop_push xs ys x n is len = (let e : n - 1 ≡ length xs = omega (arith, ap length is, length-append xs (x ∷ [])) in rw (e, is) (take-append_seam xs (x ∷ [])))
-
--- the rows of one edge more are written
-pub rows_more : (out new total : List Row) (p : Path) (it rest : List (Label × Tree)) (a : Label) (k : Tree) → it ≡ (a, k) ∷ rest →
-    new ≡ out ++ map entry_row (entries_under (child p a) (keyed.entries k)) → out ++ map entry_row (entries_under p (child_rows it)) ≡ total → new ++ map entry_row (entries_under p (child_rows rest)) ≡ total
-rows_more out new total p it rest a k i n h =
-    ap (λ z. z ++ map entry_row (entries_under p (child_rows rest))) n
-    ∙ append_assoc out (map entry_row (entries_under (child p a) (keyed.entries k))) (map entry_row (entries_under p (child_rows rest)))
-    ∙ ap (λ z. out ++ z) (sym (map-append entry_row (entries_under (child p a) (keyed.entries k)) (entries_under p (child_rows rest)))
-    ∙ ap (map entry_row) (ap (λ z. z ++ entries_under p (child_rows rest)) (sym (moved-below_label p a (keyed.entries k))) ∙ sym (moved-append p (below_label a (keyed.entries k)) (child_rows rest)) ∙ ap (λ z. entries_under p (child_rows z)) (sym i)))
-    ∙ h
-
-moved-none : (p : Path) → entries_under {X = Content} p [] ≡ []
-unfolding entries_under
-moved-none p = refl
-
--- the rows of a root and all its edges are written
-pub rows_all : (m : Tree) (x : Content) (es it all : List (Label × Tree)) (before first out : List Row) (p : Path) (row : Row) → branch x es ≡ m → IsGood x es → all ≡ es → it ≡ [] →
-    first ≡ before ++ row ∷ [] → row.path ≡ p → row.content ≡ x →
-    out ++ map entry_row (entries_under p (child_rows it)) ≡ first ++ map entry_row (entries_under p (child_rows all)) → out ≡ before ++ map entry_row (entries_under p (keyed.entries m))
-rows_all m x es it all before first out p row view g a i f rp rx h =
-    let ends : out ≡ first ++ map entry_row (entries_under p (child_rows all)) = sym (append-nil out) ∙ ap (λ z. out ++ map entry_row z) (sym (moved-none p)) ∙ ap (λ z. out ++ map entry_row (entries_under p (child_rows z))) (sym i) ∙ h in
-    let is_row : row ≡ entry_row (p, x) = λ j. record { path = rp j; content = rx j } in
-    let rows : map entry_row (entries_under p (keyed.entries m)) ≡ entry_row (p, x) ∷ map entry_row (entries_under p (child_rows all)) =
-    ap (λ z. map entry_row (entries_under p (keyed.entries z))) (sym view) ∙ ap (map entry_row) (moved-branch p x es g.sorted) ∙ ap (λ z. entry_row (p, x) ∷ map entry_row (entries_under p (child_rows z))) (sym a) in
-    ends ∙ ap (λ z. z ++ map entry_row (entries_under p (child_rows all))) f ∙ append_assoc before (row ∷ []) (map entry_row (entries_under p (child_rows all)))
-    ∙ ap (λ z. before ++ z ∷ map entry_row (entries_under p (child_rows all))) is_row ∙ ap (λ z. before ++ z) (sym rows)
-
 -- edges that are those of a good root rise
 pub sorted_as : {all es : List (Label × Tree)} → all ≡ es → T (is_sorted text_cmp es) → T (is_sorted text_cmp all)
 sorted_as e s = subst (λ z. T (is_sorted text_cmp z)) (sym e) s
@@ -110,16 +75,3 @@ module _ (x y : Content) (es done it all : List (Label × Tree)) (c : y ≡ x) (
 
   pub same_copy : branch y done ≡ branch x es
   same_copy = ap (λ z. branch z done) c ∙ ap (branch x) edges_copied
-
--- below what isn't there is nothing
-pub gone_below : (m : Tree) (p : Path) (a : Label) → IsRooted m → keyed.get m p ≡ None → keyed.get m (child p a) ≡ None
-gone_below m p a r e = by (keyed.get m (child p a)) refl
-  where
-    by : (o : Option Content) → keyed.get m (child p a) ≡ o → o ≡ None
-    by None k = refl
-    by (Some c) k = (let up = r.parents p a (ap is_some k) in absurd (cc))
-
--- the rows of an edge's tree, written at the label's place
-pub listed_child : (out new : List Row) (p at deeper : Path) (a b : Label) (k : Tree) → new ≡ out ++ map entry_row (entries_under deeper (keyed.entries k)) → deeper ≡ at ++ b ∷ [] → at ≡ p → b ≡ a →
-    new ≡ out ++ map entry_row (entries_under (child p a) (keyed.entries k))
-listed_child out new p at deeper a b k n d e l = n ∙ ap (λ q. out ++ map entry_row (entries_under q (keyed.entries k))) (d ∙ ap (λ q. q ++ b ∷ []) e ∙ ap (λ z. p ++ z ∷ []) l)

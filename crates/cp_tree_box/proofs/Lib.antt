@@ -3,5 +3,4 @@ mod Edges
 mod Copies
 mod Tallying
 mod Changes
-mod Building
 mod Wrapping

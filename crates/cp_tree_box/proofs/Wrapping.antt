@@ -34,32 +34,7 @@ use Rattle.cp_tree_box.specs.declared.spot.Spot.{Spot}
 use Rattle.cp_tree_box.specs.declared.tally.Tally.{Tally}
 use Rattle.cp_tree_box.specs.Tallies.{root_spot, child_spot, spot_at, IsNear, AreNear, Gauge, places, weighs, deep, large, row_counts, tree_counts, tally_counts, IsTallyOf}
 use Rattle.cp_tree_box.proofs.Changes.{spot_append, spot_depth, spot_size, spot_last, near_front, near_tree, near_put, same_sum, counts_replaced, counts_without, counts_places, counts_weight}
-
--- ---- answers
-
--- what stands at a subtree's root stands at its place
-pub root_of : (n m : Tree) (p q : Path) → n ≡ sub m q → q ≡ p → keyed.get n [] ≡ keyed.get m p
-root_of n m p q e k = ap (λ z. keyed.get z []) e ∙ get-sub m q [] ∙ ap (keyed.get m) (append-nil q ∙ k)
-
--- whether a node was found is whether one is there
-pub got : (o : Option (Bor Tree)) (m : Tree) (p q : Path) → q ≡ p → IfSome o (λ n. n.now ≡ sub m q) → IfSome o (λ n. IsRooted n.now) → IfNone o (keyed.get m q ≡ None) → is_some o ≡ is_there m p
-got None m p q k t r g = sym (ap is_some (sym (ap (keyed.get m) k) ∙ g))
-got (Some n) m p q k t r g = sym (sym (ap is_some (root_of n.now m p q t k)) ∙ r.root)
-
--- the rows below a place
-pub below_is : (n m : Tree) (p q : Path) → n ≡ sub m q → q ≡ p → keyed.entries n ≡ below p m
-below_is n m p q e k = ap keyed.entries e ∙ entries-sub m q ∙ ap (λ z. below z m) k
-
--- the labels below a place
-pub labels_sub : (n m : Tree) (p q : Path) → n ≡ sub m q → q ≡ p → labels_at n [] ≡ labels_at m p
-unfolding labels_at
-labels_sub n m p q e k = ap (filter_map (λ e. only_label e.0)) (sym (entries-sub n []) ∙ ap keyed.entries (sub-root n) ∙ below_is n m p q e k)
-
--- the rows that were listed
-pub rows_at : (out first : List Row) (at : Path) (n m : Tree) (p q : Path) → out ≡ first ++ map entry_row (entries_under at (keyed.entries n)) → first ≡ [] → at ≡ [] → n ≡ sub m q → q ≡ p → out ≡ map entry_row (below p m)
-rows_at out first at n m p q o f a e k =
-    o ∙ ap (λ z. z ++ map entry_row (entries_under at (keyed.entries n))) f ∙ ap (λ z. map entry_row (entries_under z (keyed.entries n))) a
-    ∙ ap (map entry_row) (moved-root (keyed.entries n) ∙ below_is n m p q e k)
+use Rattle.cp_tree.proofs.Answering.{sub-replaced, put_there}
 
 -- ---- reach
 
@@ -87,11 +62,6 @@ reach_kept t m r tallied n w d sd s ss =
     let depth : r.depth ≡ greatest labels (keyed.entries m) = sym (greatest_is labels r.depth (keyed.entries m) (λ k h. sym (deep_is k) ∙ d k h) (some_of r.depth (slice_index t.depths.items r.depth) (counted labels r.depth (keyed.entries m)) (deep_is r.depth) sd)) in
     let size : r.size ≡ greatest bytes (keyed.entries m) = sym (greatest_is bytes r.size (keyed.entries m) (λ k h. sym (large_is k) ∙ s k h) (some_of r.size (slice_index t.sizes.items r.size) (counted bytes r.size (keyed.entries m)) (large_is r.size) ss)) in
     reach_as r m nodes inner depth size
-
--- the whole at its root
-pub reach_whole : (m : Tree) (p : Path) (r : Reach) → length p ≡ 0 → r ≡ reach_of (keyed.entries m) → r ≡ reach_of (below p m)
-reach_whole m [] r z e = e ∙ ap reach_of (sym (ap keyed.entries (sub-root m)) ∙ entries-sub m [])
-reach_whole m (a ∷ p) r z e = absurd (omega arith)
 
 weighs_less : (s : Spot) (es : List (Path × Content)) → sum_by (row_counts weighs root_spot) es ≤ sum_by (row_counts weighs s) es
 weighs_less s [] = omega arith
@@ -140,15 +110,6 @@ small_counts m t places = omega (arith, few_places m t)
 small_counts m t weighs = few_weight m t
 small_counts m t (deep k) = omega (arith, no_more (row_counts (deep k) root_spot) (keyed.entries m) (λ e. at_most_one (spot_at root_spot e.0).depth k), sum_by-one (keyed.entries m), few_places m t)
 small_counts m t (large k) = omega (arith, no_more (row_counts (large k) root_spot) (keyed.entries m) (λ e. at_most_one (spot_at root_spot e.0).size k), sum_by-one (keyed.entries m), few_places m t)
-
--- a subtree that was put is there
-pub sub-replaced : (m n : Tree) (p : Path) → sub (with_subtree p (keyed.entries n) m) p ≡ n
-sub-replaced m n p = same_map (sub (with_subtree p (keyed.entries n) m) p) n (λ q.
-    get-sub (with_subtree p (keyed.entries n) m) p q ∙ get-replaced p (keyed.entries n) m (p ++ q) ∙ ap (λ o. at_rest_or o (λ s. look s (keyed.entries n)) (keyed.get m (p ++ q))) (strip-append p q) ∙ sym (get-entries n q))
-
--- what is put is there
-pub put_there : (m n : Tree) (p : Path) → IsRooted n → is_there (with_subtree p (keyed.entries n) m) p ≡ true
-put_there m n p r = sym (ap is_some (root_of n (with_subtree p (keyed.entries n) m) p p (sym (sub-replaced m n p)) refl)) ∙ r.root
 
 none_of : (o : Option Content) → is_some o ≡ false → o ≡ None
 none_of None e = refl
@@ -261,27 +222,3 @@ insert_child new m n k p is e = e ∙ ap (λ z. sub z p) is ∙ sub-replaced m n
 -- it is found
 pub insert_found : (new m n : Tree) (p : Path) → new ≡ with_subtree p (keyed.entries n) m → IsRooted n → keyed.get new p ≡ None → ⊥
 insert_found new m n p is r e = (let there = put_there m n p r in let none = ap is_some (ap (λ z. keyed.get z p) (sym is) ∙ e) in absurd (cc))
-
--- ---- the same change, said of other rows and another path
-
-module _ (m : Tree) (p q : Path) (es fs : List (Path × Content)) (k : q ≡ p) (e : es ≡ fs) where
-  changed_as : with_subtree q es m ≡ with_subtree p fs m
-  changed_as = ap (λ z. with_subtree z es m) k ∙ ap (λ z. with_subtree p z m) e
-
-  pub fits_as : IsTree (with_subtree p fs m) → IsTree (with_subtree q es m)
-  fits_as h = subst IsTree (sym changed_as) h
-
-  pub done_as : (new : Tree) → new ≡ with_subtree q es m → new ≡ with_subtree p fs m
-  done_as new h = h ∙ changed_as
-
-  pub tried_as : {E : Type 0} (r : Result (Unit {0}) E) (new : Tree) → OnOk r (new ≡ with_subtree q es m) → OnOk r (new ≡ with_subtree p fs m)
-  tried_as (Ok u) new h = h ∙ changed_as
-  tried_as (Err y) new h = tt
-
--- the rows of a leaf
-pub leaf_rows : (n : Tree) (c d : Content) → n ≡ single d → d ≡ c → keyed.entries n ≡ root_entries c
-leaf_rows n c d e k = ap keyed.entries e ∙ entries-single d ∙ ap root_entries k
-
--- the rows of a tree that was built
-pub built_rows : (n : Tree) (rows : List Row) → IsLiteral (entries_in rows) → n ≡ tree_of_rows rows → (keyed.entries n ≡ entries_in rows) × IsRooted n
-built_rows n rows l e = (ap keyed.entries e ∙ entries-tree_of_rows rows l, subst IsRooted (sym e) l.rooted)

@@ -1,5 +1,5 @@
 use Rattle.std.proofs.Common.{◌∙◌, sym}
-use Rattle.cp_tree_box.proofs.Building.{put_row}
+use Rattle.cp_tree.proofs.Building.{put_row}
 use Rattle.cp_tree_box.proofs.build.add_row.Goals as goal
 
 pub returns : goal.returns

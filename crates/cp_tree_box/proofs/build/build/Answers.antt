@@ -1,6 +1,6 @@
 use Rattle.std.proofs.Common.{arith}
 use Rattle.cp_tree_box.proofs.Maps.{no_length}
-use Rattle.cp_tree_box.proofs.Building.{no_rows, begun_build, row_deep, row_parent, row_built, built_all}
+use Rattle.cp_tree.proofs.Building.{no_rows, begun_build, row_deep, row_parent, row_built, built_all}
 use Rattle.cp_tree_box.proofs.build.build.Goals as goal
 
 pub unreachable-requires : goal.unreachable-requires

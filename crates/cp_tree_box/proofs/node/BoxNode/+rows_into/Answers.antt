@@ -1,7 +1,8 @@
 use Rattle.std.proofs.Common.{◌∙◌, refl}
 use Rattle.std.specs.Map.Iter.{deref_pair}
 use Rattle.std.proofs.lemmas.Map.Iter.{rest_more, rest_all}
-use Rattle.cp_tree_box.proofs.Copies.{children_fewer, still_fewer, pop_push, rows_more, rows_all, listed_child}
+use Rattle.cp_tree.proofs.Walking.{pop_push, rows_more, rows_all, listed_child}
+use Rattle.cp_tree_box.proofs.Copies.{children_fewer, still_fewer}
 use Rattle.cp_tree_box.proofs.node.BoxNode.+rows_into.Goals as goal
 
 pub loop-label-init : goal.loop-label-init

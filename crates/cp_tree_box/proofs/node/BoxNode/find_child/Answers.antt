@@ -1,4 +1,5 @@
-use Rattle.cp_tree_box.proofs.Copies.{child_there, child_rooted, child_gone, gone_below}
+use Rattle.cp_tree.proofs.Answering.{gone_below}
+use Rattle.cp_tree_box.proofs.Copies.{child_there, child_rooted, child_gone}
 use Rattle.cp_tree_box.proofs.node.BoxNode.find_child.Goals as goal
 
 pub returns-in-Some-clause-there : goal.returns-in-Some-clause-there

@@ -2,7 +2,8 @@ use Rattle.std.proofs.Common.{ap, sym, subst, is_some, refl}
 use Rattle.cp_model.specs.Place.{child}
 use Rattle.cp_model.specs.Tree.{IsTree}
 use Rattle.cp_tree_box.specs.Tallies.{IsTallyOf}
-use Rattle.cp_tree_box.proofs.Wrapping.{spot_of, spot_child, near_there, near_child, near_new, insert_is, insert_child, insert_found, insert_room, inserted_tally, put_there}
+use Rattle.cp_tree.proofs.Answering.{put_there}
+use Rattle.cp_tree_box.proofs.Wrapping.{spot_of, spot_child, near_there, near_child, near_new, insert_is, insert_child, insert_found, insert_room, inserted_tally}
 use Rattle.cp_tree_box.proofs.tree.BoxTree.insert.Goals as goal
 
 pub below-requires : goal.below-requires

@@ -1,7 +1,7 @@
 use Rattle.std.proofs.Common.{◌∙◌, ap, sym, Some, []}
 use Rattle.cp_model.specs.Keyed.{get}
 use Rattle.cp_tree.proofs.BranchLemmas.{get-branch_root}
-use Rattle.cp_tree_box.proofs.Wrapping.{root_of}
+use Rattle.cp_tree.proofs.Answering.{root_of}
 use Rattle.cp_tree_box.proofs.tree.BoxTreeTreeRep.content_at.Goals as goal
 
 pub returns-in_ok-copy_content-in-Some : goal.returns-in_ok-copy_content-in-Some

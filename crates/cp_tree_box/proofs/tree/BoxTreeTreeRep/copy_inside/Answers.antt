@@ -1,5 +1,5 @@
 use Rattle.std.proofs.Common.{◌∙◌}
-use Rattle.cp_tree_box.proofs.Wrapping.{fits_as, done_as, below_is}
+use Rattle.cp_tree.proofs.Answering.{fits_as, done_as, below_is}
 use Rattle.cp_tree_box.proofs.tree.BoxTreeTreeRep.copy_inside.Goals as goal
 
 pub swap-requires-clause-fits : goal.swap-requires-clause-fits

@@ -1,6 +1,6 @@
 use Rattle.std.proofs.Common.{◌∙◌, ap}
 use Rattle.cp_model.specs.Place.{child}
-use Rattle.cp_tree_box.proofs.Wrapping.{got}
+use Rattle.cp_tree.proofs.Answering.{got}
 use Rattle.cp_tree_box.proofs.tree.BoxTreeTreeRep.has_child.Goals as goal
 
 pub returns : goal.returns

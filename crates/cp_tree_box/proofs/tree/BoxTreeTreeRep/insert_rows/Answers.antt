@@ -1,6 +1,6 @@
 use Rattle.std.proofs.Common.{ap}
 use Rattle.cp_model.specs.Place.{child}
-use Rattle.cp_tree_box.proofs.Wrapping.{fits_as, tried_as, built_rows}
+use Rattle.cp_tree.proofs.Answering.{fits_as, tried_as, built_rows}
 use Rattle.cp_tree_box.proofs.tree.BoxTreeTreeRep.insert_rows.Goals as goal
 
 pub insert-requires-clause-fits : goal.insert-requires-clause-fits

@@ -1,6 +1,6 @@
 use Rattle.std.proofs.Common.{◌∙◌, ap}
 use Rattle.cp_model.specs.Tree.{is_node}
-use Rattle.cp_tree_box.proofs.Wrapping.{root_of}
+use Rattle.cp_tree.proofs.Answering.{root_of}
 use Rattle.cp_tree_box.proofs.tree.BoxTreeTreeRep.is_node.Goals as goal
 
 pub returns-in-Some : goal.returns-in-Some

@@ -1,5 +1,5 @@
 use Rattle.std.proofs.Common.{◌∙◌}
-use Rattle.cp_tree_box.proofs.Wrapping.{got}
+use Rattle.cp_tree.proofs.Answering.{got}
 use Rattle.cp_tree_box.proofs.tree.BoxTreeTreeRep.is_there.Goals as goal
 
 pub returns : goal.returns

@@ -1,5 +1,5 @@
 use Rattle.std.proofs.Common.{◌≡◌, subst, IfOk}
-use Rattle.cp_tree_box.proofs.Wrapping.{labels_sub}
+use Rattle.cp_tree.proofs.Answering.{labels_sub}
 use Rattle.cp_tree_box.proofs.tree.BoxTreeTreeRep.labels_of.Goals as goal
 
 pub returns : goal.returns

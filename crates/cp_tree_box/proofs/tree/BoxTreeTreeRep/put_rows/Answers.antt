@@ -1,4 +1,4 @@
-use Rattle.cp_tree_box.proofs.Wrapping.{fits_as, done_as, built_rows}
+use Rattle.cp_tree.proofs.Answering.{fits_as, done_as, built_rows}
 use Rattle.cp_tree_box.proofs.tree.BoxTreeTreeRep.put_rows.Goals as goal
 
 pub swap-requires-clause-fits : goal.swap-requires-clause-fits

@@ -1,6 +1,7 @@
 use Rattle.std.proofs.Common.{◌∙◌, ap, rules}
 use Rattle.cp_tree.specs.Rows.{reach_of}
-use Rattle.cp_tree_box.proofs.Wrapping.{reach_kept, reach_whole, below_is, sub_near, sub_places, sub_weight}
+use Rattle.cp_tree.proofs.Answering.{reach_whole, below_is}
+use Rattle.cp_tree_box.proofs.Wrapping.{reach_kept, sub_near, sub_places, sub_weight}
 use Rattle.cp_tree_box.proofs.tree.BoxTreeTreeRep.reach.Goals as goal
 
 pub returns-then-is_empty : goal.returns-then-is_empty

@@ -1,4 +1,4 @@
-use Rattle.cp_tree_box.proofs.Wrapping.{rows_at}
+use Rattle.cp_tree.proofs.Answering.{rows_at}
 use Rattle.cp_tree_box.proofs.tree.BoxTreeTreeRep.rows.Goals as goal
 
 pub returns : goal.returns
