@@ -1,5 +1,5 @@
 -- What an accepted operation gives to the change of the tree.
-use Rattle.std.specs.Prelude.{◌≡◌, Bool, true, false, List, is_some, if◌then◌else◌, Result, Ok, Err, OnOk}
+use Rattle.std.specs.Prelude.{◌≡◌, Bool, true, false, List, is_some, if◌then◌else◌, Result, Ok, Err, OnOk, OnErr}
 use Rattle.std.proofs.Common.{sym, ap, subst, ◌∙◌}
 use Rattle.std.specs.declared.option.Option.{Option}
 use Rattle.std.specs.declared.option.Option.TheVariants.{None, Some}
@@ -16,6 +16,7 @@ use Rattle.cp_model.proofs.Accepted.{ins_accepted, copy_accepted}
 use Rattle.cp_model.specs.Laws.{AreTrees}
 use Rattle.cp_model.proofs.Kept.{tree-changed}
 use Rattle.cp_record.specs.Packed.{IsSmall}
+use Rattle.cp_engine.specs.Copies.{IsCopied}
 use Rattle.cp_engine.proofs.Limits.{literal-small}
 
 -- an operation that isn't refused, seen as what it is
@@ -39,13 +40,6 @@ copy-changed ss t u q p e = ap (λ o. with_subtree p.path (subtree_at o q.path) 
 
 pub ins-tree : (ss : List Source) (t : Tree) (p : Loc) (a : Label) (l : Literal) → IsTree t → AreTrees ss → IsWritten (Ins p a l) → refusal ss t (Ins p a l) ≡ None → IsTree (with_subtree (child p.path a) (literal_rows l) t)
 ins-tree ss t p a l h k w n = subst IsTree (ins-changed ss t p a l) (tree-changed ss t (Ins p a l) h k w n)
-
--- a copy that isn't refused: what is copied is there, reaches over no limit, and leaves a tree
-pub record IsCopied (t u : Tree) (q p : Loc) : Type 0 where
-  pub there : is_there t p.path ≡ true
-  pub origin : is_there u q.path ≡ true
-  pub places : reaches_over p (below q.path u) ≡ false
-  pub fits : IsTree (with_subtree p.path (below q.path u) t)
 
 -- a copy that isn't refused is one from the tree that it names
 pub copy-copied : (ss : List Source) (t u : Tree) (q p : Loc) → IsTree t → AreTrees ss → refusal ss t (Copy q p) ≡ None → database ss t q ≡ Some u → IsCopied t u q p
@@ -75,6 +69,15 @@ never-sourceless ss t q p n e = let x = copy_accepted ss t q p n in let d : None
 pub made : {E : Type 0} (result : Result (Unit {0}) E) (ss : List Source) (t new end : Tree) (op o : Op) → op ≡ o → tree_after ss t o ≡ end → OnOk result (new ≡ end) → OnOk result (new ≡ tree_after ss t op)
 made (Ok u) ss t new end op o e c h = h ∙ sym c ∙ ap (λ o. tree_after ss t o) (sym e)
 made (Err x) ss t new end op o e c h = tt
+
+-- what holds in any case holds where a call fails, and where it doesn't
+pub on-ok : {T E P : Type 0} (r : Result T E) → P → OnOk r P
+on-ok (Ok x) p = p
+on-ok (Err e) p = tt
+
+pub on-err : {T E P : Type 0} (r : Result T E) → P → OnErr r P
+on-err (Ok x) p = tt
+on-err (Err e) p = p
 
 -- what came to one end came to an equal one
 pub then-is : {X E : Type 0} (result : Result (Unit {0}) E) (new end other : X) → other ≡ end → OnOk result (new ≡ end) → OnOk result (new ≡ other)

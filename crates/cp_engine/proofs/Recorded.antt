@@ -29,6 +29,10 @@ appended-is x y rs qs e a = subst (Appended x y) e a
 pub grown-same : (x y : List Record) → y ≡ x → Grown x y
 grown-same x y e = record { more = []; is = e ∙ sym (append-nil x) }
 
+-- where some are appended, there are more
+pub grown-appended : (x y : List Record) (rs : List Record) → Appended x y rs → Grown x y
+grown-appended x y rs a = record { more = rs; is = a.is }
+
 -- some more, and then some
 pub grown-then : (x y z : List Record) (rs : List Record) → Appended x y rs → Grown y z → Grown x z
 grown-then x y z rs a g = record { more = rs ++ g.more; is = g.is ∙ ap (λ l. l ++ g.more) a.is ∙ append_assoc x rs g.more }

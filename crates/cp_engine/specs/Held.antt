@@ -19,7 +19,3 @@ pub record Appended (old new rs : List Record) : Type 0 where
 pub record Grown (old new : List Record) : Type 0 where
   pub more : List Record
   pub is : new ≡ old ++ more
-
--- those that were held are held, and no others
-pub record Restored (old new : List Record) : Type 0 where
-  pub is : new ≡ old

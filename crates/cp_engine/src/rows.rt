@@ -1,77 +1,27 @@
-//! The records of one operation.
+//! The records of one operation, by its kind.
 ghost use Rattle.std.specs.Prelude.{◌≡◌, true, false, ◌≤◌, ◌<◌, ◌+◌, List, length, map, OnOk, OnErr, IfOk};
 ghost use Rattle.std.specs.declared.option.Option.TheVariants.{None, Some};
 ghost use Rattle.cp_model.specs.Place.{child, below_place};
 ghost use Rattle.cp_model.specs.Subtrees.{below, is_there, entries_under};
 ghost use Rattle.cp_model.specs.Literals.{literal_rows};
 ghost use Rattle.cp_model.specs.History.{with_tid};
-ghost use Rattle.cp_model.specs.Tree.{Source, refusal, reaches_over};
+ghost use Rattle.cp_model.specs.Tree.{Source, database, reaches_over};
 ghost use Rattle.cp_model.specs.declared.op.Op.TheVariants.{Del, Copy};
 ghost use Rattle.cp_model.specs.declared.record.RecOp.TheVariants as letter;
 ghost use Rattle.cp_record.specs.Bytes.{record_below};
 ghost use Rattle.cp_tree.specs.Rows.{greatest};
-ghost use Rattle.cp_engine.specs.Held.{Appended, Grown, Restored};
-ghost use Rattle.cp_engine.specs.Loaded.{sources_in};
+ghost use Rattle.cp_engine.specs.Held.{Appended, Grown};
 ghost use Rattle.cp_engine.specs.RowsAlone.{marks_below, op_rows};
 ghost use Rattle.cp_model.specs.declared.record.RowMark.TheVariants as mark;
 
-use crate::sources::Sources;
-use cp_model::{LitList, Literal, Op, RowList};
+use cp_model::{LitList, Literal, RowList};
 use cp_path::{LABELS_MAX, Label, Loc, Path};
 use cp_record::{PackedRecords, RecOp};
 use cp_tree::TreeRep;
 use std::alloc::{AllocError, Global};
 
-/// Appends the records of an operation that the tree, as it was before, doesn't refuse. After an error the records are
-/// as they were. Costs the bytes of the places.
-pub(crate) fn push_op<R: TreeRep, S: TreeRep>(
-    alloc: Global,
-    rows: &mut PackedRecords,
-    tid: u64,
-    tree: &R,
-    sources: &Sources<S>,
-    op: &Op,
-) -> Result<(), AllocError>
-    requires accepted { refusal (sources_in S.contents sources.now) (R.contents tree.now) op.now ≡ None }
-    ensures ok { OnOk result (Appended rows.old rows.new (with_tid tid (op_rows (sources_in S.contents sources.now) (R.contents tree.now) op.now))) }
-    ensures err { OnErr result (Restored rows.old rows.new) }
-{
-    let bytes = rows.len();
-    match push_places(alloc, rows, tid, tree, sources, op) {
-        Ok(()) => Ok(()),
-        Err(fault) => {
-            rows.truncate(bytes);
-            Err(fault)
-        }
-    }
-}
-
-/// After an error there may be more records.
-fn push_places<R: TreeRep, S: TreeRep>(
-    alloc: Global,
-    rows: &mut PackedRecords,
-    tid: u64,
-    tree: &R,
-    sources: &Sources<S>,
-    op: &Op,
-) -> Result<(), AllocError>
-    requires accepted { refusal (sources_in S.contents sources.now) (R.contents tree.now) op.now ≡ None }
-    ensures ok { OnOk result (Appended rows.old rows.new (with_tid tid (op_rows (sources_in S.contents sources.now) (R.contents tree.now) op.now))) }
-    ensures err { OnErr result (Grown rows.old rows.new) }
-{
-    match op {
-        Op::Ins {
-            into,
-            label,
-            tree: literal,
-        } => push_inserted(alloc, rows, tid, into, label, literal),
-        Op::Del { label, from } => push_deleted(alloc, rows, tid, tree, label, from),
-        Op::Copy { from, into } => push_copied(alloc, rows, tid, tree, sources, from, into),
-    }
-}
-
-/// After an error there may be more records.
-fn push_inserted(
+/// Appends the records of an insertion. After an error there may be more records.
+pub(crate) fn push_inserted(
     alloc: Global,
     rows: &mut PackedRecords,
     tid: u64,
@@ -87,8 +37,8 @@ fn push_inserted(
     push_literal(rows, tid, &base, Path::root(alloc), literal)
 }
 
-/// After an error there may be more records.
-fn push_deleted<R: TreeRep>(
+/// Appends the records of a deletion from the tree as it was before. After an error there may be more records.
+pub(crate) fn push_deleted<R: TreeRep>(
     alloc: Global,
     rows: &mut PackedRecords,
     tid: u64,
@@ -105,47 +55,26 @@ fn push_deleted<R: TreeRep>(
     push_gone(rows, tid, &base, &list)
 }
 
-/// A copy of a place onto itself has no record. After an error there may be more records.
-fn push_copied<R: TreeRep, S: TreeRep>(
+/// Appends the records of a copy of a place of the tree itself; one onto itself has none. After an error there may be more
+/// records.
+pub(crate) fn push_within<R: TreeRep>(
     alloc: Global,
     rows: &mut PackedRecords,
     tid: u64,
     tree: &R,
-    sources: &Sources<S>,
     from: &Loc,
     into: &Loc,
 ) -> Result<(), AllocError>
-    requires accepted { refusal (sources_in S.contents sources.now) (R.contents tree.now) (Copy from.now into.now) ≡ None }
-    ensures ok { OnOk result (Appended rows.old rows.new (with_tid tid (op_rows (sources_in S.contents sources.now) (R.contents tree.now) (Copy from.now into.now)))) }
-    ensures err { OnErr result (Grown rows.old rows.new) }
+    requires there { is_there (R.contents tree.now) from.now.path ≡ true }
+    requires places { reaches_over into.now (below from.now.path (R.contents tree.now)) ≡ false }
+    ensures ok { (ss : List Source) → database ss (R.contents tree.now) from.now ≡ Some (R.contents tree.now)
+        → OnOk result (Appended rows.old rows.new (with_tid tid (op_rows ss (R.contents tree.now) (Copy from.now into.now)))) }
+    ensures grown { Grown rows.old rows.new }
 {
     if from.is_at(into) {
         return Ok(());
     }
-    if from.db.is_target() {
-        return push_subtree(alloc, rows, tid, tree, from, into);
-    }
-    match sources.get(&from.db) {
-        Some(source) => push_subtree(alloc, rows, tid, source, from, into),
-        None => unreachable!(),
-    }
-}
-
-/// Appends a record for each place of the subtree of `other` at `from`. After an error there may be more records.
-fn push_subtree<O: TreeRep>(
-    alloc: Global,
-    rows: &mut PackedRecords,
-    tid: u64,
-    other: &O,
-    from: &Loc,
-    into: &Loc,
-) -> Result<(), AllocError>
-    requires there { is_there (O.contents other.now) from.now.path ≡ true }
-    requires places { reaches_over into.now (below from.now.path (O.contents other.now)) ≡ false }
-    ensures ok { OnOk result (Appended rows.old rows.new (with_tid tid (marks_below into.now.path (λ s. mark.Copied (below_place from.now s)) (below from.now.path (O.contents other.now))))) }
-    ensures err { OnErr result (Grown rows.old rows.new) }
-{
-    let list = other.rows(alloc, &from.path)?;
+    let list = tree.rows(alloc, &from.path)?;
     push_copies(rows, tid, &into.path, &list, from)
 }
 
@@ -206,8 +135,8 @@ fn push_gone(
     Ok(())
 }
 
-/// Appends a record for each place of a subtree that is copied.
-fn push_copies(
+/// Appends a record for each place of a subtree that is copied. After an error there may be more records.
+pub(crate) fn push_copies(
     rows: &mut PackedRecords,
     tid: u64,
     base: &Path,

@@ -16,7 +16,6 @@ use crate::checks::check;
 use crate::copy::copy_op;
 use crate::fault::{ApplyFault, FinishFault};
 use crate::held::{FirstTid, HeldOps};
-use crate::rows::push_op;
 use crate::sources::Sources;
 use crate::state::{Failure, TxnState};
 use cp_model::{Cause, OPS_MAX, Op, OpList, RecordList, Refusal};
@@ -111,12 +110,8 @@ impl<R: TreeRep> Txn<R> {
         let held = copy_op(alloc, op)?;
         let bytes = self.rows.len();
         let tid = self.first.after(self.ops.len());
-        push_op(alloc, &mut self.rows, tid, &self.tree, sources, op)?;
-        if let Err(fault) = self.ops.push(held) {
-            self.rows.truncate(bytes);
-            return Err(fault);
-        }
-        if let Err(fault) = change(alloc, &mut self.tree, sources, op) {
+        self.ops.push(held)?;
+        if let Err(fault) = change(alloc, &mut self.rows, tid, &mut self.tree, sources, op) {
             self.ops.pop();
             self.rows.truncate(bytes);
             return Err(fault);

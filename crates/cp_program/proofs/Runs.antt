@@ -11,18 +11,19 @@ use Rattle.cp_outside.specs.FileReads.{FileTable}
 use Rattle.std.proofs.KnownBytes.{Appends-trans, Consumes-trans, Consumes-nil, Consumes-kept}
 use Rattle.cp_program.specs.Words.{input_line, file_line, memory_line, too_long_line}
 use Rattle.cp_program.specs.Job.{Report}
-use Rattle.cp_program.specs.Outside.{KnownInput, KnownFiles, KnownOutput, World, Outside, world_of, HasRead, HasReadSome, IsTable}
+use Rattle.cp_database.specs.Files.{KnownFiles, HasRead, HasReadSome, IsTable}
+use Rattle.cp_program.specs.Outside.{KnownInput, KnownOutput, World, Outside, world_of}
 use Rattle.cp_program.specs.Play.{Seen, plays, after_play, closes, plays_all}
 use Rattle.cp_program.specs.Story.{Writes, StopsIn, WritesLast, RefusedStart, AllDone, OutputStopped, Did, HasCauses, result_of}
 use Rattle.cp_model.specs.Tree.{Tree}
-use Rattle.cp_program.specs.declared.session.Session.{Session as Kept}
-use Rattle.cp_program.specs.Turns.{Follows, StopRefuses, WritesOrStops, Fed, RunsLast, with_refusal, work_from, RanFrom, TookPiece, IsSteady, WritesStop, Closes, IsClosing, end_of}
+use Rattle.cp_program.specs.declared.interpreter.Interpreter.{Interpreter}
+use Rattle.cp_program.specs.Turns.{Follows, StopRefusesWrite, SendsOut, Fed, RunsLast, with_refusal, work_from, RanFrom, TookPiece, IsSteady, TellsStop, Closes, IsClosing, end_of_stop}
 use Rattle.cp_program.specs.declared.end.End.{End}
 use Rattle.cp_program.specs.declared.end.End.TheVariants as how
 use Rattle.cp_program.specs.declared.stop.Stop.{Stop}
 use Rattle.cp_program.specs.declared.stop.Stop.TheVariants.{Output, Full, File, Memory}
-use Rattle.cp_program.proofs.Standing.{on-ok}
-use Rattle.cp_program.proofs.ReadCounts.{read-then, some-then, table-first, table-second}
+use Rattle.cp_database.proofs.Standing.{on-ok}
+use Rattle.cp_database.proofs.ReadCounts.{read-sum, some-then, table-first, table-second}
 use Rattle.cp_program.proofs.Plays.{plays-append, all-append, all-none, closes-reads, plays-none, goes-none, goes-then, part-then}
 
 -- the outside, of its parts
@@ -94,8 +95,8 @@ module _ (files : FileTable) where
     flag = f || (plays files s xs).refused
 
     -- so many reads, and those of the bytes before them
-    read_all : (n k : ℕ) → k ≡ (plays files s xs).reads + n → HasRead m.files a.files n → HasRead b.files a.files k
-    read_all n k e w = subst (HasRead b.files a.files) (sym e) (read-then b.files m.files a.files (plays files s xs).reads n r w)
+    abbrev read_all : (n k : ℕ) → k ≡ (plays files s xs).reads + n → HasRead m.files a.files n → HasRead b.files a.files k
+    read_all n k e w = read-sum b.files m.files a.files (plays files s xs).reads n k e r w
 
     -- a last line, and what was written before it
     written_last : (k : ℕ) (last : List ℕ) → WritesLast m.output a.output (plays files next (take k ys)).out last → WritesLast b.output a.output (plays files s (take (length xs + k) (xs ++ ys))).out last
@@ -188,8 +189,8 @@ module _ (files : FileTable) where
     did-closed how.TooLong c = absurd c
 
   -- the session was stopped
-  pub did-stopped : {R : Type 0} (view : R → Tree) (s : Seen) (f : Bool) (old new : Kept R) (count : ℕ) (bytes : List ℕ) (ib ia : KnownInput) (fb fm : KnownFiles) (ob om oa : KnownOutput) (stop : Stop)
-      → Fed view files s bytes old new (both fb ob) (both fm om) (Err stop) → StopRefuses ob.refusals om.refusals stop → WritesStop om oa stop → Did (work_from files s f) count bytes (parts ib fb ob) (parts ia fm oa) (end_of stop)
+  pub did-stopped : {R : Type 0} (view : R → Tree) (s : Seen) (f : Bool) (old new : Interpreter R) (count : ℕ) (bytes : List ℕ) (ib ia : KnownInput) (fb fm : KnownFiles) (ob om oa : KnownOutput) (stop : Stop)
+      → Fed view files s bytes old new (both fb ob) (both fm om) (Err stop) → StopRefusesWrite ob.refusals om.refusals stop → TellsStop om oa stop → Did (work_from files s f) count bytes (parts ib fb ob) (parts ia fm oa) (end_of_stop stop)
   did-stopped view s f old new count bytes ib ia fb fm ob om oa Output g r w = inl (subst (λ o. StopsIn ob o (plays files s bytes).out) (sym w) (r, g))
   did-stopped view s f old new count bytes ib ia fb fm ob om oa Full g r w = inl (inl (subst (λ o. StopsIn ob o (plays files s bytes).out) (sym w) (r, g)))
   did-stopped view s f old new count bytes ib ia fb fm ob om oa File g r w = record {
@@ -209,36 +210,36 @@ module _ (files : FileTable) where
 -- ---- sessions that were stopped
 
 -- the line that refuses a start tree was stopped
-pub refusal-stopped : (line : List ℕ) (b m a : KnownOutput) (stop : Stop) → WritesOrStops line b.contents m.contents (Err stop) → StopRefuses b.refusals m.refusals stop → WritesStop m a stop → RefusedStart line b a (end_of stop)
+pub refusal-stopped : (line : List ℕ) (b m a : KnownOutput) (stop : Stop) → SendsOut line b.contents m.contents (Err stop) → StopRefusesWrite b.refusals m.refusals stop → TellsStop m a stop → RefusedStart line b a (end_of_stop stop)
 refusal-stopped line b m a Output g r w = subst (λ o. StopsIn b o line) (sym w) (r, g)
 refusal-stopped line b m a Full g r w = inl (subst (λ o. StopsIn b o line) (sym w) (r, g))
 refusal-stopped line b m a File g r w = absurd g
 refusal-stopped line b m a Memory g r w = inr (last-alone b m a memory_line (r, g) w)
 
 -- a session was stopped at the end of its input
-pub closes-stopped : {R : Type 0} (files : FileTable) (s : Seen) (f : Bool) (old new : Kept R) (fb fm : KnownFiles) (ob om oa : KnownOutput) (stop : Stop) → RunsLast files s old new (both fb ob) (both fm om) (Err stop) → StopRefuses ob.refusals om.refusals stop
-    → WritesStop om oa stop → Closes files s f (both fb ob) (both fm oa) (end_of stop)
+pub closes-stopped : {R : Type 0} (files : FileTable) (s : Seen) (f : Bool) (old new : Interpreter R) (fb fm : KnownFiles) (ob om oa : KnownOutput) (stop : Stop) → RunsLast files s old new (both fb ob) (both fm om) (Err stop) → StopRefusesWrite ob.refusals om.refusals stop
+    → TellsStop om oa stop → Closes files s f (both fb ob) (both fm oa) (end_of_stop stop)
 closes-stopped files s f old new fb fm ob om oa Output g r w = subst (λ o. StopsIn ob o (closes files s).out) (sym w) (r, g)
 closes-stopped files s f old new fb fm ob om oa Full g r w = inl (subst (λ o. StopsIn ob o (closes files s).out) (sym w) (r, g))
 closes-stopped files s f old new fb fm ob om oa File g r w = absurd g
 closes-stopped files s f old new fb fm ob om oa Memory g r w = inr (last-alone ob om oa memory_line (r, g) w)
 
 -- the end of a stop is an end of its own
-stop-end : (stop : Stop) (P : Type 0) → ((end_of stop ≡ how.TooLong → ⊥) × (end_of stop ≡ how.Usage → ⊥) × (end_of stop ≡ how.Input → ⊥)) × OnOk (result_of (end_of stop)) P
+stop-end : (stop : Stop) (P : Type 0) → ((end_of_stop stop ≡ how.TooLong → ⊥) × (end_of_stop stop ≡ how.Usage → ⊥) × (end_of_stop stop ≡ how.Input → ⊥)) × OnOk (result_of (end_of_stop stop)) P
 stop-end Output P = ((λ e. absurd (cc), λ e. absurd (cc), λ e. absurd (cc)), tt)
 stop-end Full P = ((λ e. absurd (cc), λ e. absurd (cc), λ e. absurd (cc)), tt)
 stop-end File P = ((λ e. absurd (cc), λ e. absurd (cc), λ e. absurd (cc)), tt)
 stop-end Memory P = ((λ e. absurd (cc), λ e. absurd (cc), λ e. absurd (cc)), tt)
 
 -- so a session that was stopped at the end of its input has one of its ends
-pub closing-stopped : (stop : Stop) → IsClosing (end_of stop)
+pub closing-stopped : (stop : Stop) → IsClosing (end_of_stop stop)
 closing-stopped stop = let e = (stop-end stop ⊤).0 in record { fitting = e.1; input = e.2; too_much = e.0 }
 
 -- ---- the ends of a turn
 
 module _ {R : Type 0} (view : R → Tree) where
   -- the input failed
-  pub ran-input : (x : Kept R) (count : ℕ) (ib ia : KnownInput) (f : KnownFiles) (ob oa : KnownOutput) → count ≤ INPUT_MAX → Keeps ib.left ia.left → ia.given ≡ ib.given → WritesLast ob oa [] input_line
+  pub ran-input : (x : Interpreter R) (count : ℕ) (ib ia : KnownInput) (f : KnownFiles) (ob oa : KnownOutput) → count ≤ INPUT_MAX → Keeps ib.left ia.left → ia.given ≡ ib.given → WritesLast ob oa [] input_line
       → RanFrom view x count (parts ib f ob) (parts ia f oa) how.Input
   ran-input x count ib ia f ob oa le k given w = record {
     taken = [];
@@ -251,7 +252,7 @@ module _ {R : Type 0} (view : R → Tree) where
   }
 
   -- the input has ended
-  pub ran-closed : (x : Kept R) (count : ℕ) (b a : Outside) (e : End) → count ≤ INPUT_MAX → Consumes b.input.left a.input.left [] → a.input.given ≡ b.input.given + 0 → IsAtEnd a.input.left → IsClosing e
+  pub ran-closed : (x : Interpreter R) (count : ℕ) (b a : Outside) (e : End) → count ≤ INPUT_MAX → Consumes b.input.left a.input.left [] → a.input.given ≡ b.input.given + 0 → IsAtEnd a.input.left → IsClosing e
       → ((files : FileTable) → IsTable files b.files a.files → (s : Seen) → Follows view x s → Closes files s x.refused (world_of b) (world_of a) e) → RanFrom view x count b a e
   ran-closed x count b a e le took given end own c = record {
     taken = [];
@@ -264,7 +265,7 @@ module _ {R : Type 0} (view : R → Tree) where
   }
 
   -- too much has come
-  pub ran-too-long : (x : Kept R) (count : ℕ) (bytes : List ℕ) (ib ia : KnownInput) (f : KnownFiles) (ob oa : KnownOutput) → count ≤ INPUT_MAX → Consumes ib.left ia.left bytes → ia.given ≡ ib.given + length bytes → INPUT_MAX < count + length bytes → length bytes ≤ PIECE_MAX
+  pub ran-too-long : (x : Interpreter R) (count : ℕ) (bytes : List ℕ) (ib ia : KnownInput) (f : KnownFiles) (ob oa : KnownOutput) → count ≤ INPUT_MAX → Consumes ib.left ia.left bytes → ia.given ≡ ib.given + length bytes → INPUT_MAX < count + length bytes → length bytes ≤ PIECE_MAX
       → WritesLast ob oa [] too_long_line → RanFrom view x count (parts ib f ob) (parts ia f oa) how.TooLong
   ran-too-long x count bytes ib ia f ob oa le took given past piece w = record {
     taken = bytes;
@@ -277,9 +278,9 @@ module _ {R : Type 0} (view : R → Tree) where
   }
 
   -- the session was stopped
-  pub ran-stopped : (old new : Kept R) (count : ℕ) (bytes : List ℕ) (ib ia : KnownInput) (fb fm : KnownFiles) (ob om oa : KnownOutput) (stop : Stop) → count + length bytes ≤ INPUT_MAX → Consumes ib.left ia.left bytes → ia.given ≡ ib.given + length bytes
-      → ((files : FileTable) → IsTable files fb fm → (s : Seen) → Follows view old s → Fed view files s bytes old new (both fb ob) (both fm om) (Err stop)) → StopRefuses ob.refusals om.refusals stop → WritesStop om oa stop
-      → RanFrom view old count (parts ib fb ob) (parts ia fm oa) (end_of stop)
+  pub ran-stopped : (old new : Interpreter R) (count : ℕ) (bytes : List ℕ) (ib ia : KnownInput) (fb fm : KnownFiles) (ob om oa : KnownOutput) (stop : Stop) → count + length bytes ≤ INPUT_MAX → Consumes ib.left ia.left bytes → ia.given ≡ ib.given + length bytes
+      → ((files : FileTable) → IsTable files fb fm → (s : Seen) → Follows view old s → Fed view files s bytes old new (both fb ob) (both fm om) (Err stop)) → StopRefusesWrite ob.refusals om.refusals stop → TellsStop om oa stop
+      → RanFrom view old count (parts ib fb ob) (parts ia fm oa) (end_of_stop stop)
   ran-stopped old new count bytes ib ia fb fm ob om oa stop le took given g r w =
       let ends = stop-end stop (IsAtEnd ia.left) in
       record {
@@ -295,7 +296,7 @@ module _ {R : Type 0} (view : R → Tree) where
   -- ---- turns
 
   -- no turn yet
-  pub piece-none : (k : Kept R) (o : Outside) → TookPiece view k k 0 0 o o
+  pub piece-none : (k : Interpreter R) (o : Outside) → TookPiece view k k 0 0 o o
   piece-none k o = record { bytes = []; took = Consumes-nil o.input.left; counted = omega arith; sum = omega arith; played = λ files t s z. goes-none files view s k (world_of o) z }
 
   -- turns after which nothing failed
@@ -313,7 +314,7 @@ module _ {R : Type 0} (view : R → Tree) where
   }
 
   -- one turn more
-  pub piece-more : (old mid new : Kept R) (count now later : ℕ) (b m a : Outside) → IsSteady b m → HasReadSome m.files a.files → TookPiece view old mid count now b m → TookPiece view mid new now later m a → TookPiece view old new count later b a
+  pub piece-more : (old mid new : Interpreter R) (count now later : ℕ) (b m a : Outside) → IsSteady b m → HasReadSome m.files a.files → TookPiece view old mid count now b m → TookPiece view mid new now later m a → TookPiece view old new count later b a
   piece-more old mid new count now later b m a steady read x y = record {
     bytes = x.bytes ++ y.bytes;
     took = Consumes-trans b.input.left m.input.left a.input.left x.bytes y.bytes x.took y.took;
@@ -325,7 +326,7 @@ module _ {R : Type 0} (view : R → Tree) where
   }
 
   -- turns, and then a run
-  pub piece-ran : (old mid : Kept R) (now : ℕ) (b m a : Outside) (e : End) → IsSteady b m → HasReadSome m.files a.files → TookPiece view old mid 0 now b m → RanFrom view mid now m a e → RanFrom view old 0 b a e
+  pub piece-ran : (old mid : Interpreter R) (now : ℕ) (b m a : Outside) (e : End) → IsSteady b m → HasReadSome m.files a.files → TookPiece view old mid 0 now b m → RanFrom view mid now m a e → RanFrom view old 0 b a e
   piece-ran old mid now b m a e steady read x w = record {
     taken = x.bytes ++ w.taken;
     took = Consumes-trans b.input.left m.input.left a.input.left x.bytes w.taken x.took w.took;

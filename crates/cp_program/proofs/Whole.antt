@@ -11,21 +11,25 @@ use Rattle.std.proofs.KnownBytes.{Consumes-nil}
 use Rattle.cp_model.specs.Tree.{Tree}
 use Rattle.cp_session.specs.Session.{FetchedFile, gives, withholds}
 use Rattle.cp_reply.specs.declared.reply.Why.{Why}
-use Rattle.cp_program.specs.Words.{Start, usage_text, memory_line}
+use Rattle.cp_program.specs.Words.{Start, usage_text, file_line, memory_line}
 use Rattle.cp_program.specs.Job.{job_so_far, job, start_given, start_reads, refused_start}
-use Rattle.cp_program.specs.Fetched.{Gives}
-use Rattle.cp_program.specs.Outside.{KnownInput, KnownFiles, KnownOutput, Outside, HasRead, HasReadSome, IsTable}
+use Rattle.cp_database.specs.Fetched.{Gives}
+use Rattle.cp_database.specs.Files.{KnownFiles, HasRead, HasReadSome, IsTable, ReadsBefore}
+use Rattle.cp_program.specs.Outside.{KnownInput, KnownOutput, Outside}
 use Rattle.cp_program.specs.Play.{start, plays, plays_all}
 use Rattle.cp_program.specs.Story.{WritesLast, RefusedStart, Did, DidFrom, work_on, Ran, IsShort, IsFaultless, HasCauses, Called, result_of}
-use Rattle.cp_program.specs.Turns.{Follows, BlamesFiles, StopReads, IsOwnStop, work_from, RanFrom, Begun, WritesStop, end_of}
+use Rattle.cp_outside.specs.declared.files.FilesFault.{FilesFault}
+use Rattle.cp_outside.specs.declared.files.FilesFault.TheVariants as fails
+use Rattle.cp_database.specs.Faults.{IsFailedFile}
+use Rattle.cp_program.specs.Turns.{Follows, work_from, RanFrom, Begun, TellsStop, end_of_stop}
 use Rattle.cp_program.specs.Ends.{code_of}
-use Rattle.cp_program.specs.declared.session.Session.{Session as Kept}
+use Rattle.cp_program.specs.declared.interpreter.Interpreter.{Interpreter}
 use Rattle.cp_program.specs.declared.end.End.{End}
 use Rattle.cp_program.specs.declared.end.End.TheVariants as how
 use Rattle.cp_program.specs.declared.stop.Stop.{Stop}
-use Rattle.cp_program.specs.declared.stop.Stop.TheVariants.{Output, Full, File, Memory}
-use Rattle.cp_program.proofs.ReadCounts.{read-then, table-first, table-second}
-use Rattle.cp_program.proofs.Standing.{on-ok}
+use Rattle.cp_program.specs.declared.stop.Stop.TheVariants.{File, Memory}
+use Rattle.cp_database.proofs.ReadCounts.{read-sum, table-first, table-second}
+use Rattle.cp_database.proofs.Standing.{on-ok}
 use Rattle.cp_program.proofs.Runs.{parts}
 use Rattle.cp_program.proofs.Plays.{plays-none}
 
@@ -38,8 +42,8 @@ played-none files t = (plays-none files (start t)).0
 
 -- what a session does from its start is what the whole session does, after what was read for its start
 module _ (files : FileTable) (k : ℕ) (t : Tree) (taken : List ℕ) (i : KnownInput) (f fb : KnownFiles) (o : KnownOutput) (a : Outside) (r : HasRead f fb k) where
-  read_all : (n m : ℕ) → m ≡ k + n → HasRead fb a.files n → HasRead f a.files m
-  read_all n m e w = subst (HasRead f a.files) (sym e) (read-then f fb a.files k n r w)
+  abbrev read_all : (n m : ℕ) → m ≡ k + n → HasRead fb a.files n → HasRead f a.files m
+  read_all n m e w = read-sum f fb a.files k n m e r w
 
   did-start : (e : End) → Did (work_from files (start t) false) 0 taken (parts i fb o) a e → Did (work_on files k t) 0 taken (parts i f o) a e
   unfolding plays plays_all job_so_far job
@@ -64,7 +68,7 @@ on-done (Ok x) f h = f h
 on-done (Err e) f h = tt
 
 -- a run of a session that begins on its start tree
-pub ran-begun : {R : Type 0} (view : R → Tree) (given : FileTable → FetchedFile) (k : ℕ) (x : Kept R) (i : KnownInput) (f fb : KnownFiles) (o : KnownOutput) (a : Outside) (e : End) → fb.found ≡ f.found → HasRead f fb k → HasReadSome fb a.files
+pub ran-begun : {R : Type 0} (view : R → Tree) (given : FileTable → FetchedFile) (k : ℕ) (x : Interpreter R) (i : KnownInput) (f fb : KnownFiles) (o : KnownOutput) (a : Outside) (e : End) → fb.found ≡ f.found → HasRead f fb k → HasReadSome fb a.files
     → x.refused ≡ false → ((t : FileTable) → IsTable t f fb → Begun view (given t) (Ok x)) → RanFrom view x 0 (parts i fb o) a e → Ran given k (parts i f o) a e
 ran-begun {R} view given k x i f fb o a e same read more none begun w = record {
   taken = w.taken;
@@ -83,17 +87,8 @@ ran-begun {R} view given k x i f fb o a e same read more none begun w = record {
         did-start files k t w.taken i f fb o a read e (subst (λ v. Did (work_from files (start t) v) 0 w.taken (parts i fb o) a e) none (w.did files table (start t) b))
     did_from files (withholds v) b table = absurd b
 
--- what is given, by what the code made of it
-pub given-tree : {R : Type 0} (view : R → Tree) (g : FetchedFile) (x : R) → Gives view g (Ok x) → g ≡ gives (view x)
-given-tree view (gives t) x h = ap (λ z. gives z) (sym h)
-given-tree view (withholds y) x h = absurd h
-
-pub given-why : {R : Type 0} (view : R → Tree) (g : FetchedFile) (w : Why) → Gives view g (Err w) → g ≡ withholds w
-given-why view (gives t) w h = absurd h
-given-why view (withholds y) w h = ap (λ z. withholds z) (sym h)
-
 -- a session begins on the tree that is given
-pub begun-given : {R : Type 0} (view : R → Tree) (g : FetchedFile) (tree : R) (x : Kept R) → Gives view g (Ok tree) → Follows view x (start (view tree)) → Begun view g (Ok x)
+pub begun-given : {R : Type 0} (view : R → Tree) (g : FetchedFile) (tree : R) (x : Interpreter R) → Gives view g (Ok tree) → Follows view x (start (view tree)) → Begun view g (Ok x)
 begun-given view (gives t) tree x h f = subst (λ u. Follows view x (start u)) h f
 begun-given view (withholds v) tree x h f = absurd h
 
@@ -150,21 +145,25 @@ ran-out given k i f fb o p w = record {
     did_from files (gives t) = inr (record { at = 0; within = omega arith; wrote = subst (λ z. WritesLast o p z memory_line) (sym (played-none files t)) w })
     did_from files (withholds v) = (refl, inr w, λ h. absurd (cc))
 
--- a call that was stopped before it took a byte
-pub ran-early : (given : FileTable → FetchedFile) (k : ℕ) (i : KnownInput) (f fb : KnownFiles) (o p : KnownOutput) (stop : Stop) → IsOwnStop stop → StopReads k f fb stop → WritesStop o p stop
-    → Ran given k (parts i f o) (parts i fb p) (end_of stop)
-ran-early given k i f fb o p Output own r w = absurd own
-ran-early given k i f fb o p Full own r w = absurd own
-ran-early given k i f fb o p File own r w = record {
-  taken = [];
-  took = Consumes-nil i.left;
-  counted = omega arith;
-  too_much = (λ h. absurd (cc), λ l. absurd (omega (arith, l)));
-  fitting = λ h. absurd (cc);
-  ended = tt;
-  did = λ files t. inl (refl, r.0, refl, w, r.1);
-}
-ran-early given k i f fb o p Memory own r w = ran-out given k i f fb o p w
+-- a call that was stopped before it took a byte: by its start tree's file, or as memory ran out
+pub ran-early : (given : FileTable → FetchedFile) (k : ℕ) (i : KnownInput) (f fb : KnownFiles) (o p : KnownOutput) (fault : FilesFault) (stop : Stop) → (fault ≡ fails.Failed → stop ≡ File) × (fault ≡ fails.Memory → stop ≡ Memory) → ReadsBefore IsFailedFile k f fb fault → TellsStop o p stop
+    → Ran given k (parts i f o) (parts i fb p) (end_of_stop stop)
+ran-early given k i f fb o p fails.Failed stop becomes r w =
+    let is = becomes.0 refl in
+    let x = r.blamed refl in
+    let last : WritesLast o p [] file_line = subst (TellsStop o p) is w in
+    subst (λ z. Ran given k (parts i f o) (parts i fb p) (end_of_stop z)) (sym is) (record {
+      taken = [];
+      took = Consumes-nil i.left;
+      counted = omega arith;
+      too_much = (λ h. absurd (cc), λ l. absurd (omega (arith, l)));
+      fitting = λ h. absurd (cc);
+      ended = tt;
+      did = λ files t. inl (refl, x.0, refl, last, x.1);
+    })
+ran-early given k i f fb o p fails.Memory stop becomes r w =
+    let is = becomes.1 refl in
+    subst (λ z. Ran given k (parts i f o) (parts i fb p) (end_of_stop z)) (sym is) (ran-out given k i f fb o p (subst (TellsStop o p) is w))
 
 -- ---- causes
 
@@ -196,25 +195,26 @@ causes-refused line i f fb o p e found same w c = record {
 }
 
 -- the causes where a call was stopped before it took a byte
-pub causes-early : (i : KnownInput) (f fb : KnownFiles) (o p : KnownOutput) (stop : Stop) → IsOwnStop stop → fb.found ≡ f.found → Accounts {T = ⊤} BlamesFiles f.faults fb.faults (Err stop) → o.faults ≤ p.faults → HasCauses (parts i f o) (parts i fb p) (end_of stop)
-causes-early i f fb o p Output own found a later = absurd own
-causes-early i f fb o p Full own found a later = absurd own
-causes-early i f fb o p File own found a later = record {
-  input = quiet how.Input how.File i.faults i.faults refl (λ h. absurd (cc));
-  world = record {
-    same = found;
-    files = record { later = a.later; blamed = λ h. a.blamed refl; steady = tt };
-    output = record { later = later; blamed = λ h. absurd (cc); steady = tt };
-  };
-}
-causes-early i f fb o p Memory own found a later = record {
-  input = quiet how.Input how.Memory i.faults i.faults refl (λ h. absurd (cc));
-  world = record {
-    same = found;
-    files = record { later = a.later; blamed = λ h. absurd (cc); steady = tt };
-    output = record { later = later; blamed = λ h. absurd (cc); steady = tt };
-  };
-}
+pub causes-early : (i : KnownInput) (f fb : KnownFiles) (o p : KnownOutput) (fault : FilesFault) (stop : Stop) → (fault ≡ fails.Failed → stop ≡ File) × (fault ≡ fails.Memory → stop ≡ Memory) → fb.found ≡ f.found → f.faults ≤ fb.faults → (IsFailedFile fault → Rose f.faults fb.faults) → o.faults ≤ p.faults
+    → HasCauses (parts i f o) (parts i fb p) (end_of_stop stop)
+causes-early i f fb o p fails.Failed stop becomes found more rose later =
+    subst (λ z. HasCauses (parts i f o) (parts i fb p) (end_of_stop z)) (sym (becomes.0 refl)) (record {
+      input = quiet how.Input how.File i.faults i.faults refl (λ h. absurd (cc));
+      world = record {
+        same = found;
+        files = record { later = more; blamed = λ h. rose refl; steady = tt };
+        output = record { later = later; blamed = λ h. absurd (cc); steady = tt };
+      };
+    })
+causes-early i f fb o p fails.Memory stop becomes found more rose later =
+    subst (λ z. HasCauses (parts i f o) (parts i fb p) (end_of_stop z)) (sym (becomes.1 refl)) (record {
+      input = quiet how.Input how.Memory i.faults i.faults refl (λ h. absurd (cc));
+      world = record {
+        same = found;
+        files = record { later = more; blamed = λ h. absurd (cc); steady = tt };
+        output = record { later = later; blamed = λ h. absurd (cc); steady = tt };
+      };
+    })
 
 -- ---- whole calls
 

@@ -1,74 +1,29 @@
 -- What a call replies: the session over its whole input.
-use Rattle.std.specs.Prelude.{ℕ, ◌+◌, List, [], ◌∷◌, Bool, true, false, Result, Ok, Err, length, if◌then◌else◌}
+use Rattle.std.specs.Prelude.{ℕ, ◌+◌, List, [], ◌∷◌, Bool, true, false}
 use Rattle.std.specs.List.{flat_map, list_any}
 use Rattle.cp_model.specs.Place.{target}
 use Rattle.cp_model.specs.Keyed as keyed
 use Rattle.cp_model.specs.Tree.{Tree}
-use Rattle.cp_model.specs.declared.kind.Kind.TheVariants as kind
 use Rattle.cp_model.specs.declared.row.Content.TheVariants.{Node}
 use Rattle.cp_model.specs.declared.query.Form.TheVariants.{Json}
 use Rattle.cp_lang.specs.Cuts.{cuts_in, cuts_of}
 use Rattle.cp_lang.specs.declared.cut.Cut.{Cut}
-use Rattle.cp_lang.specs.declared.cut.Cut.TheVariants.{Text, TooLong, Unfinished}
-use Rattle.cp_lang.specs.Lexer.{tokens_of, first_offset}
-use Rattle.cp_lang.specs.Grammar.{bytes_reading}
-use Rattle.cp_lang.specs.declared.syntax_tree.Stmt.{Stmt}
-use Rattle.cp_lang.specs.declared.syntax_tree.Stmt.TheVariants as stmt
 use Rattle.cp_lang.specs.declared.syntax_tree.Load.{Load}
-use Rattle.cp_lang.specs.declared.syntax_tree.StmtFault.{StmtFault}
-use Rattle.cp_lang.specs.declared.syntax_tree.StmtFault.TheVariants as fault
-use Rattle.cp_query.specs.Answered.{is_answered}
 use Rattle.cp_reply.specs.Lines.{lines}
 use Rattle.cp_reply.specs.declared.reply.Of.TheVariants as of
 use Rattle.cp_reply.specs.declared.reply.Why.{Why}
-use Rattle.cp_reply.specs.declared.reply.Why.TheVariants as why
 use Rattle.cp_reply.specs.declared.reply.Reply.{Reply}
 use Rattle.cp_reply.specs.declared.reply.Reply.TheVariants as reply
-use Rattle.cp_session.specs.Session.{TextReading, says, unread, Setting, FetchedFile, gives, Session, fresh, turn, replies_to}
+use Rattle.cp_session.specs.Session.{Setting, FetchedFile, gives, Session, turn, replies_to}
 use Rattle.cp_outside.specs.FileReads.{FileTable}
+use Rattle.cp_database.specs.Texts.{setting, begun_session}
+use Rattle.cp_database.specs.Fetching.{fetch}
+use Rattle.cp_database.specs.Loads.{cut_reads}
 use Rattle.cp_program.specs.Words.{Start, alone, tree_in}
-use Rattle.cp_program.specs.Fetching.{fetch}
-use Rattle.cp_program.specs.Loads.{text_reads}
-
--- ---- what a text says
-
--- the statements that are run: operations, commit, abort, load, show and the queries that are answered
-abbrev pub is_run : Stmt → Bool
-is_run (stmt.Op op) = true
-is_run stmt.Commit = true
-is_run stmt.Abort = true
-is_run (stmt.Load l) = true
-is_run (stmt.Ask q) = is_answered q
-is_run (stmt.Show q) = true
-
--- a statement of another kind is refused at its first token
-abbrev pub if_run : List ℕ → Stmt → TextReading
-if_run text s = if is_run s then says s else unread (why.Syntax (first_offset (length text) (tokens_of text)))
-
--- a statement, or why the text is none
-abbrev pub read_as : List ℕ → Result Stmt StmtFault → TextReading
-read_as text (Ok s) = if_run text s
-read_as text (Err (fault.Syntax at)) = unread (why.Syntax at)
-read_as text (Err (fault.Place at e)) = unread (why.Place at e)
-read_as text (Err fault.Memory) = unread (why.Syntax (length text))
-
--- what a text says
-unfoldable pub reading : List ℕ → TextReading
-reading text = read_as text (bytes_reading text)
-
--- ---- sessions
-
--- the whole language is read, and sources are loaded from these files
-abbrev pub setting : FileTable → Setting
-setting files = record { read = reading; fetch = fetch files; fits = λ history stamp ops records. true; has_room = λ history n t. true; curator = [] }
 
 -- a root alone
 abbrev pub empty_tree : Tree
 empty_tree = keyed.from_entries (([], Node) ∷ [])
-
--- a naive store that starts from this tree
-abbrev pub begun_session : Tree → Session
-begun_session t = fresh kind.N t []
 
 -- the tree of a JSON file, as if it were loaded under the name T
 abbrev pub start_load : List ℕ → Load
@@ -83,12 +38,6 @@ start_given files (tree_in file) = fetch files (start_load file)
 abbrev pub is_refusal : Reply → Bool
 is_refusal (reply.Refused o w) = true
 is_refusal r = false
-
--- how many files a cut reads
-abbrev pub cut_reads : Session → Cut → ℕ
-cut_reads s (Text text) = text_reads s (reading text)
-cut_reads s TooLong = 0
-cut_reads s (Unfinished text) = 0
 
 -- how many files cuts read, one after another
 unfoldable pub reads_in : Setting → Session → List Cut → ℕ

@@ -1,12 +1,8 @@
 pub mod Words
-pub mod Fetching
-pub mod Fetched
 pub mod Outside
-pub mod Loads
 pub mod Job
 pub mod Play
 pub mod Ends
 pub mod Story
 pub mod Starts
 pub mod Turns
-pub mod Databases

@@ -1,10 +1,8 @@
 -- What is known of the outside of a call at one moment: of its input, its files and its output.
-use Rattle.std.specs.Prelude.{ℕ, zero, suc, ◌≡◌, ◌⊎◌, ◌<◌, ◌-◌, ◌^◌, List}
+use Rattle.std.specs.Prelude.{ℕ, List}
 use Rattle.std.specs.declared.option.Option.{Option}
-use Rattle.std.specs.declared.option.Option.TheVariants.{Some}
-use Rattle.cp_outside.specs.Causes.{one_more}
-use Rattle.cp_outside.specs.FileReads.{FileTable}
 use Rattle.cp_outside.specs.declared.files.Files as files
+use Rattle.cp_database.specs.Files.{KnownFiles, known_files}
 use Rattle.cp_outside.specs.declared.source.Source as source
 use Rattle.cp_outside.specs.declared.sink.Sink as sink
 
@@ -12,12 +10,6 @@ use Rattle.cp_outside.specs.declared.sink.Sink as sink
 pub record KnownInput : Type 0 where
   pub left : Option (List ℕ)
   pub given : ℕ
-  pub faults : ℕ
-
--- files: what each name names, where that is known; how many files were asked for; how often one failed
-pub record KnownFiles : Type 0 where
-  pub found : Option FileTable
-  pub reads : ℕ
   pub faults : ℕ
 
 -- an output: the bytes that it took, where they are known; how often it failed; how often it refused a write
@@ -42,9 +34,6 @@ pub record Outside : Type 0 where
 abbrev pub known_input : {I : Type 0} → source.Ghosts I → I → KnownInput
 known_input g i = record { left = g.left i; given = g.given i; faults = g.faults i }
 
-abbrev pub known_files : {F : Type 0} → files.Ghosts F → F → KnownFiles
-known_files g f = record { found = g.found f; reads = g.reads f; faults = g.faults f }
-
 abbrev pub known_output : {O : Type 0} → sink.Ghosts O → O → KnownOutput
 known_output g o = record { contents = g.contents o; faults = g.faults o; refusals = g.refusals o }
 
@@ -57,26 +46,3 @@ known_outside g h k f i o = record { input = known_input h i; files = known_file
 -- files and output alone
 abbrev pub world_of : Outside → World
 world_of o = record { files = o.files; output = o.output }
-
--- ---- reads of files
-
--- a count of reads, after so many more
-abbrev pub more : ℕ → ℕ → ℕ
-more n zero = n
-more n (suc k) = one_more (more n k)
-
--- so many files were read
-abbrev pub HasRead : KnownFiles → KnownFiles → ℕ → Type 0
-HasRead before now k = now.reads ≡ more before.reads k
-
--- some number of files was read
-abbrev pub HasReadSome : KnownFiles → KnownFiles → Type 0
-HasReadSome before now = (k : ℕ) × HasRead before now k
-
--- no file was read, as the count tells where it isn't at its end
-abbrev pub ReadNone : KnownFiles → KnownFiles → Type 0
-ReadNone before now = (now.reads ≡ before.reads) × (before.reads < 2 ^ 64 - 1)
-
--- this is what each name names, as far as a call had to know it: the files are known to be these, or none was read
-abbrev pub IsTable : FileTable → KnownFiles → KnownFiles → Type 0
-IsTable table before now = (before.found ≡ Some table) ⊎ ReadNone before now

@@ -4,7 +4,8 @@ use Rattle.cp_lang.specs.Cuts.{Scan, scan_start, scan_bytes, rest_of}
 use Rattle.cp_session.specs.Session.{Session, session_after}
 use Rattle.cp_model.specs.Tree.{Tree}
 use Rattle.cp_outside.specs.FileReads.{FileTable}
-use Rattle.cp_program.specs.Job.{Report, report_of, setting, begun_session}
+use Rattle.cp_database.specs.Texts.{setting, begun_session}
+use Rattle.cp_program.specs.Job.{Report, report_of}
 
 -- the bytes since the last statement's end, and the state of the session
 pub record Seen : Type 0 where

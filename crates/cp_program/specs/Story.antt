@@ -11,7 +11,8 @@ use Rattle.cp_model.specs.Tree.{Tree}
 use Rattle.cp_session.specs.Session.{FetchedFile, gives, withholds}
 use Rattle.cp_program.specs.Words.{Start, usage_text, input_line, file_line, memory_line, too_long_line}
 use Rattle.cp_program.specs.Job.{Report, start_given, start_reads, job_so_far, job, refused_start}
-use Rattle.cp_program.specs.Outside.{KnownOutput, World, Outside, world_of, HasRead, IsTable}
+use Rattle.cp_database.specs.Files.{HasRead, IsTable}
+use Rattle.cp_program.specs.Outside.{KnownOutput, World, Outside, world_of}
 use Rattle.cp_program.specs.Ends.{code_of}
 use Rattle.cp_program.specs.declared.end.End.{End}
 use Rattle.cp_program.specs.declared.end.End.TheVariants as how
@@ -146,7 +147,7 @@ pub record Ran (given : FileTable → FetchedFile) (reads : ℕ) (before now : O
   pub did : (files : FileTable) → IsTable files before.files now.files → StartFailed reads taken before now end ⊎ DidFrom files (given files) reads taken before now end
 
 -- With words that fit no row the usage was written, and neither the input nor a file was read.
-pub record WroteUsage (before now : Outside) (end : End) : Type 0 where
+pub record GaveUsage (before now : Outside) (end : End) : Type 0 where
   pub usage : end ≡ how.Usage
   pub input : now.input ≡ before.input
   pub files : now.files ≡ before.files
@@ -154,7 +155,7 @@ pub record WroteUsage (before now : Outside) (end : End) : Type 0 where
 
 -- The words, and what was done for them.
 abbrev pub RanAs : Option Start → Outside → Outside → End → Type 0
-RanAs None before now end = WroteUsage before now end
+RanAs None before now end = GaveUsage before now end
 RanAs (Some start) before now end = Ran (λ files. start_given files start) (start_reads start) before now end
 
 -- ---- causes

@@ -8,109 +8,76 @@ use Rattle.cp_outside.specs.FileReads.{FileTable}
 use Rattle.cp_outside.specs.Sinks.{TakesPart}
 use Rattle.cp_lang.specs.CutterState.{held_of}
 use Rattle.cp_lang.specs.declared.cut.Cut.{Cut}
-use Rattle.cp_lang.specs.declared.syntax_tree.Stmt.{Stmt}
-use Rattle.cp_lang.specs.Written.{IsWrittenStmt}
 use Rattle.cp_reply.specs.declared.reply.Why.{Why}
-use Rattle.cp_session.specs.Session.{says, unread, session_after, FetchedFile, gives, withholds}
+use Rattle.cp_session.specs.Session.{session_after, FetchedFile, gives, withholds}
 use Rattle.cp_program.specs.Words.{memory_line, file_line}
-use Rattle.cp_program.specs.Job.{Report, report_of, setting, is_run, reading}
+use Rattle.cp_database.specs.Texts.{setting}
+use Rattle.cp_program.specs.Job.{Report, report_of}
 use Rattle.cp_program.specs.Play.{Seen, start, plays, after_play, closes, plays_all}
 use Rattle.cp_model.specs.Tree.{Tree}
-use Rattle.cp_program.specs.Databases.{Stands}
-use Rattle.cp_program.specs.Outside.{KnownFiles, KnownOutput, World, Outside, world_of, HasRead, HasReadSome, IsTable}
+use Rattle.cp_database.specs.Databases.{Stands}
+use Rattle.cp_database.specs.Files.{HasRead, HasReadSome, IsTable, UsesFiles}
+use Rattle.cp_flat.specs.Naive.{naive}
+use Rattle.cp_program.specs.Outside.{KnownOutput, World, Outside, world_of}
 use Rattle.cp_program.specs.Story.{Writes, StopsIn, WritesLast, Work, Did, result_of}
-use Rattle.cp_program.specs.declared.session.Session.{Session as Kept}
+use Rattle.cp_program.specs.declared.interpreter.Interpreter.{Interpreter}
 use Rattle.cp_program.specs.declared.end.End.{End}
 use Rattle.cp_program.specs.declared.end.End.TheVariants as how
 use Rattle.cp_program.specs.declared.stop.Stop.{Stop}
 use Rattle.cp_program.specs.declared.stop.Stop.TheVariants.{Output, Full, File, Memory}
 
--- What the code made of a text: a statement that is run, or why it is refused.
-abbrev pub SaysAs : List ℕ → Result Stmt Why → Type 0
-SaysAs text (Ok s) = (reading text ≡ says s) × (is_run s ≡ true) × IsWrittenStmt s
-SaysAs text (Err w) = reading text ≡ unread w
-
 -- the code stands where the session does
-abbrev pub Follows : {R : Type 0} → (R → Tree) → Kept R → Seen → Type 0
-Follows view x s = (x.cutter ≡ held_of s.scan) × Stands view x.database s.session
+abbrev pub Follows : {R : Type 0} → (R → Tree) → Interpreter R → Seen → Type 0
+Follows view x s = (x.cutter ≡ held_of s.scan) × Stands view naive x.database s.session
 
 -- it stands where some session does
-abbrev pub FollowsOne : {R : Type 0} → (R → Tree) → Kept R → Type 0
+abbrev pub FollowsOne : {R : Type 0} → (R → Tree) → Interpreter R → Type 0
 FollowsOne view x = (s : Seen) × Follows view x s
 
 -- ---- what files and output say of a step that may stop the session
 
 -- the file failed
-abbrev pub BlamesFiles : Stop → Type 0
-BlamesFiles stop = stop ≡ File
+abbrev pub IsFileStop : Stop → Type 0
+IsFileStop stop = stop ≡ File
 
 -- the output failed
-abbrev pub BlamesOutput : Stop → Type 0
-BlamesOutput stop = stop ≡ Output
-
--- The files are what they were, and are blamed only where their count rose, which stays where nothing stopped.
-pub record UsesFiles {T : Type 0} (before now : KnownFiles) (result : Result T Stop) : Type 0 where
-  pub same : now.found ≡ before.found
-  pub account : Accounts BlamesFiles before.faults now.faults result
-
--- So many files were to be read: where a file failed it was the one; where memory ran out, before or after it, some number was read.
-abbrev pub StopReads : ℕ → KnownFiles → KnownFiles → Stop → Type 0
-StopReads n before now Output = HasRead before now n
-StopReads n before now Full = HasRead before now n
-StopReads n before now File = (n ≡ 1) × HasRead before now 1
-StopReads n before now Memory = HasReadSome before now
-
--- So many files were read, or are to be where the step stopped.
-abbrev pub Reads : {T : Type 0} → ℕ → KnownFiles → KnownFiles → Result T Stop → Type 0
-Reads n before now (Ok x) = HasRead before now n
-Reads n before now (Err stop) = StopReads n before now stop
-
--- the stop of a step that writes nothing
-abbrev pub IsOwnStop : Stop → Type 0
-IsOwnStop Output = ⊥
-IsOwnStop Full = ⊥
-IsOwnStop File = ⊤
-IsOwnStop Memory = ⊤
-
--- nothing was written, so that the output stopped nothing
-abbrev pub IsOwn : {T : Type 0} → Result T Stop → Type 0
-IsOwn (Ok x) = ⊤
-IsOwn (Err stop) = IsOwnStop stop
+abbrev pub IsOutputStop : Stop → Type 0
+IsOutputStop stop = stop ≡ Output
 
 -- The output refused a write exactly where it stopped the session.
-abbrev pub StopRefuses : ℕ → ℕ → Stop → Type 0
-StopRefuses before now Output = Rose before now
-StopRefuses before now Full = Rose before now
-StopRefuses before now File = now ≡ before
-StopRefuses before now Memory = now ≡ before
+abbrev pub StopRefusesWrite : ℕ → ℕ → Stop → Type 0
+StopRefusesWrite before now Output = Rose before now
+StopRefusesWrite before now Full = Rose before now
+StopRefusesWrite before now File = now ≡ before
+StopRefusesWrite before now Memory = now ≡ before
 
 -- It refused none where nothing stopped.
-abbrev pub Refuses : {T : Type 0} → ℕ → ℕ → Result T Stop → Type 0
-Refuses before now (Ok x) = now ≡ before
-Refuses before now (Err stop) = StopRefuses before now stop
+abbrev pub RefusesWrite : {T : Type 0} → ℕ → ℕ → Result T Stop → Type 0
+RefusesWrite before now (Ok x) = now ≡ before
+RefusesWrite before now (Err stop) = StopRefusesWrite before now stop
 
 -- The output is blamed only where its count rose, which stays where nothing stopped; and it refused a write exactly where it stopped the session.
 pub record UsesOutput (before now : KnownOutput) (result : Result ⊤ Stop) : Type 0 where
-  pub account : Accounts BlamesOutput before.faults now.faults result
-  pub refuses : Refuses before.refusals now.refusals result
+  pub account : Accounts IsOutputStop before.faults now.faults result
+  pub refuses : RefusesWrite before.refusals now.refusals result
 
 -- Files and output both.
 pub record Uses (before now : World) (result : Result ⊤ Stop) : Type 0 where
-  pub files : UsesFiles before.files now.files result
+  pub files : UsesFiles IsFileStop before.files now.files result
   pub output : UsesOutput before.output now.output result
 
 -- ---- what was written
 
 -- Bytes were written; or the output stopped in them; or nothing was written.
-abbrev pub WritesOrStops : List ℕ → Option (List ℕ) → Option (List ℕ) → Result ⊤ Stop → Type 0
-WritesOrStops text before after (Ok x) = Appends before after text
-WritesOrStops text before after (Err Output) = TakesPart before after text
-WritesOrStops text before after (Err Full) = TakesPart before after text
-WritesOrStops text before after (Err File) = ⊥
-WritesOrStops text before after (Err Memory) = Appends before after []
+abbrev pub SendsOut : List ℕ → Option (List ℕ) → Option (List ℕ) → Result ⊤ Stop → Type 0
+SendsOut text before after (Ok x) = Appends before after text
+SendsOut text before after (Err Output) = TakesPart before after text
+SendsOut text before after (Err Full) = TakesPart before after text
+SendsOut text before after (Err File) = ⊥
+SendsOut text before after (Err Memory) = Appends before after []
 
 -- What is reported was written and read, and the code follows what is seen then; or the output stopped in it; or nothing was written, and a file that failed is the one that is read.
-abbrev pub Goes : {R : Type 0} → (R → Tree) → Report → Seen → Kept R → Kept R → World → World → Result ⊤ Stop → Type 0
+abbrev pub Goes : {R : Type 0} → (R → Tree) → Report → Seen → Interpreter R → Interpreter R → World → World → Result ⊤ Stop → Type 0
 Goes view r next old new before now (Ok x) =
     Follows view new next × (new.refused ≡ (old.refused || r.refused)) × Appends before.output.contents now.output.contents r.out × HasRead before.files now.files r.reads
 Goes view r next old new before now (Err Output) = TakesPart before.output.contents now.output.contents r.out
@@ -135,7 +102,7 @@ pub record StopsAtLoad (files : FileTable) (s : Seen) (bytes : List ℕ) (before
   pub read : HasRead before.files now.files ((plays files s (take at bytes)).reads + 1)
 
 -- Bytes were played, or a front part of them where memory ran out or a file failed.
-abbrev pub Fed : {R : Type 0} → (R → Tree) → FileTable → Seen → List ℕ → Kept R → Kept R → World → World → Result ⊤ Stop → Type 0
+abbrev pub Fed : {R : Type 0} → (R → Tree) → FileTable → Seen → List ℕ → Interpreter R → Interpreter R → World → World → Result ⊤ Stop → Type 0
 Fed view files s bytes old new before now (Ok x) = Goes view (plays files s bytes) (after_play files s bytes) old new before now (Ok x)
 Fed view files s bytes old new before now (Err Output) = TakesPart before.output.contents now.output.contents (plays files s bytes).out
 Fed view files s bytes old new before now (Err Full) = TakesPart before.output.contents now.output.contents (plays files s bytes).out
@@ -143,7 +110,7 @@ Fed view files s bytes old new before now (Err File) = StopsAtLoad files s bytes
 Fed view files s bytes old new before now (Err Memory) = (k : ℕ) × (k ≤ length bytes) × Appends before.output.contents now.output.contents (plays files s (take k bytes)).out
 
 -- The cut at the end of the input was run, and the code knows whether a refusal was written; or as with other lines. It reads no file.
-abbrev pub RunsLast : {R : Type 0} → FileTable → Seen → Kept R → Kept R → World → World → Result ⊤ Stop → Type 0
+abbrev pub RunsLast : {R : Type 0} → FileTable → Seen → Interpreter R → Interpreter R → World → World → Result ⊤ Stop → Type 0
 RunsLast files s old new before now (Ok x) =
     (new.refused ≡ (old.refused || (closes files s).refused)) × Appends before.output.contents now.output.contents (closes files s).out × HasRead before.files now.files 0
 RunsLast files s old new before now (Err Output) = TakesPart before.output.contents now.output.contents (closes files s).out
@@ -154,18 +121,18 @@ RunsLast files s old new before now (Err Memory) = Appends before.output.content
 -- ---- how a session ends
 
 -- the end of a call whose session stopped so
-abbrev pub end_of : Stop → End
-end_of Output = how.Output
-end_of Full = how.Memory
-end_of File = how.File
-end_of Memory = how.Memory
+abbrev pub end_of_stop : Stop → End
+end_of_stop Output = how.Output
+end_of_stop Full = how.Memory
+end_of_stop File = how.File
+end_of_stop Memory = how.Memory
 
 -- The last line of a stop: only out of memory and a file that failed have one.
-abbrev pub WritesStop : KnownOutput → KnownOutput → Stop → Type 0
-WritesStop before now Output = now ≡ before
-WritesStop before now Full = now ≡ before
-WritesStop before now File = WritesLast before now [] file_line
-WritesStop before now Memory = WritesLast before now [] memory_line
+abbrev pub TellsStop : KnownOutput → KnownOutput → Stop → Type 0
+TellsStop before now Output = now ≡ before
+TellsStop before now Full = now ≡ before
+TellsStop before now File = WritesLast before now [] file_line
+TellsStop before now Memory = WritesLast before now [] memory_line
 
 -- a report, where a refusal may have been written before
 abbrev pub with_refusal : Bool → Report → Report
@@ -193,7 +160,7 @@ Closes files s refused before now how.Memory = StopsIn before.output now.output 
 Closes files s refused before now how.TooLong = ⊥
 
 -- The session of x, after so many bytes, ran to this end.
-pub record RanFrom {R : Type 0} (view : R → Tree) (x : Kept R) (count : ℕ) (before now : Outside) (end : End) : Type 0 where
+pub record RanFrom {R : Type 0} (view : R → Tree) (x : Interpreter R) (count : ℕ) (before now : Outside) (end : End) : Type 0 where
   pub taken : List ℕ
   pub took : Consumes before.input.left now.input.left taken
   pub counted : now.input.given ≡ before.input.given + length taken
@@ -203,7 +170,7 @@ pub record RanFrom {R : Type 0} (view : R → Tree) (x : Kept R) (count : ℕ) (
   pub did : (files : FileTable) → IsTable files before.files now.files → (s : Seen) → Follows view x s → Did (work_from files s x.refused) count taken before now end
 
 -- The next bytes were taken and played.
-pub record TookPiece {R : Type 0} (view : R → Tree) (old new : Kept R) (count later : ℕ) (before now : Outside) : Type 0 where
+pub record TookPiece {R : Type 0} (view : R → Tree) (old new : Interpreter R) (count later : ℕ) (before now : Outside) : Type 0 where
   pub bytes : List ℕ
   pub took : Consumes before.input.left now.input.left bytes
   pub counted : now.input.given ≡ before.input.given + length bytes
@@ -220,7 +187,7 @@ pub record IsSteady (before now : Outside) : Type 0 where
   pub refused : now.output.refusals ≡ before.output.refusals
 
 -- the session on the tree that is given, or why none is
-abbrev pub Begun : {R : Type 0} → (R → Tree) → FetchedFile → Result (Kept R) Why → Type 0
+abbrev pub Begun : {R : Type 0} → (R → Tree) → FetchedFile → Result (Interpreter R) Why → Type 0
 Begun view (gives t) (Ok x) = Follows view x (start t)
 Begun view (gives t) (Err w) = ⊥
 Begun view (withholds v) (Ok x) = ⊥

@@ -3,15 +3,12 @@
 #![tactic(auto)]
 
 mod command;
-mod database;
 mod end;
-mod fetch;
+mod interpreter;
 mod limits;
 mod run;
-mod session;
 mod stop;
 mod tell;
-mod turn;
 
 pub use end::Status;
 pub use run::run_cpdb;

@@ -6,22 +6,25 @@ ghost use Rattle.cp_outside.specs.FileReads.{FileTable};
 ghost use Rattle.cp_reply.specs.Lines.{lines};
 ghost use Rattle.cp_program.specs.Words.{start_of};
 ghost use Rattle.cp_program.specs.Job.{start_given, start_reads, refused_start};
-ghost use Rattle.cp_program.specs.Fetched.{Gives};
+ghost use Rattle.cp_database.specs.Fetched.{Gives};
 ghost use Rattle.cp_program.specs.Play.{Seen};
 ghost use Rattle.cp_program.specs.Starts.{start_asked};
-ghost use Rattle.cp_program.specs.Outside.{known_files, known_output, known_world, known_outside, HasReadSome, IsTable};
+ghost use Rattle.cp_database.specs.Databases.{runs_of};
+ghost use Rattle.cp_database.specs.Faults.{IsFailedFile};
+ghost use Rattle.cp_database.specs.Files.{known_files, HasReadSome, IsTable, Reads, UsesFiles};
+ghost use Rattle.cp_program.specs.Outside.{known_output, known_world, known_outside};
 ghost use Rattle.cp_program.specs.Story.{RefusedStart, Ran, Called, WorldCauses, HasCauses, result_of};
-ghost use Rattle.cp_program.specs.Turns.{Follows, FollowsOne, Begun, WritesOrStops, UsesOutput, UsesFiles, Reads, IsOwn, IsClosing, Closes, RanFrom, TookPiece, IsSteady};
+ghost use Rattle.cp_program.specs.Turns.{Follows, FollowsOne, Begun, SendsOut, UsesOutput, IsClosing, Closes, RanFrom, TookPiece, IsSteady};
 
 use crate::command::{Start, start_of};
 use crate::end::{End, Status};
-use crate::fetch::fetch;
+use crate::interpreter::Interpreter;
 use crate::limits::{INPUT_MAX, PIECE_MAX};
-use crate::session::Session;
 use crate::stop::Stop;
 use crate::tell::{last_line, out_of_memory, stopped, tell};
+use cp_database::fetch;
 use cp_model::{Content, Form};
-use cp_outside::{Files, Sink, Source};
+use cp_outside::{Files, FilesFault, Sink, Source};
 use cp_path::Name;
 use cp_reply::{Of, Reply, Why};
 use cp_tree::TreeRep;
@@ -33,12 +36,12 @@ const USAGE: &[u8] =
 
 /// The input has ended.
 fn closing<R: TreeRep, F: Files, O: Sink>(
-    session: &mut Session<R>,
+    session: &mut Interpreter<R>,
     files: &mut F,
     output: &mut O,
 ) -> End
     requires stands { FollowsOne R.contents session.old }
-    requires room { session.old.database.runs ≤ INPUT_MAX }
+    requires room { runs_of session.old.database ≤ INPUT_MAX }
     ensures went { (t : FileTable) → IsTable t (known_files F.Files files.old) (known_files F.Files files.new) → (s : Seen) → Follows R.contents session.old s
         → Closes t s session.old.refused (known_world F.Files O.Sink files.old output.old) (known_world F.Files O.Sink files.new output.new) result }
     ensures own { IsClosing result }
@@ -54,7 +57,7 @@ fn closing<R: TreeRep, F: Files, O: Sink>(
 
 /// Takes the next piece of the input and runs the statements that end in it.
 fn turn<R: TreeRep, F: Files, I: Source, O: Sink>(
-    session: &mut Session<R>,
+    session: &mut Interpreter<R>,
     piece: &mut [u8],
     files: &mut F,
     input: &mut I,
@@ -62,11 +65,11 @@ fn turn<R: TreeRep, F: Files, I: Source, O: Sink>(
     before: u64,
 ) -> Result<u64, End>
     requires stands { FollowsOne R.contents session.old }
-    requires few { session.old.database.runs ≤ before }
+    requires few { runs_of session.old.database ≤ before }
     requires taken { before ≤ INPUT_MAX }
     requires room { 0 < length piece.old }
     requires bounded { length piece.old ≤ PIECE_MAX }
-    ensures goes_on { IfOk result (λ n. (before < n) × (n ≤ INPUT_MAX) × (session.new.database.runs ≤ n) × FollowsOne R.contents session.new) }
+    ensures goes_on { IfOk result (λ n. (before < n) × (n ≤ INPUT_MAX) × (runs_of session.new.database ≤ n) × FollowsOne R.contents session.new) }
     ensures took { IfOk result (λ n. TookPiece R.contents session.old session.new before n
         (known_outside F.Files I.Source O.Sink files.old input.old output.old)
         (known_outside F.Files I.Source O.Sink files.new input.new output.new)) }
@@ -101,14 +104,14 @@ fn turn<R: TreeRep, F: Files, I: Source, O: Sink>(
 
 /// Runs a session until it ends.
 fn turns<R: TreeRep, F: Files, I: Source, O: Sink>(
-    session: &mut Session<R>,
+    session: &mut Interpreter<R>,
     piece: &mut [u8],
     files: &mut F,
     input: &mut I,
     output: &mut O,
 ) -> End
     requires stands { FollowsOne R.contents session.old }
-    requires few { session.old.database.runs ≡ 0 }
+    requires few { runs_of session.old.database ≡ 0 }
     requires room { 0 < length piece.old }
     requires bounded { length piece.old ≤ PIECE_MAX }
     ensures ran { RanFrom R.contents session.old 0
@@ -133,12 +136,11 @@ fn start_tree<R: TreeRep, F: Files>(
     alloc: Global,
     start: Start<'_>,
     files: &mut F,
-) -> Result<Result<R, Why>, Stop>
+) -> Result<Result<R, Why>, FilesFault>
     ensures gives { IfOk result (λ r. (t : FileTable) → IsTable t (known_files F.Files files.old) (known_files F.Files files.new)
         → Gives R.contents (start_given t (start_asked start.entry)) r) }
-    ensures used { UsesFiles (known_files F.Files files.old) (known_files F.Files files.new) result }
-    ensures reads { Reads (start_reads (start_asked start.entry)) (known_files F.Files files.old) (known_files F.Files files.new) result }
-    ensures own { IsOwn result }
+    ensures used { UsesFiles IsFailedFile (known_files F.Files files.old) (known_files F.Files files.new) result }
+    ensures reads { Reads IsFailedFile (start_reads (start_asked start.entry)) (known_files F.Files files.old) (known_files F.Files files.new) result }
 {
     match start {
         Start::Alone => Ok(Ok(R::single(alloc, &Content::Node)?)),
@@ -154,16 +156,15 @@ fn begin<R: TreeRep, F: Files>(
     alloc: Global,
     start: Start<'_>,
     files: &mut F,
-) -> Result<Result<Session<R>, Why>, Stop>
+) -> Result<Result<Interpreter<R>, Why>, FilesFault>
     ensures begun { IfOk result (λ r. (t : FileTable) → IsTable t (known_files F.Files files.old) (known_files F.Files files.new)
         → Begun R.contents (start_given t (start_asked start.entry)) r) }
-    ensures stands { IfOk result (λ r. IfOk r (λ x. FollowsOne R.contents x × (x.refused ≡ false) × (x.database.runs ≡ 0))) }
-    ensures used { UsesFiles (known_files F.Files files.old) (known_files F.Files files.new) result }
-    ensures reads { Reads (start_reads (start_asked start.entry)) (known_files F.Files files.old) (known_files F.Files files.new) result }
-    ensures own { IsOwn result }
+    ensures stands { IfOk result (λ r. IfOk r (λ x. FollowsOne R.contents x × (x.refused ≡ false) × (runs_of x.database ≡ 0))) }
+    ensures used { UsesFiles IsFailedFile (known_files F.Files files.old) (known_files F.Files files.new) result }
+    ensures reads { Reads IsFailedFile (start_reads (start_asked start.entry)) (known_files F.Files files.old) (known_files F.Files files.new) result }
 {
     match start_tree::<R, F>(alloc, start, files)? {
-        Ok(tree) => Ok(Ok(Session::new(alloc, tree)?)),
+        Ok(tree) => Ok(Ok(Interpreter::new(alloc, tree)?)),
         Err(why) => Ok(Err(why)),
     }
 }
@@ -180,7 +181,7 @@ fn refused_scratch(why: Why) -> Reply
 
 /// Writes the lines of a reply that stands alone.
 fn tell_alone<O: Sink>(alloc: Global, reply: &Reply, output: &mut O) -> Result<(), Stop>
-    ensures went { WritesOrStops (lines reply.now) (O.contents output.old) (O.contents output.new) result }
+    ensures went { SendsOut (lines reply.now) (O.contents output.old) (O.contents output.new) result }
     ensures used { UsesOutput (known_output O.Sink output.old) (known_output O.Sink output.new) result }
 {
     let mut text = Vec::new(alloc);
@@ -189,7 +190,7 @@ fn tell_alone<O: Sink>(alloc: Global, reply: &Reply, output: &mut O) -> Result<(
 
 /// Writes the refusal of a start tree.
 fn tell_refusal<O: Sink>(alloc: Global, why: Why, output: &mut O) -> Result<(), Stop>
-    ensures went { WritesOrStops (refused_start why) (O.contents output.old) (O.contents output.new) result }
+    ensures went { SendsOut (refused_start why) (O.contents output.old) (O.contents output.new) result }
     ensures used { UsesOutput (known_output O.Sink output.old) (known_output O.Sink output.new) result }
 {
     let reply = refused_scratch(why);
@@ -228,7 +229,7 @@ fn scratch<R: TreeRep, F: Files, I: Source, O: Sink>(
     match begin::<R, F>(alloc, start, files) {
         Ok(Ok(mut session)) => turns(&mut session, &mut piece, files, input, output),
         Ok(Err(why)) => refuse_start(alloc, why, output),
-        Err(stop) => stopped(output, stop),
+        Err(fault) => stopped(output, Stop::from(fault)),
     }
 }
 

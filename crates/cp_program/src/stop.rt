@@ -1,3 +1,6 @@
+ghost use Rattle.std.specs.Prelude.{◌≡◌};
+
+use cp_database::DatabaseFault;
 use cp_outside::{FilesFault, SinkFault};
 use std::alloc::{AllocError, AllocFailed};
 use thiserror::Error;
@@ -65,5 +68,18 @@ impl From<FilesFault> for Stop {
             FilesFault::Failed => Stop::File,
             FilesFault::Memory => Stop::Memory,
         }
+    }
+}
+
+/// Why a session stops where its database has a fault, whose store is in memory.
+pub(crate) fn stop_of(fault: DatabaseFault) -> Stop
+    requires memory { ¬ (fault ≡ DatabaseFault.Disk) }
+    ensures file { fault ≡ DatabaseFault.File → result ≡ Stop.File }
+    ensures memory { fault ≡ DatabaseFault.Memory → result ≡ Stop.Memory }
+{
+    match fault {
+        DatabaseFault::File => Stop::File,
+        DatabaseFault::Disk => unreachable!(),
+        DatabaseFault::Memory => Stop::Memory,
     }
 }

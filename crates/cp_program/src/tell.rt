@@ -4,7 +4,7 @@ ghost use Rattle.cp_reply.specs.Lines.{lines};
 ghost use Rattle.cp_program.specs.Words.{memory_line, file_line};
 ghost use Rattle.cp_program.specs.Outside.{known_output};
 ghost use Rattle.cp_program.specs.Story.{WritesLast};
-ghost use Rattle.cp_program.specs.Turns.{WritesOrStops, WritesStop, UsesOutput, end_of};
+ghost use Rattle.cp_program.specs.Turns.{SendsOut, TellsStop, UsesOutput, end_of_stop};
 
 use crate::end::End;
 use crate::stop::Stop;
@@ -19,7 +19,7 @@ pub(crate) fn tell<O: Sink>(
     text: &mut Vec<u8>,
     output: &mut O,
 ) -> Result<(), Stop>
-    ensures went { WritesOrStops (lines reply.now) (O.contents output.old) (O.contents output.new) result }
+    ensures went { SendsOut (lines reply.now) (O.contents output.old) (O.contents output.new) result }
     ensures used { UsesOutput (known_output O.Sink output.old) (known_output O.Sink output.new) result }
 {
     text.clear();
@@ -58,8 +58,8 @@ fn file_failed<O: Sink>(output: &mut O) -> End
 
 /// How a session ends that was stopped.
 pub(crate) fn stopped<O: Sink>(output: &mut O, stop: Stop) -> End
-    ensures end { result ≡ end_of stop }
-    ensures wrote { WritesStop (known_output O.Sink output.old) (known_output O.Sink output.new) stop }
+    ensures end { result ≡ end_of_stop stop }
+    ensures wrote { TellsStop (known_output O.Sink output.old) (known_output O.Sink output.new) stop }
     ensures later { O.faults output.old ≤ O.faults output.new }
 {
     match stop {

@@ -37,6 +37,7 @@ pub fn answer<P: ProvStore, R: TreeRep>(
     requires answered { is_answered query.now ≡ true }
     ensures answer { (s : State) → IsStateOf P.ProvStore R.TreeRep store.old tree.now s
         → AnswersTo s query.now result }
+    ensures calm { IsErrOf result NoPlace → P.faults store.new ≡ P.faults store.old }
     ensures asks { Asks P.ProvStore BlamesStore store.old store.new result }
 {
     match query {
@@ -71,6 +72,7 @@ pub fn trace<P: ProvStore, R: TreeRep>(
     ensures answer { (s : State) → IsStateOf P.ProvStore R.TreeRep store.old tree.now s
         → IfOk result (λ a. a ≡ trace s.now s.tree place.now.path) }
     ensures place { IsErrOf result NoPlace ↔ (is_in (R.contents tree.now) place.now ≡ false) }
+    ensures calm { IsErrOf result NoPlace → P.faults store.new ≡ P.faults store.old }
     ensures asks { Asks P.ProvStore BlamesStore store.old store.new result }
 {
     let walk = begin(tree, place, store.upto())?;
@@ -87,6 +89,7 @@ pub fn src<P: ProvStore, R: TreeRep>(
     ensures answer { (s : State) → IsStateOf P.ProvStore R.TreeRep store.old tree.now s
         → IfOk result (λ a. a ≡ src s.tree place.now.path) }
     ensures place { IsErrOf result NoPlace ↔ (is_in (R.contents tree.now) place.now ≡ false) }
+    ensures calm { IsErrOf result NoPlace → P.faults store.new ≡ P.faults store.old }
     ensures asks { Asks P.ProvStore BlamesStore store.old store.new result }
 {
     let walk = begin(tree, place, store.upto())?;
@@ -103,6 +106,7 @@ pub fn hist<P: ProvStore, R: TreeRep>(
     ensures answer { (s : State) → IsStateOf P.ProvStore R.TreeRep store.old tree.now s
         → IfOk result (λ a. a ≡ hist s.tree place.now.path) }
     ensures place { IsErrOf result NoPlace ↔ (is_in (R.contents tree.now) place.now ≡ false) }
+    ensures calm { IsErrOf result NoPlace → P.faults store.new ≡ P.faults store.old }
     ensures asks { Asks P.ProvStore BlamesStore store.old store.new result }
 {
     let walk = begin(tree, place, store.upto())?;

@@ -1,5 +1,6 @@
 use Rattle.std.proofs.Common.{sym, subst, ◌∙◌}
-use Rattle.cp_program.specs.Outside.{known_files, known_output}
+use Rattle.cp_database.specs.Files.{known_files}
+use Rattle.cp_program.specs.Outside.{known_output}
 use Rattle.cp_program.specs.Turns.{RunsLast, Closes, IsClosing}
 use Rattle.cp_program.specs.declared.end.End.{End}
 use Rattle.cp_program.proofs.Runs.{both, closes-stopped, closing-stopped}

@@ -1,6 +1,7 @@
 use Rattle.std.proofs.Common.{◌∙◌, sym, ap}
 use Rattle.std.specs.Option.{option_map}
-use Rattle.cp_program.specs.Outside.{known_input, known_files, known_output}
+use Rattle.cp_database.specs.Files.{known_files}
+use Rattle.cp_program.specs.Outside.{known_input, known_output}
 use Rattle.cp_program.specs.Starts.{start_asked}
 use Rattle.cp_program.proofs.Whole.{called, called-usage}
 use Rattle.cp_program.proofs.run.run_cpdb.Goals as goal

@@ -1,8 +1,10 @@
 use Rattle.std.proofs.Common.{◌≡◌, false, IfOk, sym, subst}
 use Rattle.cp_program.specs.Job.{start_given, start_reads, refused_start}
-use Rattle.cp_program.specs.Outside.{known_input, known_files, known_output, known_outside}
+use Rattle.cp_database.specs.Files.{known_files}
+use Rattle.cp_program.specs.Outside.{known_input, known_output, known_outside}
 use Rattle.cp_outside.specs.FileReads.{FileTable}
 use Rattle.cp_session.specs.Session.{FetchedFile}
+use Rattle.cp_database.specs.Databases.{runs_of}
 use Rattle.cp_program.specs.Starts.{start_asked}
 use Rattle.cp_program.specs.Story.{Ran, HasCauses}
 use Rattle.cp_program.specs.Turns.{FollowsOne, Begun}
@@ -32,7 +34,7 @@ returns-in-Ok-Ok-clause-ran g c =
     let o = known_output g.O.Sink c.args.output.now in
     ran-begun view given (start_reads (start_asked c.args.start)) c.in-Ok-Ok.session i f fb o (known_outside g.F.Files g.I.Source g.O.Sink c.turns.new.files c.turns.new.input c.turns.new.output) c.turns.result
     c.in-Ok-Ok.ensures.used.same c.in-Ok-Ok.ensures.reads c.turns.ensures.read
-    (subst (λ r. IfOk r (λ x. FollowsOne view x × (x.refused ≡ false) × (x.database.runs ≡ 0))) c.in-Ok-Ok.field-0-is c.in-Ok-Ok.ensures.stands).1
+    (subst (λ r. IfOk r (λ x. FollowsOne view x × (x.refused ≡ false) × (runs_of x.database ≡ 0))) c.in-Ok-Ok.field-0-is c.in-Ok-Ok.ensures.stands).1
     (λ t w. subst (Begun view (given t)) c.in-Ok-Ok.field-0-is (c.in-Ok-Ok.ensures.begun t w)) c.turns.ensures.ran
 
 pub returns-in-Ok-Err-clause-ran : goal.returns-in-Ok-Err-clause-ran
@@ -59,7 +61,7 @@ returns-clause-ran g c =
     let o = known_output g.O.Sink c.args.output.now in
     let p = known_output g.O.Sink c.stopped.new.output in
     let P : End → Type 0 = λ e. Ran given k (parts i f o) (parts i fb p) e in
-    subst P (sym c.stopped.ensures.end) (ran-early given k i f fb o p c.in-Err.stop c.in-Err.ensures.own c.in-Err.ensures.reads c.stopped.ensures.wrote)
+    subst P (sym c.stopped.ensures.end) (ran-early given k i f fb o p c.in-Err.fault c.from.result c.from.ensures c.in-Err.ensures.reads c.stopped.ensures.wrote)
 
 pub returns-clause-causes : goal.returns-clause-causes
 returns-clause-causes g c =
@@ -70,4 +72,4 @@ returns-clause-causes g c =
     let p = known_output g.O.Sink c.stopped.new.output in
     let a = c.in-Err.ensures.used.account in
     let P : End → Type 0 = λ e. HasCauses (parts i f o) (parts i fb p) e in
-    subst P (sym c.stopped.ensures.end) (causes-early i f fb o p c.in-Err.stop c.in-Err.ensures.own c.in-Err.ensures.used.same (record { later = a.later; blamed = a.blamed; steady = tt }) c.stopped.ensures.later)
+    subst P (sym c.stopped.ensures.end) (causes-early i f fb o p c.in-Err.fault c.from.result c.from.ensures c.in-Err.ensures.used.same a.later a.blamed c.stopped.ensures.later)

@@ -2,7 +2,8 @@ use Rattle.std.proofs.Common.{◌≡◌, ℕ, [], length, take, subst, sym, Err,
 use Rattle.std.proofs.lemmas.List.{length-take-le}
 use Rattle.std.specs.Io.KnownBytes.{Consumes, IsAtEnd}
 use Rattle.cp_outside.specs.FileReads.{FileTable}
-use Rattle.cp_program.specs.Outside.{known_input, known_files, known_output, known_outside, IsTable}
+use Rattle.cp_database.specs.Files.{known_files, IsTable}
+use Rattle.cp_program.specs.Outside.{known_input, known_output, known_outside}
 use Rattle.cp_program.specs.Play.{Seen}
 use Rattle.cp_program.specs.Turns.{Follows, RanFrom, Fed}
 use Rattle.cp_program.specs.declared.end.End.{End}

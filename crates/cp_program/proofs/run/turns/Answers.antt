@@ -1,6 +1,7 @@
 use Rattle.std.proofs.Common.{arith}
-use Rattle.cp_program.specs.Outside.{known_files, known_outside}
-use Rattle.cp_program.proofs.ReadCounts.{some-then}
+use Rattle.cp_database.specs.Files.{known_files}
+use Rattle.cp_program.specs.Outside.{known_outside}
+use Rattle.cp_database.proofs.ReadCounts.{some-then}
 use Rattle.cp_program.proofs.Runs.{piece-none, piece-more, piece-ran, steady-none, steady-then, causes-after}
 use Rattle.cp_program.proofs.run.turns.Goals as goal
 

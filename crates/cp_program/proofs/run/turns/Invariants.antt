@@ -1,3 +1,4 @@
+use Rattle.cp_database.specs.Databases.{runs_of}
 use Rattle.cp_program.specs.declared.limits.TheConstants.{INPUT_MAX}
 use Rattle.std.proofs.Common.{◌≤◌, ◌-◌}
 use Rattle.cp_program.specs.Outside.{known_outside}
@@ -10,7 +11,7 @@ decreases-loop-now g l = INPUT_MAX - l.taken
 abbrev pub invariant-loop-now : goal.invariant-loop-now
 invariant-loop-now g l = record {
   within : l.taken ≤ INPUT_MAX;
-  few : l.session.database.runs ≤ l.taken;
+  few : runs_of l.session.database ≤ l.taken;
   stands : FollowsOne g.R.TreeRep.contents l.session;
   took : TookPiece g.R.TreeRep.contents l.initial.session l.session 0 l.taken (known_outside g.F.Files g.I.Source g.O.Sink l.initial.files l.initial.input l.initial.output) (known_outside g.F.Files g.I.Source g.O.Sink l.files l.input l.output);
   steady : IsSteady (known_outside g.F.Files g.I.Source g.O.Sink l.initial.files l.initial.input l.initial.output) (known_outside g.F.Files g.I.Source g.O.Sink l.files l.input l.output);

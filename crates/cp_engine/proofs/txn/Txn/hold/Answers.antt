@@ -13,4 +13,4 @@ pub returns-clause-ok : goal.returns-clause-ok
 returns-clause-ok g c = λ t n ops h.
     let x = c.args.self.now in
     going-more g.R.TreeRep.contents (sources_in g.S.TreeRep.contents c.args.sources.now) x _ t n c.after-tid.result ops c.args.op.now (trees-loaded g.S.TreeRep.contents g.met.S.TreeRep.is_tree c.args.sources.now) c.requires.written c.requires.few c.requires.accepted (c.after-tid.ensures ∙ ap (λ k. x.first + k) c.len.ensures.count)
-    (c.in_default.ensures.ok ∙ ap (λ o. x.ops ++ o ∷ []) c.in_ok-held.ensures) refl c.in_default-change.ensures.ok c.in_ok-push_op.ensures.ok refl h
+    (c.in_ok-push.ensures.ok ∙ ap (λ o. x.ops ++ o ∷ []) c.in_ok-held.ensures) refl c.in_default.ensures.tree c.in_default.ensures.rows refl h

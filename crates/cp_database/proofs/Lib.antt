@@ -1,0 +1,9 @@
+pub mod Standing
+mod Operating
+mod Committing
+mod Answering
+mod Loading
+mod Blaming
+mod Fetched
+pub mod Readings
+pub mod ReadCounts
