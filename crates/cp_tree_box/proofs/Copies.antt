@@ -1,8 +1,6 @@
 -- Steps of walks over the edges below a root.
-use Rattle.std.specs.Prelude.{◌≡◌, is_some, ℕ, ◌+◌, ◌≤◌, ◌-◌, List, [], ◌∷◌, ◌++◌, map, length, IfSome, IfNone}
-use Rattle.std.proofs.Common.{sym, ap, subst, ◌∙◌, T, arith, append_assoc, append-nil, take, length-append, refl}
-use Rattle.std.proofs.Math.Seq.{take-append_seam}
-use Rattle.std.proofs.lemmas.List.{map-append}
+use Rattle.std.specs.Prelude.{◌≡◌, ℕ, ◌+◌, ◌≤◌, List, [], ◌∷◌, ◌++◌, IfSome, IfNone}
+use Rattle.std.proofs.Common.{sym, ap, subst, ◌∙◌, T, arith, append_assoc, append-nil}
 use Rattle.std.specs.declared.option.Option.{Option}
 use Rattle.std.specs.declared.option.Option.TheVariants.{None, Some}
 use Rattle.std.specs.Option.{option_copied}
@@ -12,19 +10,14 @@ use Rattle.std.specs.Map.{lookup}
 use Rattle.std.specs.BTreeMap.{is_at, insert_entry}
 use Rattle.cp_path.specs.Text.{text_cmp}
 use Rattle.cp_model.specs.declared.row.Content.{Content}
-use Rattle.cp_model.specs.declared.row.Row.{Row}
 use Rattle.cp_model.specs.Place.{Label, Path, child}
-use Rattle.cp_model.proofs.KeyedLemmas.{same_map}
 use Rattle.cp_model.specs.Keyed as keyed
-use Rattle.cp_model.specs.Subtrees.{entries_under}
 use Rattle.cp_model.specs.Tree.{Tree, IsRooted}
-use Rattle.cp_tree.specs.Branch.{branch, child_rows, sub, below_label, children_len}
+use Rattle.cp_tree.specs.Branch.{branch, sub, children_len}
 use Rattle.cp_tree.proofs.BranchLemmas.{label_total, get-sub, sub-root}
 use Rattle.cp_tree.specs.Good.{IsGood}
 use Rattle.cp_tree.proofs.GoodLemmas.{rooted_found, sub_below, get_nothing}
-use Rattle.cp_tree.specs.Rows.{entry_row}
 use Rattle.cp_tree.proofs.Rising.{put_end}
-use Rattle.cp_tree.proofs.ListingLemmas.{moved-append, moved-below_label, moved-branch}
 use Rattle.cp_tree.proofs.Totals.{len-branch}
 use Rattle.cp_tree_box.proofs.Maps.{looked, insert-put}
 use Rattle.cp_tree.proofs.Answering.{sub-child}

@@ -1,34 +1,24 @@
 -- What a tree kept whole, with the numbers kept of it, answers and becomes.
 use Rattle.cp_model.specs.declared.limits.TheConstants.{NODES_MAX, WEIGHT_MAX}
 use Rattle.cp_path.specs.declared.limits.TheConstants.{TEXT_MAX}
-use Rattle.std.specs.Prelude.{◌^◌, ◌≡◌, ℕ, ◌+◌, ◌≤◌, ◌<◌, ◌⊎◌, true, false, cond, ◌==◌, List, [], ◌∷◌, ◌++◌, map, length, sum_by, is_some, slice_index, IfSome, IfNone, Result, Ok, Err, OnOk}
+use Rattle.std.specs.Prelude.{◌^◌, ◌≡◌, ℕ, ◌+◌, ◌≤◌, ◌<◌, ◌⊎◌, true, false, cond, ◌==◌, List, [], ◌∷◌, ◌++◌, length, sum_by, is_some, slice_index}
 use Rattle.std.proofs.Common.{sym, ap, subst, ◌∙◌, arith, refl}
 use Rattle.std.proofs.lemmas.List.Sums.{sum_by-cons}
-use Rattle.std.specs.List.{filter_map}
 use Rattle.std.specs.declared.option.Option.{Option}
 use Rattle.std.specs.declared.option.Option.TheVariants.{None, Some}
-use denote.Ref.{Bor}
 use Rattle.cp_model.specs.declared.row.Content.{Content}
-use Rattle.cp_model.specs.declared.row.Row.{Row}
 use Rattle.cp_model.specs.Place.{Label, Path, child}
-use Rattle.cp_model.proofs.KeyedLemmas.{get-entries, same_map}
 use Rattle.cp_model.specs.Keyed as keyed
 use Rattle.cp_model.specs.Keyed.{look}
-use Rattle.cp_model.specs.Subtrees.{is_there, below, entries_under, without, with_subtree}
+use Rattle.cp_model.specs.Subtrees.{is_there, without, with_subtree}
 use Rattle.cp_model.specs.Tree.{Tree, IsRooted, IsTree, weight, text_bytes, IsNumber}
-use Rattle.cp_model.proofs.Strips.{append-nil, strip-append}
-use Rattle.cp_model.specs.Laws.{at_rest_or}
-use Rattle.cp_model.proofs.Lookups.{get-replaced}
 use Rattle.cp_model.proofs.SumsLemmas.{below-none, sum_by-one}
 use Rattle.cp_model.proofs.Kept.{closed-tree}
 use Rattle.cp_tree.specs.Branch.{sub}
-use Rattle.cp_tree.proofs.BranchLemmas.{get-sub, sub-root, entries-sub}
+use Rattle.cp_tree.proofs.BranchLemmas.{get-sub, entries-sub}
 use Rattle.cp_tree.proofs.Leaves.{single-tree}
-use Rattle.cp_tree.specs.Rows.{tree_of_rows, entry_row, entries_in, root_entries, single, only_label, labels_at, path_size, greatest, reach_of}
-use Rattle.cp_tree.proofs.Built.{entries-tree_of_rows, entries-single}
-use Rattle.cp_model.specs.History.{IsLiteral}
+use Rattle.cp_tree.specs.Rows.{single, path_size, greatest, reach_of}
 use Rattle.cp_tree.proofs.Counted.{is_one, counted, greatest_is}
-use Rattle.cp_tree.proofs.ListingLemmas.{moved-root}
 use Rattle.cp_tree.specs.declared.reach.Reach.{Reach}
 use Rattle.cp_tree_box.specs.declared.spot.Spot.{Spot}
 use Rattle.cp_tree_box.specs.declared.tally.Tally.{Tally}

@@ -1,0 +1,3 @@
+mod At
+mod Listing
+mod Rows

@@ -1,0 +1,5 @@
+use Rattle.cp_tree_share.proofs.At.{reach_weight}
+use Rattle.cp_tree_share.proofs.tree.ShareTreeTreeRep.weight.Goals as goal
+
+pub returns : goal.returns
+returns c = reach_weight _ _ c.reach.ensures

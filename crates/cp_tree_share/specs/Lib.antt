@@ -1,0 +1,5 @@
+pub mod Falls
+pub mod Nodes
+pub mod Parts
+pub mod Shared
+pub mod Siblings

@@ -1,0 +1,172 @@
+ghost use Rattle.std.specs.Prelude.{◌≡◌, ◌≤◌, ◌<◌, ◌+◌, ◌++◌, ◌∷◌, IfOk, max};
+ghost use Rattle.cp_model.specs.Keyed.{len};
+ghost use Rattle.cp_tree.specs.Sums.{AreChildren};
+ghost use Rattle.cp_tree_share.specs.Siblings.{Near, Settles};
+ghost use Rattle.cp_tree_share.specs.Parts.{ArePartsOf};
+
+use crate::forest::{Entry, Forest, Fork, Open};
+use std::alloc::{AllocError, Global};
+use std::rc::Rc;
+
+/// Siblings taken apart.
+#[derive(Drop)]
+pub(crate) enum Parts {
+    Empty,
+    At(Forest, Entry, Forest),
+}
+
+impl Forest {
+    /// Takes the siblings apart at the root of their tree.
+    pub(crate) fn parts(&self) -> Result<Parts, AllocError>
+        ensures { IfOk result (ArePartsOf self.now) }
+    {
+        match &self.open {
+            Open::Tip => Ok(Parts::Empty),
+            Open::Full(fork) => {
+                let fork: &Fork = fork;
+                let left = fork.left.share()?;
+                let entry = fork.entry.share()?;
+                let right = fork.right.share()?;
+                Ok(Parts::At(left, entry, right))
+            }
+        }
+    }
+
+    /// Puts siblings beside each other.
+    pub(crate) fn fork(
+        alloc: Global,
+        left: Forest,
+        entry: Entry,
+        right: Forest,
+    ) -> Result<Forest, AllocError>
+        requires children { AreChildren (left.0 ++ entry ∷ right.0) }
+        requires near { Near 1 left.1 right.1 }
+        ensures { IfOk result (λ t. t ≡ (left.0 ++ entry ∷ right.0, max left.1 right.1 + 1)) }
+    {
+        let height = left.height().max(right.height()) + 1;
+        let sums = left.sums().beside(entry.sums().beside(right.sums()));
+        let fork = Fork {
+            left,
+            entry,
+            right,
+            height,
+            sums,
+        };
+        Ok(Forest {
+            open: Open::Full(Rc::new(alloc, fork)?),
+        })
+    }
+
+    /// Rotates where the left side is two levels higher.
+    fn lean_left(
+        alloc: Global,
+        left: Forest,
+        entry: Entry,
+        right: Forest,
+    ) -> Result<Forest, AllocError>
+        requires children { AreChildren (left.0 ++ entry ∷ right.0) }
+        requires two_higher { left.1 ≡ right.1 + 2 }
+        ensures edges { IfOk result (λ t. t.0 ≡ left.0 ++ entry ∷ right.0) }
+        ensures not_lower { IfOk result (λ t. left.1 ≤ t.1) }
+        ensures at_most_one_higher { IfOk result (λ t. t.1 ≤ left.1 + 1) }
+    {
+        let Parts::At(outer, top, inner) = left.parts()? else {
+            unreachable!()
+        };
+        if outer.height() >= inner.height() {
+            let low = Forest::fork(alloc, inner, entry, right)?;
+            return Forest::fork(alloc, outer, top, low);
+        }
+        let Parts::At(before, middle, after) = inner.parts()? else {
+            unreachable!()
+        };
+        let first = Forest::fork(alloc, outer, top, before)?;
+        let last = Forest::fork(alloc, after, entry, right)?;
+        Forest::fork(alloc, first, middle, last)
+    }
+
+    /// Rotates where the right side is two levels higher.
+    fn lean_right(
+        alloc: Global,
+        left: Forest,
+        entry: Entry,
+        right: Forest,
+    ) -> Result<Forest, AllocError>
+        requires children { AreChildren (left.0 ++ entry ∷ right.0) }
+        requires two_higher { right.1 ≡ left.1 + 2 }
+        ensures edges { IfOk result (λ t. t.0 ≡ left.0 ++ entry ∷ right.0) }
+        ensures not_lower { IfOk result (λ t. right.1 ≤ t.1) }
+        ensures at_most_one_higher { IfOk result (λ t. t.1 ≤ right.1 + 1) }
+    {
+        let Parts::At(inner, top, outer) = right.parts()? else {
+            unreachable!()
+        };
+        if outer.height() >= inner.height() {
+            let low = Forest::fork(alloc, left, entry, inner)?;
+            return Forest::fork(alloc, low, top, outer);
+        }
+        let Parts::At(before, middle, after) = inner.parts()? else {
+            unreachable!()
+        };
+        let first = Forest::fork(alloc, left, entry, before)?;
+        let last = Forest::fork(alloc, after, top, outer)?;
+        Forest::fork(alloc, first, middle, last)
+    }
+
+    /// Puts siblings beside each other, of which one side may be two levels higher.
+    pub(crate) fn balance(
+        alloc: Global,
+        left: Forest,
+        entry: Entry,
+        right: Forest,
+    ) -> Result<Forest, AllocError>
+        requires children { AreChildren (left.0 ++ entry ∷ right.0) }
+        requires near { Near 2 left.1 right.1 }
+        ensures edges { IfOk result (λ t. t.0 ≡ left.0 ++ entry ∷ right.0) }
+        ensures settles { IfOk result (λ t. Settles left.1 right.1 t.1) }
+    {
+        let (before, after) = (left.height(), right.height());
+        if before > after + 1 {
+            Forest::lean_left(alloc, left, entry, right)
+        } else if after > before + 1 {
+            Forest::lean_right(alloc, left, entry, right)
+        } else {
+            Forest::fork(alloc, left, entry, right)
+        }
+    }
+
+    /// Takes out the first sibling: it, and the others. Costs a logarithm.
+    fn pop_first(&self, alloc: Global) -> Result<(Entry, Forest), AllocError>
+        requires some { 0 < self.now.1 }
+        requires children { AreChildren self.now.0 }
+        ensures edges { IfOk result (λ p. self.now.0 ≡ p.0 ∷ p.1.0) }
+        ensures some { IfOk result (λ p. 0 < len p.0.1) }
+        ensures not_higher { IfOk result (λ p. p.1.1 ≤ self.now.1) }
+        ensures at_most_one_lower { IfOk result (λ p. self.now.1 ≤ p.1.1 + 1) }
+    {
+        let Parts::At(left, middle, right) = self.parts()? else {
+            unreachable!()
+        };
+        if left.height() == 0 {
+            return Ok((middle, right));
+        }
+        let (first, left) = left.pop_first(alloc)?;
+        let rest = Forest::balance(alloc, left, middle, right)?;
+        Ok((first, rest))
+    }
+
+    /// Puts siblings beside others. Costs a logarithm.
+    pub(crate) fn join(alloc: Global, left: Forest, right: Forest) -> Result<Forest, AllocError>
+        requires children { AreChildren (left.0 ++ right.0) }
+        requires near { Near 1 left.1 right.1 }
+        ensures edges { IfOk result (λ t. t.0 ≡ left.0 ++ right.0) }
+        ensures not_lower { IfOk result (λ t. max left.1 right.1 ≤ t.1) }
+        ensures at_most_one_higher { IfOk result (λ t. t.1 ≤ max left.1 right.1 + 1) }
+    {
+        if right.height() == 0 {
+            return Ok(left);
+        }
+        let (first, rest) = right.pop_first(alloc)?;
+        Forest::balance(alloc, left, first, rest)
+    }
+}

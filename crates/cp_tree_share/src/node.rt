@@ -1,0 +1,209 @@
+ghost use Rattle.std.specs.Prelude.{◌≡◌, [], ◌∷◌, ◌++◌, map, true, IfOk, OnOk, IfSome, IfNone};
+ghost use Rattle.std.specs.declared.option.Option.TheVariants.{Some, None};
+ghost use Rattle.cp_model.specs.Place.{child};
+ghost use Rattle.cp_model.specs.Keyed.{get, entries};
+ghost use Rattle.cp_model.specs.Subtrees.{entries_under, with_subtree, without, is_there};
+ghost use Rattle.cp_model.specs.Tree.{IsRooted, is_node};
+ghost use Rattle.cp_model.specs.declared.row.Content.TheVariants.{Node};
+ghost use Rattle.cp_tree.specs.Branch.{sub, child_rows};
+ghost use Rattle.cp_tree.specs.Rows.{entry_row, single, labels_at, reach_of};
+ghost use Rattle.cp_tree.specs.Sums.{IsSmall};
+
+use crate::content::SharedContent;
+use crate::forest::{Entry, Forest, Fork, Open, ShareNode};
+use crate::label::SharedLabel;
+use cp_model::{Content, Row};
+use cp_path::{Label, Path};
+use cp_tree::Reach;
+use std::alloc::{AllocError, Global};
+
+impl ShareNode {
+    /// Makes a root alone.
+    pub(crate) fn leaf(content: SharedContent) -> ShareNode
+        ensures tree { result ≡ single content }
+        ensures rooted { IsRooted result }
+    {
+        ShareNode {
+            content,
+            children: Forest::new(),
+        }
+    }
+
+    /// Finds the node at the place. Costs a search among siblings for each label.
+    pub(crate) fn find(&self, place: &[Label]) -> Option<&ShareNode>
+        ensures there { IfSome result (λ n. n.now ≡ sub self.now place.now) }
+        ensures rooted { IfSome result (λ n. IsRooted n.now) }
+        ensures gone { IfNone result (get self.now place.now ≡ None) }
+        ensures whole { IsRooted self.now }
+    {
+        let children = &self.children;
+        match place.split_first() {
+            None => Some(self),
+            Some((first, rest)) => match children.find(first) {
+                Some(entry) => entry.node.find(rest),
+                None => None,
+            },
+        }
+    }
+
+    /// Finds the node at the label below the place.
+    pub(crate) fn find_child(&self, place: &[Label], label: &Label) -> Option<&ShareNode>
+        ensures there { IfSome result (λ n. n.now ≡ sub self.now (child place.now label.now)) }
+        ensures rooted { IfSome result (λ n. IsRooted n.now) }
+        ensures gone { IfNone result (get self.now (child place.now label.now) ≡ None) }
+    {
+        match self.find(place) {
+            Some(node) => match node.children.find(label) {
+                Some(entry) => Some(&entry.node),
+                None => None,
+            },
+            None => None,
+        }
+    }
+
+    /// Makes the tree with this entry in the place of a child with its label, or beside the others. Costs a logarithm.
+    fn with_child(&self, alloc: Global, entry: Entry) -> Result<ShareNode, AllocError>
+        requires node { get self.now [] ≡ Some Node }
+        requires rooted { IsRooted entry.1 }
+        requires small { IsSmall (with_subtree (entry.0 ∷ []) (entries entry.1) self.now) }
+        ensures tree { IfOk result (λ t. t ≡ with_subtree (entry.0 ∷ []) (entries entry.1) self.now) }
+        ensures rooted { IfOk result (λ t. IsRooted t) }
+    {
+        let children = self.children.put(alloc, entry)?;
+        let content = self.content.share()?;
+        Ok(ShareNode { content, children })
+    }
+
+    /// Makes the tree with a new subtree at the label below the node at `place`, in the place of one that is there or
+    /// beside the others. Costs the way down, and a logarithm among siblings for each label of it.
+    pub(crate) fn put(
+        &self,
+        alloc: Global,
+        place: &[Label],
+        label: SharedLabel,
+        new: ShareNode,
+    ) -> Result<ShareNode, AllocError>
+        requires node { get self.now place.now ≡ Some Node }
+        requires rooted { IsRooted new }
+        requires small { IsSmall (with_subtree (child place.now label) (entries new) self.now) }
+        ensures tree { IfOk result (λ t. t ≡ with_subtree (child place.now label) (entries new) self.now) }
+        ensures rooted { IfOk result (λ t. IsRooted t) }
+    {
+        match place.split_first() {
+            None => self.with_child(alloc, Entry { label, node: new }),
+            Some((first, rest)) => match self.children.find(first) {
+                Some(entry) => {
+                    let node = entry.node.put(alloc, rest, label, new)?;
+                    let label = entry.label.share()?;
+                    self.with_child(alloc, Entry { label, node })
+                }
+                None => unreachable!(),
+            },
+        }
+    }
+
+    /// Makes the tree without what stands at the label below the place. Costs the way down, and a logarithm among
+    /// siblings for each label of it.
+    pub(crate) fn remove(
+        &self,
+        alloc: Global,
+        place: &[Label],
+        label: &Label,
+    ) -> Result<ShareNode, AllocError>
+        requires there { is_there self.now (child place.now label.now) ≡ true }
+        requires small { IsSmall (without (child place.now label.now) self.now) }
+        ensures tree { IfOk result (λ t. t ≡ without (child place.now label.now) self.now) }
+        ensures rooted { IfOk result (λ t. IsRooted t) }
+    {
+        match place.split_first() {
+            None => {
+                let children = self.children.remove(alloc, label)?;
+                let content = self.content.share()?;
+                Ok(ShareNode { content, children })
+            }
+            Some((first, rest)) => match self.children.find(first) {
+                Some(entry) => {
+                    let node = entry.node.remove(alloc, rest, label)?;
+                    let label = entry.label.share()?;
+                    self.with_child(alloc, Entry { label, node })
+                }
+                None => unreachable!(),
+            },
+        }
+    }
+
+    /// Says whether it is a node, and no leaf.
+    pub(crate) fn is_node(&self) -> bool
+        ensures { result ≡ is_node (get self.now []) }
+    {
+        self.content.is_node()
+    }
+
+    /// Copies what stands at the root. Costs the bytes of a text.
+    pub(crate) fn to_content(&self) -> Result<Content, AllocError>
+        ensures { IfOk result (λ c. get self.now [] ≡ Some c) }
+    {
+        self.content.to_content()
+    }
+
+    /// Measures how far the tree reaches, from what is kept.
+    pub(crate) fn reach(&self) -> Reach
+        ensures { result ≡ reach_of (entries self.now) }
+    {
+        self.children.sums().reach(self.content.text_bytes())
+    }
+
+    /// Lists the labels below, in order. Costs their bytes.
+    pub(crate) fn labels(&self, alloc: Global) -> Result<Vec<Label>, AllocError>
+        ensures { IfOk result (λ v. v.items ≡ labels_at self.now []) }
+    {
+        let mut labels = Vec::new(alloc);
+        self.children.labels_into(alloc, &mut labels)?;
+        Ok(labels)
+    }
+
+    /// Adds the rows of the node, which stands at the place `at`, in order. Costs them and their paths.
+    #[cycle(rows)]
+    pub(crate) fn rows_into(
+        &self,
+        alloc: Global,
+        at: &mut Vec<Label>,
+        out: &mut Vec<Row>,
+    ) -> Result<(), AllocError>
+        ensures rows { OnOk result (out.new.items ≡ out.old.items ++ map entry_row (entries_under at.old.items (entries self.now))) }
+        ensures same_place { OnOk result (at.new.items ≡ at.old.items) }
+    {
+        let content = self.content.to_content()?;
+        let Ok(path) = Path::of(alloc, at.as_slice()) else {
+            return Err(AllocError);
+        };
+        out.push(Row { path, content })?;
+        self.children.rows_into(alloc, at, out)
+    }
+}
+
+impl Forest {
+    /// Adds the rows of the siblings, whose parent stands at the place `at`, in order. Costs them and their paths.
+    #[cycle(rows)]
+    fn rows_into(
+        &self,
+        alloc: Global,
+        at: &mut Vec<Label>,
+        out: &mut Vec<Row>,
+    ) -> Result<(), AllocError>
+        ensures rows { OnOk result (out.new.items ≡ out.old.items ++ map entry_row (entries_under at.old.items (child_rows self.now.0))) }
+        ensures same_place { OnOk result (at.new.items ≡ at.old.items) }
+    {
+        match &self.open {
+            Open::Tip => Ok(()),
+            Open::Full(fork) => {
+                let fork: &Fork = fork;
+                fork.left.rows_into(alloc, at, out)?;
+                at.push(fork.entry.label.to_label(alloc)?)?;
+                fork.entry.node.rows_into(alloc, at, out)?;
+                at.pop();
+                fork.right.rows_into(alloc, at, out)
+            }
+        }
+    }
+}
