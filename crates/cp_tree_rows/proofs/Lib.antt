@@ -1,0 +1,9 @@
+mod Building
+mod Growing
+mod Opening
+mod Reading
+mod Split
+mod Stretches
+mod Turning
+mod Walking
+mod Wrapping

@@ -1,0 +1,5 @@
+pub mod Held
+pub mod Forest
+pub mod Spots
+pub mod Branches
+pub mod Extents

@@ -1,0 +1,15 @@
+//! A tree as its rows in the order of their places.
+#![tactic(auto)]
+
+mod branch;
+mod build;
+mod change;
+mod grow;
+mod held;
+mod list;
+mod measure;
+mod row;
+mod search;
+mod tree;
+
+pub use tree::RowTree;
