@@ -17,6 +17,7 @@
 //! | `log` | commits `LOW HIGH MOMENT OPERATIONS by CURATOR` |
 //! | `init`, `commit`, `load` | |
 
+use crate::word::bytes_of;
 use cp_cases::numbers_of;
 use cp_model::{
     Answer, FromAnswer, Kind, LogLine, LogList, Query, RecOp, Record, RecordList, Stats, TidList,
@@ -295,21 +296,15 @@ fn reply_of(alloc: Global, request: &Request<'_>) -> Result<Option<Reply>, PathF
     }
 }
 
-/// Adds the lines of a reply.
-fn push_lines(alloc: Global, reply: Reply, out: &mut Vec<u8>) -> Result<(), AllocError> {
-    lines(alloc, &reply, out)
-}
-
 /// The lines of a reply.
-fn lines_alone(alloc: Global, reply: Reply) -> Result<Vec<u8>, AllocError> {
+pub(crate) fn lines_alone(alloc: Global, reply: Reply) -> Result<Vec<u8>, AllocError> {
+    let mut replies = Vec::new(alloc);
+    replies.push(reply)?;
     let mut out = Vec::new(alloc);
-    push_lines(alloc, reply, &mut out)?;
+    for reply in replies.iter() {
+        lines(alloc, reply, &mut out)?;
+    }
     Ok(out)
-}
-
-/// The bytes of a text.
-fn bytes_of(alloc: Global, text: &str) -> Result<Vec<u8>, AllocError> {
-    text.as_bytes().to_vec(alloc)
 }
 
 /// The lines of the reply of these words and this text; `None` where they are none.

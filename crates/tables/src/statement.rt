@@ -1,9 +1,10 @@
 //! Statements as they are read, and cuts of an input.
 
+use crate::replies::lines_alone;
 use crate::word::bytes_of;
 use cp_cases::number_of;
 use cp_lang::{Cut, Cutter, StmtFault, first_offset, parse, parse_bytes, print};
-use cp_reply::{Of, Reply, Why, lines};
+use cp_reply::{Of, Reply, Why};
 use std::alloc::{AllocError, Global};
 
 /// The statement that a text is, as it is printed.
@@ -20,9 +21,7 @@ fn refusal(alloc: Global, fault: StmtFault) -> Result<Vec<u8>, AllocError> {
         StmtFault::Memory => return Err(AllocError),
     };
     let of = Of::Statement;
-    let mut line = Vec::new(alloc);
-    lines(alloc, &Reply::Refused { of, why }, &mut line)?;
-    Ok(line)
+    lines_alone(alloc, Reply::Refused { of, why })
 }
 
 /// The line of the statement that bytes are, as it is printed, or its refusal.
