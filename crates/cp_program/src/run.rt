@@ -28,7 +28,7 @@ use cp_outside::{Files, FilesFault, Sink, Source};
 use cp_path::Name;
 use cp_reply::{Of, Reply, Why};
 use cp_tree::TreeRep;
-use cp_tree_box::BoxTree;
+use cp_tree_share::ShareTree;
 use std::alloc::Global;
 
 const USAGE: &[u8] =
@@ -261,6 +261,6 @@ pub fn run_cpdb<F: Files, I: Source, O: Sink>(
             code: End::Usage.code(),
         };
     };
-    let end = scratch::<BoxTree, F, I, O>(alloc, start, files, input, output);
+    let end = scratch::<ShareTree, F, I, O>(alloc, start, files, input, output);
     Status { code: end.code() }
 }
