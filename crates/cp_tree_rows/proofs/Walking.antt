@@ -4,7 +4,6 @@ use Rattle.std.proofs.Common.{sym, ap, subst, ◌∙◌, T, arith, length-append
 use Rattle.std.proofs.lemmas.List.{length-drop, map-append}
 use Rattle.std.proofs.lemmas.List.Sums.{sum_by-cons, sum_by-append}
 use Rattle.std.proofs.Math.ListN.{drop_of_length-le}
-use Rattle.std.proofs.Math.Seq.{take-append_seam}
 use Rattle.std.specs.Ordering.{ord_max}
 use Rattle.cp_model.specs.declared.limits.TheConstants.{PLACE_WEIGHT}
 use Rattle.cp_model.specs.declared.row.Content.{Content}
@@ -182,10 +181,6 @@ module _ (x : Content) (last : ℕ) (rs : List TreeRow) (part : T (is_part x las
       let depth = d ∙ sym tree_depth in
       let size = s ∙ sym tree_size in
       λ i. record { nodes = nodes i; inner = w i; depth = depth i; size = size i }
-
--- a list after an element was put at its end and taken off
-pub pop_push : {X : Type 0} (xs ys : List X) (x : X) (n : ℕ) → ys ≡ xs ++ x ∷ [] → n ≡ length ys → take (n - 1) ys ≡ xs
-pop_push xs ys x n is len = (let e : n - 1 ≡ length xs = omega (arith, ap length is, length-append xs (x ∷ [])) in rw (e, is) (take-append_seam xs (x ∷ [])))
 
 -- the greater of two numbers, as it is computed
 pub greater_is : (a b : ℕ) → ord_max nat_cmp a b ≡ max a b

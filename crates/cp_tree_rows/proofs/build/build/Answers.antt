@@ -1,6 +1,6 @@
 use Rattle.std.proofs.Common.{arith, ap, length}
 use Rattle.cp_tree_rows.proofs.Reading.{no_length}
-use Rattle.cp_tree_rows.proofs.Building.{no_rows, begun_build, row_deep, row_parent, row_built, built_all}
+use Rattle.cp_tree.proofs.Building.{no_rows, begun_build, row_deep, row_parent, row_built, built_all}
 use Rattle.cp_tree_rows.proofs.build.build.Goals as goal
 
 pub unreachable-requires : goal.unreachable-requires

@@ -1,7 +1,8 @@
 use Rattle.std.proofs.Common.{◌∙◌, arith, ap, ◌++◌, ◌∷◌, []}
 use Rattle.cp_tree.specs.Rows.{entry_row}
 use Rattle.cp_tree_rows.proofs.Reading.{facts}
-use Rattle.cp_tree_rows.proofs.Walking.{one_on, rows_on, rows_end, pop_push}
+use Rattle.cp_tree.proofs.Walking.{pop_push}
+use Rattle.cp_tree_rows.proofs.Walking.{one_on, rows_on, rows_end}
 use Rattle.cp_tree_rows.proofs.list.+list_rows.Goals as goal
 
 pub slice_bounds-list_rows-end : goal.slice_bounds-list_rows-end
