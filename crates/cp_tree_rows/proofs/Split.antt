@@ -13,12 +13,8 @@ use Rattle.cp_model.proofs.Sorted.{parts_of}
 use Rattle.cp_tree.specs.Branch.{without_child}
 use Rattle.cp_tree.proofs.BranchLemmas.{label_total}
 use Rattle.cp_tree.proofs.Rising.{less_is, turned}
+use Rattle.cp_tree.proofs.Split.{sorted_back}
 use Rattle.cp_tree_rows.specs.Spots.{AllBefore}
-
--- what comes after a stretch of rising edges rises
-pub sorted_back : (l m : List (Label × Tree)) → T (is_sorted text_cmp (l ++ m)) → T (is_sorted text_cmp m)
-sorted_back [] m s = s
-sorted_back (y ∷ l) m s = sorted_back l m (parts_of (below_all text_cmp y.0 (l ++ m)) (is_sorted text_cmp (l ++ m)) s).1
 
 mid_below : (x : Label) (l : List (Label × Tree)) (e : Label × Tree) (r : List (Label × Tree)) → T (below_all text_cmp x (l ++ e ∷ r)) → text_cmp x e.0 ≡ Less
 mid_below x [] e r h = less_is (text_cmp x e.0) (parts_of (is_lt (text_cmp x e.0)) (below_all text_cmp x r) h).0

@@ -20,7 +20,8 @@ use Rattle.cp_tree_rows.specs.declared.row.TreeRow.{TreeRow}
 use Rattle.cp_tree_rows.specs.Forest.{edges, nests, is_part, points_to_last, is_last, tree_of, SortedRows}
 use Rattle.cp_tree_rows.specs.Spots.{AllBefore, IsChild, IsGap}
 use Rattle.cp_tree_rows.proofs.Reading.{IsRow, row_parts, edges-none, edges_around, nests_around, edges-append, nests-append, nests-back}
-use Rattle.cp_tree_rows.proofs.Split.{sorted_back, before_mid, after_mid, before_later, before_both, find_gap, find_found}
+use Rattle.cp_tree.proofs.Split.{sorted_back}
+use Rattle.cp_tree_rows.proofs.Split.{before_mid, after_mid, before_later, before_both, find_gap, find_found}
 
 -- the list from a row on
 pub from_row : {X : Type 0} (xs : List X) (i : ℕ) (x : X) → i < length xs → x ≡ get_or xs i x → drop i xs ≡ x ∷ drop (i + 1) xs

@@ -22,7 +22,7 @@ use Rattle.cp_tree.specs.Sums.{children_weight}
 use Rattle.cp_tree.proofs.Totals.{weight-branch, len-branch}
 use Rattle.cp_tree_rows.specs.declared.row.TreeRow.{TreeRow}
 use Rattle.cp_tree_rows.specs.Forest.{edges, nests, is_part, tree_of, row_weight, rows_weight}
-use Rattle.cp_tree_rows.specs.Extents.{largest}
+use Rattle.cp_tree.specs.Sums.{largest}
 use Rattle.cp_tree_rows.proofs.Reading.{IsRow, facts, rows_ind, row_parts, good_part, edges-none, edges_around, shorter_take}
 use Rattle.cp_tree_rows.proofs.Stretches.{from_row, drop_on}
 

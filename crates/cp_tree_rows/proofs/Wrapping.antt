@@ -1,8 +1,8 @@
 -- What a tree kept as rows, with the weight kept of it, answers and becomes.
 use Rattle.cp_model.specs.declared.limits.TheConstants.{NODES_MAX, WEIGHT_MAX, PLACE_WEIGHT}
 use Rattle.cp_path.specs.declared.limits.TheConstants.{LABELS_MAX, LOC_MAX, TEXT_MAX}
-use Rattle.std.specs.Prelude.{◌≡◌, ℕ, ◌+◌, ◌≤◌, Bool, true, false, ◌||◌, nat_lt, List, [], ◌∷◌, ◌++◌, map, length, sum_by, is_some, IfSome, IfNone, Result, Ok, Err, OnOk}
-use Rattle.std.proofs.Common.{sym, ap, subst, ◌∙◌, T, arith, length-append, append_assoc, refl}
+use Rattle.std.specs.Prelude.{◌≡◌, ℕ, ◌+◌, ◌≤◌, Bool, true, false, ◌||◌, nat_lt, List, [], ◌∷◌, ◌++◌, map, length, sum_by, is_some, IfSome, IfNone}
+use Rattle.std.proofs.Common.{sym, ap, subst, ◌∙◌, T, arith, length-append, refl}
 use Rattle.std.proofs.lemmas.List.{length-map}
 use Rattle.std.proofs.lemmas.List.Sums.{sum_by-append}
 use Rattle.std.proofs.lemmas.Bool.Decides.{nat_tests}
@@ -26,9 +26,10 @@ use Rattle.cp_model.proofs.SumsLemmas.{last_bytes_child, sum_by-moved, len-repla
 use Rattle.cp_model.proofs.Weights.{weight-moved, weight-put, weight-swapped}
 use Rattle.cp_model.proofs.Kept.{closed-tree}
 use Rattle.cp_tree.specs.Branch.{sub, child_rows}
-use Rattle.cp_tree.specs.Rows.{tree_of_rows, entry_row, entries_in, root_entries, single, labels_at, path_size, deepest, reach_of}
+use Rattle.cp_tree.specs.Rows.{entry_row, entries_in, root_entries, single, labels_at, path_size, deepest, reach_of}
+use Rattle.cp_tree.proofs.Answering.{sub-child}
 use Rattle.cp_tree.proofs.BranchLemmas.{get-branch_root, get-sub, sub-root, entries-sub}
-use Rattle.cp_tree.proofs.Built.{entries-tree_of_rows, entries-single}
+use Rattle.cp_tree.proofs.Built.{entries-single}
 use Rattle.cp_tree.proofs.GoodLemmas.{sub_below, get_nothing}
 use Rattle.cp_tree.proofs.Leaves.{single-tree, single-weight, single-get}
 use Rattle.cp_tree.proofs.ListingLemmas.{moved-root, labels-branch}
@@ -36,7 +37,7 @@ use Rattle.cp_tree.proofs.Tallies.{few_labels, greatest_within}
 use Rattle.cp_tree_rows.specs.declared.row.TreeRow.{TreeRow}
 use Rattle.cp_tree_rows.specs.declared.search.Part.{Part}
 use Rattle.cp_tree_rows.specs.Forest.{edges, is_part, tree_of}
-use Rattle.cp_tree_rows.specs.Extents.{largest}
+use Rattle.cp_tree.specs.Sums.{largest}
 use Rattle.cp_tree_rows.proofs.Reading.{good_part}
 use Rattle.cp_tree_rows.proofs.Walking.{tree_len, entries_part}
 
@@ -55,15 +56,11 @@ pub got : (o : Option Part) (m k : Tree) (p q : Path) → k ≡ m → q ≡ p �
 got None m k p q e f t g = sym (ap is_some ((λ i. keyed.get (sym e i) (sym f i)) ∙ g))
 got (Some n) m k p q e f t g = ap is_some (root_of n.item.now n.rows.now m k p q t e f)
 
--- the subtree of a subtree
-pub sub-sub : (m : Tree) (p q : Path) → sub (sub m p) q ≡ sub m (p ++ q)
-sub-sub m p q = same_map (sub (sub m p) q) (sub m (p ++ q)) (λ s. get-sub (sub m p) q s ∙ get-sub m p (q ++ s) ∙ ap (keyed.get m) (sym (append_assoc p q s)) ∙ sym (get-sub m (p ++ q) s))
-
 module _ (x : Content) (last : ℕ) (rs : List TreeRow) (part : T (is_part x last rs)) (m k : Tree) (p : Path) (a : Label) (e : tree_of x rs ≡ sub k p) (f : k ≡ m) where
   child_is : (n : Tree) → find text_cmp a (edges rs) ≡ Some n → n ≡ sub m (child p a)
   child_is n h =
       sym (sub-root n) ∙ sym (sub_below (tree_of x rs) x (edges rs) (edges rs) a refl (good_part x last rs part) [] n h)
-      ∙ ap (λ z. sub z (a ∷ [])) e ∙ sub-sub k p (a ∷ []) ∙ ap (λ z. sub z (child p a)) f
+      ∙ sub-child k (tree_of x rs) p a e ∙ ap (λ z. sub z (child p a)) f
 
   -- a child that was found
   pub child_at : (o : Option Part) → IfSome o (λ n. find text_cmp a (edges rs) ≡ Some (tree_of n.item.now n.rows.now)) → IfSome o (λ n. tree_of n.item.now n.rows.now ≡ sub m (child p a))
@@ -171,23 +168,6 @@ replaced-root n m = same_map (with_subtree [] (keyed.entries n) m) n (λ r. get-
 -- rows of few places are few
 pub few_rows : (x : Content) (last : ℕ) (rs : List TreeRow) → T (is_part x last rs) → keyed.len (tree_of x rs) ≤ NODES_MAX → length rs + 1 ≤ NODES_MAX
 few_rows x last rs part h = omega (arith, h, tree_len x last rs part)
-
--- ---- the same change, said of other rows and another path
-
-module _ (m : Tree) (p q : Path) (es fs : List (Path × Content)) (k : q ≡ p) (e : es ≡ fs) where
-  changed_as : with_subtree q es m ≡ with_subtree p fs m
-  changed_as = (λ i. with_subtree (k i) (e i) m)
-
-  pub fits_as : IsTree (with_subtree p fs m) → IsTree (with_subtree q es m)
-  fits_as h = subst IsTree (sym changed_as) h
-
-  pub tried_as : {E : Type 0} (r : Result (Unit {0}) E) (new : Tree) → OnOk r (new ≡ with_subtree q es m) → OnOk r (new ≡ with_subtree p fs m)
-  tried_as (Ok u) new h = h ∙ changed_as
-  tried_as (Err y) new h = tt
-
--- the rows of a tree that was built
-pub built_rows : (n : Tree) (rows : List Row) → IsLiteral (entries_in rows) → n ≡ tree_of_rows rows → keyed.entries n ≡ entries_in rows
-built_rows n rows l e = ap keyed.entries e ∙ entries-tree_of_rows rows l
 
 -- rows that fit are few
 pub few_given : (m : Tree) (p : Path) (rows : List Row) → IsLiteral (entries_in rows) → IsTree (with_subtree p (entries_in rows) m) → length rows ≤ NODES_MAX

@@ -2,4 +2,3 @@ pub mod Held
 pub mod Forest
 pub mod Spots
 pub mod Branches
-pub mod Extents

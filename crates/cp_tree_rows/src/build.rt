@@ -6,8 +6,7 @@ ghost use Rattle.cp_model.specs.Keyed.{get};
 ghost use Rattle.cp_model.specs.Subtrees.{with_subtree};
 ghost use Rattle.cp_model.specs.History.{IsLiteral};
 ghost use Rattle.cp_model.specs.declared.row.Content.TheVariants.{Node};
-ghost use Rattle.cp_tree.specs.Rows.{tree_of_rows};
-ghost use Rattle.cp_tree.specs.Rows.{entries_in, root_entries};
+ghost use Rattle.cp_tree.specs.Rows.{tree_of_rows, entries_in, root_entries};
 ghost use Rattle.cp_tree_rows.specs.Branches.{tree_in};
 
 use crate::branch::RowBranch;

@@ -5,7 +5,7 @@ ghost use Rattle.cp_model.specs.Tree.{weight};
 ghost use Rattle.cp_tree.specs.Branch.{child_rows};
 ghost use Rattle.cp_tree.specs.Rows.{deepest, reach_of};
 ghost use Rattle.cp_tree_rows.specs.Forest.{edges, nests, is_part, tree_of, rows_weight};
-ghost use Rattle.cp_tree_rows.specs.Extents.{largest};
+ghost use Rattle.cp_tree.specs.Sums.{largest};
 
 use crate::row::TreeRow;
 use crate::search::Part;

@@ -2,7 +2,7 @@ use Rattle.std.proofs.Common.{◌≡◌, ◌≤◌, ◌-◌, T, max, length, dro
 use Rattle.cp_tree.specs.Branch.{child_rows}
 use Rattle.cp_tree.specs.Rows.{deepest}
 use Rattle.cp_tree_rows.specs.Forest.{edges, nests}
-use Rattle.cp_tree_rows.specs.Extents.{largest}
+use Rattle.cp_tree.specs.Sums.{largest}
 use Rattle.cp_tree_rows.proofs.measure.+extent_of.Given as goal
 
 abbrev pub invariant-loop-at : goal.invariant-loop-at

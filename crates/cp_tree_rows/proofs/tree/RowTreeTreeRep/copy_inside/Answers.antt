@@ -3,7 +3,7 @@ use Rattle.cp_model.specs.Keyed.{entries}
 use Rattle.cp_model.specs.Subtrees.{below}
 use Rattle.cp_tree.proofs.BranchLemmas.{entries-sub}
 use Rattle.cp_tree_rows.specs.Branches.{tree_in}
-use Rattle.cp_tree_rows.proofs.Wrapping.{fits_as, tried_as}
+use Rattle.cp_tree.proofs.Answering.{fits_as, tried_as}
 use Rattle.cp_tree_rows.proofs.tree.RowTreeTreeRep.copy_inside.Goals as goal
 
 pub swap-requires-clause-fits : goal.swap-requires-clause-fits
