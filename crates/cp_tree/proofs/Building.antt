@@ -7,12 +7,12 @@ use Rattle.cp_model.specs.declared.row.Content.TheVariants.{Node}
 use Rattle.cp_model.specs.declared.row.Row.{Row}
 use Rattle.cp_model.specs.Place.{Label, Path, child}
 use Rattle.cp_model.specs.Keyed as keyed
-use Rattle.cp_model.specs.Subtrees.{with_subtree}
+use Rattle.cp_model.specs.Subtrees.{with_subtree, is_there}
 use Rattle.cp_model.specs.Tree.{Tree}
 use Rattle.cp_model.specs.History.{IsLiteral}
 use Rattle.cp_model.proofs.Lookups.{find-from_entries}
 use Rattle.cp_tree.specs.Rows.{entries_in, root_entries, single, tree_of_rows}
-use Rattle.cp_tree.proofs.Built.{tree_of_rows-first, row_below, tree_of_rows-parent, tree_of_rows-more, tree_of_rows-all, entries-single}
+use Rattle.cp_tree.proofs.Built.{tree_of_rows-first, row_below, tree_of_rows-parent, tree_of_rows-free, tree_of_rows-more, tree_of_rows-all, entries-single}
 
 -- a leaf put at a row's place
 pub put_row : {E : Type 0} (r : Result (Unit {0}) E) (new root leaf : Tree) (path parent : Path) (a b : Label) (c d : Content) → path ≡ parent ++ a ∷ [] → b ≡ a → leaf ≡ single d → d ≡ c →
@@ -25,6 +25,12 @@ put_row (Ok u) new root leaf path parent a b c d p l s e h =
 -- no rows are no tree
 pub no_rows : (rows : List Row) → rows ≡ [] → IsLiteral (entries_in rows) → ⊥
 no_rows rows e l = (let n = ap is_some (find-from_entries (entries_in rows) []) ∙ ap (λ z. is_some (keyed.look [] (entries_in z))) e in let r = l.rooted.root in absurd (cc))
+
+-- a path that has labels ends in one
+pub last_of : (q : Path) → 0 < length q → (r : Path) × (a : Label) × (q ≡ child r a)
+last_of [] h = absurd (omega arith)
+last_of (b ∷ []) h = ([], b, refl)
+last_of (b ∷ c ∷ q) h = (let more = last_of (c ∷ q) (omega arith) in (b ∷ more.0, more.1, ap (λ z. b ∷ z) more.2))
 
 take_first : (rows rest : List Row) (first : Row) (i : ℕ) → rows ≡ first ∷ rest → take (i + 1) rows ≡ first ∷ take i rest
 take_first rows rest first i e = ap (take (i + 1)) e ∙ ap (λ n. take n (first ∷ rest)) (add-one i)
@@ -51,6 +57,10 @@ module _ (rows rest : List Row) (first : Row) (e : rows ≡ first ∷ rest) (l :
       pub row_parent : (p : Path) (a : Label) → row.path ≡ child p a → keyed.get root p ≡ Some Node
       row_parent p a k = ap (λ z. keyed.get z p) (so_far ∙ ap tree_of_rows (take_first rows rest first i e)) ∙ tree_of_rows-parent first rest literal i row lt at p a k
 
+      -- it isn't there yet
+      pub row_free : (p : Path) (a : Label) → row.path ≡ child p a → is_there root row.path ≡ false
+      row_free p a k = ap (is_there root) k ∙ ap (λ z. is_there z (child p a)) (so_far ∙ ap tree_of_rows (take_first rows rest first i e)) ∙ tree_of_rows-free first rest literal i row lt at p a k
+
       -- with it the tree is that of one row more
       pub row_built : (new : Tree) → new ≡ with_subtree row.path (root_entries row.content) root → new ≡ tree_of_rows (take ((i + 1) + 1) rows)
       row_built new n =
@@ -58,13 +68,8 @@ module _ (rows rest : List Row) (first : Row) (e : rows ≡ first ∷ rest) (l :
           ∙ by row.path refl ∙ ap tree_of_rows (sym (take_first rows rest first (i + 1) e))
         where
           by : (p : Path) → row.path ≡ p → with_subtree row.path (root_entries row.content) (tree_of_rows (first ∷ take i rest)) ≡ tree_of_rows (first ∷ take (i + 1) rest)
-          by p k = last p k (ends p (λ z. row_below first rest literal i row lt at (k ∙ z)))
+          by p k = last p k (last_of p (omega (arith, row_deep, ap (λ z. length z) k)))
             where
-              ends : (q : Path) → (q ≡ [] → true ≡ false) → (r : Path) × (a : Label) × (q ≡ child r a)
-              ends [] f = absurd (let n = f refl in cc)
-              ends (b ∷ []) f = ([], b, refl)
-              ends (b ∷ c ∷ q) f = (let more = ends (c ∷ q) (λ z. absurd (cc)) in (b ∷ more.0, more.1, ap (λ z. b ∷ z) more.2))
-
               last : (q : Path) → row.path ≡ q → (r : Path) × (a : Label) × (q ≡ child r a) → with_subtree row.path (root_entries row.content) (tree_of_rows (first ∷ take i rest)) ≡ tree_of_rows (first ∷ take (i + 1) rest)
               last q k x = ap (λ z. with_subtree z (root_entries row.content) (tree_of_rows (first ∷ take i rest))) (k ∙ x.2) ∙ sym (tree_of_rows-more first rest literal i row lt at x.0 x.1 (k ∙ x.2))
 

@@ -10,12 +10,12 @@ use Rattle.cp_model.specs.declared.row.Content.TheVariants.{Node}
 use Rattle.cp_model.specs.declared.row.Row.{Row}
 use Rattle.cp_model.specs.Place.{Label, Path, path_cmp, child}
 use Rattle.cp_model.specs.Keyed as keyed
-use Rattle.cp_model.specs.Subtrees.{with_subtree}
+use Rattle.cp_model.specs.Subtrees.{with_subtree, is_there}
 use Rattle.cp_model.specs.Tree.{IsRooted}
 use Rattle.cp_model.specs.History.{IsLiteral}
 use Rattle.cp_tree.specs.Rows.{entries_in, root_entries, single, tree_of_rows}
 use Rattle.cp_tree.proofs.BranchLemmas.{entries-from_entries}
-use Rattle.cp_tree.proofs.Steps.{row_added, parent_there, first_is_root, others_below}
+use Rattle.cp_tree.proofs.Steps.{row_added, row_is_new, parent_there, first_is_root, others_below}
 
 module _ (first : Row) (rest : List Row) (l : IsLiteral (entries_in (first ∷ rest))) where
   -- the first row alone is a root alone
@@ -44,6 +44,10 @@ module _ (first : Row) (rest : List Row) (l : IsLiteral (entries_in (first ∷ r
       -- its parent is a node of the tree of those before it
       pub tree_of_rows-parent : keyed.get (tree_of_rows (first ∷ take i rest)) p ≡ Some Node
       tree_of_rows-parent = parent_there (entries_in (first ∷ take i rest)) p a row.content (entries_in (drop (suc i) rest)) sorted_parts (subst (λ z. IsRooted (keyed.from_entries ((first.path, first.content) ∷ z))) parts l.rooted)
+
+      -- it isn't there yet
+      pub tree_of_rows-free : is_there (tree_of_rows (first ∷ take i rest)) (child p a) ≡ false
+      tree_of_rows-free = row_is_new (entries_in (first ∷ take i rest)) p a row.content (entries_in (drop (suc i) rest)) sorted_parts
 
       -- and as a leaf added it makes the tree of one row more
       pub tree_of_rows-more : tree_of_rows (first ∷ take (i + 1) rest) ≡ with_subtree (child p a) (root_entries row.content) (tree_of_rows (first ∷ take i rest))

@@ -5,8 +5,11 @@ pub mod Building
 pub mod Built
 pub mod Changes
 pub mod Counted
+pub mod EdgeRows
 pub mod Edges
+pub mod FewRows
 pub mod Fits
+pub mod Found
 pub mod GoodLemmas
 pub mod Leaves
 pub mod Listed

@@ -1,6 +1,5 @@
 -- What the edges below a root add up to: laws of the sums, and the reach of the tree from them.
-use Rattle.cp_model.specs.declared.limits.TheConstants.{PLACE_WEIGHT}
-use Rattle.std.specs.Prelude.{◌≡◌, ℕ, ◌+◌, ◌≤◌, true, List, [], ◌∷◌, ◌++◌, length, max, sum_by, is_some, refl}
+use Rattle.std.specs.Prelude.{◌≡◌, ℕ, ◌+◌, true, List, [], ◌∷◌, ◌++◌, length, max, sum_by, is_some, refl}
 use Rattle.std.proofs.Common.{sym, ap, subst, ◌∙◌, arith}
 use Rattle.std.proofs.lemmas.List.Sums.{sum_by-cons}
 use Rattle.cp_model.specs.declared.row.Content.{Content}
@@ -16,7 +15,6 @@ use Rattle.cp_tree.specs.Good.{AllRooted, IsGood}
 use Rattle.cp_tree.specs.Rows.{greatest, path_size, deepest, reach_of, reach_at}
 use Rattle.cp_tree.proofs.Split.{sorted_front, sorted_back}
 use Rattle.cp_tree.proofs.Totals.{len-branch, weight-branch}
-use Rattle.cp_tree.specs.declared.reach.Reach.{Reach}
 use Rattle.cp_tree.specs.declared.sums.Sums.{Sums}
 use Rattle.cp_tree.specs.Sums.{children_weight, largest, children_depth, children_size, sums_of, beside, seen_above, reach_of_sums, AreSmall, AreChildren}
 
@@ -120,11 +118,12 @@ depth-branch x es g = ap (greatest (λ e. length e.0)) (entries-branch x es g.so
 pub size-branch : (x : Content) (es : List (Label × Tree)) → IsGood x es → largest (keyed.entries (branch x es)) ≡ children_size es
 size-branch x es g = ap (greatest (λ e. path_size e.0)) (entries-branch x es g.sorted) ∙ max_zero (greatest (λ e. path_size e.0) (child_rows es)) ∙ size_rows es g.trees
 
-len_entries : (m : Tree) → length (keyed.entries m) ≡ keyed.len m
+-- the number and the weight of the entries
+pub len_entries : (m : Tree) → length (keyed.entries m) ≡ keyed.len m
 unfolding keyed.entries keyed.len
 len_entries m = refl
 
-weight_entries : (m : Tree) → sum_by weight_of (keyed.entries m) ≡ weight m
+pub weight_entries : (m : Tree) → sum_by weight_of (keyed.entries m) ≡ weight m
 unfolding weight
 weight_entries m = refl
 

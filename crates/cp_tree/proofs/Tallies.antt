@@ -38,7 +38,8 @@ module _ (n : ℕ) (f : Path → ℕ) where
       later true r i = refl
       later false r i = i
 
-there_replaced : (t : Tree) (p r : Path) (es : List (Path × Content)) → is_some (look r es) ≡ true → is_there (with_subtree p es t) (p ++ r) ≡ true
+-- what is among rows that are put at p is there behind p
+pub there_replaced : (t : Tree) (p r : Path) (es : List (Path × Content)) → is_some (look r es) ≡ true → is_there (with_subtree p es t) (p ++ r) ≡ true
 there_replaced t p r es i = ap is_some (get-replaced p es t (p ++ r) ∙ ap (λ o. at_rest_or o (λ s. look s es) (keyed.get t (p ++ r))) (strip-append p r)) ∙ i
 
 -- rows that are put at p into a tree within its limits lie no deeper than those

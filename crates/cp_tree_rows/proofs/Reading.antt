@@ -201,8 +201,3 @@ all_rooted rs h = rows_ind (λ l. AllRooted (edges l)) (subst AllRooted (sym edg
 -- a root and the rows below it
 pub good_part : (x : Content) (last : ℕ) (rs : List TreeRow) → T (is_part x last rs) → IsGood x (edges rs)
 good_part x last rs h = good_from x last rs h (all_rooted rs (facts x last rs h).nested)
-
--- a list without elements
-pub no_length : {X : Type 0} (xs : List X) → length xs ≡ 0 → xs ≡ []
-no_length [] h = refl
-no_length (x ∷ xs) h = absurd (omega arith)

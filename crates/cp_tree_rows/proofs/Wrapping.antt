@@ -13,14 +13,13 @@ use Rattle.cp_path.specs.Text.{text_cmp}
 use Rattle.cp_model.specs.declared.row.Content.{Content}
 use Rattle.cp_model.specs.declared.row.Row.{Row}
 use Rattle.cp_model.specs.Place.{Label, Path, child, at_target, over_limit, size}
-use Rattle.cp_model.proofs.KeyedLemmas.{get-entries, same_map}
+use Rattle.cp_model.proofs.KeyedLemmas.{get-entries}
 use Rattle.cp_model.specs.Keyed as keyed
 use Rattle.cp_model.specs.Keyed.{look}
 use Rattle.cp_model.specs.Subtrees.{is_there, below, entries_under, without, with_subtree}
 use Rattle.cp_model.specs.Tree.{Tree, IsTree, weight, weight_of, text_bytes, last_bytes, IsNumber}
 use Rattle.cp_model.specs.History.{IsLiteral}
 use Rattle.cp_model.proofs.Strips.{append-nil}
-use Rattle.cp_model.proofs.Lookups.{get-replaced}
 use Rattle.cp_model.proofs.Sorted.{sorted-entries, sorted-below}
 use Rattle.cp_model.proofs.SumsLemmas.{last_bytes_child, sum_by-moved, len-replaced, len-without, weight-replaced, weight-without}
 use Rattle.cp_model.proofs.Weights.{weight-moved, weight-put, weight-swapped}
@@ -160,10 +159,6 @@ module _ (m n : Tree) (p : Path) (t : IsTree m) (root : is_there n [] ≡ true) 
   pub weight_swapped : is_there m p ≡ true → (k : Tree) → k ≡ sub m p → weight (with_subtree p (keyed.entries n) m) + weight k ≡ weight m + weight n
   unfolding weight
   weight_swapped i k e = omega (arith, weight-swapped p (keyed.entries n) m (sorted-entries n) look_root i, ap (sum_by weight_of) (ap keyed.entries e ∙ entries-sub m p))
-
--- what is put at the root is the whole
-pub replaced-root : (n m : Tree) → with_subtree [] (keyed.entries n) m ≡ n
-replaced-root n m = same_map (with_subtree [] (keyed.entries n) m) n (λ r. get-replaced [] (keyed.entries n) m r ∙ sym (get-entries n r))
 
 -- rows of few places are few
 pub few_rows : (x : Content) (last : ℕ) (rs : List TreeRow) → T (is_part x last rs) → keyed.len (tree_of x rs) ≤ NODES_MAX → length rs + 1 ≤ NODES_MAX

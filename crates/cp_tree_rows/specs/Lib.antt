@@ -1,4 +1,3 @@
-pub mod Held
 pub mod Forest
 pub mod Spots
 pub mod Branches

@@ -11,26 +11,26 @@ ghost use Rattle.cp_tree_rows.specs.Branches.{tree_in};
 
 use crate::branch::RowBranch;
 use crate::change::settle;
-use crate::held::{Item, Name};
 use crate::row::TreeRow;
 use crate::search::Part;
 use cp_path::Label;
+use cp_shared::{SharedContent, SharedLabel};
 use std::alloc::{AllocError, Global};
 
-/// Makes equal rows. Costs their number and the bytes of their labels.
+/// Makes equal rows. Costs their number.
 fn copy_rows(alloc: Global, rows: &[TreeRow]) -> Result<Vec<TreeRow>, AllocError>
     ensures { IfOk result (λ v. v.items ≡ rows.now) }
 {
     let mut copies = Vec::with_capacity(alloc, rows.len())?;
     for row in rows {
-        copies.push(row.copy()?)?;
+        copies.push(row.share()?)?;
     }
     Ok(copies)
 }
 
 impl RowBranch {
     /// Makes a root alone.
-    pub(crate) fn leaf(alloc: Global, item: Item) -> RowBranch
+    pub(crate) fn leaf(alloc: Global, item: SharedContent) -> RowBranch
         ensures tree { tree_in result ≡ single item }
         ensures none { result.rows.items ≡ [] }
     {
@@ -41,14 +41,14 @@ impl RowBranch {
         }
     }
 
-    /// Copies a subtree. Costs its rows and the bytes of their labels.
+    /// Copies a subtree. Costs its rows.
     pub(crate) fn copy_of(alloc: Global, part: Part<'_>) -> Result<RowBranch, AllocError>
         requires { T (is_part part.item.now part.last part.rows.now) }
         ensures { IfOk result (λ b. tree_in b ≡ tree_of part.entry.item.now part.entry.rows.now) }
     {
         let rows = copy_rows(alloc, part.rows)?;
         Ok(RowBranch {
-            item: part.item.copy()?,
+            item: part.item.share()?,
             last: part.last,
             rows,
         })
@@ -70,9 +70,10 @@ impl RowBranch {
     /// and moves the rows after that place.
     pub(crate) fn put_leaf(
         &mut self,
+        alloc: Global,
         place: &[Label],
         label: &Label,
-        item: Item,
+        item: SharedContent,
     ) -> Result<(), AllocError>
         requires node { get (tree_in self.old) place.now ≡ Some Node }
         requires room { length self.old.rows.items ≤ NODES_MAX }
@@ -81,7 +82,7 @@ impl RowBranch {
         ensures few { length self.new.rows.items ≤ length self.old.rows.items + 1 }
     {
         let row = TreeRow {
-            label: Name::new(label)?,
+            label: SharedLabel::of(alloc, label)?,
             item,
             below: 0,
             last: 0,
@@ -96,6 +97,7 @@ impl RowBranch {
     /// and moves the rows after that place.
     pub(crate) fn put(
         &mut self,
+        alloc: Global,
         place: &[Label],
         label: &Label,
         new: RowBranch,
@@ -108,7 +110,7 @@ impl RowBranch {
     {
         let mut rows = new.rows;
         let row = TreeRow {
-            label: Name::new(label)?,
+            label: SharedLabel::of(alloc, label)?,
             item: new.item,
             below: rows.len() as u32,
             last: new.last,

@@ -5,7 +5,6 @@ mod branch;
 mod build;
 mod change;
 mod grow;
-mod held;
 mod list;
 mod measure;
 mod row;

@@ -4,10 +4,10 @@ ghost use Rattle.cp_tree.specs.Branch.{child_rows};
 ghost use Rattle.cp_tree.specs.Rows.{entry_row};
 ghost use Rattle.cp_tree_rows.specs.Forest.{edges, nests};
 
-use crate::held::Item;
 use crate::row::TreeRow;
 use cp_model::Row;
 use cp_path::{Label, Path};
+use cp_shared::SharedContent;
 use std::alloc::{AllocError, Global};
 
 /// Lists the labels of these siblings, in order. Costs their bytes.
@@ -29,12 +29,12 @@ pub(crate) fn labels(alloc: Global, rows: &[TreeRow]) -> Result<Vec<Label>, Allo
 pub(crate) fn list_place(
     alloc: Global,
     at: &[Label],
-    item: &Item,
+    item: &SharedContent,
     out: &mut Vec<Row>,
 ) -> Result<(), AllocError>
     ensures { OnOk result (out.new.items ≡ out.old.items ++ entry_row (at.now, item.now) ∷ []) }
 {
-    let content = item.content()?;
+    let content = item.to_content()?;
     let Ok(path) = Path::of(alloc, at) else {
         return Err(AllocError);
     };

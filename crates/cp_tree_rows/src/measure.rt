@@ -20,7 +20,7 @@ pub(crate) fn weigh(rows: &[TreeRow]) -> u64
     let mut weight = 0;
     for row in rows {
         let label = row.label.as_str().len() as u64;
-        weight += PLACE_WEIGHT + label + row.item.text_bytes();
+        weight += PLACE_WEIGHT + label + row.item.text_bytes() as u64;
     }
     weight
 }
@@ -62,7 +62,7 @@ impl Part<'_> {
         requires light { weight (tree_of self.item.now self.rows.now) < 2 ^ 64 }
         ensures { result ≡ weight (tree_of self.entry.item.now self.entry.rows.now) }
     {
-        PLACE_WEIGHT + self.item.text_bytes() + weigh(self.rows)
+        PLACE_WEIGHT + self.item.text_bytes() as u64 + weigh(self.rows)
     }
 
     /// Measures how far the subtree reaches. Costs its rows.

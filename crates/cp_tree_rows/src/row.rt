@@ -1,6 +1,6 @@
 ghost use Rattle.std.specs.Prelude.{◌≡◌, IfOk};
 
-use crate::held::{Item, Name};
+use cp_shared::{SharedContent, SharedLabel};
 use std::alloc::AllocError;
 
 /// A place below the root: its label, what stands there, and how many rows lie below it, which follow it.
@@ -8,20 +8,20 @@ use std::alloc::AllocError;
 /// `last` is 0, or else one more than the index, among the rows below, of the row of its last child.
 #[derive(Drop)]
 pub(crate) struct TreeRow {
-    pub(crate) label: Name,
-    pub(crate) item: Item,
+    pub(crate) label: SharedLabel,
+    pub(crate) item: SharedContent,
     pub(crate) below: u32,
     pub(crate) last: u32,
 }
 
 impl TreeRow {
-    /// Makes an equal row. Costs the bytes of its label.
-    pub(crate) fn copy(&self) -> Result<TreeRow, AllocError>
+    /// Makes an equal row, which shares a long label and a text.
+    pub(crate) fn share(&self) -> Result<TreeRow, AllocError>
         ensures { IfOk result (λ r. r ≡ self.now) }
     {
         Ok(TreeRow {
-            label: self.label.copy()?,
-            item: self.item.copy()?,
+            label: self.label.share()?,
+            item: self.item.share()?,
             below: self.below,
             last: self.last,
         })

@@ -7,9 +7,9 @@ ghost use Rattle.cp_tree.specs.Branch.{sub};
 ghost use Rattle.cp_tree_rows.specs.Forest.{edges, nests, is_part, points_to_last, tree_of, SortedRows};
 ghost use Rattle.cp_tree_rows.specs.Spots.{IsChild, IsGap};
 
-use crate::held::Item;
 use crate::row::TreeRow;
 use cp_path::Label;
+use cp_shared::SharedContent;
 use std::cmp::Ordering;
 
 /// Finds the row of the child with the label among these siblings and what lies below them, or else where it would
@@ -22,7 +22,7 @@ fn scan(rows: &[TreeRow], label: &Label) -> Result<usize, usize>
     let mut at = 0;
     while at < rows.len() {
         let row = &rows[at];
-        match row.label.order(label) {
+        match row.label.order_of(label) {
             Ordering::Less => return Err(at),
             Ordering::Equal => return Ok(at),
             Ordering::Greater => at += 1 + row.below as usize,
@@ -42,7 +42,7 @@ pub(crate) fn child(rows: &[TreeRow], last: u32, label: &Label) -> Result<usize,
     if last > 0 {
         let at = last as usize - 1;
         let row = &rows[at];
-        match row.label.order(label) {
+        match row.label.order_of(label) {
             Ordering::Less => {}
             Ordering::Equal => return Ok(at),
             Ordering::Greater => return Err(rows.len()),
@@ -54,7 +54,7 @@ pub(crate) fn child(rows: &[TreeRow], last: u32, label: &Label) -> Result<usize,
 /// What stands at a place, where its last child is, and the rows below it.
 #[derive(Clone, Copy)]
 pub(crate) struct Part<'a> {
-    pub(crate) item: &'a Item,
+    pub(crate) item: &'a SharedContent,
     pub(crate) last: u32,
     pub(crate) rows: &'a [TreeRow],
 }

@@ -12,11 +12,11 @@ ghost use Rattle.cp_tree_rows.specs.Branches.{tree_in, weight_in};
 
 use crate::branch::RowBranch;
 use crate::build::build;
-use crate::held::{Item, number_range};
 use crate::list::{labels, list_place, list_rows};
 use crate::search::{Part, find, find_child};
 use cp_model::{Content, PLACE_WEIGHT, Row, RowList};
 use cp_path::{Label, Path};
+use cp_shared::{SharedContent, number_range};
 use cp_tree::{Reach, TreeRep};
 use std::alloc::{AllocError, Global};
 
@@ -63,7 +63,13 @@ impl RowTree {
     }
 
     /// Adds a subtree at a new label.
-    fn insert(&mut self, place: &[Label], label: &Label, new: RowBranch) -> Result<(), AllocError>
+    fn insert(
+        &mut self,
+        alloc: Global,
+        place: &[Label],
+        label: &Label,
+        new: RowBranch,
+    ) -> Result<(), AllocError>
         requires node { get (tree_in self.old.branch) place.now ≡ Some Node }
         requires free { is_there (tree_in self.old.branch) (child place.now label.now) ≡ false }
         requires fits { IsTree (with_subtree (child place.now label.now) (entries (tree_in new)) (tree_in self.old.branch)) }
@@ -71,13 +77,13 @@ impl RowTree {
         ensures err { OnErr result (tree_in self.new.branch ≡ tree_in self.old.branch) }
     {
         let added = new.whole().weight() + label.as_str().len() as u64;
-        self.branch.put(place, label, new)?;
+        self.branch.put(alloc, place, label, new)?;
         self.weight += added;
         Ok(())
     }
 
     /// Replaces the subtree at a place by `new`.
-    fn swap(&mut self, place: &[Label], new: RowBranch) -> Result<(), AllocError>
+    fn swap(&mut self, alloc: Global, place: &[Label], new: RowBranch) -> Result<(), AllocError>
         requires there { is_there (tree_in self.old.branch) place.now ≡ true }
         requires fits { IsTree (with_subtree place.now (entries (tree_in new)) (tree_in self.old.branch)) }
         ensures ok { OnOk result (tree_in self.new.branch ≡ with_subtree place.now (entries (tree_in new)) (tree_in self.old.branch)) }
@@ -91,7 +97,7 @@ impl RowTree {
             }
             Some((label, parent)) => {
                 let gone = self.part(place).weight();
-                self.branch.put(parent, label, new)?;
+                self.branch.put(alloc, parent, label, new)?;
                 self.weight = self.weight + added - gone;
             }
         }
@@ -104,7 +110,7 @@ impl TreeRep for RowTree {
 
     fn single(alloc: Global, content: &Content) -> Result<RowTree, AllocError> {
         number_range(content);
-        let branch = RowBranch::leaf(alloc, Item::new(alloc, content)?);
+        let branch = RowBranch::leaf(alloc, SharedContent::of(alloc, content)?);
         let weight = branch.whole().weight();
         Ok(RowTree { branch, weight })
     }
@@ -126,7 +132,7 @@ impl TreeRep for RowTree {
 
     fn content_at(&self, _alloc: Global, place: &Path) -> Result<Option<Content>, AllocError> {
         match find(self.branch.whole(), place.labels()) {
-            Some(part) => Ok(Some(part.item.content()?)),
+            Some(part) => Ok(Some(part.item.to_content()?)),
             None => Ok(None),
         }
     }
@@ -149,9 +155,9 @@ impl TreeRep for RowTree {
         label: &Label,
         content: &Content,
     ) -> Result<(), AllocError> {
-        let item = Item::new(alloc, content)?;
-        let added = PLACE_WEIGHT + label.as_str().len() as u64 + item.text_bytes();
-        self.branch.put_leaf(place.labels(), label, item)?;
+        let item = SharedContent::of(alloc, content)?;
+        let added = PLACE_WEIGHT + label.as_str().len() as u64 + item.text_bytes() as u64;
+        self.branch.put_leaf(alloc, place.labels(), label, item)?;
         self.weight += added;
         Ok(())
     }
@@ -164,7 +170,7 @@ impl TreeRep for RowTree {
         rows: &[Row],
     ) -> Result<(), AllocError> {
         let new = build(alloc, rows)?;
-        self.insert(place.labels(), label, new)
+        self.insert(alloc, place.labels(), label, new)
     }
 
     fn remove(&mut self, _alloc: Global, place: &Path, label: &Label) -> Result<(), AllocError> {
@@ -181,13 +187,13 @@ impl TreeRep for RowTree {
 
     fn put_rows(&mut self, alloc: Global, place: &Path, rows: &[Row]) -> Result<(), AllocError> {
         let new = build(alloc, rows)?;
-        self.swap(place.labels(), new)
+        self.swap(alloc, place.labels(), new)
     }
 
     /// Replaces a subtree by a copy of another. Costs the copy's rows, and moves the rows after the place.
     fn copy_inside(&mut self, alloc: Global, from: &Path, place: &Path) -> Result<(), AllocError> {
         let new = RowBranch::copy_of(alloc, self.part(from.labels()))?;
-        self.swap(place.labels(), new)
+        self.swap(alloc, place.labels(), new)
     }
 
     fn rows(&self, alloc: Global, place: &Path) -> Result<RowList, AllocError> {

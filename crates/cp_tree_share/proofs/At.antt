@@ -86,10 +86,6 @@ pub edges_alone : {E : Type 0} (r : Result (Edges × ℕ) E) (s : Edges × ℕ) 
 edges_alone (Ok t) s e = ap (λ z. z.0) e
 edges_alone (Err x) s e = tt
 
-pub no_length : {A : Type 0} (xs : List A) → length xs ≡ 0 → xs ≡ []
-no_length [] e = λ i. []
-no_length (x ∷ xs) e = absurd (omega arith)
-
 -- a node is rooted
 pub rooted_view : (m : Tree) (x : Content) (es : Edges) → branch x es ≡ m → IsGood x es → IsRooted m
 rooted_view m x es view g = subst IsRooted view (rooted-branch x es g)
@@ -98,14 +94,6 @@ rooted_view m x es view g = subst IsRooted view (rooted-branch x es g)
 pub some_content : {E : Type 0} (r : Result Content E) (x : Content) (o : Option Content) → o ≡ Some x → IfOk r (λ c. c ≡ x) → IfOk r (λ c. o ≡ Some c)
 some_content (Ok c) x o e h = e ∙ ap (λ z. Some z) (sym h)
 some_content (Err y) x o e h = tt
-
--- the child of a node that was found at p in m
-module _ (m n : Tree) (x : Content) (es : Edges) (p : Path) (a : Label) (at : n ≡ sub m p) (view : branch x es ≡ n) (g : IsGood x es) where
-  pub child_there : (k : Tree) → find text_cmp a es ≡ Some k → k ≡ sub m (child p a)
-  child_there k is = sym (sub_below n x es es a view g [] k is ∙ sub-root k) ∙ sub-child m n p a at
-
-  pub child_gone : find text_cmp a es ≡ None → get m (child p a) ≡ None
-  child_gone is = sym (get-sub m p (a ∷ [])) ∙ ap (λ z. get z (a ∷ [])) (sym at) ∙ get_nothing n x es es a view g [] is
 
 pub none_some : {A : Type 0} (x : A) → None ≡ Some x → {B : Type 0} → B
 none_some x e = absurd (cc)
@@ -118,20 +106,3 @@ child_as m a b n k w l e h = ap (λ z. with_subtree (z ∷ []) (entries n) m) l 
 pub row_is : (root leaf : Tree) (path parent : Path) (a b : Label) (c d : Content) → path ≡ parent ++ a ∷ [] → b ≡ a → leaf ≡ single d → d ≡ c → with_subtree (child parent b) (entries leaf) root ≡ with_subtree path (root_entries c) root
 row_is root leaf path parent a b c d p l s e =
     ap (λ z. with_subtree (child parent z) (entries leaf) root) l ∙ ap (λ z. with_subtree z (entries leaf) root) (sym p) ∙ ap (λ z. with_subtree path z root) (ap entries s ∙ entries-single d ∙ ap root_entries e)
-
--- a tree put at the root
-pub root_put : (m n : Tree) → with_subtree [] (entries n) m ≡ n
-root_put m n = sym (sub-root (with_subtree [] (entries n) m)) ∙ sub-replaced m n []
-
--- the parent of a place that is there is a node
-pub parent_is : (m : Tree) (p q : Path) (a : Label) → IsTree m → p ≡ q ++ a ∷ [] → is_there m p ≡ true → get m q ≡ Some Node
-parent_is m p q a t e i = t.rooted.parents q a (ap (is_there m) (sym e) ∙ i)
-
--- the number of places and the weight, of what a tree reaches
-pub reach_count : (t : Tree) (r : Reach) → r ≡ reach_of (entries t) → r.nodes ≡ len t
-unfolding reach_of len entries
-reach_count t r e = ap (λ z. z.nodes) e
-
-pub reach_weight : (t : Tree) (r : Reach) → r ≡ reach_of (entries t) → r.inner ≡ weight t
-unfolding reach_of weight
-reach_weight t r e = ap (λ z. z.inner) e

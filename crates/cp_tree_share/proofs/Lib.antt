@@ -1,3 +1,1 @@
 mod At
-mod Listing
-mod Rows

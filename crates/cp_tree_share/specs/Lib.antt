@@ -1,5 +1,4 @@
 pub mod Falls
 pub mod Nodes
 pub mod Parts
-pub mod Shared
 pub mod Siblings

@@ -9,11 +9,10 @@ ghost use Rattle.cp_model.specs.declared.row.Content.TheVariants.{Node};
 ghost use Rattle.cp_tree.specs.Rows.{entries_in, root_entries, tree_of_rows};
 ghost use Rattle.cp_tree.specs.Sums.{IsSmall};
 
-use crate::content::SharedContent;
 use crate::forest::ShareNode;
-use crate::label::SharedLabel;
 use cp_model::Row;
 use cp_path::TEXT_MAX;
+use cp_shared::{SharedContent, SharedLabel};
 use std::alloc::{AllocError, Global};
 
 /// Makes the tree with one row more, whose parent is there. Costs the way to it.

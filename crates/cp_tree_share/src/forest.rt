@@ -3,9 +3,8 @@ ghost use Rattle.cp_path.specs.Text.{text_cmp};
 ghost use Rattle.cp_tree.specs.Branch.{children_len};
 ghost use Rattle.cp_tree.specs.Sums.{sums_of, AreChildren, AreSmall};
 
-use crate::content::SharedContent;
-use crate::label::SharedLabel;
 use cp_path::Label;
+use cp_shared::{SharedContent, SharedLabel};
 use cp_tree::Sums;
 use std::alloc::AllocError;
 use std::cmp::Ordering;

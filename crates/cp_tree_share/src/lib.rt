@@ -3,9 +3,7 @@
 
 mod balance;
 mod build;
-mod content;
 mod forest;
-mod label;
 mod node;
 mod siblings;
 mod tree;

@@ -9,11 +9,10 @@ ghost use Rattle.cp_tree.specs.Branch.{sub, child_rows};
 ghost use Rattle.cp_tree.specs.Rows.{entry_row, single, labels_at, reach_of};
 ghost use Rattle.cp_tree.specs.Sums.{IsSmall};
 
-use crate::content::SharedContent;
 use crate::forest::{Entry, Forest, Fork, Open, ShareNode};
-use crate::label::SharedLabel;
 use cp_model::{Content, Row};
 use cp_path::{Label, Path};
+use cp_shared::{SharedContent, SharedLabel};
 use cp_tree::Reach;
 use std::alloc::{AllocError, Global};
 

@@ -9,11 +9,10 @@ ghost use Rattle.cp_tree.proofs.Alike.{IsTree-prop};
 ghost use Rattle.cp_tree.specs.Branch.{sub};
 
 use crate::build::build;
-use crate::content::{SharedContent, number_range};
 use crate::forest::ShareNode;
-use crate::label::SharedLabel;
 use cp_model::{Content, Row, RowList};
 use cp_path::{Label, Path};
+use cp_shared::{SharedContent, SharedLabel, number_range};
 use cp_tree::{Reach, TreeRep};
 use std::alloc::{AllocError, Global};
 

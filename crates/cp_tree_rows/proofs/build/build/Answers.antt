@@ -1,14 +1,18 @@
 use Rattle.std.proofs.Common.{arith, ap, length}
-use Rattle.cp_tree_rows.proofs.Reading.{no_length}
+use Rattle.cp_tree.proofs.Found.{no_length}
 use Rattle.cp_tree.proofs.Building.{no_rows, begun_build, row_deep, row_parent, row_built, built_all}
+use Rattle.cp_tree.proofs.FewRows.{first_text, row_text}
 use Rattle.cp_tree_rows.proofs.build.build.Goals as goal
 
 pub unreachable-requires : goal.unreachable-requires
 unreachable-requires c = no_rows _ (no_length _ c.in-None.ensures.cases) c.requires.literal
 
+pub of-requires : goal.of-requires
+of-requires c = first_text _ _ _ c.in-Some.ensures.cases.0 c.requires.literal
+
 pub loop-row-init : goal.loop-row-init
 loop-row-init c = record {
-  built = begun_build _ _ _ c.in-Some.ensures.cases.0 c.requires.literal _ _ c.leaf-tree.ensures.tree c.in_ok-new-in-Some.ensures;
+  built = begun_build _ _ _ c.in-Some.ensures.cases.0 c.requires.literal _ _ c.leaf-tree.ensures.tree c.in_ok-of-in-Some.ensures;
   few = omega (arith, ap length c.leaf-tree.ensures.none);
 }
 
@@ -17,6 +21,9 @@ add_row-requires-clause-deep c = row_deep _ _ _ c.in-Some.ensures.cases.0 c.requ
 
 pub add_row-requires-clause-parent : goal.add_row-requires-clause-parent
 add_row-requires-clause-parent c = row_parent _ _ _ c.in-Some.ensures.cases.0 c.requires.literal c.loop-row.row-index c.row-item.result c.loop-row-test.true c.row-item.is _ c.loop-row.invariant.built
+
+pub add_row-requires-clause-text : goal.add_row-requires-clause-text
+add_row-requires-clause-text c = row_text _ _ _ c.in-Some.ensures.cases.0 c.requires.literal c.loop-row.row-index c.row-item.result c.loop-row-test.true c.row-item.is
 
 pub loop-row-preserved : goal.loop-row-preserved
 loop-row-preserved c = record {

@@ -2,7 +2,8 @@ use Rattle.std.proofs.Common.{sym, refl}
 use Rattle.cp_tree.proofs.BranchLemmas.{sub-root}
 use Rattle.cp_tree.proofs.GoodLemmas.{get_below, get_nothing, sub_below}
 use Rattle.cp_tree_rows.specs.Forest.{edges, tree_of}
-use Rattle.cp_tree_rows.proofs.Reading.{good_part, no_length}
+use Rattle.cp_tree.proofs.Found.{no_length}
+use Rattle.cp_tree_rows.proofs.Reading.{good_part}
 use Rattle.cp_tree_rows.proofs.search.+find.Goals as goal
 
 pub returns-in-None-clause-there : goal.returns-in-None-clause-there

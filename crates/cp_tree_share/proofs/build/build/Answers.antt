@@ -1,7 +1,7 @@
 use Rattle.std.proofs.Common.{arith}
 use Rattle.cp_tree.proofs.Building.{no_rows, begun_build, row_deep, row_parent, row_built, built_all}
-use Rattle.cp_tree_share.proofs.At.{no_length}
-use Rattle.cp_tree_share.proofs.Rows.{small_row, first_text, row_text}
+use Rattle.cp_tree.proofs.Found.{no_length}
+use Rattle.cp_tree.proofs.FewRows.{small_row, first_text, row_text}
 use Rattle.cp_tree_share.proofs.build.build.Goals as goal
 
 pub unreachable-requires : goal.unreachable-requires

@@ -2,7 +2,7 @@ use Rattle.std.proofs.Common.{◌≡◌, ◌∙◌, sym, ap, subst, [], ◌++◌
 use Rattle.cp_tree.proofs.Walking.{pop_push}
 use Rattle.cp_tree_share.specs.Siblings.{siblings_of}
 use Rattle.cp_tree_share.proofs.At.{at_full}
-use Rattle.cp_tree_share.proofs.Listing.{no_rows, rows_fork, rows_node}
+use Rattle.cp_tree.proofs.EdgeRows.{no_rows, rows_fork, rows_node}
 use Rattle.cp_tree_share.proofs.forest.+rows.Goals as goal
 
 pub Forest::rows_into-returns-in-Tip-clause-rows : goal.Forest::rows_into-returns-in-Tip-clause-rows

@@ -12,7 +12,7 @@ settle-requires-clause-piece c =
     let s = c.args.self.now in
     let n = c.args.new in
     grown_piece s.item s.last s.rows.items _ _ _ c.args.place.now s.part c.requires.node (omega (arith, c.len-len.ensures, s.rows.ok.0)) (c.in_ok-append.ensures.items ∙ ap (λ z. s.rows.items ++ z) c.in_ok-insert.ensures.items) c.args.label.now
-    (tree_piece c.args.label.now (record { label = c.in_ok-new.field-0; item = n.item; below = c.len.result; last = n.last }) n.rows.items c.in_ok-new.ensures (omega (arith, c.len.ensures, n.rows.ok.0)) n.part)
+    (tree_piece c.args.label.now (record { label = c.in_ok-of.field-0; item = n.item; below = c.len.result; last = n.last }) n.rows.items c.in_ok-of.ensures (omega (arith, c.len.ensures, n.rows.ok.0)) n.part)
 
 pub invariant_of-self-2 : goal.invariant_of-self-2
 invariant_of-self-2 c =

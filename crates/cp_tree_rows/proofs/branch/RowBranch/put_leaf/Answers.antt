@@ -14,7 +14,7 @@ pub settle-requires-clause-piece : goal.settle-requires-clause-piece
 settle-requires-clause-piece c =
     let s = c.args.self.now in
     grown_piece s.item s.last s.rows.items _ _ _ c.args.place.now s.part c.requires.node (omega (arith, c.len-len.ensures, s.rows.ok.0)) c.in_ok-push.ensures.items c.args.label.now
-    (tree_piece c.args.label.now (record { label = c.in_ok-new.field-0; item = c.args.item; below = 0; last = 0 }) [] c.in_ok-new.ensures refl (empty_part c.args.item))
+    (tree_piece c.args.label.now (record { label = c.in_ok-of.field-0; item = c.args.item; below = 0; last = 0 }) [] c.in_ok-of.ensures refl (empty_part c.args.item))
 
 pub invariant_of-self-2 : goal.invariant_of-self-2
 invariant_of-self-2 c =

@@ -3,8 +3,8 @@ use Rattle.cp_model.specs.Keyed.{entries}
 use Rattle.cp_model.specs.Subtrees.{with_subtree}
 use Rattle.cp_model.specs.Tree.{IsTree, weight}
 use Rattle.cp_tree_rows.specs.Branches.{tree_in}
-use Rattle.cp_tree_rows.proofs.Reading.{no_length}
-use Rattle.cp_tree_rows.proofs.Wrapping.{root_there, new_few, new_light, weight_swapped, few_rows, replaced-root, light_inside}
+use Rattle.cp_tree.proofs.Found.{no_length, root_put}
+use Rattle.cp_tree_rows.proofs.Wrapping.{root_there, new_few, new_light, weight_swapped, few_rows, light_inside}
 use Rattle.cp_tree_rows.proofs.tree.RowTree.swap.Goals as goal
 
 pub weight-added-requires-clause-light : goal.weight-added-requires-clause-light
@@ -17,14 +17,14 @@ pub invariant_of-self : goal.invariant_of-self
 invariant_of-self c =
     let m = tree_in c.args.self.now.branch in
     let n = tree_in c.args.new in
-    let is = ap (λ z. with_subtree z (entries n) m) (no_length _ c.in-None.ensures.cases) ∙ replaced-root n m in
+    let is = ap (λ z. with_subtree z (entries n) m) (no_length _ c.in-None.ensures.cases) ∙ root_put m n in
     record { tree = subst IsTree is c.requires.fits; weighed = c.weight-added.ensures ∙ ap weight c.whole.ensures.tree }
 
 pub returns-in-None-clause-ok : goal.returns-in-None-clause-ok
 returns-in-None-clause-ok c =
     let m = tree_in c.args.self.now.branch in
     let n = tree_in c.args.new in
-    sym (ap (λ z. with_subtree z (entries n) m) (no_length _ c.in-None.ensures.cases) ∙ replaced-root n m)
+    sym (ap (λ z. with_subtree z (entries n) m) (no_length _ c.in-None.ensures.cases) ∙ root_put m n)
 
 pub weight-gone-requires-clause-light : goal.weight-gone-requires-clause-light
 weight-gone-requires-clause-light c =

@@ -5,7 +5,11 @@ use Rattle.cp_model.specs.Tree.{IsTree, weight, text_bytes}
 use Rattle.cp_tree.specs.Rows.{root_entries}
 use Rattle.cp_tree_rows.specs.Branches.{tree_in}
 use Rattle.cp_tree_rows.proofs.Wrapping.{leaf_weight, few_rows}
+use Rattle.cp_tree.proofs.FewRows.{text_fits}
 use Rattle.cp_tree_rows.proofs.tree.RowTreeTreeRep.insert_leaf.Goals as goal
+
+pub of-requires : goal.of-requires
+of-requires c = text_fits _ _ _ c.requires.fits
 
 pub overflow_add-added-2 : goal.overflow_add-added-2
 overflow_add-added-2 c =
@@ -15,7 +19,7 @@ overflow_add-added-2 c =
       leaf_weight (tree_in s.branch) c.args.place.now c.args.label.now c.args.content.now s.tree c.requires.fits c.requires.free,
       c.requires.fits.within.weighs,
       ap length c.as_str.ensures.text,
-      c.text_bytes.ensures,
+      c.text_bytes.ensures.bytes,
       ap text_bytes c.in_ok-item.ensures,
     )
 
@@ -31,7 +35,7 @@ overflow_add-self c =
       c.requires.fits.within.weighs,
       s.weighed,
       ap length c.as_str.ensures.text,
-      c.text_bytes.ensures,
+      c.text_bytes.ensures.bytes,
       ap text_bytes c.in_ok-item.ensures,
     )
 
@@ -47,7 +51,7 @@ invariant_of-self-2 c =
         ap weight is,
         s.weighed,
         ap length c.as_str.ensures.text,
-        c.text_bytes.ensures,
+        c.text_bytes.ensures.bytes,
         ap text_bytes c.in_ok-item.ensures,
       );
     }

@@ -1,7 +1,8 @@
 use Rattle.std.proofs.Common.{sym, arith}
 use Rattle.cp_tree.proofs.BranchLemmas.{sub-root}
 use Rattle.cp_tree.proofs.GoodLemmas.{get_below, get_nothing, sub_below}
-use Rattle.cp_tree_share.proofs.At.{no_length, rooted_view}
+use Rattle.cp_tree.proofs.Found.{no_length}
+use Rattle.cp_tree_share.proofs.At.{rooted_view}
 use Rattle.cp_tree_share.proofs.forest.ShareNode.+find.Goals as goal
 
 pub find-requires-in-Some-find : goal.find-requires-in-Some-find

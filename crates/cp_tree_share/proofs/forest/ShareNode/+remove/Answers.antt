@@ -6,7 +6,8 @@ use Rattle.cp_model.specs.Subtrees.{with_subtree, without, is_there}
 use Rattle.cp_tree.proofs.GoodLemmas.{dropped_here, get_below, get_nothing, rooted-branch}
 use Rattle.cp_tree.proofs.Changes.{dropped_children, node_here, small_cut, cut_as_child}
 use Rattle.cp_tree.specs.Sums.{IsSmall}
-use Rattle.cp_tree_share.proofs.At.{no_length, child_as}
+use Rattle.cp_tree.proofs.Found.{no_length}
+use Rattle.cp_tree_share.proofs.At.{child_as}
 use Rattle.cp_tree_share.proofs.forest.ShareNode.+remove.Goals as goal
 use Rattle.cp_tree_share.proofs.forest.ShareNode.+remove.Goals.{In_ok-label-in-Some-find}
 

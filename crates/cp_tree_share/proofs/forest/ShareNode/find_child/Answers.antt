@@ -1,6 +1,6 @@
 use Rattle.std.proofs.Common.{◌∙◌, ap, sym, Some}
 use Rattle.cp_tree.proofs.GoodLemmas.{rooted_found}
-use Rattle.cp_tree_share.proofs.At.{child_there, child_gone}
+use Rattle.cp_tree.proofs.Found.{child_there, child_gone}
 use Rattle.cp_tree_share.proofs.forest.ShareNode.find_child.Goals as goal
 
 pub returns-in-Some-find-clause-there : goal.returns-in-Some-find-clause-there

@@ -1,6 +1,6 @@
 use Rattle.std.proofs.Common.{sym, subst}
 use Rattle.cp_model.specs.Tree.{IsTree}
-use Rattle.cp_tree_share.proofs.At.{no_length, root_put, parent_is}
+use Rattle.cp_tree.proofs.Found.{no_length, root_put, parent_is}
 use Rattle.cp_tree_share.proofs.tree.ShareTree.put_at.Goals as goal
 
 pub invariant_of-self : goal.invariant_of-self

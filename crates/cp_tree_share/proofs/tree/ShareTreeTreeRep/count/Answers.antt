@@ -1,4 +1,4 @@
-use Rattle.cp_tree_share.proofs.At.{reach_count}
+use Rattle.cp_tree.proofs.Found.{reach_count}
 use Rattle.cp_tree_share.proofs.tree.ShareTreeTreeRep.count.Goals as goal
 
 pub returns : goal.returns

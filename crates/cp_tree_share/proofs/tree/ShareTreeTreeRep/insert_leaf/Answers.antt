@@ -1,7 +1,7 @@
 use Rattle.std.proofs.Common.{ap}
 use Rattle.cp_model.specs.Place.{child}
 use Rattle.cp_tree.proofs.Answering.{fits_as, tried_as, leaf_rows}
-use Rattle.cp_tree_share.proofs.Rows.{text_fits}
+use Rattle.cp_tree.proofs.FewRows.{text_fits}
 use Rattle.cp_tree_share.proofs.tree.ShareTreeTreeRep.insert_leaf.Goals as goal
 
 pub of-requires : goal.of-requires

@@ -1,7 +1,7 @@
 use Rattle.std.proofs.Common.{ap}
 use Rattle.cp_model.specs.Place.{child}
 use Rattle.cp_tree.proofs.Answering.{fits_as, tried_as, built_rows}
-use Rattle.cp_tree_share.proofs.Rows.{small_rows}
+use Rattle.cp_tree.proofs.FewRows.{small_rows}
 use Rattle.cp_tree_share.proofs.tree.ShareTreeTreeRep.insert_rows.Goals as goal
 
 pub build-requires-clause-small : goal.build-requires-clause-small

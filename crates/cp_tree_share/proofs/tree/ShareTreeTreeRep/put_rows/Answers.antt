@@ -1,5 +1,5 @@
 use Rattle.cp_tree.proofs.Answering.{fits_as, tried_as, built_rows}
-use Rattle.cp_tree_share.proofs.Rows.{small_rows}
+use Rattle.cp_tree.proofs.FewRows.{small_rows}
 use Rattle.cp_tree_share.proofs.tree.ShareTreeTreeRep.put_rows.Goals as goal
 
 pub build-requires-clause-small : goal.build-requires-clause-small

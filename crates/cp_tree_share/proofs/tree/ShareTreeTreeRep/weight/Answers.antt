@@ -1,4 +1,4 @@
-use Rattle.cp_tree_share.proofs.At.{reach_weight}
+use Rattle.cp_tree.proofs.Found.{reach_weight}
 use Rattle.cp_tree_share.proofs.tree.ShareTreeTreeRep.weight.Goals as goal
 
 pub returns : goal.returns

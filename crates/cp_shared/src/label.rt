@@ -10,7 +10,7 @@ use std::rc::Rc;
 
 /// A label: one of at most 16 bytes in place, a longer one shared.
 #[derive(Drop)]
-pub(crate) struct SharedLabel {
+pub struct SharedLabel {
     form: LabelForm,
 }
 
@@ -22,7 +22,7 @@ enum LabelForm {
 
 impl Model for SharedLabel {
     ghost use Rattle.std.specs.Prelude.{ℕ, List};
-    ghost use Rattle.cp_tree_share.specs.Shared.{label_of};
+    ghost use Rattle.cp_shared.specs.Shared.{label_of};
 
     ghost Value = { List ℕ };
 
@@ -31,7 +31,7 @@ impl Model for SharedLabel {
 
 impl SharedLabel {
     /// Keeps the label. Costs its bytes.
-    pub(crate) fn of(alloc: Global, label: &Label) -> Result<SharedLabel, AllocError>
+    pub fn of(alloc: Global, label: &Label) -> Result<SharedLabel, AllocError>
         ensures { IfOk result (λ n. n ≡ label.now) }
     {
         match ArrayString::from(label.as_str()) {
@@ -45,7 +45,7 @@ impl SharedLabel {
     }
 
     /// Shares the label.
-    pub(crate) fn share(&self) -> Result<SharedLabel, AllocError>
+    pub fn share(&self) -> Result<SharedLabel, AllocError>
         ensures { IfOk result (λ n. n ≡ self.now) }
     {
         match &self.form {
@@ -59,7 +59,7 @@ impl SharedLabel {
     }
 
     /// Gives the label's text.
-    pub(crate) fn as_str(&self) -> &str
+    pub fn as_str(&self) -> &str
         ensures text { result.now ≡ self.now }
         ensures short { length self.now ≤ LABEL_MAX }
     {
@@ -70,21 +70,21 @@ impl SharedLabel {
     }
 
     /// Copies the label. Costs its bytes.
-    pub(crate) fn to_label(&self, alloc: Global) -> Result<Label, AllocError>
+    pub fn to_label(&self, alloc: Global) -> Result<Label, AllocError>
         ensures { IfOk result (λ a. a ≡ self.now) }
     {
         Label::copy_of(alloc, self.as_str())
     }
 
     /// Compares a label with this one.
-    pub(crate) fn order_of(&self, label: &Label) -> Ordering
+    pub fn order_of(&self, label: &Label) -> Ordering
         ensures { result ≡ text_cmp label.now self.now }
     {
         label.as_str().cmp(self.as_str())
     }
 
     /// Compares a kept label with this one.
-    pub(crate) fn order_of_shared(&self, label: &SharedLabel) -> Ordering
+    pub fn order_of_shared(&self, label: &SharedLabel) -> Ordering
         ensures { result ≡ text_cmp label.now self.now }
     {
         label.as_str().cmp(self.as_str())

@@ -2,7 +2,7 @@ ghost use Rattle.std.specs.Prelude.{◌≡◌, ◌≤◌, IfOk, IfSome};
 ghost use Rattle.std.specs.declared.option.Option.TheVariants.{Some};
 ghost use Rattle.cp_model.specs.Tree.{text_bytes, is_node, IsNumber};
 ghost use Rattle.cp_model.specs.declared.row.Content.TheVariants.{Leaf};
-ghost use Rattle.cp_tree_share.specs.Shared.{content_of};
+ghost use Rattle.cp_shared.specs.Shared.{content_of};
 
 use cp_model::Content;
 use cp_path::{TEXT_MAX, Value, Whole};
@@ -12,7 +12,7 @@ use std::rc::Rc;
 
 /// What stands at a place: a text, and a number of more than 63 bits, are shared, and all else is in place.
 #[derive(Drop)]
-pub(crate) struct SharedContent {
+pub struct SharedContent {
     form: ContentForm,
 }
 
@@ -30,7 +30,7 @@ impl Model for SharedContent {
     ghost use Rattle.cp_model.specs.declared.row.Content.{Content};
     ghost use Rattle.cp_model.specs.Codes.{content_code};
     ghost use Rattle.cp_path.specs.declared.limits.TheConstants.{TEXT_MAX};
-    ghost use Rattle.cp_tree_share.specs.Shared.{content_of};
+    ghost use Rattle.cp_shared.specs.Shared.{content_of};
 
     ghost Value = { Content };
 
@@ -46,7 +46,7 @@ impl Model for SharedContent {
 
 impl SharedContent {
     /// Keeps the content. Costs the bytes of a text.
-    pub(crate) fn of(alloc: Global, content: &Content) -> Result<SharedContent, AllocError>
+    pub fn of(alloc: Global, content: &Content) -> Result<SharedContent, AllocError>
         requires { text_bytes content.now ≤ TEXT_MAX }
         ensures { IfOk result (λ c. c ≡ content.now) }
     {
@@ -62,7 +62,7 @@ impl SharedContent {
     }
 
     /// Shares the content.
-    pub(crate) fn share(&self) -> Result<SharedContent, AllocError>
+    pub fn share(&self) -> Result<SharedContent, AllocError>
         ensures { IfOk result (λ c. c ≡ self.now) }
     {
         let form = match &self.form {
@@ -77,7 +77,7 @@ impl SharedContent {
     }
 
     /// Copies the content. Costs the bytes of a text.
-    pub(crate) fn to_content(&self) -> Result<Content, AllocError>
+    pub fn to_content(&self) -> Result<Content, AllocError>
         ensures { IfOk result (λ c. c ≡ self.now) }
     {
         match &self.form {
@@ -91,7 +91,7 @@ impl SharedContent {
     }
 
     /// Says whether it is that of a node.
-    pub(crate) fn is_node(&self) -> bool
+    pub fn is_node(&self) -> bool
         ensures { result ≡ is_node (Some self.now) }
     {
         match &self.form {
@@ -102,7 +102,7 @@ impl SharedContent {
     }
 
     /// Counts the bytes of its text.
-    pub(crate) fn text_bytes(&self) -> usize
+    pub fn text_bytes(&self) -> usize
         ensures bytes { result ≡ text_bytes self.now }
         ensures few { text_bytes self.now ≤ TEXT_MAX }
     {
@@ -114,7 +114,7 @@ impl SharedContent {
 }
 
 /// Says of a content what its type holds: a whole number is within its range.
-pub(crate) fn number_range(content: &Content)
+pub fn number_range(content: &Content)
     ensures { IsNumber content.now }
 {
     if let Content::Leaf(Value::Whole(number)) = content {

@@ -3,10 +3,10 @@ use Rattle.std.specs.Prelude.{ℕ, List}
 use Rattle.cp_path.specs.declared.value.Value.TheVariants.{Null, False, True, Whole}
 use Rattle.cp_model.specs.declared.row.Content.{Content}
 use Rattle.cp_model.specs.declared.row.Content.TheVariants.{Node, Leaf}
-use Rattle.cp_tree_share.specs.declared.label.LabelForm.{LabelForm}
-use Rattle.cp_tree_share.specs.declared.label.LabelForm.TheVariants.{Short, Long}
-use Rattle.cp_tree_share.specs.declared.content.ContentForm.{ContentForm}
-use Rattle.cp_tree_share.specs.declared.content.ContentForm.TheVariants.{Branch, Nil, No, Yes, Number, Other}
+use Rattle.cp_shared.specs.declared.label.LabelForm.{LabelForm}
+use Rattle.cp_shared.specs.declared.label.LabelForm.TheVariants.{Short, Long}
+use Rattle.cp_shared.specs.declared.content.ContentForm.{ContentForm}
+use Rattle.cp_shared.specs.declared.content.ContentForm.TheVariants.{Branch, Nil, No, Yes, Number, Other}
 
 -- the text of the label
 abbrev pub label_of : LabelForm → List ℕ

@@ -13,7 +13,10 @@ use Rattle.cp_tree.specs.Good.{IsGood}
 use Rattle.cp_tree.specs.Rows.{entry_row}
 use Rattle.cp_tree.proofs.ListingLemmas.{moved-append, moved-below_label, moved-branch}
 use Rattle.cp_tree.proofs.Walking.{child_rows-append}
-use Rattle.cp_tree_share.specs.Siblings.{Edges}
+
+-- edges: labels, each with the tree that it leads to
+abbrev pub Edges : Type 0
+Edges = List (Label × Tree)
 
 -- the rows of these edges, their parent being at p
 abbrev pub rows_under : Path → Edges → List Row

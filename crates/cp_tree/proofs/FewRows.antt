@@ -1,8 +1,8 @@
 -- The tree of rows that fit into another is within the limits, and so is that of the first of them.
 use Rattle.cp_model.specs.declared.limits.TheConstants.{NODES_MAX, WEIGHT_MAX}
 use Rattle.cp_path.specs.declared.limits.TheConstants.{LABELS_MAX, LOC_MAX, TEXT_MAX}
-use Rattle.std.specs.Prelude.{◌≡◌, ℕ, ◌+◌, ◌-◌, ◌≤◌, ◌<◌, true, false, cond, List, [], ◌∷◌, ◌++◌, take, length, sum_by, is_some, zero, suc, refl}
-use Rattle.std.proofs.Common.{sym, ap, subst, ◌∙◌, T, arith, get_or}
+use Rattle.std.specs.Prelude.{◌≡◌, ℕ, ◌+◌, ◌-◌, ◌≤◌, ◌<◌, true, false, cond, List, [], ◌∷◌, ◌++◌, take, length, max, sum_by, is_some, zero, suc, refl}
+use Rattle.std.proofs.Common.{sym, ap, subst, ◌∙◌, T, arith, get_or, length-append}
 use Rattle.std.proofs.lemmas.List.{take-map}
 use Rattle.std.proofs.lemmas.List.Sums.{sum_by-cons, sum_by-append}
 use Rattle.std.specs.declared.option.Option.TheVariants.{Some}
@@ -10,28 +10,30 @@ use Rattle.std.specs.FinMap.Entries.{is_sorted, below_all}
 use Rattle.std.specs.Ordering.{is_lt}
 use Rattle.cp_model.specs.declared.row.Content.{Content}
 use Rattle.cp_model.specs.declared.row.Row.{Row}
-use Rattle.cp_model.specs.Place.{Label, Path, path_cmp, path_eq}
+use Rattle.cp_model.specs.Place.{Label, Path, path_cmp, path_eq, child}
+use Rattle.cp_path.proofs.Same.{path_eq-same}
 use Rattle.cp_path.specs.PathOrder.{path_eq_equiv}
 use Rattle.cp_model.proofs.KeyedLemmas.{get-entries}
 use Rattle.cp_model.specs.Keyed as keyed
 use Rattle.cp_model.specs.Keyed.{look}
-use Rattle.cp_model.specs.Subtrees.{with_subtree, is_there}
-use Rattle.cp_model.specs.Tree.{Tree, IsTree, weight, weight_of, text_bytes}
+use Rattle.cp_model.specs.Subtrees.{with_subtree}
+use Rattle.cp_model.specs.Tree.{Tree, IsRooted, IsTree, weight, weight_of, text_bytes}
 use Rattle.cp_model.specs.History.{IsLiteral}
 use Rattle.cp_model.specs.Laws.{at_rest_or}
 use Rattle.cp_model.proofs.Lookups.{get-replaced}
 use Rattle.cp_model.proofs.Rooted.{rows-literal}
-use Rattle.cp_model.proofs.Sorted.{parts_of, all_of}
-use Rattle.cp_model.proofs.Strips.{strip-append, strip-itself}
-use Rattle.cp_model.proofs.SumsLemmas.{len-replaced, len-without, weight-replaced, weight-without}
+use Rattle.cp_model.proofs.Sorted.{parts_of, all_of, sorted-entries}
+use Rattle.cp_model.proofs.Strips.{strip-itself}
+use Rattle.cp_model.proofs.SumsLemmas.{last_bytes_child, len-replaced, len-without, weight-replaced, weight-without}
 use Rattle.cp_model.proofs.Weights.{weight-moved}
 use Rattle.cp_tree.specs.Rows.{greatest, path_size, deepest, entries_in, root_entries, tree_of_rows}
-use Rattle.cp_tree.specs.Sums.{largest, IsSmall}
+use Rattle.cp_tree.specs.Sums.{largest, AreChildren, IsSmall}
 use Rattle.cp_tree.proofs.BranchLemmas.{entries-from_entries}
 use Rattle.cp_tree.proofs.Built.{entries-tree_of_rows}
 use Rattle.cp_tree.proofs.Building.{row_built}
 use Rattle.cp_tree.proofs.Small.{short_labels}
-use Rattle.cp_tree.proofs.Tallies.{deepest-fits, greatest_within}
+use Rattle.cp_tree.proofs.SumsLemmas.{len_entries, weight_entries}
+use Rattle.cp_tree.proofs.Tallies.{deepest-fits, greatest_within, there_replaced}
 
 -- the numbers of these entries are within the limits of a tree
 record AreFew (es : List (Path × Content)) : Type 0 where
@@ -104,14 +106,11 @@ small_row rows rest first e l i row lt at root so_far s =
 
 -- ---- rows that fit
 
-there_put : (t : Tree) (p r : Path) (es : List (Path × Content)) → is_some (look r es) ≡ true → is_there (with_subtree p es t) (p ++ r) ≡ true
-there_put t p r es i = ap is_some (get-replaced p es t (p ++ r) ∙ ap (λ o. at_rest_or o (λ s. look s es) (keyed.get t (p ++ r))) (strip-append p r)) ∙ i
-
 few_rows : (t : Tree) (p : Path) (es : List (Path × Content)) → IsLiteral es → IsTree (with_subtree p es t) → AreFew es
 few_rows t p es l h = record {
   nodes = omega (arith, h.within.nodes, len-replaced p es t l.sorted, len-without p t);
   inner = omega (arith, h.within.weighs, weight-replaced p es t l.sorted, weight-without p t, weight-moved p es l.sorted (rows-literal es l).root);
-  size = greatest_within (LOC_MAX - 1) path_size es (λ r i. omega (arith, short_labels (p ++ r) (h.places (p ++ r) (there_put t p r es i)), sum_by-append (λ (a : Label). length a + 1) p r));
+  size = greatest_within (LOC_MAX - 1) path_size es (λ r i. omega (arith, short_labels (p ++ r) (h.places (p ++ r) (there_replaced t p r es i)), sum_by-append (λ (a : Label). length a + 1) p r));
   depth = omega (arith, deepest-fits t p es l h);
 }
 
@@ -146,3 +145,37 @@ row_text rows rest first e l i row lt at =
     let among : look row.path (take n (entries_in rows)) ≡ Some row.content =
     ap (look row.path) (sym (entries_first n rows l)) ∙ sym (get-entries (tree_of_rows (take n rows)) row.path) ∙ ap (λ z. keyed.get z row.path) (sym is) ∙ got in
     l.texts row.path row.content (look_take row.path n (entries_in rows) row.content among)
+
+-- ---- a tree that is put
+
+-- the number of a path that is there is at most the greatest
+greatest_there : (f : Path → ℕ) (q : Path) (es : List (Path × Content)) → is_some (look q es) ≡ true → f q ≤ greatest (λ e. f e.0) es
+greatest_there f q [] i = absurd (cc)
+greatest_there f q (e ∷ es) i = elim (path_eq q e.0) as (λ b. path_eq q e.0 ≡ b → is_some (cond b (Some e.1) (look q es)) ≡ true → f q ≤ max (f e.0) (greatest (λ e. f e.0) es)) [
+  | true ↦ λ t _. omega (arith, ap f (path_eq-same q e.0 t))
+  | false ↦ λ _ k. omega (arith, greatest_there f q es k)
+] refl i
+
+-- an edge that leads to a tree which is put below a node is within the limits where the whole is
+pub small_edge : (m : Tree) (p : Path) (a : Label) (n : Tree) → IsRooted n → IsSmall (with_subtree (child p a) (keyed.entries n) m) → AreChildren ((a, n) ∷ [])
+small_edge m p a n r s =
+    let q = child p a in
+    let es = keyed.entries n in
+    let all = with_subtree q es m in
+    let sorted = sorted-entries n in
+    let root : is_some (look [] es) ≡ true = ap is_some (sym (get-entries n [])) ∙ r.root in
+    let below : (f : Path → ℕ) (z : Path) → is_some (look z es) ≡ true → f (q ++ z) ≤ greatest (λ e. f e.0) (keyed.entries all) = λ f z i. greatest_there f (q ++ z) (keyed.entries all) (ap is_some (sym (get-entries all (q ++ z))) ∙ there_replaced m q z es i) in
+    let sizes = λ (b : Label). length b + 1 in
+    let size_at : (z : Path) → is_some (look z es) ≡ true → length a + 1 + path_size z ≤ LOC_MAX - 1 =
+    λ z i. omega (arith, s.size, below path_size z i, sum_by-append sizes q z, sum_by-append sizes p (a ∷ []), sum_by-cons sizes a []) in
+    let depth_at : (z : Path) → is_some (look z es) ≡ true → 1 + length z ≤ LABELS_MAX = λ z i. omega (arith, s.depth, below (λ y. length y) z i, length-append q z, length-append p (a ∷ [])) in
+    record {
+      sorted = tt;
+      rooted = (r, tt);
+      small = record {
+        nodes = omega (arith, s.nodes, len-replaced q es m sorted, len-without q m, len_entries n);
+        inner = omega (arith, s.inner, weight-replaced q es m sorted, weight-without q m, weight-moved q es sorted root, last_bytes_child p a, weight_entries n);
+        size = omega (arith, size_at [] root, greatest_within (LOC_MAX - 1 - (length a + 1)) path_size es (λ z i. omega (arith, size_at z i)));
+        depth = omega (arith, depth_at [] root, greatest_within (LABELS_MAX - 1) (λ z. length z) es (λ z i. omega (arith, depth_at z i)));
+      };
+    }
