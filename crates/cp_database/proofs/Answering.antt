@@ -1,5 +1,5 @@
 -- What is shown, and what is answered.
-use Rattle.std.specs.Prelude.{ℕ, ◌≡◌, ◌+◌, true, false, List, map, refl, if◌then◌else◌}
+use Rattle.std.specs.Prelude.{ℕ, ◌≡◌, ◌+◌, Bool, true, false, List, map, refl, Result, Ok, Err, IfOk, if◌then◌else◌}
 use Rattle.std.proofs.Common.{sym, ap, subst, ◌∙◌}
 use Rattle.std.specs.declared.option.Option.{Option}
 use Rattle.std.specs.declared.option.Option.TheVariants.{None, Some}
@@ -29,7 +29,7 @@ use Rattle.cp_engine.specs.declared.state.TxnState.TheVariants as state
 use Rattle.cp_query.specs.Asked.{IsCommitted}
 use Rattle.cp_outside.specs.FileReads.{FileTable}
 use Rattle.cp_database.specs.Texts.{setting}
-use Rattle.cp_database.specs.Databases.{Stands, Opens, Turned, shown_tree}
+use Rattle.cp_database.specs.Databases.{Stands, Opens, Turned, shown_tree, shown_reply}
 use Rattle.cp_database.specs.declared.database.Database.{Database}
 use Rattle.cp_database.proofs.Standing.{turned-on}
 use Rattle.cp_store.specs.declared.store.ProvStore.{Ghosts}
@@ -42,7 +42,7 @@ working_tree t n ops a =
     let x = accepted-step t.sources (tree_of t.tree) n ops a in
     sym (ap (outcome_tree t) x.1 ∙ x.2)
 
-module _ {R P : Type 0} (view : R → Tree) (g : Ghosts P) (d : Database R P) (s : Session) (z : Stands view g d s) where
+module _ {R S P : Type 0} (view : R → Tree) (source_view : S → Tree) (g : Ghosts P) (d : Database R S P) (s : Session) (z : Stands view source_view g d s) where
   abbrev t : Tree
   t = tree_of z.state.tree
 
@@ -85,48 +85,47 @@ module _ {R P : Type 0} (view : R → Tree) (g : Ghosts P) (d : Database R P) (s
 
 -- ---- show
 
-module _ {R P : Type 0} (view : R → Tree) (g : Ghosts P) (files : FileTable) (d : Database R P) (s : Session) (z : Stands view g d s) where
-  shows : (q : Loc) (r : Option Reply) → Turned view g (show_at s q (shown_tree z.state s.opened q)) d r → Turned view g (turn_of (setting files) s (says (stmt.Show q))) d r
-  shows q r h = turned-on view g files d d s z (stmt.Show q) r h
+module _ {R S P : Type 0} (view : R → Tree) (source_view : S → Tree) (g : Ghosts P) (files : FileTable) (d : Database R S P) (s : Session) (z : Stands view source_view g d s) where
+  shows : (q : Loc) (r : Option Reply) → Turned view source_view g (show_at s q (shown_tree z.state s.opened q)) d r → Turned view source_view g (turn_of (setting files) s (says (stmt.Show q))) d r
+  shows q r h = turned-on view source_view g files d d s z (stmt.Show q) r h
 
   -- there is no such database
-  pub turned-no_source : (q : Loc) → shown_tree z.state s.opened q ≡ None → Turned view g (turn_of (setting files) s (says (stmt.Show q))) d (Some (reply.Refused of.Statement (why.NoSource q.db)))
+  pub turned-no_source : (q : Loc) → shown_tree z.state s.opened q ≡ None → Turned view source_view g (turn_of (setting files) s (says (stmt.Show q))) d (Some (reply.Refused of.Statement (why.NoSource q.db)))
   turned-no_source q e =
       let r = Some (reply.Refused of.Statement (why.NoSource q.db)) in
-      shows q r (subst (λ o. Turned view g (show_at s q o) d r) (sym e) (refl, z))
+      shows q r (subst (λ o. Turned view source_view g (show_at s q o) d r) (sym e) (refl, z))
 
-  -- nothing is shown of a place that isn't there
-  pub turned-no_place : (q : Loc) (u : Tree) → shown_tree z.state s.opened q ≡ Some u → is_there u q.path ≡ false → Turned view g (turn_of (setting files) s (says (stmt.Show q))) d (Some (reply.Refused of.Statement (why.NoPlace q)))
-  turned-no_place q u e there =
-      let r = Some (reply.Refused of.Statement (why.NoPlace q)) in
-      shows q r
-      (subst (λ o. Turned view g (show_at s q o) d r) (sym e)
-      (subst (λ b. Turned view g (if b then replies (reply.Show q (map row_of (below q.path u))) s else refuses (why.NoPlace q) s) d r) (sym there) (refl, z)))
+  -- what the tree has at and below a place is shown
+  pub turned-shown : (q : Loc) (u : Tree) → shown_tree z.state s.opened q ≡ Some u → Turned view source_view g (turn_of (setting files) s (says (stmt.Show q))) d (Some (shown_reply q u))
+  turned-shown q u e = shows q (Some (shown_reply q u)) (subst (λ o. Turned view source_view g (show_at s q o) d (Some (shown_reply q u))) (sym e) (by (is_there u q.path)))
+    where
+      by : (b : Bool) → Turned view source_view g (if b then replies (reply.Show q (map row_of (below q.path u))) s else refuses (why.NoPlace q) s) d (Some (if b then reply.Show q (map row_of (below q.path u)) else reply.Refused of.Statement (why.NoPlace q)))
+      by true = (refl, z)
+      by false = (refl, z)
 
-  -- the rows at and below the place are shown
-  pub turned-shown : (q : Loc) (u : Tree) (rows : List Row) → shown_tree z.state s.opened q ≡ Some u → is_there u q.path ≡ true → rows ≡ map row_of (below q.path u) →
-      Turned view g (turn_of (setting files) s (says (stmt.Show q))) d (Some (reply.Show q rows))
-  turned-shown q u rows e there is =
-      let r = Some (reply.Show q rows) in
-      shows q r
-      (subst (λ o. Turned view g (show_at s q o) d r) (sym e)
-      (subst (λ b. Turned view g (if b then replies (reply.Show q (map row_of (below q.path u))) s else refuses (why.NoPlace q) s) d r) (sym there) (ap (λ rs. Some (reply.Show q rs)) is, z)))
+-- what the tree of a place's database has at and below the place is shown, if memory is enough
+pub told-shown : {R S P E : Type 0} (view : R → Tree) (source_view : S → Tree) (g : Ghosts P) (d : Database R S P) (q : Loc) (u : Tree) (r : Result Reply E) →
+    ((s : Session) (z : Stands view source_view g d s) → shown_tree z.state s.opened q ≡ Some u) → IfOk r (λ x. x ≡ shown_reply q u) →
+    IfOk r (λ x. (files : FileTable) (s : Session) → Stands view source_view g d s → Turned view source_view g (turn_of (setting files) s (says (stmt.Show q))) d (Some x))
+told-shown view source_view g d q u (Ok x) e h =
+    λ files s z. subst (λ y. Turned view source_view g (turn_of (setting files) s (says (stmt.Show q))) d (Some y)) (sym h) (turned-shown view source_view g files d s z q u (e s z))
+told-shown view source_view g d q u (Err y) e h = tt
 
 -- ---- queries
 
-module _ {R P : Type 0} (view : R → Tree) (g : Ghosts P) (files : FileTable) (d m : Database R P) (s : Session) (z : Stands view g d s) (y : Stands view g m s) where
+module _ {R S P : Type 0} (view : R → Tree) (source_view : S → Tree) (g : Ghosts P) (files : FileTable) (d m : Database R S P) (s : Session) (z : Stands view source_view g d s) (y : Stands view source_view g m s) where
   -- the rows and the tree are those of the session's history
   pub committed-rows : IsCommitted (g.kept_kind d.store) (g.last_tid d.store) (g.kept_rows d.store) (view d.tree) z.state
   committed-rows = record { history = s.history; legal = z.legal; replayed = z.replayed; kind = sym z.kind; now = sym z.upto; rows = sym z.rows; tree = sym z.tree }
 
   -- an answer is replied
-  pub turned-answered : (q : Query) (a : Answer) → answer_to z.state q ≡ Some a → Turned view g (turn_of (setting files) s (says (stmt.Ask q))) m (Some (reply.Answered q a))
+  pub turned-answered : (q : Query) (a : Answer) → answer_to z.state q ≡ Some a → Turned view source_view g (turn_of (setting files) s (says (stmt.Ask q))) m (Some (reply.Answered q a))
   turned-answered q a e =
       let r = Some (reply.Answered q a) in
-      turned-on view g files d m s z (stmt.Ask q) r (subst (λ o. Turned view g (answer_or_refuse s q o) m r) (sym e) (refl, y))
+      turned-on view source_view g files d m s z (stmt.Ask q) r (subst (λ o. Turned view source_view g (answer_or_refuse s q o) m r) (sym e) (refl, y))
 
   -- a query without one is refused
-  pub turned-unanswered : (q : Query) → answer_to z.state q ≡ None → Turned view g (turn_of (setting files) s (says (stmt.Ask q))) m (Some (reply.Refused of.Statement (no_place_of q)))
+  pub turned-unanswered : (q : Query) → answer_to z.state q ≡ None → Turned view source_view g (turn_of (setting files) s (says (stmt.Ask q))) m (Some (reply.Refused of.Statement (no_place_of q)))
   turned-unanswered q e =
       let r = Some (reply.Refused of.Statement (no_place_of q)) in
-      turned-on view g files d m s z (stmt.Ask q) r (subst (λ o. Turned view g (answer_or_refuse s q o) m r) (sym e) (refl, y))
+      turned-on view source_view g files d m s z (stmt.Ask q) r (subst (λ o. Turned view source_view g (answer_or_refuse s q o) m r) (sym e) (refl, y))

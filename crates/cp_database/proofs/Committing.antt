@@ -32,7 +32,7 @@ use Rattle.cp_store.specs.declared.store.ProvStore.{Ghosts}
 
 -- ---- commit
 
-module _ {R P : Type 0} (view : R → Tree) (g : Ghosts P) (files : FileTable) (d m : Database R P) (x : Step R) (s : Session) (k : Makes view g d x s) where
+module _ {R S P : Type 0} (view : R → Tree) (source_view : S → Tree) (g : Ghosts P) (files : FileTable) (d m : Database R S P) (x : Step R) (s : Session) (k : Makes view source_view g d x s) where
   abbrev before : State
   before = k.stands.state
 
@@ -81,7 +81,7 @@ module _ {R P : Type 0} (view : R → Tree) (g : Ghosts P) (files : FileTable) (
   committed_state = ap (λ j. one_commit_more (fold after_step before (steps_of j k.ops))) k.stands.naive
 
   keeps : view m.tree ≡ view x.tree → m.sources ≡ d.sources → g.kept_kind m.store ≡ g.kept_kind d.store → g.kept_rows m.store ≡ g.kept_rows d.store ++ x.rows → g.last_tid m.store ≡ g.last_tid d.store + x.tids → m.transaction ≡ d.transaction → d.runs ≤ m.runs →
-      Stands view g m (with_entry (after_moment s) (commit (stamp_of (setting files) s) k.ops))
+      Stands view source_view g m (with_entry (after_moment s) (commit (stamp_of (setting files) s) k.ops))
   keeps tree kept store list upto same more =
       let bound = few in
       let now = now_is in
@@ -91,7 +91,7 @@ module _ {R P : Type 0} (view : R → Tree) (g : Ghosts P) (files : FileTable) (
         legal = legal-snoc s.history (commit (stamp_of (setting files) s) k.ops) k.stands.legal (subst (λ r. CanFollow r (commit (stamp_of (setting files) s) k.ops)) (sym k.stands.replayed) can_commit);
         kind = store ∙ k.stands.kind ∙ k.stands.naive ∙ sym at_end.kind;
         naive = at_end.kind;
-        sources = ap (sources_in view) kept ∙ k.stands.sources ∙ sym at_end.sources;
+        sources = ap (sources_in source_view) kept ∙ k.stands.sources ∙ sym at_end.sources;
         bounded = subst (λ n. length n ≤ SOURCES_MAX) (sym at_end.sources) k.stands.bounded;
         tree = tree ∙ k.step.tree ∙ sym at_end.tree;
         rows = list ∙ ap (λ rs. rs ++ x.rows) k.stands.rows ∙ ap (λ rs. before.rows ++ rs) k.step.rows ∙ sym at_end.rows;
@@ -106,15 +106,15 @@ module _ {R P : Type 0} (view : R → Tree) (g : Ghosts P) (files : FileTable) (
 
   -- the step is committed
   pub turned-kept : (low high : ℕ) → view m.tree ≡ view x.tree → m.sources ≡ d.sources → g.kept_kind m.store ≡ g.kept_kind d.store → g.kept_rows m.store ≡ g.kept_rows d.store ++ x.rows → g.last_tid m.store ≡ g.last_tid d.store + x.tids → m.transaction ≡ d.transaction → d.runs ≤ m.runs → low ≡ g.last_tid d.store + 1 → high ≡ g.last_tid m.store →
-      Turned view g (turn_of (setting files) s (says stmt.Commit)) m (Some (reply.Committed low high))
+      Turned view source_view g (turn_of (setting files) s (says stmt.Commit)) m (Some (reply.Committed low high))
   turned-kept low high tree kept store list upto same more l h =
-      turned-on view g files (holding d k.transaction) m s k.stands stmt.Commit (Some (reply.Committed low high))
-      (subst (λ o. Turned view g (on_commit (setting files) s before o) m (Some (reply.Committed low high))) (sym k.opened) (
+      turned-on view source_view g files (holding d k.transaction) m s k.stands stmt.Commit (Some (reply.Committed low high))
+      (subst (λ o. Turned view source_view g (on_commit (setting files) s before o) m (Some (reply.Committed low high))) (sym k.opened) (
         ap (λ i. Some (reply.Committed i high)) (l ∙ ap (λ i. i + 1) k.stands.upto) ∙ ap (λ j. Some (reply.Committed (before.now + 1) j)) (h ∙ upto ∙ sym high_is),
         keeps tree kept store list upto same more,
       ))
 
-module _ {R P : Type 0} (view : R → Tree) (g : Ghosts P) (files : FileTable) (d m : Database R P) (s : Session) (z : Stands view g d s) (tree : view m.tree ≡ view d.tree) (kept : m.sources ≡ d.sources) (same : IsSameStore g d.store m.store) (none : m.transaction ≡ None) (runs : m.runs ≡ d.runs) where
+module _ {R S P : Type 0} (view : R → Tree) (source_view : S → Tree) (g : Ghosts P) (files : FileTable) (d m : Database R S P) (s : Session) (z : Stands view source_view g d s) (tree : view m.tree ≡ view d.tree) (kept : m.sources ≡ d.sources) (same : IsSameStore g d.store m.store) (none : m.transaction ≡ None) (runs : m.runs ≡ d.runs) where
   abbrev from : Tree
   from = tree_of z.state.tree
 
@@ -125,19 +125,19 @@ module _ {R P : Type 0} (view : R → Tree) (g : Ghosts P) (files : FileTable) (
   loaded = z.state.sources
 
   -- no transaction is open any more
-  closes : Stands view g m (with_opened s closed)
+  closes : Stands view source_view g m (with_opened s closed)
   closes =
       let few = z.few in
-      stands-with view g d m s z closed tree kept same (subst (λ y. Opens view y loaded from first closed) (sym none) tt) (omega (arith, few, runs))
+      stands-with view source_view g d m s z closed tree kept same (subst (λ y. Opens view y loaded from first closed) (sym none) tt) (omega (arith, few, runs))
 
-  nothing_open : (o : OpenTransaction) → Opens view None loaded from first o → Turned view g (on_commit (setting files) s z.state o) m (Some (reply.Refused of.Commit why.NoOperation))
+  nothing_open : (o : OpenTransaction) → Opens view None loaded from first o → Turned view source_view g (on_commit (setting files) s z.state o) m (Some (reply.Refused of.Commit why.NoOperation))
   nothing_open closed h = (refl, closes)
   nothing_open (going ops) h = absurd h
   nothing_open (failed k c) h = absurd h
 
   -- where no transaction is open there is nothing to commit
-  pub turned-nothing : d.transaction ≡ None → Turned view g (turn_of (setting files) s (says stmt.Commit)) m (Some (reply.Refused of.Commit why.NoOperation))
-  turned-nothing e = turned-on view g files d m s z stmt.Commit _ (nothing_open s.opened (subst (λ y. Opens view y loaded from first s.opened) e z.opened))
+  pub turned-nothing : d.transaction ≡ None → Turned view source_view g (turn_of (setting files) s (says stmt.Commit)) m (Some (reply.Refused of.Commit why.NoOperation))
+  turned-nothing e = turned-on view source_view g files d m s z stmt.Commit _ (nothing_open s.opened (subst (λ y. Opens view y loaded from first s.opened) e z.opened))
 
   aborts_none : (o : OpenTransaction) → Opens view None loaded from first o → count_given_up o ≡ 0
   aborts_none closed h = refl
@@ -145,9 +145,9 @@ module _ {R P : Type 0} (view : R → Tree) (g : Ghosts P) (files : FileTable) (
   aborts_none (failed k c) h = absurd h
 
   -- and nothing to give up
-  pub turned-aborted-none : (count : ℕ) → count ≡ 0 → d.transaction ≡ None → Turned view g (turn_of (setting files) s (says stmt.Abort)) m (Some (reply.Aborted count))
+  pub turned-aborted-none : (count : ℕ) → count ≡ 0 → d.transaction ≡ None → Turned view source_view g (turn_of (setting files) s (says stmt.Abort)) m (Some (reply.Aborted count))
   turned-aborted-none count none_given e =
-      turned-on view g files d m s z stmt.Abort _ (ap (λ i. Some (reply.Aborted i)) (none_given ∙ sym (aborts_none s.opened (subst (λ y. Opens view y loaded from first s.opened) e z.opened))), closes)
+      turned-on view source_view g files d m s z stmt.Abort _ (ap (λ i. Some (reply.Aborted i)) (none_given ∙ sym (aborts_none s.opened (subst (λ y. Opens view y loaded from first s.opened) e z.opened))), closes)
 
   module _ (x : Txn R) (there : d.transaction ≡ Some x) where
     stands_open : Opens view (Some x) loaded from first s.opened
@@ -159,19 +159,19 @@ module _ {R P : Type 0} (view : R → Tree) (g : Ghosts P) (files : FileTable) (
     aborts count (failed k c) h e = e (txn.failed k c) h
 
     -- the accepted operations are given up
-    pub turned-aborted : (count : ℕ) → ((p : txn.Progress) → txn.Stands view x loaded from first p → count ≡ txn.held_count p) → Turned view g (turn_of (setting files) s (says stmt.Abort)) m (Some (reply.Aborted count))
-    turned-aborted count e = turned-on view g files d m s z stmt.Abort _ (ap (λ i. Some (reply.Aborted i)) (aborts count s.opened stands_open e), closes)
+    pub turned-aborted : (count : ℕ) → ((p : txn.Progress) → txn.Stands view x loaded from first p → count ≡ txn.held_count p) → Turned view source_view g (turn_of (setting files) s (says stmt.Abort)) m (Some (reply.Aborted count))
+    turned-aborted count e = turned-on view source_view g files d m s z stmt.Abort _ (ap (λ i. Some (reply.Aborted i)) (aborts count s.opened stands_open e), closes)
 
     fails : (j : ℕ) (c : Cause) (o : OpenTransaction) → Opens view (Some x) loaded from first o → ((p : txn.Progress) → txn.Stands view x loaded from first p → txn.Finishes view loaded from first p (2 ^ 64 - 1) (Err (unfinished.Failed j c))) →
-        Turned view g (on_commit (setting files) s z.state o) m (Some (reply.Refused of.Commit (why.FailedAt j)))
+        Turned view source_view g (on_commit (setting files) s z.state o) m (Some (reply.Refused of.Commit (why.FailedAt j)))
     fails j c closed h e = absurd h
     fails j c (going ops) h e = absurd (e (txn.going ops) h.0)
     fails j c (failed k b) h e = (ap (λ i. Some (reply.Refused of.Commit (why.FailedAt i))) (e (txn.failed k b) h).0, closes)
 
     -- a failed transaction commits nothing
     pub turned-unfinished : (j : ℕ) (c : Cause) → ((p : txn.Progress) → txn.Stands view x loaded from first p → txn.Finishes view loaded from first p (2 ^ 64 - 1) (Err (unfinished.Failed j c))) →
-        Turned view g (turn_of (setting files) s (says stmt.Commit)) m (Some (reply.Refused of.Commit (why.FailedAt j)))
-    turned-unfinished j c e = turned-on view g files d m s z stmt.Commit _ (fails j c s.opened stands_open e)
+        Turned view source_view g (turn_of (setting files) s (says stmt.Commit)) m (Some (reply.Refused of.Commit (why.FailedAt j)))
+    turned-unfinished j c e = turned-on view source_view g files d m s z stmt.Commit _ (fails j c s.opened stands_open e)
 
     never_empty : (o : OpenTransaction) → Opens view (Some x) loaded from first o → ((p : txn.Progress) → txn.Stands view x loaded from first p → txn.Finishes view loaded from first p (2 ^ 64 - 1) (Err unfinished.Empty)) → ⊥
     never_empty closed h e = h
@@ -192,15 +192,15 @@ module _ {R P : Type 0} (view : R → Tree) (g : Ghosts P) (files : FileTable) (
     not-large e = never_large s.opened stands_open e
 
 -- the step is made by the transaction that was open
-makes_if : {R P : Type 0} (view : R → Tree) (g : Ghosts P) (m : Database R P) (s : Session) (x : Txn R) (st : Step R) (z : Stands view g (holding m x) s) (o : OpenTransaction) → m.transaction ≡ None → s.opened ≡ o →
-    Opens view (Some x) z.state.sources (tree_of z.state.tree) (z.state.now + 1) o → ((p : txn.Progress) → txn.Stands view x z.state.sources (tree_of z.state.tree) (z.state.now + 1) p → txn.Finishes view z.state.sources (tree_of z.state.tree) (z.state.now + 1) p (2 ^ 64 - 1) (Ok st)) → Makes view g m st s
-makes_if view g m s x st z closed none e h f = absurd h
-makes_if view g m s x st z (going ops) none e h f = record { taken = none; transaction = x; stands = z; ops = ops; opened = e; step = f (txn.going ops) h.0 }
-makes_if view g m s x st z (failed k c) none e h f = absurd (f (txn.failed k c) h)
+makes_if : {R S P : Type 0} (view : R → Tree) (source_view : S → Tree) (g : Ghosts P) (m : Database R S P) (s : Session) (x : Txn R) (st : Step R) (z : Stands view source_view g (holding m x) s) (o : OpenTransaction) → m.transaction ≡ None → s.opened ≡ o →
+    Opens view (Some x) z.state.sources (tree_of z.state.tree) (z.state.now + 1) o → ((p : txn.Progress) → txn.Stands view x z.state.sources (tree_of z.state.tree) (z.state.now + 1) p → txn.Finishes view z.state.sources (tree_of z.state.tree) (z.state.now + 1) p (2 ^ 64 - 1) (Ok st)) → Makes view source_view g m st s
+makes_if view source_view g m s x st z closed none e h f = absurd h
+makes_if view source_view g m s x st z (going ops) none e h f = record { taken = none; transaction = x; stands = z; ops = ops; opened = e; step = f (txn.going ops) h.0 }
+makes_if view source_view g m s x st z (failed k c) none e h f = absurd (f (txn.failed k c) h)
 
 -- the step is made by the transaction that was open
-pub makes-step : {R P : Type 0} (view : R → Tree) (g : Ghosts P) (d m : Database R P) (s : Session) (x : Txn R) (st : Step R) → m.transaction ≡ None → d ≡ holding m x → Stands view g d s →
-    ((ss : List Source) (t : Tree) (n : ℕ) (p : txn.Progress) → txn.Stands view x ss t n p → txn.Finishes view ss t n p (2 ^ 64 - 1) (Ok st)) → Makes view g m st s
-makes-step view g d m s x st none e z f =
-    let y : Stands view g (holding m x) s = subst (λ b. Stands view g b s) e z in
-    makes_if view g m s x st y s.opened none refl y.opened (f y.state.sources (tree_of y.state.tree) (y.state.now + 1))
+pub makes-step : {R S P : Type 0} (view : R → Tree) (source_view : S → Tree) (g : Ghosts P) (d m : Database R S P) (s : Session) (x : Txn R) (st : Step R) → m.transaction ≡ None → d ≡ holding m x → Stands view source_view g d s →
+    ((ss : List Source) (t : Tree) (n : ℕ) (p : txn.Progress) → txn.Stands view x ss t n p → txn.Finishes view ss t n p (2 ^ 64 - 1) (Ok st)) → Makes view source_view g m st s
+makes-step view source_view g d m s x st none e z f =
+    let y : Stands view source_view g (holding m x) s = subst (λ b. Stands view source_view g b s) e z in
+    makes_if view source_view g m s x st y s.opened none refl y.opened (f y.state.sources (tree_of y.state.tree) (y.state.now + 1))

@@ -49,7 +49,7 @@ some_is : {X : Type 0} (o : Option X) → is_some o ≡ true → (x : X) × (o �
 some_is None h = absurd (cc)
 some_is (Some x) h = (x, refl)
 
-module _ {R P : Type 0} (view : R → Tree) (g : Ghosts P) (d : Database R P) (s : Session) (z : Stands view g d s) (name : List ℕ) where
+module _ {R S P : Type 0} (view : R → Tree) (source_view : S → Tree) (g : Ghosts P) (d : Database R S P) (s : Session) (z : Stands view source_view g d s) (name : List ℕ) where
   abbrev t : State
   t = z.state
 
@@ -66,15 +66,15 @@ module _ {R P : Type 0} (view : R → Tree) (g : Ghosts P) (d : Database R P) (s
   why-open e = rw (is_open e) refl
 
   -- where the name is taken
-  pub why-there : is_some d.transaction ≡ false → is_some (source (sources_in view d.sources) name) ≡ true → Some (why.SourceThere name) ≡ why_not_loaded t s.opened name
+  pub why-there : is_some d.transaction ≡ false → is_some (source (sources_in source_view d.sources) name) ≡ true → Some (why.SourceThere name) ≡ why_not_loaded t s.opened name
   why-there e there = rw (is_shut e, ap (λ ss. is_some (source ss name)) (sym z.sources) ∙ there) refl
 
   -- where as many sources are there as may be
-  pub why-many : is_some d.transaction ≡ false → is_some (source (sources_in view d.sources) name) ≡ false → length (sources_in view d.sources) == SOURCES_MAX ≡ true → Some why.TooManySources ≡ why_not_loaded t s.opened name
+  pub why-many : is_some d.transaction ≡ false → is_some (source (sources_in source_view d.sources) name) ≡ false → length (sources_in source_view d.sources) == SOURCES_MAX ≡ true → Some why.TooManySources ≡ why_not_loaded t s.opened name
   why-many e new many = rw (is_shut e, ap (λ ss. is_some (source ss name)) (sym z.sources) ∙ new, ap (λ ss. length ss == SOURCES_MAX) (sym z.sources) ∙ many) refl
 
   -- else nothing is in the way
-  pub why-none : is_some d.transaction ≡ false → is_some (source (sources_in view d.sources) name) ≡ false → length (sources_in view d.sources) == SOURCES_MAX ≡ false → None ≡ why_not_loaded t s.opened name
+  pub why-none : is_some d.transaction ≡ false → is_some (source (sources_in source_view d.sources) name) ≡ false → length (sources_in source_view d.sources) == SOURCES_MAX ≡ false → None ≡ why_not_loaded t s.opened name
   why-none e new many = rw (is_shut e, ap (λ ss. is_some (source ss name)) (sym z.sources) ∙ new, ap (λ ss. length ss == SOURCES_MAX) (sym z.sources) ∙ many) refl
 
   -- what is in the way says how many files the load reads
@@ -82,21 +82,21 @@ module _ {R P : Type 0} (view : R → Tree) (g : Ghosts P) (d : Database R P) (s
   reads-unless w e = ap (λ o. load_reads s o name) z.replayed ∙ ap reads_unless (sym e)
 
   -- there are no more sources than there may be
-  pub bounded-loaded : length (sources_in view d.sources) ≤ SOURCES_MAX
+  pub bounded-loaded : length (sources_in source_view d.sources) ≤ SOURCES_MAX
   bounded-loaded = subst (λ ss. length ss ≤ SOURCES_MAX) (sym z.sources) z.bounded
 
 -- ---- what is loaded
 
-module _ {R P : Type 0} (view : R → Tree) (g : Ghosts P) (d m : Database R P) (s : Session) (z : Stands view g d s) (name : List ℕ) (u : Tree) where
+module _ {R S P : Type 0} (view : R → Tree) (source_view : S → Tree) (g : Ghosts P) (d m : Database R S P) (s : Session) (z : Stands view source_view g d s) (name : List ℕ) (u : Tree) where
   opened_on : (ss : List Source) (o : OpenTransaction) → d.transaction ≡ None → Opens view d.transaction z.state.sources (tree_of z.state.tree) (z.state.now + 1) o → Opens view None ss (tree_of z.state.tree) (z.state.now + 1) o
   opened_on ss closed e h = tt
   opened_on ss (going ops) e h = absurd (subst (λ y. Opens view y z.state.sources (tree_of z.state.tree) (z.state.now + 1) (going ops)) e h)
   opened_on ss (failed k c) e h = absurd (subst (λ y. Opens view y z.state.sources (tree_of z.state.tree) (z.state.now + 1) (failed k c)) e h)
 
   -- the tree is a source of the session's history
-  pub stands-loaded : is_name name ≡ true → label_eq name target ≡ false → IsTree u → FitsUnder name u → is_some (source (sources_in view d.sources) name) ≡ false → length (sources_in view d.sources) < SOURCES_MAX → d.transaction ≡ None
-      → m.tree ≡ d.tree → sources_in view m.sources ≡ sources_in view d.sources ++ record { name = name; tree = u } ∷ [] → m.store ≡ d.store → m.transaction ≡ None → m.runs ≡ d.runs
-      → Stands view g m (with_entry s (load name u))
+  pub stands-loaded : is_name name ≡ true → label_eq name target ≡ false → IsTree u → FitsUnder name u → is_some (source (sources_in source_view d.sources) name) ≡ false → length (sources_in source_view d.sources) < SOURCES_MAX → d.transaction ≡ None
+      → m.tree ≡ d.tree → sources_in source_view m.sources ≡ sources_in source_view d.sources ++ record { name = name; tree = u } ∷ [] → m.store ≡ d.store → m.transaction ≡ None → m.runs ≡ d.runs
+      → Stands view source_view g m (with_entry s (load name u))
   stands-loaded named other tree fits new few shut same added store none runs =
       let can : CanLoad z.state name u = record {
         loadable = record { name = named; other = other; tree = tree; places = fits };
@@ -148,22 +148,22 @@ loading-is c s t l =
           ]
     ]
 
-module _ {R P : Type 0} (view : R → Tree) (g : Ghosts P) (files : FileTable) (d m : Database R P) (s : Session) (z : Stands view g d s) (l : Load) where
-  by_way : (w : Option Why) (r : Option Reply) → w ≡ why_not_loaded z.state s.opened l.name → Turned view g (loading_by (setting files) s l w) m r → Turned view g (turn_of (setting files) s (says (stmt.Load l))) m r
+module _ {R S P : Type 0} (view : R → Tree) (source_view : S → Tree) (g : Ghosts P) (files : FileTable) (d m : Database R S P) (s : Session) (z : Stands view source_view g d s) (l : Load) where
+  by_way : (w : Option Why) (r : Option Reply) → w ≡ why_not_loaded z.state s.opened l.name → Turned view source_view g (loading_by (setting files) s l w) m r → Turned view source_view g (turn_of (setting files) s (says (stmt.Load l))) m r
   by_way w r e h =
-      turned-on view g files d m s z (stmt.Load l) r
-      (subst (λ q. Turned view g q m r) (sym (loading-is (setting files) s z.state l)) (subst (λ y. Turned view g (loading_by (setting files) s l y) m r) e h))
+      turned-on view source_view g files d m s z (stmt.Load l) r
+      (subst (λ q. Turned view source_view g q m r) (sym (loading-is (setting files) s z.state l)) (subst (λ y. Turned view source_view g (loading_by (setting files) s l y) m r) e h))
 
   -- what is in the way is the refusal
-  pub turned-not_loaded : (w : Why) → Some w ≡ why_not_loaded z.state s.opened l.name → Stands view g m s → Turned view g (turn_of (setting files) s (says (stmt.Load l))) m (Some (reply.Refused of.Load w))
+  pub turned-not_loaded : (w : Why) → Some w ≡ why_not_loaded z.state s.opened l.name → Stands view source_view g m s → Turned view source_view g (turn_of (setting files) s (says (stmt.Load l))) m (Some (reply.Refused of.Load w))
   turned-not_loaded w e y = by_way (Some w) (Some (reply.Refused of.Load w)) e (refl, y)
 
   -- and so is why the file gives no tree
-  pub turned-withheld : (w : Why) → None ≡ why_not_loaded z.state s.opened l.name → fetch files l ≡ withholds w → Stands view g m s → Turned view g (turn_of (setting files) s (says (stmt.Load l))) m (Some (reply.Refused of.Load w))
+  pub turned-withheld : (w : Why) → None ≡ why_not_loaded z.state s.opened l.name → fetch files l ≡ withholds w → Stands view source_view g m s → Turned view source_view g (turn_of (setting files) s (says (stmt.Load l))) m (Some (reply.Refused of.Load w))
   turned-withheld w e found y =
       let r = Some (reply.Refused of.Load w) in
-      by_way None r e (subst (λ x. Turned view g (load_fetched (setting files) s l.name x) m r) (sym found) (refl, y))
+      by_way None r e (subst (λ x. Turned view source_view g (load_fetched (setting files) s l.name x) m r) (sym found) (refl, y))
 
   -- the tree that the file gives is loaded
-  pub turned-loaded : (u : Tree) (r : Reply) → None ≡ why_not_loaded z.state s.opened l.name → fetch files l ≡ gives u → Loads view g s l.name u m r → Turned view g (turn_of (setting files) s (says (stmt.Load l))) m (Some r)
-  turned-loaded u r e found y = by_way None (Some r) e (subst (λ x. Turned view g (load_fetched (setting files) s l.name x) m (Some r)) (sym found) (ap (λ x. Some x) y.0, y.1))
+  pub turned-loaded : (u : Tree) (r : Reply) → None ≡ why_not_loaded z.state s.opened l.name → fetch files l ≡ gives u → Loads view source_view g s l.name u m r → Turned view source_view g (turn_of (setting files) s (says (stmt.Load l))) m (Some r)
+  turned-loaded u r e found y = by_way None (Some r) e (subst (λ x. Turned view source_view g (load_fetched (setting files) s l.name x) m (Some r)) (sym found) (ap (λ x. Some x) y.0, y.1))

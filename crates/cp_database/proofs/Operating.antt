@@ -46,7 +46,7 @@ pub with_sources : {R : Type 0} (view : R → Tree) (loaded ss : List Source) �
     → ((t : Tree) (n : ℕ) (p : txn.Progress) → txn.Stands view y loaded t n p → txn.Applies view loaded t n p op x r) → (t : Tree) (n : ℕ) (p : txn.Progress) → txn.Stands view y ss t n p → txn.Applies view ss t n p op x r
 with_sources view loaded ss e y op x r = subst (λ z. (t : Tree) (n : ℕ) (p : txn.Progress) → txn.Stands view y z t n p → txn.Applies view z t n p op x r) e
 
-module _ {R P : Type 0} (view : R → Tree) (g : Ghosts P) (d m : Database R P) (s : Session) (z : Stands view g d s) (x : Txn R) (tree : view m.tree ≡ view d.tree) (kept : m.sources ≡ d.sources) (same : IsSameStore g d.store m.store) (there : m.transaction ≡ Some x) where
+module _ {R S P : Type 0} (view : R → Tree) (source_view : S → Tree) (g : Ghosts P) (d m : Database R S P) (s : Session) (z : Stands view source_view g d s) (x : Txn R) (tree : view m.tree ≡ view d.tree) (kept : m.sources ≡ d.sources) (same : IsSameStore g d.store m.store) (there : m.transaction ≡ Some x) where
   abbrev t : Tree
   t = tree_of z.state.tree
 
@@ -57,64 +57,64 @@ module _ {R P : Type 0} (view : R → Tree) (g : Ghosts P) (d m : Database R P) 
   ss = z.state.sources
 
   -- the transaction is put back
-  puts_back : (o : OpenTransaction) → Opens view (Some x) ss t n o → z.state.now + held_in o ≤ m.runs → Stands view g m (with_opened s o)
-  puts_back o h few = stands-with view g d m s z o tree kept same (subst (λ y. Opens view y ss t n o) (sym there) h) few
+  puts_back : (o : OpenTransaction) → Opens view (Some x) ss t n o → z.state.now + held_in o ≤ m.runs → Stands view source_view g m (with_opened s o)
+  puts_back o h few = stands-with view source_view g d m s z o tree kept same (subst (λ y. Opens view y ss t n o) (sym there) h) few
 
   -- ---- texts that can't be read
 
-  puts_spoiled : (o : OpenTransaction) → z.state.now ≤ m.runs → txn.Stands view x ss t n (txn.after_unread (progress_of o)) → Stands view g m (with_opened s (fail_unread o))
+  puts_spoiled : (o : OpenTransaction) → z.state.now ≤ m.runs → txn.Stands view x ss t n (txn.after_unread (progress_of o)) → Stands view source_view g m (with_opened s (fail_unread o))
   puts_spoiled closed few h = puts_back (failed 1 Unread) h (omega (arith, few))
   puts_spoiled (going ops) few h = puts_back (failed (length ops + 1) Unread) h (omega (arith, few))
   puts_spoiled (failed k c) few h = puts_back (failed k c) h (omega (arith, few))
 
   -- a text that can't be read is counted
-  pub stands-spoiled : (w : Why) → d.runs ≤ m.runs → txn.Stands view x ss t n (txn.after_unread (progress_of s.opened)) → Stands view g m (not_read s w).next
+  pub stands-spoiled : (w : Why) → d.runs ≤ m.runs → txn.Stands view x ss t n (txn.after_unread (progress_of s.opened)) → Stands view source_view g m (not_read s w).next
   stands-spoiled w more h = let few = z.few in puts_spoiled s.opened (omega (arith, few, more)) h
 
   -- ---- operations
 
   module _ (files : FileTable) (y : Txn R) (op : Op) (more : m.runs ≡ d.runs + 1) where
     accepted : (ops : List Op) → z.state.now + length ops ≤ d.runs → txn.Stands view y ss t n (txn.going ops) → refusal_behind ss t n ops op ≡ None → txn.Stands view x ss t n (txn.going (ops ++ op ∷ [])) →
-        Turned view g (decide_op s ops op (refusal_after z.state ops op)) m None
+        Turned view source_view g (decide_op s ops op (refusal_after z.state ops op)) m None
     accepted ops few i e h =
         let len = length-append ops (op ∷ []) in
-        subst (λ r. Turned view g (decide_op s ops op r) m None) (sym (refusal-is z.state n ops op i.accepted ∙ e))
+        subst (λ r. Turned view source_view g (decide_op s ops op r) m None) (sym (refusal-is z.state n ops op i.accepted ∙ e))
         (refl, puts_back (going (ops ++ op ∷ [])) (h, omega (arith, len)) (omega (arith, len, few, more)))
 
     denied_by : (r : Refusal) (ops : List Op) → z.state.now + length ops ≤ d.runs → txn.Stands view y ss t n (txn.going ops) → refusal_behind ss t n ops op ≡ Some r → txn.Stands view x ss t n (txn.failed (length ops + 1) (Refused r)) →
-        Turned view g (decide_op s ops op (refusal_after z.state ops op)) m (Some (reply.Refused of.Statement (why_refused op r)))
+        Turned view source_view g (decide_op s ops op (refusal_after z.state ops op)) m (Some (reply.Refused of.Statement (why_refused op r)))
     denied_by r ops few i e h =
-        subst (λ q. Turned view g (decide_op s ops op q) m (Some (reply.Refused of.Statement (why_refused op r)))) (sym (refusal-is z.state n ops op i.accepted ∙ e))
+        subst (λ q. Turned view source_view g (decide_op s ops op q) m (Some (reply.Refused of.Statement (why_refused op r)))) (sym (refusal-is z.state n ops op i.accepted ∙ e))
         (refl, puts_back (failed (length ops + 1) (Refused r)) h (omega (arith, few, more)))
 
-    operated_ok : (o : OpenTransaction) → z.state.now + held_in o ≤ d.runs → txn.Stands view y ss t n (progress_of o) → txn.Applies view ss t n (progress_of o) op x (Ok tt) → Turned view g (on_operation s z.state op o) m None
+    operated_ok : (o : OpenTransaction) → z.state.now + held_in o ≤ d.runs → txn.Stands view y ss t n (progress_of o) → txn.Applies view ss t n (progress_of o) op x (Ok tt) → Turned view source_view g (on_operation s z.state op o) m None
     operated_ok closed few i a = accepted [] few i a.0 a.1
     operated_ok (going ops) few i a = accepted ops few i a.0 a.1
     operated_ok (failed k c) few i a = absurd a
 
     operated_refused : (r : Refusal) (o : OpenTransaction) → z.state.now + held_in o ≤ d.runs → txn.Stands view y ss t n (progress_of o) → txn.Applies view ss t n (progress_of o) op x (Err (denied.Refused r)) →
-        Turned view g (on_operation s z.state op o) m (Some (reply.Refused of.Statement (why_refused op r)))
+        Turned view source_view g (on_operation s z.state op o) m (Some (reply.Refused of.Statement (why_refused op r)))
     operated_refused r closed few i a = denied_by r [] few i a.0 a.1
     operated_refused r (going ops) few i a = denied_by r ops few i a.0 a.1
     operated_refused r (failed k c) few i a = absurd a
 
     operated_failed : (j : ℕ) (o : OpenTransaction) → s.opened ≡ o → z.state.now + held_in o ≤ d.runs → txn.Applies view ss t n (progress_of o) op x (Err (denied.Failed j)) →
-        Turned view g (on_operation s z.state op o) m (Some (reply.Refused of.Statement (why.FailedAt j)))
+        Turned view source_view g (on_operation s z.state op o) m (Some (reply.Refused of.Statement (why.FailedAt j)))
     operated_failed j closed e few a = absurd a
     operated_failed j (going ops) e few a = absurd a
     operated_failed j (failed k c) e few a = (
       ap (λ i. Some (reply.Refused of.Statement (why.FailedAt i))) a.0,
-      subst (λ o. Stands view g m (with_opened s o)) (sym e) (puts_back (failed k c) a.1 (omega (arith, few, more))),
+      subst (λ o. Stands view source_view g m (with_opened s o)) (sym e) (puts_back (failed k c) a.1 (omega (arith, few, more))),
     )
 
     -- an operation that the transaction holds is silent
-    pub turned-accepted : txn.Stands view y ss t n (progress_of s.opened) → txn.Applies view ss t n (progress_of s.opened) op x (Ok tt) → Turned view g (turn_of (setting files) s (says (stmt.Op op))) m None
-    turned-accepted i a = turned-on view g files d m s z (stmt.Op op) None (operated_ok s.opened z.few i a)
+    pub turned-accepted : txn.Stands view y ss t n (progress_of s.opened) → txn.Applies view ss t n (progress_of s.opened) op x (Ok tt) → Turned view source_view g (turn_of (setting files) s (says (stmt.Op op))) m None
+    turned-accepted i a = turned-on view source_view g files d m s z (stmt.Op op) None (operated_ok s.opened z.few i a)
 
     -- one that it refuses is refused
-    pub turned-refused : (r : Refusal) → txn.Stands view y ss t n (progress_of s.opened) → txn.Applies view ss t n (progress_of s.opened) op x (Err (denied.Refused r)) → Turned view g (turn_of (setting files) s (says (stmt.Op op))) m (Some (reply.Refused of.Statement (why_refused op r)))
-    turned-refused r i a = turned-on view g files d m s z (stmt.Op op) _ (operated_refused r s.opened z.few i a)
+    pub turned-refused : (r : Refusal) → txn.Stands view y ss t n (progress_of s.opened) → txn.Applies view ss t n (progress_of s.opened) op x (Err (denied.Refused r)) → Turned view source_view g (turn_of (setting files) s (says (stmt.Op op))) m (Some (reply.Refused of.Statement (why_refused op r)))
+    turned-refused r i a = turned-on view source_view g files d m s z (stmt.Op op) _ (operated_refused r s.opened z.few i a)
 
     -- and so is one behind another that was refused
-    pub turned-failed : (j : ℕ) → txn.Applies view ss t n (progress_of s.opened) op x (Err (denied.Failed j)) → Turned view g (turn_of (setting files) s (says (stmt.Op op))) m (Some (reply.Refused of.Statement (why.FailedAt j)))
-    turned-failed j a = turned-on view g files d m s z (stmt.Op op) _ (operated_failed j s.opened refl z.few a)
+    pub turned-failed : (j : ℕ) → txn.Applies view ss t n (progress_of s.opened) op x (Err (denied.Failed j)) → Turned view source_view g (turn_of (setting files) s (says (stmt.Op op))) m (Some (reply.Refused of.Statement (why.FailedAt j)))
+    turned-failed j a = turned-on view source_view g files d m s z (stmt.Op op) _ (operated_failed j s.opened refl z.few a)

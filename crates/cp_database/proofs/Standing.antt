@@ -29,21 +29,21 @@ pub record IsSameStore {P : Type 0} (g : Ghosts P) (old new : P) : Type 0 where
 pub same-store : {P : Type 0} (g : Ghosts P) (old new : P) → new ≡ old → IsSameStore g old new
 same-store g old new e = record { kind = ap g.kept_kind e; last = ap g.last_tid e; rows = ap g.kept_rows e }
 
-module _ {R P : Type 0} (view : R → Tree) (g : Ghosts P) (d m : Database R P) (s : Session) (z : Stands view g d s) where
+module _ {R S P : Type 0} (view : R → Tree) (source_view : S → Tree) (g : Ghosts P) (d m : Database R S P) (s : Session) (z : Stands view source_view g d s) where
   -- the committed tree is within every limit
   pub committed-tree : IsTree (tree_of z.state.tree)
   committed-tree = (legal-tree s.history z.state z.legal z.replayed).tree
 
   -- it stands for a session whose transaction alone has changed
   pub stands-with : (o : OpenTransaction) → view m.tree ≡ view d.tree → m.sources ≡ d.sources → IsSameStore g d.store m.store → Opens view m.transaction z.state.sources (tree_of z.state.tree) (z.state.now + 1) o → z.state.now + held_in o ≤ m.runs →
-      Stands view g m (with_opened s o)
+      Stands view source_view g m (with_opened s o)
   stands-with o tree kept same h few = record {
     state = z.state;
     replayed = z.replayed;
     legal = z.legal;
     kind = same.kind ∙ z.kind;
     naive = z.naive;
-    sources = ap (sources_in view) kept ∙ z.sources;
+    sources = ap (sources_in source_view) kept ∙ z.sources;
     bounded = z.bounded;
     tree = tree ∙ z.tree;
     rows = same.rows ∙ z.rows;
@@ -53,19 +53,19 @@ module _ {R P : Type 0} (view : R → Tree) (g : Ghosts P) (d m : Database R P) 
   }
 
   -- it stands for the same session
-  pub stands-same : view m.tree ≡ view d.tree → m.sources ≡ d.sources → IsSameStore g d.store m.store → m.transaction ≡ d.transaction → m.runs ≡ d.runs → Stands view g m s
+  pub stands-same : view m.tree ≡ view d.tree → m.sources ≡ d.sources → IsSameStore g d.store m.store → m.transaction ≡ d.transaction → m.runs ≡ d.runs → Stands view source_view g m s
   stands-same tree kept same h runs =
       stands-with s.opened tree kept same (subst (λ x. Opens view x z.state.sources (tree_of z.state.tree) (z.state.now + 1) s.opened) (sym h) z.opened) (subst (λ n. z.state.now + held_in s.opened ≤ n) (sym runs) z.few)
 
-module _ {R P : Type 0} (view : R → Tree) (g : Ghosts P) (files : FileTable) (d m : Database R P) (s : Session) (z : Stands view g d s) where
+module _ {R S P : Type 0} (view : R → Tree) (source_view : S → Tree) (g : Ghosts P) (files : FileTable) (d m : Database R S P) (s : Session) (z : Stands view source_view g d s) where
   -- a turn is the one on the state to which the history leads
-  pub turned-on : (x : Stmt) (r : Option Reply) → Turned view g (turn_on (setting files) s z.state x) m r → Turned view g (turn_of (setting files) s (says x)) m r
-  turned-on x r h = subst (λ o. Turned view g (turn_by (setting files) s o x) m r) (sym z.replayed) h
+  pub turned-on : (x : Stmt) (r : Option Reply) → Turned view source_view g (turn_on (setting files) s z.state x) m r → Turned view source_view g (turn_of (setting files) s (says x)) m r
+  turned-on x r h = subst (λ o. Turned view source_view g (turn_by (setting files) s o x) m r) (sym z.replayed) h
 
 -- a tree without rows and sources stands for a session that begins on it
-pub stands-begun : {R P : Type 0} (view : R → Tree) (g : Ghosts P) (d : Database R P) → IsTree (view d.tree) → sources_in view d.sources ≡ [] → g.kept_kind d.store ≡ kind.N → g.kept_rows d.store ≡ [] → g.last_tid d.store ≡ 0 → d.transaction ≡ None → Stands view g d (begun_session (view d.tree))
+pub stands-begun : {R S P : Type 0} (view : R → Tree) (source_view : S → Tree) (g : Ghosts P) (d : Database R S P) → IsTree (view d.tree) → sources_in source_view d.sources ≡ [] → g.kept_kind d.store ≡ kind.N → g.kept_rows d.store ≡ [] → g.last_tid d.store ≡ 0 → d.transaction ≡ None → Stands view source_view g d (begun_session (view d.tree))
 unfolding replay start_state
-stands-begun view g d h none_loaded naive list upto none = record {
+stands-begun view source_view g d h none_loaded naive list upto none = record {
   state = start_state kind.N (view d.tree);
   replayed = refl;
   legal = (h, tt);

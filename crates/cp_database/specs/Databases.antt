@@ -1,5 +1,5 @@
 -- What a database keeps of a session: the committed tree with its rows, and the open transaction.
-use Rattle.std.specs.Prelude.{ℕ, ◌≡◌, ◌+◌, ◌-◌, ◌≤◌, ◌^◌, List, [], length, if◌then◌else◌, ⊤}
+use Rattle.std.specs.Prelude.{ℕ, ◌≡◌, ◌+◌, ◌-◌, ◌≤◌, ◌^◌, List, [], length, map, if◌then◌else◌, ⊤}
 use Rattle.std.specs.declared.option.Option.{Option}
 use Rattle.std.specs.declared.option.Option.TheVariants.{None, Some}
 use Rattle.cp_path.specs.declared.loc.Loc.{Loc}
@@ -8,12 +8,15 @@ use Rattle.cp_model.specs.Place.{in_target}
 use Rattle.cp_model.specs.Tree.{Tree, Source, source}
 use Rattle.cp_model.specs.Past.{tree_of}
 use Rattle.cp_model.specs.Keyed.{len}
+use Rattle.cp_model.specs.Subtrees.{is_there, below}
 use Rattle.cp_model.specs.History.{State, IsLegal, replay, load}
 use Rattle.cp_model.specs.declared.kind.Kind.TheVariants.{N}
 use Rattle.cp_model.specs.declared.op.Op.{Op}
 use Rattle.cp_reply.specs.declared.reply.Reply.{Reply}
+use Rattle.cp_reply.specs.declared.reply.Of.TheVariants as of
+use Rattle.cp_reply.specs.declared.reply.Why.TheVariants as why
 use Rattle.cp_reply.specs.declared.reply.Reply.TheVariants as reply
-use Rattle.cp_session.specs.Session.{Session, OpenTransaction, closed, going, failed, Turn, current_tree, with_entry}
+use Rattle.cp_session.specs.Session.{Session, OpenTransaction, closed, going, failed, Turn, current_tree, with_entry, row_of}
 use Rattle.cp_engine.specs.Loaded.{sources_in}
 use Rattle.cp_engine.specs.Transactions as txn
 use Rattle.cp_engine.specs.declared.txn.Txn.{Txn}
@@ -39,14 +42,14 @@ Opens view (Some x) ss t n (failed k c) = txn.Stands view x ss t n (txn.failed k
 
 -- the tree, the sources and the store are those to which the session's history leads, and the transaction is the session's;
 -- no more Tids were given than statements were run
-pub record Stands {R P : Type 0} (view : R → Tree) (g : Ghosts P) (d : Database R P) (s : Session) : Type 0 where
+pub record Stands {R S P : Type 0} (view : R → Tree) (source_view : S → Tree) (g : Ghosts P) (d : Database R S P) (s : Session) : Type 0 where
   pub state : State
   pub replayed : replay s.history ≡ Some state
   pub legal : IsLegal s.history
   pub kind : g.kept_kind d.store ≡ state.kind
   -- a transaction makes the rows of a naive store, and of no other yet
   pub naive : state.kind ≡ N
-  pub sources : sources_in view d.sources ≡ state.sources
+  pub sources : sources_in source_view d.sources ≡ state.sources
   pub bounded : length state.sources ≤ SOURCES_MAX
   pub tree : view d.tree ≡ tree_of state.tree
   pub rows : g.kept_rows d.store ≡ state.rows
@@ -55,24 +58,28 @@ pub record Stands {R P : Type 0} (view : R → Tree) (g : Ghosts P) (d : Databas
   pub few : state.now + held_in s.opened ≤ d.runs
 
 -- it stands for some session
-abbrev pub IsSession : {R P : Type 0} → (R → Tree) → Ghosts P → Database R P → Type 0
-IsSession view g d = (s : Session) × Stands view g d s
+abbrev pub IsSession : {R S P : Type 0} → (R → Tree) → (S → Tree) → Ghosts P → Database R S P → Type 0
+IsSession view source_view g d = (s : Session) × Stands view source_view g d s
 
 -- how many operations were run
-abbrev pub runs_of : {R P : Type 0} → Database R P → ℕ
+abbrev pub runs_of : {R S P : Type 0} → Database R S P → ℕ
 runs_of d = d.runs
 
 -- how often the store's disk has failed
-abbrev pub disk_faults : {R P : Type 0} → Ghosts P → Database R P → ℕ
+abbrev pub disk_faults : {R S P : Type 0} → Ghosts P → Database R S P → ℕ
 disk_faults g d = g.faults d.store
 
 -- the reply is the turn's, and what is kept stands for its next state
-abbrev pub Turned : {R P : Type 0} → (R → Tree) → Ghosts P → Turn → Database R P → Option Reply → Type 0
-Turned view g t new r = (r ≡ t.reply) × Stands view g new t.next
+abbrev pub Turned : {R S P : Type 0} → (R → Tree) → (S → Tree) → Ghosts P → Turn → Database R S P → Option Reply → Type 0
+Turned view source_view g t new r = (r ≡ t.reply) × Stands view source_view g new t.next
 
 -- the tree that is shown of the place's database, if there is such a database
 abbrev pub shown_tree : State → OpenTransaction → Loc → Option Tree
 shown_tree t o q = if in_target q then Some (current_tree t o) else source t.sources q.db
+
+-- the rows at and below a place of a tree, or that nothing stands there
+abbrev pub shown_reply : Loc → Tree → Reply
+shown_reply q t = if is_there t q.path then reply.Show q (map row_of (below q.path t)) else reply.Refused of.Statement (why.NoPlace q)
 
 -- how far the transaction has come once one is open: where none was, it holds no operation
 abbrev pub progress_of : OpenTransaction → txn.Progress
@@ -81,22 +88,22 @@ progress_of (going ops) = txn.going ops
 progress_of (failed n c) = txn.failed n c
 
 -- the transaction is the open one, or one that begins on the committed tree
-abbrev pub IsOpened : {R P : Type 0} → (R → Tree) → Ghosts P → Database R P → Txn R → Type 0
-IsOpened view g d x = (s : Session) → (z : Stands view g d s) → txn.Stands view x z.state.sources (tree_of z.state.tree) (z.state.now + 1) (progress_of s.opened)
+abbrev pub IsOpened : {R S P : Type 0} → (R → Tree) → (S → Tree) → Ghosts P → Database R S P → Txn R → Type 0
+IsOpened view source_view g d x = (s : Session) → (z : Stands view source_view g d s) → txn.Stands view x z.state.sources (tree_of z.state.tree) (z.state.now + 1) (progress_of s.opened)
 
 -- the transaction is open
-abbrev pub holding : {R P : Type 0} → Database R P → Txn R → Database R P
+abbrev pub holding : {R S P : Type 0} → Database R S P → Txn R → Database R S P
 holding d x = record d { transaction = Some x }
 
 -- the step is the one that the open transaction, which is taken out, has made
-pub record Makes {R P : Type 0} (view : R → Tree) (g : Ghosts P) (d : Database R P) (x : Step R) (s : Session) : Type 0 where
+pub record Makes {R S P : Type 0} (view : R → Tree) (source_view : S → Tree) (g : Ghosts P) (d : Database R S P) (x : Step R) (s : Session) : Type 0 where
   pub taken : d.transaction ≡ None
   pub transaction : Txn R
-  pub stands : Stands view g (holding d transaction) s
+  pub stands : Stands view source_view g (holding d transaction) s
   pub ops : List Op
   pub opened : s.opened ≡ going ops
   pub step : txn.IsStep view stands.state.sources (tree_of stands.state.tree) (stands.state.now + 1) ops (2 ^ 64 - 1) x
 
 -- the tree is kept as a source under the name, and the reply says so
-abbrev pub Loads : {R P : Type 0} → (R → Tree) → Ghosts P → Session → List ℕ → Tree → Database R P → Reply → Type 0
-Loads view g s n t new r = (r ≡ reply.Loaded n (len t)) × Stands view g new (with_entry s (load n t))
+abbrev pub Loads : {R S P : Type 0} → (R → Tree) → (S → Tree) → Ghosts P → Session → List ℕ → Tree → Database R S P → Reply → Type 0
+Loads view source_view g s n t new r = (r ≡ reply.Loaded n (len t)) × Stands view source_view g new (with_entry s (load n t))

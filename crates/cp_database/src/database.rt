@@ -27,24 +27,25 @@ use cp_store::ProvStore;
 use cp_tree::TreeRep;
 use std::alloc::Global;
 
-/// A committed tree with the loaded sources and the store of its rows, and the open transaction.
+/// A committed tree with the loaded sources and the store of its rows, and the open transaction. A tree of a source may
+/// have another form than those that are changed.
 #[derive(Drop)]
-pub struct Database<R: TreeRep, P: ProvStore> {
+pub struct Database<R: TreeRep, S: TreeRep, P: ProvStore> {
     tree: R,
-    sources: Sources<R>,
+    sources: Sources<S>,
     store: P,
     transaction: Option<Txn<R>>,
     /// How many operations were run; no Tid is greater.
     runs: u64,
 }
 
-impl<R: TreeRep, P: ProvStore> Database<R, P> {
+impl<R: TreeRep, S: TreeRep, P: ProvStore> Database<R, S, P> {
     /// A tree with a store that has no rows yet, without sources and without a transaction.
-    pub fn new(alloc: Global, tree: R, store: P) -> Database<R, P>
+    pub fn new(alloc: Global, tree: R, store: P) -> Database<R, S, P>
         requires kind { P.kept_kind store ≡ N }
         requires rows { P.kept_rows store ≡ [] }
         requires last { P.last_tid store ≡ 0 }
-        ensures stands { Stands R.contents P.ProvStore result (begun_session (R.contents tree)) }
+        ensures stands { Stands R.contents S.contents P.ProvStore result (begun_session (R.contents tree)) }
         ensures runs { runs_of result ≡ 0 }
     {
         Database {
@@ -63,15 +64,15 @@ impl<R: TreeRep, P: ProvStore> Database<R, P> {
         statement: Stmt,
         files: &mut F,
     ) -> Result<Option<Reply>, DatabaseFault>
-        requires stands { IsSession R.contents P.ProvStore self.old }
+        requires stands { IsSession R.contents S.contents P.ProvStore self.old }
         requires room { self.old.runs < RUNS_MAX }
         requires built { is_run statement ≡ true }
         requires written { IsWrittenStmt statement }
-        ensures turned { IfOk result (λ r. (t : FileTable) → IsTable t (known_files F.Files files.old) (known_files F.Files files.new) → (s : Session) → Stands R.contents P.ProvStore self.old s
-            → Turned R.contents P.ProvStore (turn_of (setting t) s (says statement)) self.new r) }
-        ensures stands { OnOk result (IsSession R.contents P.ProvStore self.new) }
+        ensures turned { IfOk result (λ r. (t : FileTable) → IsTable t (known_files F.Files files.old) (known_files F.Files files.new) → (s : Session) → Stands R.contents S.contents P.ProvStore self.old s
+            → Turned R.contents S.contents P.ProvStore (turn_of (setting t) s (says statement)) self.new r) }
+        ensures stands { OnOk result (IsSession R.contents S.contents P.ProvStore self.new) }
         ensures runs { OnOk result (self.new.runs ≤ self.old.runs + 1) }
-        ensures reads { (s : Session) → Stands R.contents P.ProvStore self.old s → Reads IsFileFault (statement_reads s statement) (known_files F.Files files.old) (known_files F.Files files.new) result }
+        ensures reads { (s : Session) → Stands R.contents S.contents P.ProvStore self.old s → Reads IsFileFault (statement_reads s statement) (known_files F.Files files.old) (known_files F.Files files.new) result }
         ensures used { UsesFiles IsFileFault (known_files F.Files files.old) (known_files F.Files files.new) result }
         ensures disk { Accounts IsDiskFault (disk_faults P.ProvStore self.old) (disk_faults P.ProvStore self.new) result }
     {

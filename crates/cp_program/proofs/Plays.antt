@@ -115,33 +115,33 @@ seen : Scan → Session → Seen
 seen c s = record { scan = c; session = s }
 
 -- what is kept behind a reply, where the database is this
-abbrev pub after_reply : {R : Type 0} → Interpreter R → Database R Rows → Interpreter R
+abbrev pub after_reply : {R S : Type 0} → Interpreter R S → Database R S Rows → Interpreter R S
 after_reply k d = record { alloc = k.alloc; cutter = k.cutter; database = d; text = k.text; refused = k.refused }
 
 -- what is kept where the cutter is this
-abbrev pub after_cutter : {R : Type 0} → Interpreter R → CutterState → Interpreter R
+abbrev pub after_cutter : {R S : Type 0} → Interpreter R S → CutterState → Interpreter R S
 after_cutter k h = record { alloc = k.alloc; cutter = h; database = k.database; text = k.text; refused = k.refused }
 
 -- what the code keeps follows the scan
-pub follows-byte : {R : Type 0} (view : R → Tree) (k : Interpreter R) (s : Seen) (x : ℕ) (h : CutterState) → Follows view k s → h ≡ byte_held k.cutter x → h ≡ held_of (scan_byte s.scan x).scan
-follows-byte view k s x h f e = e ∙ ap (λ z. byte_held z x) f.0 ∙ byte_held-is s.scan x
+pub follows-byte : {R S : Type 0} (view : R → Tree) (source_view : S → Tree) (k : Interpreter R S) (s : Seen) (x : ℕ) (h : CutterState) → Follows view source_view k s → h ≡ byte_held k.cutter x → h ≡ held_of (scan_byte s.scan x).scan
+follows-byte view source_view k s x h f e = e ∙ ap (λ z. byte_held z x) f.0 ∙ byte_held-is s.scan x
 
 -- behind a byte too it stands where some session does
-pub one-byte : {R : Type 0} (view : R → Tree) (x : ℕ) (old mid : Interpreter R) → FollowsOne view old → mid.cutter ≡ byte_held old.cutter x → mid.database ≡ old.database → FollowsOne view mid
-one-byte view x old mid f h l = (
+pub one-byte : {R S : Type 0} (view : R → Tree) (source_view : S → Tree) (x : ℕ) (old mid : Interpreter R S) → FollowsOne view source_view old → mid.cutter ≡ byte_held old.cutter x → mid.database ≡ old.database → FollowsOne view source_view mid
+one-byte view source_view x old mid f h l = (
   record { scan = (scan_byte f.0.scan x).scan; session = f.0.session },
-  (follows-byte view old f.0 x mid.cutter f.1 h, subst (λ z. Stands view naive z f.0.session) (sym l) f.1.1),
+  (follows-byte view source_view old f.0 x mid.cutter f.1 h, subst (λ z. Stands view source_view naive z f.0.session) (sym l) f.1.1),
 )
 
 -- a scan that begins again stands where some session does
-pub one-begun : {R : Type 0} (view : R → Tree) (c : Scan) (old mid : Interpreter R) → FollowsOne view old → mid.cutter ≡ held_of c → mid.database ≡ old.database → FollowsOne view mid
-one-begun view c old mid f h l = (record { scan = c; session = f.0.session }, (h, subst (λ z. Stands view naive z f.0.session) (sym l) f.1.1))
+pub one-begun : {R S : Type 0} (view : R → Tree) (source_view : S → Tree) (c : Scan) (old mid : Interpreter R S) → FollowsOne view source_view old → mid.cutter ≡ held_of c → mid.database ≡ old.database → FollowsOne view source_view mid
+one-begun view source_view c old mid f h l = (record { scan = c; session = f.0.session }, (h, subst (λ z. Stands view source_view naive z f.0.session) (sym l) f.1.1))
 
 -- behind a reply that was written it stands where the database does
-pub one-told : {R : Type 0} (view : R → Tree) (old new : Interpreter R) (d : Database R Rows) (result : Result ⊤ Stop) → FollowsOne view old → IsSession view naive d → OnOk result (new.cutter ≡ old.cutter) → OnOk result (new.database ≡ d)
-    → OnOk result (FollowsOne view new)
-one-told view old new d (Ok x) f i h l = (record { scan = f.0.scan; session = i.0 }, (h ∙ f.1.0, subst (λ z. Stands view naive z i.0) (sym l) i.1))
-one-told view old new d (Err e) f i h l = tt
+pub one-told : {R S : Type 0} (view : R → Tree) (source_view : S → Tree) (old new : Interpreter R S) (d : Database R S Rows) (result : Result ⊤ Stop) → FollowsOne view source_view old → IsSession view source_view naive d → OnOk result (new.cutter ≡ old.cutter) → OnOk result (new.database ≡ d)
+    → OnOk result (FollowsOne view source_view new)
+one-told view source_view old new d (Ok x) f i h l = (record { scan = f.0.scan; session = i.0 }, (h ∙ f.1.0, subst (λ z. Stands view source_view naive z i.0) (sym l) i.1))
+one-told view source_view old new d (Err e) f i h l = tt
 
 module _ (files : FileTable) where
   -- what cuts do one after another
@@ -217,43 +217,43 @@ module _ (files : FileTable) where
   one_read s cut = omega arith
 
   -- a cut brought no reply
-  pub ran-silent : {R : Type 0} (view : R → Tree) (s : Seen) (cut : Cut) (old new : Interpreter R) (b a : KnownFiles) (o : KnownOutput) → Turned view naive (turn (setting files) s.session cut) new.database None → HasRead b a (cut_reads s.session cut) → new.cutter ≡ held_of s.scan → new.refused ≡ old.refused
-      → Goes view (cuts_play files s (cut ∷ [])) (after_cuts files s (cut ∷ [])) old new (record { files = b; output = o }) (record { files = a; output = o }) (Ok tt)
+  pub ran-silent : {R S : Type 0} (view : R → Tree) (source_view : S → Tree) (s : Seen) (cut : Cut) (old new : Interpreter R S) (b a : KnownFiles) (o : KnownOutput) → Turned view source_view naive (turn (setting files) s.session cut) new.database None → HasRead b a (cut_reads s.session cut) → new.cutter ≡ held_of s.scan → new.refused ≡ old.refused
+      → Goes view source_view (cuts_play files s (cut ∷ [])) (after_cuts files s (cut ∷ [])) old new (record { files = b; output = o }) (record { files = a; output = o }) (Ok tt)
   unfolding replies_to session_after
-  ran-silent view s cut old new b a o t n h f = rw (sym t.0) ((h, t.1), f ∙ or-false old.refused, Appends-nil o.contents, subst (HasRead b a) (one_read s.session cut) n)
+  ran-silent view source_view s cut old new b a o t n h f = rw (sym t.0) ((h, t.1), f ∙ or-false old.refused, Appends-nil o.contents, subst (HasRead b a) (one_read s.session cut) n)
 
   -- the lines of a cut's reply were written
-  pub ran-said : {R : Type 0} (view : R → Tree) (s : Seen) (cut : Cut) (r : Reply) (old mid new : Interpreter R) (b a : World) (result : Result ⊤ Stop)
-      → Turned view naive (turn (setting files) s.session cut) mid.database (Some r) → HasRead b.files a.files (cut_reads s.session cut) → mid.cutter ≡ held_of s.scan → mid.refused ≡ old.refused
+  pub ran-said : {R S : Type 0} (view : R → Tree) (source_view : S → Tree) (s : Seen) (cut : Cut) (r : Reply) (old mid new : Interpreter R S) (b a : World) (result : Result ⊤ Stop)
+      → Turned view source_view naive (turn (setting files) s.session cut) mid.database (Some r) → HasRead b.files a.files (cut_reads s.session cut) → mid.cutter ≡ held_of s.scan → mid.refused ≡ old.refused
       → SendsOut (lines r) b.output.contents a.output.contents result → OnOk result (new.cutter ≡ mid.cutter) → OnOk result (new.database ≡ mid.database) → OnOk result (new.refused ≡ (mid.refused || is_refusal r))
-      → Goes view (cuts_play files s (cut ∷ [])) (after_cuts files s (cut ∷ [])) old new b a result
+      → Goes view source_view (cuts_play files s (cut ∷ [])) (after_cuts files s (cut ∷ [])) old new b a result
   unfolding replies_to session_after
-  ran-said view s cut r old mid new b a (Ok x) t n h f w h' l' f' =
+  ran-said view source_view s cut r old mid new b a (Ok x) t n h f w h' l' f' =
       rw (sym t.0) (
-        (h' ∙ h, subst (λ z. Stands view naive z (turn (setting files) s.session cut).next) (sym l') t.1),
+        (h' ∙ h, subst (λ z. Stands view source_view naive z (turn (setting files) s.session cut).next) (sym l') t.1),
         f' ∙ ap (λ v. v || is_refusal r) f ∙ ap (λ v. old.refused || v) (or-false (is_refusal r)),
         subst (Appends b.output.contents a.output.contents) (sym (append-nil (lines r))) w,
         subst (HasRead b.files a.files) (one_read s.session cut) n,
       )
-  ran-said view s cut r old mid new b a (Err Output) t n h f w h' l' f' = rw (sym t.0) (subst (TakesPart b.output.contents a.output.contents) (sym (append-nil (lines r))) w)
-  ran-said view s cut r old mid new b a (Err Full) t n h f w h' l' f' = rw (sym t.0) (subst (TakesPart b.output.contents a.output.contents) (sym (append-nil (lines r))) w)
-  ran-said view s cut r old mid new b a (Err File) t n h f w h' l' f' = absurd w
-  ran-said view s cut r old mid new b a (Err Memory) t n h f w h' l' f' = w
+  ran-said view source_view s cut r old mid new b a (Err Output) t n h f w h' l' f' = rw (sym t.0) (subst (TakesPart b.output.contents a.output.contents) (sym (append-nil (lines r))) w)
+  ran-said view source_view s cut r old mid new b a (Err Full) t n h f w h' l' f' = rw (sym t.0) (subst (TakesPart b.output.contents a.output.contents) (sym (append-nil (lines r))) w)
+  ran-said view source_view s cut r old mid new b a (Err File) t n h f w h' l' f' = absurd w
+  ran-said view source_view s cut r old mid new b a (Err Memory) t n h f w h' l' f' = w
 
   -- a cut stopped the session before its reply: its file failed, or memory ran out
-  pub ran-stopped_early : {R : Type 0} (view : R → Tree) (s : Seen) (cut : Cut) (old new : Interpreter R) (b a : KnownFiles) (o : KnownOutput) (fault : DatabaseFault) (stop : Stop) → (fault ≡ fails.Disk → ⊥) → (fault ≡ fails.File → stop ≡ File) → (fault ≡ fails.Memory → stop ≡ Memory)
-      → ReadsBefore IsFileFault (cut_reads s.session cut) b a fault → Goes view (cuts_play files s (cut ∷ [])) (after_cuts files s (cut ∷ [])) old new (record { files = b; output = o }) (record { files = a; output = o }) (Err stop)
-  ran-stopped_early view s cut old new b a o fails.File stop disk file memory n =
+  pub ran-stopped_early : {R S : Type 0} (view : R → Tree) (source_view : S → Tree) (s : Seen) (cut : Cut) (old new : Interpreter R S) (b a : KnownFiles) (o : KnownOutput) (fault : DatabaseFault) (stop : Stop) → (fault ≡ fails.Disk → ⊥) → (fault ≡ fails.File → stop ≡ File) → (fault ≡ fails.Memory → stop ≡ Memory)
+      → ReadsBefore IsFileFault (cut_reads s.session cut) b a fault → Goes view source_view (cuts_play files s (cut ∷ [])) (after_cuts files s (cut ∷ [])) old new (record { files = b; output = o }) (record { files = a; output = o }) (Err stop)
+  ran-stopped_early view source_view s cut old new b a o fails.File stop disk file memory n =
       let x = n.blamed refl in
-      subst (λ z. Goes view (cuts_play files s (cut ∷ [])) (after_cuts files s (cut ∷ [])) old new (record { files = b; output = o }) (record { files = a; output = o }) (Err z)) (sym (file refl)) (sym (one_read s.session cut) ∙ x.0, Appends-nil o.contents, x.1)
-  ran-stopped_early view s cut old new b a o fails.Disk stop disk file memory n = absurd (disk refl)
-  ran-stopped_early view s cut old new b a o fails.Memory stop disk file memory n =
-      subst (λ z. Goes view (cuts_play files s (cut ∷ [])) (after_cuts files s (cut ∷ [])) old new (record { files = b; output = o }) (record { files = a; output = o }) (Err z)) (sym (memory refl)) (Appends-nil o.contents)
+      subst (λ z. Goes view source_view (cuts_play files s (cut ∷ [])) (after_cuts files s (cut ∷ [])) old new (record { files = b; output = o }) (record { files = a; output = o }) (Err z)) (sym (file refl)) (sym (one_read s.session cut) ∙ x.0, Appends-nil o.contents, x.1)
+  ran-stopped_early view source_view s cut old new b a o fails.Disk stop disk file memory n = absurd (disk refl)
+  ran-stopped_early view source_view s cut old new b a o fails.Memory stop disk file memory n =
+      subst (λ z. Goes view source_view (cuts_play files s (cut ∷ [])) (after_cuts files s (cut ∷ [])) old new (record { files = b; output = o }) (record { files = a; output = o }) (Err z)) (sym (memory refl)) (Appends-nil o.contents)
 
   -- no cut
-  pub ran-none : {R : Type 0} (view : R → Tree) (s : Seen) (k : Interpreter R) (a : World) → Follows view k s → Goes view (cuts_play files s []) (after_cuts files s []) k k a a (Ok tt)
+  pub ran-none : {R S : Type 0} (view : R → Tree) (source_view : S → Tree) (s : Seen) (k : Interpreter R S) (a : World) → Follows view source_view k s → Goes view source_view (cuts_play files s []) (after_cuts files s []) k k a a (Ok tt)
   unfolding replies_to session_after reads_in
-  ran-none view s k a h = (h, or-false k.refused, Appends-nil a.output.contents, refl)
+  ran-none view source_view s k a h = (h, or-false k.refused, Appends-nil a.output.contents, refl)
 
   -- ---- bytes
 
@@ -269,20 +269,20 @@ module _ (files : FileTable) where
       one = append-nil (scan_byte s.scan x).cuts ∙ sym (byte_cuts-is s.scan x)
 
   -- the cut that a byte ends was run
-  pub pushed : {R : Type 0} (view : R → Tree) (s : Seen) (x : ℕ) (cuts : List Cut) (old mid new : Interpreter R) (b a : World) (result : Result ⊤ Stop)
-      → Follows view old s → cuts ≡ byte_cuts old.cutter x → mid.cutter ≡ byte_held old.cutter x → mid.database ≡ old.database → mid.refused ≡ old.refused
-      → ((t : Seen) → Follows view mid t → Goes view (cuts_play files t cuts) (after_cuts files t cuts) mid new b a result)
-      → Goes view (plays files s (x ∷ [])) (after_play files s (x ∷ [])) old new b a result
-  pushed view s x cuts old mid new b a result f c h l r go = rw ((plays-one s x).0, (plays-one s x).1) (moved result (subst at (c ∙ ap (λ z. byte_cuts z x) f.0) (go t (follows-byte view old s x mid.cutter f h, subst (λ z. Stands view naive z s.session) (sym l) f.1))))
+  pub pushed : {R S : Type 0} (view : R → Tree) (source_view : S → Tree) (s : Seen) (x : ℕ) (cuts : List Cut) (old mid new : Interpreter R S) (b a : World) (result : Result ⊤ Stop)
+      → Follows view source_view old s → cuts ≡ byte_cuts old.cutter x → mid.cutter ≡ byte_held old.cutter x → mid.database ≡ old.database → mid.refused ≡ old.refused
+      → ((t : Seen) → Follows view source_view mid t → Goes view source_view (cuts_play files t cuts) (after_cuts files t cuts) mid new b a result)
+      → Goes view source_view (plays files s (x ∷ [])) (after_play files s (x ∷ [])) old new b a result
+  pushed view source_view s x cuts old mid new b a result f c h l r go = rw ((plays-one s x).0, (plays-one s x).1) (moved result (subst at (c ∙ ap (λ z. byte_cuts z x) f.0) (go t (follows-byte view source_view old s x mid.cutter f h, subst (λ z. Stands view source_view naive z s.session) (sym l) f.1))))
     where
       t : Seen
       t = record { scan = (scan_byte s.scan x).scan; session = s.session }
 
       at : List Cut → Type 0
-      at z = Goes view (cuts_play files t z) (after_cuts files t z) mid new b a result
+      at z = Goes view source_view (cuts_play files t z) (after_cuts files t z) mid new b a result
 
-      moved : (v : Result ⊤ Stop) → Goes view (cuts_play files t (byte_cuts (held_of s.scan) x)) (after_cuts files t (byte_cuts (held_of s.scan) x)) mid new b a v
-          → Goes view (cuts_play files s (byte_cuts (held_of s.scan) x)) (after_cuts files t (byte_cuts (held_of s.scan) x)) old new b a v
+      moved : (v : Result ⊤ Stop) → Goes view source_view (cuts_play files t (byte_cuts (held_of s.scan) x)) (after_cuts files t (byte_cuts (held_of s.scan) x)) mid new b a v
+          → Goes view source_view (cuts_play files s (byte_cuts (held_of s.scan) x)) (after_cuts files t (byte_cuts (held_of s.scan) x)) old new b a v
       moved (Ok y) g = (g.0, g.1 ∙ ap (λ z. z || (cuts_play files t (byte_cuts (held_of s.scan) x)).refused) r, g.2, g.3)
       moved (Err Output) g = g
       moved (Err Full) g = g
@@ -290,14 +290,14 @@ module _ (files : FileTable) where
       moved (Err Memory) g = g
 
   -- no byte is played at once
-  pub goes-none : {R : Type 0} (view : R → Tree) (s : Seen) (k : Interpreter R) (a : World) → Follows view k s → Goes view (plays files s []) (after_play files s []) k k a a (Ok tt)
+  pub goes-none : {R S : Type 0} (view : R → Tree) (source_view : S → Tree) (s : Seen) (k : Interpreter R S) (a : World) → Follows view source_view k s → Goes view source_view (plays files s []) (after_play files s []) k k a a (Ok tt)
   unfolding plays after_play scan_bytes replies_to session_after reads_in
-  goes-none view s k a h = (h, or-false k.refused, Appends-nil a.output.contents, refl)
+  goes-none view source_view s k a h = (h, or-false k.refused, Appends-nil a.output.contents, refl)
 
   -- bytes, and then others
-  pub goes-then : {R : Type 0} (view : R → Tree) (s : Seen) (xs ys : List ℕ) (old mid new : Interpreter R) (b m a : World) → Goes view (plays files s xs) (after_play files s xs) old mid b m (Ok tt)
-      → Goes view (plays files (after_play files s xs) ys) (after_play files (after_play files s xs) ys) mid new m a (Ok tt) → Goes view (plays files s (xs ++ ys)) (after_play files s (xs ++ ys)) old new b a (Ok tt)
-  goes-then view s xs ys old mid new b m a g h =
+  pub goes-then : {R S : Type 0} (view : R → Tree) (source_view : S → Tree) (s : Seen) (xs ys : List ℕ) (old mid new : Interpreter R S) (b m a : World) → Goes view source_view (plays files s xs) (after_play files s xs) old mid b m (Ok tt)
+      → Goes view source_view (plays files (after_play files s xs) ys) (after_play files (after_play files s xs) ys) mid new m a (Ok tt) → Goes view source_view (plays files s (xs ++ ys)) (after_play files s (xs ++ ys)) old new b a (Ok tt)
+  goes-then view source_view s xs ys old mid new b m a g h =
       rw (plays-append s xs ys, after-append s xs ys) (
         h.0,
         h.1 ∙ ap (λ z. z || (plays files (after_play files s xs) ys).refused) g.1 ∙ or_assoc old.refused (plays files s xs).refused (plays files (after_play files s xs) ys).refused,
@@ -306,15 +306,15 @@ module _ (files : FileTable) where
       )
 
   -- a byte at which the session stops, whatever would come next
-  pub fed-stopped : {R : Type 0} (view : R → Tree) (s : Seen) (xs : List ℕ) (x : ℕ) (ys : List ℕ) (old mid new : Interpreter R) (b m a : World) (e : Stop) → Goes view (plays files s xs) (after_play files s xs) old mid b m (Ok tt)
-      → Goes view (plays files (after_play files s xs) (x ∷ [])) (after_play files (after_play files s xs) (x ∷ [])) mid new m a (Err e) → Fed view files s (xs ++ x ∷ ys) old new b a (Err e)
-  fed-stopped view s xs x ys old mid new b m a Output g h =
+  pub fed-stopped : {R S : Type 0} (view : R → Tree) (source_view : S → Tree) (s : Seen) (xs : List ℕ) (x : ℕ) (ys : List ℕ) (old mid new : Interpreter R S) (b m a : World) (e : Stop) → Goes view source_view (plays files s xs) (after_play files s xs) old mid b m (Ok tt)
+      → Goes view source_view (plays files (after_play files s xs) (x ∷ [])) (after_play files (after_play files s xs) (x ∷ [])) mid new m a (Err e) → Fed view source_view files s (xs ++ x ∷ ys) old new b a (Err e)
+  fed-stopped view source_view s xs x ys old mid new b m a Output g h =
       rw (plays-append s xs (x ∷ ys), plays-append (after_play files s xs) (x ∷ []) ys)
       (part-then b.output.contents m.output.contents a.output.contents (plays files s xs).out _ g.2 (part-more m.output.contents a.output.contents (plays files (after_play files s xs) (x ∷ [])).out _ h))
-  fed-stopped view s xs x ys old mid new b m a Full g h =
+  fed-stopped view source_view s xs x ys old mid new b m a Full g h =
       rw (plays-append s xs (x ∷ ys), plays-append (after_play files s xs) (x ∷ []) ys)
       (part-then b.output.contents m.output.contents a.output.contents (plays files s xs).out _ g.2 (part-more m.output.contents a.output.contents (plays files (after_play files s xs) (x ∷ [])).out _ h))
-  fed-stopped view s xs x ys old mid new b m a File g h =
+  fed-stopped view source_view s xs x ys old mid new b m a File g h =
       let front : take (length xs) (xs ++ x ∷ ys) ≡ xs = take-append_seam xs (x ∷ ys) in
       let one : take (length xs + 1) (xs ++ x ∷ ys) ≡ xs ++ x ∷ [] = take-append-add xs (x ∷ ys) 1 in
       record {
@@ -324,18 +324,18 @@ module _ (files : FileTable) where
         wrote = subst (λ zs. Appends b.output.contents a.output.contents (plays files s zs).out) (sym front) (nothing-more b.output.contents m.output.contents a.output.contents (plays files s xs).out g.2 h.1);
         read = subst (λ zs. HasRead b.files a.files ((plays files s zs).reads + 1)) (sym front) (read-then b.files m.files a.files (plays files s xs).reads 1 g.3 h.2);
       }
-  fed-stopped view s xs x ys old mid new b m a Memory g h =
+  fed-stopped view source_view s xs x ys old mid new b m a Memory g h =
       (length xs, omega (arith, length-append xs (x ∷ ys)), rw (take-append_seam xs (x ∷ ys)) (nothing-more b.output.contents m.output.contents a.output.contents (plays files s xs).out g.2 h))
 
   -- ---- the end of the input
 
   -- the cut at the end was run
-  pub ran-last : {R : Type 0} (view : R → Tree) (s : Seen) (cuts : List Cut) (old mid new : Interpreter R) (b a : World) (result : Result ⊤ Stop)
-      → Follows view old s → ((c : Scan) → old.cutter ≡ held_of c → cuts ≡ rest_of c) → mid.database ≡ old.database → mid.refused ≡ old.refused
-      → ((t : Seen) → Follows view mid t → Goes view (cuts_play files t cuts) (after_cuts files t cuts) mid new b a result) → (c : Scan) → mid.cutter ≡ held_of c → RunsLast files s old new b a result
+  pub ran-last : {R S : Type 0} (view : R → Tree) (source_view : S → Tree) (s : Seen) (cuts : List Cut) (old mid new : Interpreter R S) (b a : World) (result : Result ⊤ Stop)
+      → Follows view source_view old s → ((c : Scan) → old.cutter ≡ held_of c → cuts ≡ rest_of c) → mid.database ≡ old.database → mid.refused ≡ old.refused
+      → ((t : Seen) → Follows view source_view mid t → Goes view source_view (cuts_play files t cuts) (after_cuts files t cuts) mid new b a result) → (c : Scan) → mid.cutter ≡ held_of c → RunsLast files s old new b a result
   unfolding closes
-  ran-last view s cuts old mid new b a result f rest l r go c h =
-      moved result (go (record { scan = c; session = s.session }) (h, subst (λ z. Stands view naive z s.session) (sym l) f.1))
+  ran-last view source_view s cuts old mid new b a result f rest l r go c h =
+      moved result (go (record { scan = c; session = s.session }) (h, subst (λ z. Stands view source_view naive z s.session) (sym l) f.1))
     where
       same : report_of files s.session cuts ≡ report_of files s.session (rest_of s.scan)
       same = ap (λ z. report_of files s.session z) (rest s.scan f.0)
@@ -343,7 +343,7 @@ module _ (files : FileTable) where
       none : (report_of files s.session cuts).reads ≡ 0
       none = ap (λ (e : Report). e.reads) same ∙ closes-reads s
 
-      moved : (v : Result ⊤ Stop) → Goes view (cuts_play files (record { scan = c; session = s.session }) cuts) (after_cuts files (record { scan = c; session = s.session }) cuts) mid new b a v → RunsLast files s old new b a v
+      moved : (v : Result ⊤ Stop) → Goes view source_view (cuts_play files (record { scan = c; session = s.session }) cuts) (after_cuts files (record { scan = c; session = s.session }) cuts) mid new b a v → RunsLast files s old new b a v
       moved (Ok y) g = (
         g.1 ∙ ap (λ z. z || (report_of files s.session cuts).refused) r ∙ ap (λ (e : Report). old.refused || e.refused) same,
         subst (λ (e : Report). Appends b.output.contents a.output.contents e.out) same g.2,

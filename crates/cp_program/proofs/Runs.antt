@@ -189,18 +189,18 @@ module _ (files : FileTable) where
     did-closed how.TooLong c = absurd c
 
   -- the session was stopped
-  pub did-stopped : {R : Type 0} (view : R → Tree) (s : Seen) (f : Bool) (old new : Interpreter R) (count : ℕ) (bytes : List ℕ) (ib ia : KnownInput) (fb fm : KnownFiles) (ob om oa : KnownOutput) (stop : Stop)
-      → Fed view files s bytes old new (both fb ob) (both fm om) (Err stop) → StopRefusesWrite ob.refusals om.refusals stop → TellsStop om oa stop → Did (work_from files s f) count bytes (parts ib fb ob) (parts ia fm oa) (end_of_stop stop)
-  did-stopped view s f old new count bytes ib ia fb fm ob om oa Output g r w = inl (subst (λ o. StopsIn ob o (plays files s bytes).out) (sym w) (r, g))
-  did-stopped view s f old new count bytes ib ia fb fm ob om oa Full g r w = inl (inl (subst (λ o. StopsIn ob o (plays files s bytes).out) (sym w) (r, g)))
-  did-stopped view s f old new count bytes ib ia fb fm ob om oa File g r w = record {
+  pub did-stopped : {R S : Type 0} (view : R → Tree) (source_view : S → Tree) (s : Seen) (f : Bool) (old new : Interpreter R S) (count : ℕ) (bytes : List ℕ) (ib ia : KnownInput) (fb fm : KnownFiles) (ob om oa : KnownOutput) (stop : Stop)
+      → Fed view source_view files s bytes old new (both fb ob) (both fm om) (Err stop) → StopRefusesWrite ob.refusals om.refusals stop → TellsStop om oa stop → Did (work_from files s f) count bytes (parts ib fb ob) (parts ia fm oa) (end_of_stop stop)
+  did-stopped view source_view s f old new count bytes ib ia fb fm ob om oa Output g r w = inl (subst (λ o. StopsIn ob o (plays files s bytes).out) (sym w) (r, g))
+  did-stopped view source_view s f old new count bytes ib ia fb fm ob om oa Full g r w = inl (inl (subst (λ o. StopsIn ob o (plays files s bytes).out) (sym w) (r, g)))
+  did-stopped view source_view s f old new count bytes ib ia fb fm ob om oa File g r w = record {
     at = g.at;
     inside = g.inside;
     load = g.load;
     wrote = subst (λ z. WritesLast ob oa z file_line) (append-nil (plays files s (take g.at bytes)).out) (last-after ob om oa (plays files s (take g.at bytes)).out [] file_line (r, g.wrote) w);
     read = g.read;
   }
-  did-stopped view s f old new count bytes ib ia fb fm ob om oa Memory g r w =
+  did-stopped view source_view s f old new count bytes ib ia fb fm ob om oa Memory g r w =
       inr (record {
         at = g.0;
         within = g.1;
@@ -217,7 +217,7 @@ refusal-stopped line b m a File g r w = absurd g
 refusal-stopped line b m a Memory g r w = inr (last-alone b m a memory_line (r, g) w)
 
 -- a session was stopped at the end of its input
-pub closes-stopped : {R : Type 0} (files : FileTable) (s : Seen) (f : Bool) (old new : Interpreter R) (fb fm : KnownFiles) (ob om oa : KnownOutput) (stop : Stop) → RunsLast files s old new (both fb ob) (both fm om) (Err stop) → StopRefusesWrite ob.refusals om.refusals stop
+pub closes-stopped : {R S : Type 0} (files : FileTable) (s : Seen) (f : Bool) (old new : Interpreter R S) (fb fm : KnownFiles) (ob om oa : KnownOutput) (stop : Stop) → RunsLast files s old new (both fb ob) (both fm om) (Err stop) → StopRefusesWrite ob.refusals om.refusals stop
     → TellsStop om oa stop → Closes files s f (both fb ob) (both fm oa) (end_of_stop stop)
 closes-stopped files s f old new fb fm ob om oa Output g r w = subst (λ o. StopsIn ob o (closes files s).out) (sym w) (r, g)
 closes-stopped files s f old new fb fm ob om oa Full g r w = inl (subst (λ o. StopsIn ob o (closes files s).out) (sym w) (r, g))
@@ -237,10 +237,10 @@ closing-stopped stop = let e = (stop-end stop ⊤).0 in record { fitting = e.1; 
 
 -- ---- the ends of a turn
 
-module _ {R : Type 0} (view : R → Tree) where
+module _ {R S : Type 0} (view : R → Tree) (source_view : S → Tree) where
   -- the input failed
-  pub ran-input : (x : Interpreter R) (count : ℕ) (ib ia : KnownInput) (f : KnownFiles) (ob oa : KnownOutput) → count ≤ INPUT_MAX → Keeps ib.left ia.left → ia.given ≡ ib.given → WritesLast ob oa [] input_line
-      → RanFrom view x count (parts ib f ob) (parts ia f oa) how.Input
+  pub ran-input : (x : Interpreter R S) (count : ℕ) (ib ia : KnownInput) (f : KnownFiles) (ob oa : KnownOutput) → count ≤ INPUT_MAX → Keeps ib.left ia.left → ia.given ≡ ib.given → WritesLast ob oa [] input_line
+      → RanFrom view source_view x count (parts ib f ob) (parts ia f oa) how.Input
   ran-input x count ib ia f ob oa le k given w = record {
     taken = [];
     took = Consumes-kept ib.left ib.left ia.left [] (Consumes-nil ib.left) k;
@@ -252,8 +252,8 @@ module _ {R : Type 0} (view : R → Tree) where
   }
 
   -- the input has ended
-  pub ran-closed : (x : Interpreter R) (count : ℕ) (b a : Outside) (e : End) → count ≤ INPUT_MAX → Consumes b.input.left a.input.left [] → a.input.given ≡ b.input.given + 0 → IsAtEnd a.input.left → IsClosing e
-      → ((files : FileTable) → IsTable files b.files a.files → (s : Seen) → Follows view x s → Closes files s x.refused (world_of b) (world_of a) e) → RanFrom view x count b a e
+  pub ran-closed : (x : Interpreter R S) (count : ℕ) (b a : Outside) (e : End) → count ≤ INPUT_MAX → Consumes b.input.left a.input.left [] → a.input.given ≡ b.input.given + 0 → IsAtEnd a.input.left → IsClosing e
+      → ((files : FileTable) → IsTable files b.files a.files → (s : Seen) → Follows view source_view x s → Closes files s x.refused (world_of b) (world_of a) e) → RanFrom view source_view x count b a e
   ran-closed x count b a e le took given end own c = record {
     taken = [];
     took = took;
@@ -265,8 +265,8 @@ module _ {R : Type 0} (view : R → Tree) where
   }
 
   -- too much has come
-  pub ran-too-long : (x : Interpreter R) (count : ℕ) (bytes : List ℕ) (ib ia : KnownInput) (f : KnownFiles) (ob oa : KnownOutput) → count ≤ INPUT_MAX → Consumes ib.left ia.left bytes → ia.given ≡ ib.given + length bytes → INPUT_MAX < count + length bytes → length bytes ≤ PIECE_MAX
-      → WritesLast ob oa [] too_long_line → RanFrom view x count (parts ib f ob) (parts ia f oa) how.TooLong
+  pub ran-too-long : (x : Interpreter R S) (count : ℕ) (bytes : List ℕ) (ib ia : KnownInput) (f : KnownFiles) (ob oa : KnownOutput) → count ≤ INPUT_MAX → Consumes ib.left ia.left bytes → ia.given ≡ ib.given + length bytes → INPUT_MAX < count + length bytes → length bytes ≤ PIECE_MAX
+      → WritesLast ob oa [] too_long_line → RanFrom view source_view x count (parts ib f ob) (parts ia f oa) how.TooLong
   ran-too-long x count bytes ib ia f ob oa le took given past piece w = record {
     taken = bytes;
     took = took;
@@ -278,9 +278,9 @@ module _ {R : Type 0} (view : R → Tree) where
   }
 
   -- the session was stopped
-  pub ran-stopped : (old new : Interpreter R) (count : ℕ) (bytes : List ℕ) (ib ia : KnownInput) (fb fm : KnownFiles) (ob om oa : KnownOutput) (stop : Stop) → count + length bytes ≤ INPUT_MAX → Consumes ib.left ia.left bytes → ia.given ≡ ib.given + length bytes
-      → ((files : FileTable) → IsTable files fb fm → (s : Seen) → Follows view old s → Fed view files s bytes old new (both fb ob) (both fm om) (Err stop)) → StopRefusesWrite ob.refusals om.refusals stop → TellsStop om oa stop
-      → RanFrom view old count (parts ib fb ob) (parts ia fm oa) (end_of_stop stop)
+  pub ran-stopped : (old new : Interpreter R S) (count : ℕ) (bytes : List ℕ) (ib ia : KnownInput) (fb fm : KnownFiles) (ob om oa : KnownOutput) (stop : Stop) → count + length bytes ≤ INPUT_MAX → Consumes ib.left ia.left bytes → ia.given ≡ ib.given + length bytes
+      → ((files : FileTable) → IsTable files fb fm → (s : Seen) → Follows view source_view old s → Fed view source_view files s bytes old new (both fb ob) (both fm om) (Err stop)) → StopRefusesWrite ob.refusals om.refusals stop → TellsStop om oa stop
+      → RanFrom view source_view old count (parts ib fb ob) (parts ia fm oa) (end_of_stop stop)
   ran-stopped old new count bytes ib ia fb fm ob om oa stop le took given g r w =
       let ends = stop-end stop (IsAtEnd ia.left) in
       record {
@@ -290,14 +290,14 @@ module _ {R : Type 0} (view : R → Tree) where
         too_much = (λ h. absurd (ends.0.0 h), λ l. absurd (omega (arith, le, l)));
         fitting = ends.0.1;
         ended = ends.1;
-        did = λ files t s z. did-stopped files view s old.refused old new count bytes ib ia fb fm ob om oa stop (g files t s z) r w;
+        did = λ files t s z. did-stopped files view source_view s old.refused old new count bytes ib ia fb fm ob om oa stop (g files t s z) r w;
       }
 
   -- ---- turns
 
   -- no turn yet
-  pub piece-none : (k : Interpreter R) (o : Outside) → TookPiece view k k 0 0 o o
-  piece-none k o = record { bytes = []; took = Consumes-nil o.input.left; counted = omega arith; sum = omega arith; played = λ files t s z. goes-none files view s k (world_of o) z }
+  pub piece-none : (k : Interpreter R S) (o : Outside) → TookPiece view source_view k k 0 0 o o
+  piece-none k o = record { bytes = []; took = Consumes-nil o.input.left; counted = omega arith; sum = omega arith; played = λ files t s z. goes-none files view source_view s k (world_of o) z }
 
   -- turns after which nothing failed
   pub steady-none : (o : Outside) → IsSteady o o
@@ -314,7 +314,7 @@ module _ {R : Type 0} (view : R → Tree) where
   }
 
   -- one turn more
-  pub piece-more : (old mid new : Interpreter R) (count now later : ℕ) (b m a : Outside) → IsSteady b m → HasReadSome m.files a.files → TookPiece view old mid count now b m → TookPiece view mid new now later m a → TookPiece view old new count later b a
+  pub piece-more : (old mid new : Interpreter R S) (count now later : ℕ) (b m a : Outside) → IsSteady b m → HasReadSome m.files a.files → TookPiece view source_view old mid count now b m → TookPiece view source_view mid new now later m a → TookPiece view source_view old new count later b a
   piece-more old mid new count now later b m a steady read x y = record {
     bytes = x.bytes ++ y.bytes;
     took = Consumes-trans b.input.left m.input.left a.input.left x.bytes y.bytes x.took y.took;
@@ -322,11 +322,11 @@ module _ {R : Type 0} (view : R → Tree) where
     sum = omega (arith, x.sum, y.sum, length-append x.bytes y.bytes);
     played = λ files t s z.
         (let g = x.played files (table-first b.files m.files a.files steady.read read files t) s z in
-        goes-then files view s x.bytes y.bytes old mid new (world_of b) (world_of m) (world_of a) g (y.played files (table-second b.files m.files a.files steady.read read files steady.found t) (after_play files s x.bytes) g.0));
+        goes-then files view source_view s x.bytes y.bytes old mid new (world_of b) (world_of m) (world_of a) g (y.played files (table-second b.files m.files a.files steady.read read files steady.found t) (after_play files s x.bytes) g.0));
   }
 
   -- turns, and then a run
-  pub piece-ran : (old mid : Interpreter R) (now : ℕ) (b m a : Outside) (e : End) → IsSteady b m → HasReadSome m.files a.files → TookPiece view old mid 0 now b m → RanFrom view mid now m a e → RanFrom view old 0 b a e
+  pub piece-ran : (old mid : Interpreter R S) (now : ℕ) (b m a : Outside) (e : End) → IsSteady b m → HasReadSome m.files a.files → TookPiece view source_view old mid 0 now b m → RanFrom view source_view mid now m a e → RanFrom view source_view old 0 b a e
   piece-ran old mid now b m a e steady read x w = record {
     taken = x.bytes ++ w.taken;
     took = Consumes-trans b.input.left m.input.left a.input.left x.bytes w.taken x.took w.took;

@@ -68,9 +68,9 @@ on-done (Ok x) f h = f h
 on-done (Err e) f h = tt
 
 -- a run of a session that begins on its start tree
-pub ran-begun : {R : Type 0} (view : R → Tree) (given : FileTable → FetchedFile) (k : ℕ) (x : Interpreter R) (i : KnownInput) (f fb : KnownFiles) (o : KnownOutput) (a : Outside) (e : End) → fb.found ≡ f.found → HasRead f fb k → HasReadSome fb a.files
-    → x.refused ≡ false → ((t : FileTable) → IsTable t f fb → Begun view (given t) (Ok x)) → RanFrom view x 0 (parts i fb o) a e → Ran given k (parts i f o) a e
-ran-begun {R} view given k x i f fb o a e same read more none begun w = record {
+pub ran-begun : {R S : Type 0} (view : R → Tree) (source_view : S → Tree) (given : FileTable → FetchedFile) (k : ℕ) (x : Interpreter R S) (i : KnownInput) (f fb : KnownFiles) (o : KnownOutput) (a : Outside) (e : End) → fb.found ≡ f.found → HasRead f fb k → HasReadSome fb a.files
+    → x.refused ≡ false → ((t : FileTable) → IsTable t f fb → Begun view source_view (given t) (Ok x)) → RanFrom view source_view x 0 (parts i fb o) a e → Ran given k (parts i f o) a e
+ran-begun {R} {S} view source_view given k x i f fb o a e same read more none begun w = record {
   taken = w.taken;
   took = w.took;
   counted = w.counted;
@@ -82,19 +82,19 @@ ran-begun {R} view given k x i f fb o a e same read more none begun w = record {
       inr (did_from files (given files) (begun files first) (table-second f fb a.files (k, read) more files same t)));
 }
   where
-    did_from : (files : FileTable) (g : FetchedFile) → Begun view g (Ok x) → IsTable files fb a.files → DidFrom files g k w.taken (parts i f o) a e
+    did_from : (files : FileTable) (g : FetchedFile) → Begun view source_view g (Ok x) → IsTable files fb a.files → DidFrom files g k w.taken (parts i f o) a e
     did_from files (gives t) b table =
         did-start files k t w.taken i f fb o a read e (subst (λ v. Did (work_from files (start t) v) 0 w.taken (parts i fb o) a e) none (w.did files table (start t) b))
     did_from files (withholds v) b table = absurd b
 
 -- a session begins on the tree that is given
-pub begun-given : {R : Type 0} (view : R → Tree) (g : FetchedFile) (tree : R) (x : Interpreter R) → Gives view g (Ok tree) → Follows view x (start (view tree)) → Begun view g (Ok x)
-begun-given view (gives t) tree x h f = subst (λ u. Follows view x (start u)) h f
-begun-given view (withholds v) tree x h f = absurd h
+pub begun-given : {R S : Type 0} (view : R → Tree) (source_view : S → Tree) (g : FetchedFile) (tree : R) (x : Interpreter R S) → Gives view g (Ok tree) → Follows view source_view x (start (view tree)) → Begun view source_view g (Ok x)
+begun-given view source_view (gives t) tree x h f = subst (λ u. Follows view source_view x (start u)) h f
+begun-given view source_view (withholds v) tree x h f = absurd h
 
-pub refused-given : {R : Type 0} (view : R → Tree) (g : FetchedFile) (w : Why) → Gives view g (Err w) → Begun view g (Err w)
-refused-given view (gives t) w h = absurd h
-refused-given view (withholds v) w h = h
+pub refused-given : {R S : Type 0} (view : R → Tree) (source_view : S → Tree) (g : FetchedFile) (w : Why) → Gives view g (Err w) → Begun view source_view g (Err w)
+refused-given view source_view (gives t) w h = absurd h
+refused-given view source_view (withholds v) w h = h
 
 -- ---- calls that run no session
 
@@ -113,9 +113,9 @@ module _ (line : List ℕ) (o p : KnownOutput) where
   refused-end taken left how.Memory none w = tt
   refused-end taken left how.TooLong none w = tt
 
-pub ran-refused : {R : Type 0} (view : R → Tree) (given : FileTable → FetchedFile) (k : ℕ) (y : Why) (i : KnownInput) (f fb : KnownFiles) (o p : KnownOutput) (e : End) → HasRead f fb k → ((t : FileTable) → IsTable t f fb → Begun view (given t) (Err y))
+pub ran-refused : {R S : Type 0} (view : R → Tree) (source_view : S → Tree) (given : FileTable → FetchedFile) (k : ℕ) (y : Why) (i : KnownInput) (f fb : KnownFiles) (o p : KnownOutput) (e : End) → HasRead f fb k → ((t : FileTable) → IsTable t f fb → Begun view source_view (given t) (Err y))
     → RefusedStart (refused_start y) o p e → Ran given k (parts i f o) (parts i fb p) e
-ran-refused {R} view given k y i f fb o p e read begun w = record {
+ran-refused {R} {S} view source_view given k y i f fb o p e read begun w = record {
   taken = [];
   took = Consumes-nil i.left;
   counted = omega arith;
@@ -125,7 +125,7 @@ ran-refused {R} view given k y i f fb o p e read begun w = record {
   did = λ files t. inr (did_from files (given files) (begun files t));
 }
   where
-    did_from : (files : FileTable) (g : FetchedFile) → Begun view g (Err y) → DidFrom files g k [] (parts i f o) (parts i fb p) e
+    did_from : (files : FileTable) (g : FetchedFile) → Begun view source_view g (Err y) → DidFrom files g k [] (parts i f o) (parts i fb p) e
     did_from files (gives t) b = absurd b
     did_from files (withholds v) b = (refl, subst (λ z. RefusedStart (refused_start z) o p e) b w, λ h. read)
 

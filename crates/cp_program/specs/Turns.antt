@@ -27,12 +27,12 @@ use Rattle.cp_program.specs.declared.stop.Stop.{Stop}
 use Rattle.cp_program.specs.declared.stop.Stop.TheVariants.{Output, Full, File, Memory}
 
 -- the code stands where the session does
-abbrev pub Follows : {R : Type 0} → (R → Tree) → Interpreter R → Seen → Type 0
-Follows view x s = (x.cutter ≡ held_of s.scan) × Stands view naive x.database s.session
+abbrev pub Follows : {R S : Type 0} → (R → Tree) → (S → Tree) → Interpreter R S → Seen → Type 0
+Follows view source_view x s = (x.cutter ≡ held_of s.scan) × Stands view source_view naive x.database s.session
 
 -- it stands where some session does
-abbrev pub FollowsOne : {R : Type 0} → (R → Tree) → Interpreter R → Type 0
-FollowsOne view x = (s : Seen) × Follows view x s
+abbrev pub FollowsOne : {R S : Type 0} → (R → Tree) → (S → Tree) → Interpreter R S → Type 0
+FollowsOne view source_view x = (s : Seen) × Follows view source_view x s
 
 -- ---- what files and output say of a step that may stop the session
 
@@ -77,13 +77,13 @@ SendsOut text before after (Err File) = ⊥
 SendsOut text before after (Err Memory) = Appends before after []
 
 -- What is reported was written and read, and the code follows what is seen then; or the output stopped in it; or nothing was written, and a file that failed is the one that is read.
-abbrev pub Goes : {R : Type 0} → (R → Tree) → Report → Seen → Interpreter R → Interpreter R → World → World → Result ⊤ Stop → Type 0
-Goes view r next old new before now (Ok x) =
-    Follows view new next × (new.refused ≡ (old.refused || r.refused)) × Appends before.output.contents now.output.contents r.out × HasRead before.files now.files r.reads
-Goes view r next old new before now (Err Output) = TakesPart before.output.contents now.output.contents r.out
-Goes view r next old new before now (Err Full) = TakesPart before.output.contents now.output.contents r.out
-Goes view r next old new before now (Err File) = (r.reads ≡ 1) × Appends before.output.contents now.output.contents [] × HasRead before.files now.files 1
-Goes view r next old new before now (Err Memory) = Appends before.output.contents now.output.contents []
+abbrev pub Goes : {R S : Type 0} → (R → Tree) → (S → Tree) → Report → Seen → Interpreter R S → Interpreter R S → World → World → Result ⊤ Stop → Type 0
+Goes view source_view r next old new before now (Ok x) =
+    Follows view source_view new next × (new.refused ≡ (old.refused || r.refused)) × Appends before.output.contents now.output.contents r.out × HasRead before.files now.files r.reads
+Goes view source_view r next old new before now (Err Output) = TakesPart before.output.contents now.output.contents r.out
+Goes view source_view r next old new before now (Err Full) = TakesPart before.output.contents now.output.contents r.out
+Goes view source_view r next old new before now (Err File) = (r.reads ≡ 1) × Appends before.output.contents now.output.contents [] × HasRead before.files now.files 1
+Goes view source_view r next old new before now (Err Memory) = Appends before.output.contents now.output.contents []
 
 -- what these cuts do
 abbrev pub cuts_play : FileTable → Seen → List Cut → Report
@@ -102,15 +102,15 @@ pub record StopsAtLoad (files : FileTable) (s : Seen) (bytes : List ℕ) (before
   pub read : HasRead before.files now.files ((plays files s (take at bytes)).reads + 1)
 
 -- Bytes were played, or a front part of them where memory ran out or a file failed.
-abbrev pub Fed : {R : Type 0} → (R → Tree) → FileTable → Seen → List ℕ → Interpreter R → Interpreter R → World → World → Result ⊤ Stop → Type 0
-Fed view files s bytes old new before now (Ok x) = Goes view (plays files s bytes) (after_play files s bytes) old new before now (Ok x)
-Fed view files s bytes old new before now (Err Output) = TakesPart before.output.contents now.output.contents (plays files s bytes).out
-Fed view files s bytes old new before now (Err Full) = TakesPart before.output.contents now.output.contents (plays files s bytes).out
-Fed view files s bytes old new before now (Err File) = StopsAtLoad files s bytes before now
-Fed view files s bytes old new before now (Err Memory) = (k : ℕ) × (k ≤ length bytes) × Appends before.output.contents now.output.contents (plays files s (take k bytes)).out
+abbrev pub Fed : {R S : Type 0} → (R → Tree) → (S → Tree) → FileTable → Seen → List ℕ → Interpreter R S → Interpreter R S → World → World → Result ⊤ Stop → Type 0
+Fed view source_view files s bytes old new before now (Ok x) = Goes view source_view (plays files s bytes) (after_play files s bytes) old new before now (Ok x)
+Fed view source_view files s bytes old new before now (Err Output) = TakesPart before.output.contents now.output.contents (plays files s bytes).out
+Fed view source_view files s bytes old new before now (Err Full) = TakesPart before.output.contents now.output.contents (plays files s bytes).out
+Fed view source_view files s bytes old new before now (Err File) = StopsAtLoad files s bytes before now
+Fed view source_view files s bytes old new before now (Err Memory) = (k : ℕ) × (k ≤ length bytes) × Appends before.output.contents now.output.contents (plays files s (take k bytes)).out
 
 -- The cut at the end of the input was run, and the code knows whether a refusal was written; or as with other lines. It reads no file.
-abbrev pub RunsLast : {R : Type 0} → FileTable → Seen → Interpreter R → Interpreter R → World → World → Result ⊤ Stop → Type 0
+abbrev pub RunsLast : {R S : Type 0} → FileTable → Seen → Interpreter R S → Interpreter R S → World → World → Result ⊤ Stop → Type 0
 RunsLast files s old new before now (Ok x) =
     (new.refused ≡ (old.refused || (closes files s).refused)) × Appends before.output.contents now.output.contents (closes files s).out × HasRead before.files now.files 0
 RunsLast files s old new before now (Err Output) = TakesPart before.output.contents now.output.contents (closes files s).out
@@ -160,22 +160,22 @@ Closes files s refused before now how.Memory = StopsIn before.output now.output 
 Closes files s refused before now how.TooLong = ⊥
 
 -- The session of x, after so many bytes, ran to this end.
-pub record RanFrom {R : Type 0} (view : R → Tree) (x : Interpreter R) (count : ℕ) (before now : Outside) (end : End) : Type 0 where
+pub record RanFrom {R S : Type 0} (view : R → Tree) (source_view : S → Tree) (x : Interpreter R S) (count : ℕ) (before now : Outside) (end : End) : Type 0 where
   pub taken : List ℕ
   pub took : Consumes before.input.left now.input.left taken
   pub counted : now.input.given ≡ before.input.given + length taken
   pub too_much : (end ≡ how.TooLong) ↔ (INPUT_MAX < count + length taken)
   pub fitting : end ≡ how.Usage → ⊥
   pub ended : OnOk (result_of end) (IsAtEnd now.input.left)
-  pub did : (files : FileTable) → IsTable files before.files now.files → (s : Seen) → Follows view x s → Did (work_from files s x.refused) count taken before now end
+  pub did : (files : FileTable) → IsTable files before.files now.files → (s : Seen) → Follows view source_view x s → Did (work_from files s x.refused) count taken before now end
 
 -- The next bytes were taken and played.
-pub record TookPiece {R : Type 0} (view : R → Tree) (old new : Interpreter R) (count later : ℕ) (before now : Outside) : Type 0 where
+pub record TookPiece {R S : Type 0} (view : R → Tree) (source_view : S → Tree) (old new : Interpreter R S) (count later : ℕ) (before now : Outside) : Type 0 where
   pub bytes : List ℕ
   pub took : Consumes before.input.left now.input.left bytes
   pub counted : now.input.given ≡ before.input.given + length bytes
   pub sum : later ≡ count + length bytes
-  pub played : (files : FileTable) → IsTable files before.files now.files → (s : Seen) → Follows view old s → Goes view (plays files s bytes) (after_play files s bytes) old new (world_of before) (world_of now) (Ok tt)
+  pub played : (files : FileTable) → IsTable files before.files now.files → (s : Seen) → Follows view source_view old s → Goes view source_view (plays files s bytes) (after_play files s bytes) old new (world_of before) (world_of now) (Ok tt)
 
 -- Turns in which nothing failed: no count of faults rose, and the output refused nothing.
 pub record IsSteady (before now : Outside) : Type 0 where
@@ -187,8 +187,8 @@ pub record IsSteady (before now : Outside) : Type 0 where
   pub refused : now.output.refusals ≡ before.output.refusals
 
 -- the session on the tree that is given, or why none is
-abbrev pub Begun : {R : Type 0} → (R → Tree) → FetchedFile → Result (Interpreter R) Why → Type 0
-Begun view (gives t) (Ok x) = Follows view x (start t)
-Begun view (gives t) (Err w) = ⊥
-Begun view (withholds v) (Ok x) = ⊥
-Begun view (withholds v) (Err w) = w ≡ v
+abbrev pub Begun : {R S : Type 0} → (R → Tree) → (S → Tree) → FetchedFile → Result (Interpreter R S) Why → Type 0
+Begun view source_view (gives t) (Ok x) = Follows view source_view x (start t)
+Begun view source_view (gives t) (Err w) = ⊥
+Begun view source_view (withholds v) (Ok x) = ⊥
+Begun view source_view (withholds v) (Err w) = w ≡ v

@@ -25,10 +25,10 @@ use std::mem;
 
 /// A session between two bytes of its input, as the program keeps it.
 #[derive(Drop)]
-pub(crate) struct Interpreter<R: TreeRep> {
+pub(crate) struct Interpreter<R: TreeRep, S: TreeRep> {
     alloc: Global,
     cutter: Cutter,
-    database: Database<R, NaiveStore>,
+    database: Database<R, S, NaiveStore>,
     /// Room for the lines of a reply.
     text: Vec<u8>,
     /// Whether a refusal was written.
@@ -44,10 +44,10 @@ fn is_refusal(reply: &Reply) -> bool
     }
 }
 
-impl<R: TreeRep> Interpreter<R> {
+impl<R: TreeRep, S: TreeRep> Interpreter<R, S> {
     /// A session on this tree, without sources and without rows.
-    pub(crate) fn new(alloc: Global, tree: R) -> Result<Interpreter<R>, AllocError>
-        ensures start { IfOk result (λ x. Follows R.contents x (start (R.contents tree))) }
+    pub(crate) fn new(alloc: Global, tree: R) -> Result<Interpreter<R, S>, AllocError>
+        ensures start { IfOk result (λ x. Follows R.contents S.contents x (start (R.contents tree))) }
         ensures refused { IfOk result (λ x. x.refused ≡ false) }
         ensures runs { IfOk result (λ x. runs_of x.database ≡ 0) }
     {
@@ -88,12 +88,12 @@ impl<R: TreeRep> Interpreter<R> {
         files: &mut F,
         output: &mut O,
     ) -> Result<(), Stop>
-        requires stands { FollowsOne R.contents self.old }
+        requires stands { FollowsOne R.contents S.contents self.old }
         requires room { runs_of self.old.database < RUNS_MAX }
         ensures runs { OnOk result (runs_of self.new.database ≤ runs_of self.old.database + 1) }
-        ensures went { (t : FileTable) → IsTable t (known_files F.Files files.old) (known_files F.Files files.new) → (s : Seen) → Follows R.contents self.old s
-            → Goes R.contents (cuts_play t s (option_to_list cut)) (after_cuts t s (option_to_list cut)) self.old self.new (known_world F.Files O.Sink files.old output.old) (known_world F.Files O.Sink files.new output.new) result }
-        ensures stays { OnOk result (FollowsOne R.contents self.new) }
+        ensures went { (t : FileTable) → IsTable t (known_files F.Files files.old) (known_files F.Files files.new) → (s : Seen) → Follows R.contents S.contents self.old s
+            → Goes R.contents S.contents (cuts_play t s (option_to_list cut)) (after_cuts t s (option_to_list cut)) self.old self.new (known_world F.Files O.Sink files.old output.old) (known_world F.Files O.Sink files.new output.new) result }
+        ensures stays { OnOk result (FollowsOne R.contents S.contents self.new) }
         ensures uses { Uses (known_world F.Files O.Sink files.old output.old) (known_world F.Files O.Sink files.new output.new) result }
         ensures read { HasReadSome (known_files F.Files files.old) (known_files F.Files files.new) }
     {
@@ -113,12 +113,12 @@ impl<R: TreeRep> Interpreter<R> {
         files: &mut F,
         output: &mut O,
     ) -> Result<(), Stop>
-        requires stands { FollowsOne R.contents self.old }
+        requires stands { FollowsOne R.contents S.contents self.old }
         requires room { runs_of self.old.database < RUNS_MAX }
         ensures runs { OnOk result (runs_of self.new.database ≤ runs_of self.old.database + 1) }
-        ensures went { (t : FileTable) → IsTable t (known_files F.Files files.old) (known_files F.Files files.new) → (s : Seen) → Follows R.contents self.old s
-            → Goes R.contents (plays t s (byte ∷ [])) (after_play t s (byte ∷ [])) self.old self.new (known_world F.Files O.Sink files.old output.old) (known_world F.Files O.Sink files.new output.new) result }
-        ensures stays { OnOk result (FollowsOne R.contents self.new) }
+        ensures went { (t : FileTable) → IsTable t (known_files F.Files files.old) (known_files F.Files files.new) → (s : Seen) → Follows R.contents S.contents self.old s
+            → Goes R.contents S.contents (plays t s (byte ∷ [])) (after_play t s (byte ∷ [])) self.old self.new (known_world F.Files O.Sink files.old output.old) (known_world F.Files O.Sink files.new output.new) result }
+        ensures stays { OnOk result (FollowsOne R.contents S.contents self.new) }
         ensures uses { Uses (known_world F.Files O.Sink files.old output.old) (known_world F.Files O.Sink files.new output.new) result }
         ensures read { HasReadSome (known_files F.Files files.old) (known_files F.Files files.new) }
     {
@@ -134,12 +134,12 @@ impl<R: TreeRep> Interpreter<R> {
         files: &mut F,
         output: &mut O,
     ) -> Result<(), Stop>
-        requires stands { FollowsOne R.contents self.old }
+        requires stands { FollowsOne R.contents S.contents self.old }
         requires room { runs_of self.old.database + length piece.now ≤ RUNS_MAX }
         ensures runs { OnOk result (runs_of self.new.database ≤ runs_of self.old.database + length piece.now) }
-        ensures went { (t : FileTable) → IsTable t (known_files F.Files files.old) (known_files F.Files files.new) → (s : Seen) → Follows R.contents self.old s
-            → Fed R.contents t s piece.now self.old self.new (known_world F.Files O.Sink files.old output.old) (known_world F.Files O.Sink files.new output.new) result }
-        ensures stays { OnOk result (FollowsOne R.contents self.new) }
+        ensures went { (t : FileTable) → IsTable t (known_files F.Files files.old) (known_files F.Files files.new) → (s : Seen) → Follows R.contents S.contents self.old s
+            → Fed R.contents S.contents t s piece.now self.old self.new (known_world F.Files O.Sink files.old output.old) (known_world F.Files O.Sink files.new output.new) result }
+        ensures stays { OnOk result (FollowsOne R.contents S.contents self.new) }
         ensures uses { Uses (known_world F.Files O.Sink files.old output.old) (known_world F.Files O.Sink files.new output.new) result }
         ensures read { HasReadSome (known_files F.Files files.old) (known_files F.Files files.new) }
     {
@@ -155,12 +155,12 @@ impl<R: TreeRep> Interpreter<R> {
         files: &mut F,
         output: &mut O,
     ) -> Result<(), Stop>
-        requires stands { FollowsOne R.contents self.old }
+        requires stands { FollowsOne R.contents S.contents self.old }
         requires room { runs_of self.old.database < RUNS_MAX }
         ensures runs { OnOk result (runs_of self.new.database ≤ runs_of self.old.database + 1) }
-        ensures went { (t : FileTable) → IsTable t (known_files F.Files files.old) (known_files F.Files files.new) → (s : Seen) → Follows R.contents self.old s
+        ensures went { (t : FileTable) → IsTable t (known_files F.Files files.old) (known_files F.Files files.new) → (s : Seen) → Follows R.contents S.contents self.old s
             → RunsLast t s self.old self.new (known_world F.Files O.Sink files.old output.old) (known_world F.Files O.Sink files.new output.new) result }
-        ensures stays { OnOk result (FollowsOne R.contents self.new) }
+        ensures stays { OnOk result (FollowsOne R.contents S.contents self.new) }
         ensures uses { Uses (known_world F.Files O.Sink files.old output.old) (known_world F.Files O.Sink files.new output.new) result }
         ensures read { HasReadSome (known_files F.Files files.old) (known_files F.Files files.new) }
     {

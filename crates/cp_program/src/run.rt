@@ -28,21 +28,20 @@ use cp_outside::{Files, FilesFault, Sink, Source};
 use cp_path::Name;
 use cp_reply::{Of, Reply, Why};
 use cp_tree::TreeRep;
-use cp_tree_share::ShareTree;
 use std::alloc::Global;
 
 const USAGE: &[u8] =
     b"usage: cpdb scratch KIND [JSON]\nusage: cpdb init STORE KIND [JSON]\nusage: cpdb run STORE [CURATOR]\nusage: cpdb commit STORE FILE [CURATOR]\nusage: cpdb load STORE NAME json FILE\nusage: cpdb load STORE NAME csv FILE [COLUMN]\nusage: cpdb query STORE STATEMENT\nusage: cpdb verify STORE\nusage: cpdb checkpoint STORE\nusage: cpdb gen SEED COUNT KIND\nusage: cpdb log STORE\n";
 
 /// The input has ended.
-fn closing<R: TreeRep, F: Files, O: Sink>(
-    session: &mut Interpreter<R>,
+fn closing<R: TreeRep, S: TreeRep, F: Files, O: Sink>(
+    session: &mut Interpreter<R, S>,
     files: &mut F,
     output: &mut O,
 ) -> End
-    requires stands { FollowsOne R.contents session.old }
+    requires stands { FollowsOne R.contents S.contents session.old }
     requires room { runs_of session.old.database ≤ INPUT_MAX }
-    ensures went { (t : FileTable) → IsTable t (known_files F.Files files.old) (known_files F.Files files.new) → (s : Seen) → Follows R.contents session.old s
+    ensures went { (t : FileTable) → IsTable t (known_files F.Files files.old) (known_files F.Files files.new) → (s : Seen) → Follows R.contents S.contents session.old s
         → Closes t s session.old.refused (known_world F.Files O.Sink files.old output.old) (known_world F.Files O.Sink files.new output.new) result }
     ensures own { IsClosing result }
     ensures read { HasReadSome (known_files F.Files files.old) (known_files F.Files files.new) }
@@ -56,27 +55,27 @@ fn closing<R: TreeRep, F: Files, O: Sink>(
 }
 
 /// Takes the next piece of the input and runs the statements that end in it.
-fn turn<R: TreeRep, F: Files, I: Source, O: Sink>(
-    session: &mut Interpreter<R>,
+fn turn<R: TreeRep, S: TreeRep, F: Files, I: Source, O: Sink>(
+    session: &mut Interpreter<R, S>,
     piece: &mut [u8],
     files: &mut F,
     input: &mut I,
     output: &mut O,
     before: u64,
 ) -> Result<u64, End>
-    requires stands { FollowsOne R.contents session.old }
+    requires stands { FollowsOne R.contents S.contents session.old }
     requires few { runs_of session.old.database ≤ before }
     requires taken { before ≤ INPUT_MAX }
     requires room { 0 < length piece.old }
     requires bounded { length piece.old ≤ PIECE_MAX }
-    ensures goes_on { IfOk result (λ n. (before < n) × (n ≤ INPUT_MAX) × (runs_of session.new.database ≤ n) × FollowsOne R.contents session.new) }
-    ensures took { IfOk result (λ n. TookPiece R.contents session.old session.new before n
+    ensures goes_on { IfOk result (λ n. (before < n) × (n ≤ INPUT_MAX) × (runs_of session.new.database ≤ n) × FollowsOne R.contents S.contents session.new) }
+    ensures took { IfOk result (λ n. TookPiece R.contents S.contents session.old session.new before n
         (known_outside F.Files I.Source O.Sink files.old input.old output.old)
         (known_outside F.Files I.Source O.Sink files.new input.new output.new)) }
     ensures steady { IfOk result (λ n. IsSteady
         (known_outside F.Files I.Source O.Sink files.old input.old output.old)
         (known_outside F.Files I.Source O.Sink files.new input.new output.new)) }
-    ensures ends { IfErr result (λ end. RanFrom R.contents session.old before
+    ensures ends { IfErr result (λ end. RanFrom R.contents S.contents session.old before
         (known_outside F.Files I.Source O.Sink files.old input.old output.old)
         (known_outside F.Files I.Source O.Sink files.new input.new output.new) end) }
     ensures causes { IfErr result (λ end. HasCauses
@@ -103,18 +102,18 @@ fn turn<R: TreeRep, F: Files, I: Source, O: Sink>(
 }
 
 /// Runs a session until it ends.
-fn turns<R: TreeRep, F: Files, I: Source, O: Sink>(
-    session: &mut Interpreter<R>,
+fn turns<R: TreeRep, S: TreeRep, F: Files, I: Source, O: Sink>(
+    session: &mut Interpreter<R, S>,
     piece: &mut [u8],
     files: &mut F,
     input: &mut I,
     output: &mut O,
 ) -> End
-    requires stands { FollowsOne R.contents session.old }
+    requires stands { FollowsOne R.contents S.contents session.old }
     requires few { runs_of session.old.database ≡ 0 }
     requires room { 0 < length piece.old }
     requires bounded { length piece.old ≤ PIECE_MAX }
-    ensures ran { RanFrom R.contents session.old 0
+    ensures ran { RanFrom R.contents S.contents session.old 0
         (known_outside F.Files I.Source O.Sink files.old input.old output.old)
         (known_outside F.Files I.Source O.Sink files.new input.new output.new) result }
     ensures causes { HasCauses
@@ -152,14 +151,14 @@ fn start_tree<R: TreeRep, F: Files>(
 }
 
 /// A session on its start tree, or why there is no such tree.
-fn begin<R: TreeRep, F: Files>(
+fn begin<R: TreeRep, S: TreeRep, F: Files>(
     alloc: Global,
     start: Start<'_>,
     files: &mut F,
-) -> Result<Result<Interpreter<R>, Why>, FilesFault>
+) -> Result<Result<Interpreter<R, S>, Why>, FilesFault>
     ensures begun { IfOk result (λ r. (t : FileTable) → IsTable t (known_files F.Files files.old) (known_files F.Files files.new)
-        → Begun R.contents (start_given t (start_asked start.entry)) r) }
-    ensures stands { IfOk result (λ r. IfOk r (λ x. FollowsOne R.contents x × (x.refused ≡ false) × (runs_of x.database ≡ 0))) }
+        → Begun R.contents S.contents (start_given t (start_asked start.entry)) r) }
+    ensures stands { IfOk result (λ r. IfOk r (λ x. FollowsOne R.contents S.contents x × (x.refused ≡ false) × (runs_of x.database ≡ 0))) }
     ensures used { UsesFiles IsFailedFile (known_files F.Files files.old) (known_files F.Files files.new) result }
     ensures reads { Reads IsFailedFile (start_reads (start_asked start.entry)) (known_files F.Files files.old) (known_files F.Files files.new) result }
 {
@@ -209,7 +208,7 @@ fn refuse_start<O: Sink>(alloc: Global, why: Why, output: &mut O) -> End
 }
 
 /// The session over the input, from its start, with room for a piece of the input.
-fn scratch<R: TreeRep, F: Files, I: Source, O: Sink>(
+fn scratch<R: TreeRep, S: TreeRep, F: Files, I: Source, O: Sink>(
     alloc: Global,
     start: Start<'_>,
     files: &mut F,
@@ -226,7 +225,7 @@ fn scratch<R: TreeRep, F: Files, I: Source, O: Sink>(
     let Ok(mut piece) = vec![in alloc; 0u8; PIECE_MAX] else {
         return out_of_memory(output);
     };
-    match begin::<R, F>(alloc, start, files) {
+    match begin::<R, S, F>(alloc, start, files) {
         Ok(Ok(mut session)) => turns(&mut session, &mut piece, files, input, output),
         Ok(Err(why)) => refuse_start(alloc, why, output),
         Err(fault) => stopped(output, Stop::from(fault)),
@@ -242,8 +241,9 @@ fn scratch<R: TreeRep, F: Files, I: Source, O: Sink>(
 /// read, and none are kept once it is loaded. A start tree that is refused has one line, and then no input is read.
 /// Status 0 says that all was done, 1 that all was done and some line is a refusal, 2 that the words fit no row, 3 that
 /// the input or a file failed, 4 that the output failed, 7 that memory ran out, 8 that more than 68,719,476,736 bytes of
-/// input came. With 3, 4, 7 and 8 the session ended there, and what was written before stays.
-pub fn run_cpdb<F: Files, I: Source, O: Sink>(
+/// input came. With 3, 4, 7 and 8 the session ended there, and what was written before stays. The committed tree has the
+/// form `R`, and the trees of sources have the form `S`; what the call does is the same in all.
+pub fn run_cpdb<R: TreeRep, S: TreeRep, F: Files, I: Source, O: Sink>(
     alloc: Global,
     words: &[String],
     files: &mut F,
@@ -261,6 +261,6 @@ pub fn run_cpdb<F: Files, I: Source, O: Sink>(
             code: End::Usage.code(),
         };
     };
-    let end = scratch::<ShareTree, F, I, O>(alloc, start, files, input, output);
+    let end = scratch::<R, S, F, I, O>(alloc, start, files, input, output);
     Status { code: end.code() }
 }

@@ -6,6 +6,8 @@ ghost use Rattle.std.specs.Process.{exit_status};
 
 use cp_host::{HostFiles, StdinSource, StdoutSink};
 use cp_program::{Status, run_cpdb};
+use cp_tree_arena::ArenaTree;
+use cp_tree_share::ShareTree;
 use std::io::ErrorKind;
 use std::process::ExitCode;
 
@@ -29,6 +31,12 @@ fn main(rt: HostRuntime) -> ExitCode {
     let mut files = HostFiles::new(&rt);
     let mut input = StdinSource::new(rt.stdin());
     let mut output = StdoutSink::new(rt.stdout());
-    let status = run_cpdb(alloc, words.as_slice(), &mut files, &mut input, &mut output);
+    let status = run_cpdb::<ShareTree, ArenaTree, _, _, _>(
+        alloc,
+        words.as_slice(),
+        &mut files,
+        &mut input,
+        &mut output,
+    );
     exit_of(status)
 }

@@ -46,12 +46,12 @@ fn unanswered(fault: QueryFault, query: Query) -> Result<Reply, StoreFault>
     }
 }
 
-impl<R: TreeRep, P: ProvStore> Database<R, P> {
+impl<R: TreeRep, S: TreeRep, P: ProvStore> Database<R, S, P> {
     /// Answers a query on the committed state. Costs as the query.
     pub(super) fn ask(&mut self, alloc: Global, query: Query) -> Result<Reply, StoreFault>
         requires built { is_answered query ≡ true }
-        ensures turned { IfOk result (λ r. (t : FileTable) (s : Session) → Stands R.contents P.ProvStore self.old s
-            → Turned R.contents P.ProvStore (turn_of (setting t) s (says (Stmt.Ask query))) self.new (Some r)) }
+        ensures turned { IfOk result (λ r. (t : FileTable) (s : Session) → Stands R.contents S.contents P.ProvStore self.old s
+            → Turned R.contents S.contents P.ProvStore (turn_of (setting t) s (says (Stmt.Ask query))) self.new (Some r)) }
         ensures runs { self.new.runs ≡ self.old.runs }
         ensures disk { Accounts BlamesDisk (disk_faults P.ProvStore self.old) (disk_faults P.ProvStore self.new) result }
     {

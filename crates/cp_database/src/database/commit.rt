@@ -17,12 +17,12 @@ use cp_store::{ProvStore, StoreFault};
 use cp_tree::TreeRep;
 use std::alloc::Global;
 
-impl<R: TreeRep, P: ProvStore> Database<R, P> {
+impl<R: TreeRep, S: TreeRep, P: ProvStore> Database<R, S, P> {
     /// Keeps what a transaction has made.
     fn keep(&mut self, alloc: Global, step: Step<R>) -> Result<Reply, StoreFault>
-        requires makes { (s : Session) × Makes R.contents P.ProvStore self.old step s }
+        requires makes { (s : Session) × Makes R.contents S.contents P.ProvStore self.old step s }
         requires room { self.old.runs < RUNS_MAX }
-        ensures turned { IfOk result (λ r. (t : FileTable) (s : Session) → Makes R.contents P.ProvStore self.old step s → Turned R.contents P.ProvStore (turn_of (setting t) s (says Stmt.Commit)) self.new (Some r)) }
+        ensures turned { IfOk result (λ r. (t : FileTable) (s : Session) → Makes R.contents S.contents P.ProvStore self.old step s → Turned R.contents S.contents P.ProvStore (turn_of (setting t) s (says Stmt.Commit)) self.new (Some r)) }
         ensures runs { self.new.runs ≡ self.old.runs }
         ensures disk { Accounts BlamesDisk (disk_faults P.ProvStore self.old) (disk_faults P.ProvStore self.new) result }
     {
@@ -37,9 +37,9 @@ impl<R: TreeRep, P: ProvStore> Database<R, P> {
 
     /// Commits the open transaction, which is closed also where it is refused.
     pub(super) fn commit(&mut self, alloc: Global) -> Result<Reply, StoreFault>
-        requires stands { IsSession R.contents P.ProvStore self.old }
+        requires stands { IsSession R.contents S.contents P.ProvStore self.old }
         requires room { self.old.runs < RUNS_MAX }
-        ensures turned { IfOk result (λ r. (t : FileTable) (s : Session) → Stands R.contents P.ProvStore self.old s → Turned R.contents P.ProvStore (turn_of (setting t) s (says Stmt.Commit)) self.new (Some r)) }
+        ensures turned { IfOk result (λ r. (t : FileTable) (s : Session) → Stands R.contents S.contents P.ProvStore self.old s → Turned R.contents S.contents P.ProvStore (turn_of (setting t) s (says Stmt.Commit)) self.new (Some r)) }
         ensures runs { self.new.runs ≡ self.old.runs }
         ensures disk { Accounts BlamesDisk (disk_faults P.ProvStore self.old) (disk_faults P.ProvStore self.new) result }
     {
@@ -57,8 +57,8 @@ impl<R: TreeRep, P: ProvStore> Database<R, P> {
 
     /// Gives the open transaction up.
     pub(super) fn abort(&mut self) -> Reply
-        requires stands { IsSession R.contents P.ProvStore self.old }
-        ensures turned { (t : FileTable) (s : Session) → Stands R.contents P.ProvStore self.old s → Turned R.contents P.ProvStore (turn_of (setting t) s (says Stmt.Abort)) self.new (Some result) }
+        requires stands { IsSession R.contents S.contents P.ProvStore self.old }
+        ensures turned { (t : FileTable) (s : Session) → Stands R.contents S.contents P.ProvStore self.old s → Turned R.contents S.contents P.ProvStore (turn_of (setting t) s (says Stmt.Abort)) self.new (Some result) }
         ensures runs { self.new.runs ≡ self.old.runs }
         ensures store { self.new.store ≡ self.old.store }
     {

@@ -27,16 +27,16 @@ use cp_store::ProvStore;
 use cp_tree::TreeRep;
 use std::alloc::{AllocError, Global};
 
-impl<R: TreeRep, P: ProvStore> Database<R, P> {
+impl<R: TreeRep, S: TreeRep, P: ProvStore> Database<R, S, P> {
     /// Keeps a tree as a source under a new name.
-    fn keep_source(&mut self, name: Name, tree: R) -> Result<Reply, AllocError>
-        requires stands { IsSession R.contents P.ProvStore self.old }
+    fn keep_source(&mut self, name: Name, tree: S) -> Result<Reply, AllocError>
+        requires stands { IsSession R.contents S.contents P.ProvStore self.old }
         requires other { label_eq name target ≡ false }
-        requires fits { FitsUnder name (R.contents tree) }
-        requires new { is_some (source (sources_in R.contents self.old.sources) name) ≡ false }
-        requires few { length (sources_in R.contents self.old.sources) < SOURCES_MAX }
+        requires fits { FitsUnder name (S.contents tree) }
+        requires new { is_some (source (sources_in S.contents self.old.sources) name) ≡ false }
+        requires few { length (sources_in S.contents self.old.sources) < SOURCES_MAX }
         requires closed { self.old.transaction ≡ None }
-        ensures loads { IfOk result (λ r. (s : Session) → Stands R.contents P.ProvStore self.old s → Loads R.contents P.ProvStore s name (R.contents tree) self.new r) }
+        ensures loads { IfOk result (λ r. (s : Session) → Stands R.contents S.contents P.ProvStore self.old s → Loads R.contents S.contents P.ProvStore s name (S.contents tree) self.new r) }
         ensures runs { self.new.runs ≡ self.old.runs }
         ensures store { self.new.store ≡ self.old.store }
     {
@@ -53,9 +53,9 @@ impl<R: TreeRep, P: ProvStore> Database<R, P> {
 
     /// Why nothing is loaded under the name, whatever its file gives.
     fn why_not_loaded(&self, name: &Name) -> Result<Option<Why>, AllocError>
-        requires stands { IsSession R.contents P.ProvStore self.now }
-        ensures why { IfOk result (λ w. (s : Session) → (z : Stands R.contents P.ProvStore self.now s) → w ≡ why_not_loaded z.state s.opened name.now) }
-        ensures open { IfOk result (λ w. w ≡ None → (self.now.transaction ≡ None) × (is_some (source (sources_in R.contents self.now.sources) name.now) ≡ false) × (length (sources_in R.contents self.now.sources) < SOURCES_MAX)) }
+        requires stands { IsSession R.contents S.contents P.ProvStore self.now }
+        ensures why { IfOk result (λ w. (s : Session) → (z : Stands R.contents S.contents P.ProvStore self.now s) → w ≡ why_not_loaded z.state s.opened name.now) }
+        ensures open { IfOk result (λ w. w ≡ None → (self.now.transaction ≡ None) × (is_some (source (sources_in S.contents self.now.sources) name.now) ≡ false) × (length (sources_in S.contents self.now.sources) < SOURCES_MAX)) }
     {
         if self.transaction.is_some() {
             return Ok(Some(Why::TransactionOpen));
@@ -76,13 +76,13 @@ impl<R: TreeRep, P: ProvStore> Database<R, P> {
         load: Load,
         files: &mut F,
     ) -> Result<Reply, DatabaseFault>
-        requires stands { IsSession R.contents P.ProvStore self.old }
+        requires stands { IsSession R.contents S.contents P.ProvStore self.old }
         requires other { label_eq load.name target ≡ false }
-        ensures turned { IfOk result (λ r. (t : FileTable) → IsTable t (known_files F.Files files.old) (known_files F.Files files.new) → (s : Session) → Stands R.contents P.ProvStore self.old s
-            → Turned R.contents P.ProvStore (turn_of (setting t) s (says (Stmt.Load load))) self.new (Some r)) }
-        ensures stands { OnOk result (IsSession R.contents P.ProvStore self.new) }
+        ensures turned { IfOk result (λ r. (t : FileTable) → IsTable t (known_files F.Files files.old) (known_files F.Files files.new) → (s : Session) → Stands R.contents S.contents P.ProvStore self.old s
+            → Turned R.contents S.contents P.ProvStore (turn_of (setting t) s (says (Stmt.Load load))) self.new (Some r)) }
+        ensures stands { OnOk result (IsSession R.contents S.contents P.ProvStore self.new) }
         ensures runs { self.new.runs ≡ self.old.runs }
-        ensures reads { (s : Session) → Stands R.contents P.ProvStore self.old s → Reads IsFileFault (load_reads s (replay s.history) load.name) (known_files F.Files files.old) (known_files F.Files files.new) result }
+        ensures reads { (s : Session) → Stands R.contents S.contents P.ProvStore self.old s → Reads IsFileFault (load_reads s (replay s.history) load.name) (known_files F.Files files.old) (known_files F.Files files.new) result }
         ensures used { UsesFiles IsFileFault (known_files F.Files files.old) (known_files F.Files files.new) result }
         ensures disk { IsErrOf result Disk → ⊥ }
         ensures store { self.new.store ≡ self.old.store }
@@ -90,7 +90,7 @@ impl<R: TreeRep, P: ProvStore> Database<R, P> {
         if let Some(why) = self.why_not_loaded(&load.name)? {
             return Ok(refused_load(why));
         }
-        match fetch::<R, F>(
+        match fetch::<S, F>(
             alloc,
             files,
             &load.name,

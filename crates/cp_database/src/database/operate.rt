@@ -18,12 +18,12 @@ use cp_store::ProvStore;
 use cp_tree::TreeRep;
 use std::alloc::{AllocError, Global};
 
-impl<R: TreeRep, P: ProvStore> Database<R, P> {
+impl<R: TreeRep, S: TreeRep, P: ProvStore> Database<R, S, P> {
     /// Takes the open transaction out, or begins one.
     fn take_opened(&mut self, alloc: Global) -> Result<Txn<R>, AllocError>
-        requires stands { IsSession R.contents P.ProvStore self.old }
+        requires stands { IsSession R.contents S.contents P.ProvStore self.old }
         requires room { self.old.runs < RUNS_MAX }
-        ensures opened { IfOk result (λ x. IsOpened R.contents P.ProvStore self.old x) }
+        ensures opened { IfOk result (λ x. IsOpened R.contents S.contents P.ProvStore self.old x) }
         ensures taken { self.new ≡ record self.old { transaction = None } }
     {
         match self.transaction.take() {
@@ -34,10 +34,10 @@ impl<R: TreeRep, P: ProvStore> Database<R, P> {
 
     /// Runs an operation in the open transaction, or in one that it begins.
     pub(super) fn operate(&mut self, alloc: Global, op: Op) -> Result<Option<Reply>, AllocError>
-        requires stands { IsSession R.contents P.ProvStore self.old }
+        requires stands { IsSession R.contents S.contents P.ProvStore self.old }
         requires room { self.old.runs < RUNS_MAX }
         requires written { IsWritten op }
-        ensures turned { IfOk result (λ r. (t : FileTable) (s : Session) → Stands R.contents P.ProvStore self.old s → Turned R.contents P.ProvStore (turn_of (setting t) s (says (Stmt.Op op))) self.new r) }
+        ensures turned { IfOk result (λ r. (t : FileTable) (s : Session) → Stands R.contents S.contents P.ProvStore self.old s → Turned R.contents S.contents P.ProvStore (turn_of (setting t) s (says (Stmt.Op op))) self.new r) }
         ensures runs { OnOk result (self.new.runs ≤ self.old.runs + 1) }
         ensures store { self.new.store ≡ self.old.store }
     {
@@ -55,9 +55,9 @@ impl<R: TreeRep, P: ProvStore> Database<R, P> {
 
     /// A text that can't be read counts as an operation that is refused.
     pub(super) fn spoil(&mut self, alloc: Global) -> Result<(), AllocError>
-        requires stands { IsSession R.contents P.ProvStore self.old }
+        requires stands { IsSession R.contents S.contents P.ProvStore self.old }
         requires room { self.old.runs < RUNS_MAX }
-        ensures stands { OnOk result ((s : Session) → (w : WhyValue) → Stands R.contents P.ProvStore self.old s → Stands R.contents P.ProvStore self.new (not_read s w).next) }
+        ensures stands { OnOk result ((s : Session) → (w : WhyValue) → Stands R.contents S.contents P.ProvStore self.old s → Stands R.contents S.contents P.ProvStore self.new (not_read s w).next) }
         ensures runs { OnOk result (self.new.runs ≤ self.old.runs + 1) }
         ensures store { self.new.store ≡ self.old.store }
     {

@@ -22,12 +22,12 @@ use cp_store::ProvStore;
 use cp_tree::TreeRep;
 use std::alloc::{AllocError, Global};
 
-impl<R: TreeRep, P: ProvStore> Database<R, P> {
+impl<R: TreeRep, S: TreeRep, P: ProvStore> Database<R, S, P> {
     /// Refuses a text that can't be read.
     fn refuse(&mut self, alloc: Global, why: Why) -> Result<Reply, AllocError>
-        requires stands { IsSession R.contents P.ProvStore self.old }
+        requires stands { IsSession R.contents S.contents P.ProvStore self.old }
         requires room { self.old.runs < RUNS_MAX }
-        ensures turned { IfOk result (λ r. (s : Session) → Stands R.contents P.ProvStore self.old s → Turned R.contents P.ProvStore (not_read s why) self.new (Some r)) }
+        ensures turned { IfOk result (λ r. (s : Session) → Stands R.contents S.contents P.ProvStore self.old s → Turned R.contents S.contents P.ProvStore (not_read s why) self.new (Some r)) }
         ensures runs { OnOk result (self.new.runs ≤ self.old.runs + 1) }
         ensures store { self.new.store ≡ self.old.store }
     {
@@ -42,13 +42,13 @@ impl<R: TreeRep, P: ProvStore> Database<R, P> {
         text: &[u8],
         files: &mut F,
     ) -> Result<Option<Reply>, DatabaseFault>
-        requires stands { IsSession R.contents P.ProvStore self.old }
+        requires stands { IsSession R.contents S.contents P.ProvStore self.old }
         requires room { self.old.runs < RUNS_MAX }
-        ensures turned { IfOk result (λ r. (t : FileTable) → IsTable t (known_files F.Files files.old) (known_files F.Files files.new) → (s : Session) → Stands R.contents P.ProvStore self.old s
-            → Turned R.contents P.ProvStore (turn_of (setting t) s (reading text.now)) self.new r) }
-        ensures stands { OnOk result (IsSession R.contents P.ProvStore self.new) }
+        ensures turned { IfOk result (λ r. (t : FileTable) → IsTable t (known_files F.Files files.old) (known_files F.Files files.new) → (s : Session) → Stands R.contents S.contents P.ProvStore self.old s
+            → Turned R.contents S.contents P.ProvStore (turn_of (setting t) s (reading text.now)) self.new r) }
+        ensures stands { OnOk result (IsSession R.contents S.contents P.ProvStore self.new) }
         ensures runs { OnOk result (self.new.runs ≤ self.old.runs + 1) }
-        ensures reads { (s : Session) → Stands R.contents P.ProvStore self.old s → Reads IsFileFault (text_reads s (reading text.now)) (known_files F.Files files.old) (known_files F.Files files.new) result }
+        ensures reads { (s : Session) → Stands R.contents S.contents P.ProvStore self.old s → Reads IsFileFault (text_reads s (reading text.now)) (known_files F.Files files.old) (known_files F.Files files.new) result }
         ensures used { UsesFiles IsFileFault (known_files F.Files files.old) (known_files F.Files files.new) result }
         ensures disk { Accounts IsDiskFault (disk_faults P.ProvStore self.old) (disk_faults P.ProvStore self.new) result }
     {
@@ -66,13 +66,13 @@ impl<R: TreeRep, P: ProvStore> Database<R, P> {
         cut: Cut,
         files: &mut F,
     ) -> Result<Option<Reply>, DatabaseFault>
-        requires stands { IsSession R.contents P.ProvStore self.old }
+        requires stands { IsSession R.contents S.contents P.ProvStore self.old }
         requires room { runs_of self.old < RUNS_MAX }
-        ensures turned { IfOk result (λ r. (t : FileTable) → IsTable t (known_files F.Files files.old) (known_files F.Files files.new) → (s : Session) → Stands R.contents P.ProvStore self.old s
-            → Turned R.contents P.ProvStore (turn (setting t) s cut) self.new r) }
-        ensures stands { OnOk result (IsSession R.contents P.ProvStore self.new) }
+        ensures turned { IfOk result (λ r. (t : FileTable) → IsTable t (known_files F.Files files.old) (known_files F.Files files.new) → (s : Session) → Stands R.contents S.contents P.ProvStore self.old s
+            → Turned R.contents S.contents P.ProvStore (turn (setting t) s cut) self.new r) }
+        ensures stands { OnOk result (IsSession R.contents S.contents P.ProvStore self.new) }
         ensures runs { OnOk result (runs_of self.new ≤ runs_of self.old + 1) }
-        ensures reads { (s : Session) → Stands R.contents P.ProvStore self.old s → Reads IsFileFault (cut_reads s cut) (known_files F.Files files.old) (known_files F.Files files.new) result }
+        ensures reads { (s : Session) → Stands R.contents S.contents P.ProvStore self.old s → Reads IsFileFault (cut_reads s cut) (known_files F.Files files.old) (known_files F.Files files.new) result }
         ensures used { UsesFiles IsFileFault (known_files F.Files files.old) (known_files F.Files files.new) result }
         ensures disk { Accounts IsDiskFault (disk_faults P.ProvStore self.old) (disk_faults P.ProvStore self.new) result }
     {

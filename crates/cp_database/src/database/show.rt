@@ -1,10 +1,9 @@
 ghost use Rattle.std.specs.Prelude.{◌≡◌, IfOk};
-ghost use Rattle.std.specs.Option.{option_map};
 ghost use Rattle.std.specs.declared.option.Option.TheVariants.{Some};
 ghost use Rattle.cp_outside.specs.FileReads.{FileTable};
 ghost use Rattle.cp_session.specs.Session.{Session, says, turn_of, current_tree};
 ghost use Rattle.cp_database.specs.Texts.{setting};
-ghost use Rattle.cp_database.specs.Databases.{Stands, Turned, shown_tree};
+ghost use Rattle.cp_database.specs.Databases.{Stands, Turned, shown_reply};
 
 use crate::database::Database;
 use crate::database::refusal::refused;
@@ -16,10 +15,21 @@ use cp_store::ProvStore;
 use cp_tree::TreeRep;
 use std::alloc::{AllocError, Global};
 
-impl<R: TreeRep, P: ProvStore> Database<R, P> {
+/// What stands at and below a place of a tree. Costs the rows' bytes.
+fn shown<T: TreeRep>(alloc: Global, tree: &T, place: Loc) -> Result<Reply, AllocError>
+    ensures { IfOk result (λ r. r ≡ shown_reply place (T.contents tree.now)) }
+{
+    if !tree.is_there(&place.path) {
+        return Ok(refused(Why::NoPlace(place)));
+    }
+    let rows = tree.rows(alloc, &place.path)?;
+    Ok(Reply::Show { place, rows })
+}
+
+impl<R: TreeRep, S: TreeRep, P: ProvStore> Database<R, S, P> {
     /// The working tree of a transaction that hasn't failed, else the committed tree.
     fn current_tree(&self) -> &R
-        ensures { (s : Session) → (z : Stands R.contents P.ProvStore self.now s) → R.contents result.now ≡ current_tree z.state s.opened }
+        ensures { (s : Session) → (z : Stands R.contents S.contents P.ProvStore self.now s) → R.contents result.now ≡ current_tree z.state s.opened }
     {
         if let Some(transaction) = &self.transaction {
             if let TxnState::Going(_) = transaction.state() {
@@ -29,27 +39,16 @@ impl<R: TreeRep, P: ProvStore> Database<R, P> {
         &self.tree
     }
 
-    /// The tree of a place's database, if there is such a database.
-    fn tree_of(&self, place: &Loc) -> Option<&R>
-        ensures { (s : Session) → (z : Stands R.contents P.ProvStore self.now s) → option_map (λ t. R.contents t.now) result ≡ shown_tree z.state s.opened place.now }
-    {
-        if place.db.is_target() {
-            return Some(self.current_tree());
-        }
-        self.sources.get(&place.db)
-    }
-
     /// What stands at and below a place of T or of a source. Costs the rows' bytes.
     pub(super) fn show(&self, alloc: Global, place: Loc) -> Result<Reply, AllocError>
-        ensures { IfOk result (λ r. (t : FileTable) (s : Session) → Stands R.contents P.ProvStore self.now s → Turned R.contents P.ProvStore (turn_of (setting t) s (says (Stmt.Show place))) self.now (Some r)) }
+        ensures { IfOk result (λ r. (t : FileTable) (s : Session) → Stands R.contents S.contents P.ProvStore self.now s → Turned R.contents S.contents P.ProvStore (turn_of (setting t) s (says (Stmt.Show place))) self.now (Some r)) }
     {
-        let Some(tree) = self.tree_of(&place) else {
-            return Ok(refused(Why::NoSource(place.db)));
-        };
-        if !tree.is_there(&place.path) {
-            return Ok(refused(Why::NoPlace(place)));
+        if place.db.is_target() {
+            return shown(alloc, self.current_tree(), place);
         }
-        let rows = tree.rows(alloc, &place.path)?;
-        Ok(Reply::Show { place, rows })
+        match self.sources.get(&place.db) {
+            Some(tree) => shown(alloc, tree, place),
+            None => Ok(refused(Why::NoSource(place.db))),
+        }
     }
 }

@@ -12,7 +12,7 @@ use Rattle.cp_program.proofs.run.turn.Goals as goal
 
 pub returns-in_default-clause-ends : goal.returns-in_default-clause-ends
 returns-in_default-clause-ends g c =
-    ran-input g.R.TreeRep.contents c.args.session.now c.args.before (known_input g.I.Source c.args.input.now) (known_input g.I.Source c.read.new.self) (known_files g.F.Files c.args.files.now)
+    ran-input g.R.TreeRep.contents g.S.TreeRep.contents c.args.session.now c.args.before (known_input g.I.Source c.args.input.now) (known_input g.I.Source c.read.new.self) (known_files g.F.Files c.args.files.now)
     (known_output g.O.Sink c.args.output.now) (known_output g.O.Sink c.last_line.new.output) c.requires.taken c.in_default.ensures.bytes c.in_default.ensures.counted c.last_line.ensures.wrote
 
 pub returns-then-count-eq0-clause-ends : goal.returns-then-count-eq0-clause-ends
@@ -22,7 +22,7 @@ returns-then-count-eq0-clause-ends g c =
     let none : c.in-Ok.count ≡ 0 = c.if-count-eq0.true in
     let took : Consumes l0 l1 [] = let P : ℕ → Type 0 = λ n. Consumes l0 l1 (take n c.read.new.into) in subst P none c.in-Ok.ensures.bytes.0 in
     let end : IsAtEnd l1 = c.in-Ok.ensures.bytes.1 none (search rules) in
-    ran-closed g.R.TreeRep.contents c.args.session.now c.args.before (known_outside g.F.Files g.I.Source g.O.Sink c.args.files.now c.args.input.now c.args.output.now) (known_outside g.F.Files g.I.Source g.O.Sink c.closing.new.files c.read.new.self c.closing.new.output)
+    ran-closed g.R.TreeRep.contents g.S.TreeRep.contents c.args.session.now c.args.before (known_outside g.F.Files g.I.Source g.O.Sink c.args.files.now c.args.input.now c.args.output.now) (known_outside g.F.Files g.I.Source g.O.Sink c.closing.new.files c.read.new.self c.closing.new.output)
     c.closing.result c.requires.taken took (omega (arith, none, c.in-Ok.ensures.counted)) end c.closing.ensures.own c.closing.ensures.went
 
 pub returns-then-now-gt-INPUT_MAX-clause-ends : goal.returns-then-now-gt-INPUT_MAX-clause-ends
@@ -30,7 +30,7 @@ returns-then-now-gt-INPUT_MAX-clause-ends g c =
     let bytes = take c.in-Ok.count c.read.new.into in
     let same : length c.read.new.into ≡ length c.args.piece.now = search rules in
     let count : length bytes ≡ c.in-Ok.count = length-take-le c.in-Ok.count c.read.new.into (omega (arith, c.in-Ok.ensures.bound)) in
-    ran-too-long g.R.TreeRep.contents c.args.session.now c.args.before bytes (known_input g.I.Source c.args.input.now) (known_input g.I.Source c.read.new.self) (known_files g.F.Files c.args.files.now)
+    ran-too-long g.R.TreeRep.contents g.S.TreeRep.contents c.args.session.now c.args.before bytes (known_input g.I.Source c.args.input.now) (known_input g.I.Source c.read.new.self) (known_files g.F.Files c.args.files.now)
     (known_output g.O.Sink c.args.output.now) (known_output g.O.Sink c.last_line-then-now-gt-INPUT_MAX.new.output) c.requires.taken
     c.in-Ok.ensures.bytes.0 (omega (arith, count, c.in-Ok.ensures.counted)) (omega (arith, count, c.if-now-gt-INPUT_MAX.true)) (omega (arith, count, same, c.in-Ok.ensures.bound, c.requires.bounded)) c.last_line-then-now-gt-INPUT_MAX.ensures.wrote
 
@@ -48,10 +48,11 @@ returns-in-Err-clause-ends g c =
     let stop = c.in-Err.stop in
     let first = c.args.session.now in
     let view = g.R.TreeRep.contents in
-    let P : End → Type 0 = λ e. RanFrom view first c.args.before (parts ib fb ob) (parts ia fm oa) e in
-    let fed : (files : FileTable) → IsTable files fb fm → (s : Seen) → Follows view first s → Fed view files s bytes first c.feed.new.self (both fb ob) (both fm om) (Err stop) =
-    λ files told s f. subst (Fed view files s bytes first c.feed.new.self (both fb ob) (both fm om)) c.in-Err.is (c.feed.ensures.went files told s f) in
+    let source_view = g.S.TreeRep.contents in
+    let P : End → Type 0 = λ e. RanFrom view source_view first c.args.before (parts ib fb ob) (parts ia fm oa) e in
+    let fed : (files : FileTable) → IsTable files fb fm → (s : Seen) → Follows view source_view first s → Fed view source_view files s bytes first c.feed.new.self (both fb ob) (both fm om) (Err stop) =
+    λ files told s f. subst (Fed view source_view files s bytes first c.feed.new.self (both fb ob) (both fm om)) c.in-Err.is (c.feed.ensures.went files told s f) in
     subst P (sym c.stopped.ensures.end) (
-    ran-stopped view first c.feed.new.self c.args.before bytes ib ia fb fm ob om oa stop
+    ran-stopped view source_view first c.feed.new.self c.args.before bytes ib ia fb fm ob om oa stop
     (omega (arith, count, c.if-now-gt-INPUT_MAX.false)) c.in-Ok.ensures.bytes.0 (omega (arith, count, c.in-Ok.ensures.counted)) fed c.in-Err.ensures.uses.output.refuses c.stopped.ensures.wrote
     )

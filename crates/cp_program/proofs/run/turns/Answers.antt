@@ -12,8 +12,8 @@ loop-now-init g c =
       within = omega arith;
       few = omega (arith, c.requires.few);
       stands = c.requires.stands;
-      took = piece-none g.R.TreeRep.contents c.args.session.now o;
-      steady = steady-none g.R.TreeRep.contents o;
+      took = piece-none g.R.TreeRep.contents g.S.TreeRep.contents c.args.session.now o;
+      steady = steady-none g.R.TreeRep.contents g.S.TreeRep.contents o;
     }
 
 pub loop-now-preserved : goal.loop-now-preserved
@@ -27,8 +27,8 @@ loop-now-preserved g c =
       within = c.in-Ok.ensures.goes_on.1;
       few = c.in-Ok.ensures.goes_on.2;
       stands = c.in-Ok.ensures.goes_on.3;
-      took = piece-more g.R.TreeRep.contents c.args.session.now c.loop-now.session c.turn.new.session 0 c.loop-now.taken c.in-Ok.now first here next i.steady steady.read i.took c.in-Ok.ensures.took;
-      steady = steady-then g.R.TreeRep.contents first here next i.steady steady;
+      took = piece-more g.R.TreeRep.contents g.S.TreeRep.contents c.args.session.now c.loop-now.session c.turn.new.session 0 c.loop-now.taken c.in-Ok.now first here next i.steady steady.read i.took c.in-Ok.ensures.took;
+      steady = steady-then g.R.TreeRep.contents g.S.TreeRep.contents first here next i.steady steady;
     }
 
 pub turn-requires-clause-stands : goal.turn-requires-clause-stands
@@ -40,7 +40,7 @@ returns-in-Err-clause-ran g c =
     let first = known_outside g.F.Files g.I.Source g.O.Sink c.args.files.now c.args.input.now c.args.output.now in
     let here = known_outside g.F.Files g.I.Source g.O.Sink c.loop-now.files c.loop-now.input c.loop-now.output in
     let next = known_outside g.F.Files g.I.Source g.O.Sink c.turn.new.files c.turn.new.input c.turn.new.output in
-    piece-ran g.R.TreeRep.contents c.args.session.now c.loop-now.session c.loop-now.taken first here next c.in-Err.end i.steady c.turn.ensures.read i.took c.in-Err.ensures.ends
+    piece-ran g.R.TreeRep.contents g.S.TreeRep.contents c.args.session.now c.loop-now.session c.loop-now.taken first here next c.in-Err.end i.steady c.turn.ensures.read i.took c.in-Err.ensures.ends
 
 pub returns-in-Err-clause-causes : goal.returns-in-Err-clause-causes
 returns-in-Err-clause-causes g c =

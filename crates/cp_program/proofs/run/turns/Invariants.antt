@@ -12,7 +12,7 @@ abbrev pub invariant-loop-now : goal.invariant-loop-now
 invariant-loop-now g l = record {
   within : l.taken ≤ INPUT_MAX;
   few : runs_of l.session.database ≤ l.taken;
-  stands : FollowsOne g.R.TreeRep.contents l.session;
-  took : TookPiece g.R.TreeRep.contents l.initial.session l.session 0 l.taken (known_outside g.F.Files g.I.Source g.O.Sink l.initial.files l.initial.input l.initial.output) (known_outside g.F.Files g.I.Source g.O.Sink l.files l.input l.output);
+  stands : FollowsOne g.R.TreeRep.contents g.S.TreeRep.contents l.session;
+  took : TookPiece g.R.TreeRep.contents g.S.TreeRep.contents l.initial.session l.session 0 l.taken (known_outside g.F.Files g.I.Source g.O.Sink l.initial.files l.initial.input l.initial.output) (known_outside g.F.Files g.I.Source g.O.Sink l.files l.input l.output);
   steady : IsSteady (known_outside g.F.Files g.I.Source g.O.Sink l.initial.files l.initial.input l.initial.output) (known_outside g.F.Files g.I.Source g.O.Sink l.files l.input l.output);
 }

@@ -21,16 +21,18 @@ use Rattle.cp_database.proofs.database.Database.load.Goals as goal
 pub returns-in-Some-clause-turned : goal.returns-in-Some-clause-turned
 returns-in-Some-clause-turned g c = λ files told s z.
     let view = g.R.TreeRep.contents in
+    let source_view = g.S.TreeRep.contents in
     rw (c.refused_load.ensures)
-    (subst (λ (x : Load). Turned view g.P.ProvStore (turn_of (setting files) s (says (stmt.Load x))) c.args.self.now (Some (reply.Refused of.Load c.in-Some.why))) c.load.view_is
-    (turned-not_loaded view g.P.ProvStore files c.args.self.now c.args.self.now s z _ c.in-Some.why (sym c.in-Some.is ∙ c.in_ok-why.ensures.why s z) z))
+    (subst (λ (x : Load). Turned view source_view g.P.ProvStore (turn_of (setting files) s (says (stmt.Load x))) c.args.self.now (Some (reply.Refused of.Load c.in-Some.why))) c.load.view_is
+    (turned-not_loaded view source_view g.P.ProvStore files c.args.self.now c.args.self.now s z _ c.in-Some.why (sym c.in-Some.is ∙ c.in_ok-why.ensures.why s z) z))
 
 pub returns-in_ok-keep_source-in-Ok-clause-turned : goal.returns-in_ok-keep_source-in-Ok-clause-turned
 returns-in_ok-keep_source-in-Ok-clause-turned g c = λ files told s z.
     let view = g.R.TreeRep.contents in
-    subst (λ (x : Load). Turned view g.P.ProvStore (turn_of (setting files) s (says (stmt.Load x))) c.keep_source.new.self (Some c.in_ok-keep_source-in-Ok.field-0)) c.load.view_is
-    (turned-loaded view g.P.ProvStore files c.args.self.now c.keep_source.new.self s z _ (view c.in-Ok.tree) c.in_ok-keep_source-in-Ok.field-0 (sym c.in_default.is ∙ c.in_ok-why.ensures.why s z)
-    (given-tree view _ c.in-Ok.tree (rw (sym c.as_str.ensures.value, sym c.in-Ok.is) (c.in_ok-tree.ensures.gives files told)))
+    let source_view = g.S.TreeRep.contents in
+    subst (λ (x : Load). Turned view source_view g.P.ProvStore (turn_of (setting files) s (says (stmt.Load x))) c.keep_source.new.self (Some c.in_ok-keep_source-in-Ok.field-0)) c.load.view_is
+    (turned-loaded view source_view g.P.ProvStore files c.args.self.now c.keep_source.new.self s z _ (source_view c.in-Ok.tree) c.in_ok-keep_source-in-Ok.field-0 (sym c.in_default.is ∙ c.in_ok-why.ensures.why s z)
+    (given-tree source_view _ c.in-Ok.tree (rw (sym c.as_str.ensures.value, sym c.in-Ok.is) (c.in_ok-tree.ensures.gives files told)))
     (c.in_ok-keep_source-in-Ok.ensures.loads s z))
 
 pub returns-in_ok-keep_source-in-Ok-clause-stands : goal.returns-in_ok-keep_source-in-Ok-clause-stands
@@ -41,10 +43,11 @@ returns-in_ok-keep_source-in-Ok-clause-stands g c =
 pub returns-in-Err-clause-turned : goal.returns-in-Err-clause-turned
 returns-in-Err-clause-turned g c = λ files told s z.
     let view = g.R.TreeRep.contents in
+    let source_view = g.S.TreeRep.contents in
     rw (c.refused_load-in-Err.ensures)
-    (subst (λ (x : Load). Turned view g.P.ProvStore (turn_of (setting files) s (says (stmt.Load x))) c.args.self.now (Some (reply.Refused of.Load c.in-Err.why))) c.load.view_is
-    (turned-withheld view g.P.ProvStore files c.args.self.now c.args.self.now s z _ c.in-Err.why (sym c.in_default.is ∙ c.in_ok-why.ensures.why s z)
-    (given-why view _ c.in-Err.why (rw (sym c.as_str.ensures.value, sym c.in-Err.is) (c.in_ok-tree.ensures.gives files told))) z))
+    (subst (λ (x : Load). Turned view source_view g.P.ProvStore (turn_of (setting files) s (says (stmt.Load x))) c.args.self.now (Some (reply.Refused of.Load c.in-Err.why))) c.load.view_is
+    (turned-withheld view source_view g.P.ProvStore files c.args.self.now c.args.self.now s z _ c.in-Err.why (sym c.in_default.is ∙ c.in_ok-why.ensures.why s z)
+    (given-why source_view _ c.in-Err.why (rw (sym c.as_str.ensures.value, sym c.in-Err.is) (c.in_ok-tree.ensures.gives files told))) z))
 
 pub returns-in_err-why-clause-reads : goal.returns-in_err-why-clause-reads
 returns-in_err-why-clause-reads g c = λ s z.
@@ -55,9 +58,10 @@ returns-in_err-why-clause-reads g c = λ s z.
 pub returns-in_err-tree-clause-reads : goal.returns-in_err-tree-clause-reads
 returns-in_err-tree-clause-reads g c = λ s z.
     let view = g.R.TreeRep.contents in
+    let source_view = g.S.TreeRep.contents in
     let b = known_files g.F.Files c.args.files.now in
     let a = known_files g.F.Files c.fetch.new.files in
-    let one = subst (λ (x : Load). load_reads s (replay s.history) x.name ≡ 1) c.load.view_is (reads-unless view g.P.ProvStore c.args.self.now s z _ None (sym c.in_default.is ∙ c.in_ok-why.ensures.why s z)) in
+    let one = subst (λ (x : Load). load_reads s (replay s.history) x.name ≡ 1) c.load.view_is (reads-unless view source_view g.P.ProvStore c.args.self.now s z _ None (sym c.in_default.is ∙ c.in_ok-why.ensures.why s z)) in
     let p = err_from_is_err_and c.from_residual-in_err-tree.result c.from_residual-in_err-tree.ensures.1 in
     one-read IsFileFault _ b a c.from_residual-in_err-tree.result p.0 one c.in_err-tree.ensures.read p.1
 

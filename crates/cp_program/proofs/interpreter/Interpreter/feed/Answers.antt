@@ -12,7 +12,7 @@ use Rattle.cp_program.proofs.interpreter.Interpreter.feed.Goals as goal
 
 pub loop-byte-init : goal.loop-byte-init
 loop-byte-init g c = record {
-  went = λ files told s f. goes-none files g.R.TreeRep.contents s c.args.self.now (known_world g.F.Files g.O.Sink c.args.files.now c.args.output.now) f;
+  went = λ files told s f. goes-none files g.R.TreeRep.contents g.S.TreeRep.contents s c.args.self.now (known_world g.F.Files g.O.Sink c.args.files.now c.args.output.now) f;
   stays = c.requires.stands;
   same = refl;
   read = (0, refl);
@@ -34,8 +34,8 @@ loop-byte-preserved g c =
     let uses = c.in_ok-push.ensures.uses in
     record {
       went = λ files told s f. (let before = l.invariant.went files (table-first first here next l.invariant.read c.push.ensures.read files told) s f in
-          subst (λ ys. Goes g.R.TreeRep.contents (plays files s ys) (after_play files s ys) c.args.self.now c.push.new.self (known_world g.F.Files g.O.Sink c.args.files.now c.args.output.now) (known_world g.F.Files g.O.Sink c.push.new.files c.push.new.output) (Ok tt)) (sym (take_more xs l.byte-index 0 (omega arith)))
-          (goes-then files g.R.TreeRep.contents s front (b ∷ []) c.args.self.now l.self c.push.new.self
+          subst (λ ys. Goes g.R.TreeRep.contents g.S.TreeRep.contents (plays files s ys) (after_play files s ys) c.args.self.now c.push.new.self (known_world g.F.Files g.O.Sink c.args.files.now c.args.output.now) (known_world g.F.Files g.O.Sink c.push.new.files c.push.new.output) (Ok tt)) (sym (take_more xs l.byte-index 0 (omega arith)))
+          (goes-then files g.R.TreeRep.contents g.S.TreeRep.contents s front (b ∷ []) c.args.self.now l.self c.push.new.self
           (known_world g.F.Files g.O.Sink c.args.files.now c.args.output.now) (known_world g.F.Files g.O.Sink l.files l.output) (known_world g.F.Files g.O.Sink c.push.new.files c.push.new.output) before
           (c.in_ok-push.ensures.went files (table-second first here next l.invariant.read c.push.ensures.read files l.invariant.same told) (after_play files s front) before.0)));
       stays = c.in_ok-push.ensures.stays;
@@ -68,10 +68,10 @@ returns-in_err-push-clause-went g c =
     let now = known_world g.F.Files g.O.Sink c.push.new.files c.push.new.output in
     let e = c.in_err-push.field-0.0 in
     let read = c.push.ensures.read in
-    let whole : (files : FileTable) → IsTable files first next → (s : Seen) → Follows g.R.TreeRep.contents start s → Fed g.R.TreeRep.contents files s xs start new old now (Err e) =
+    let whole : (files : FileTable) → IsTable files first next → (s : Seen) → Follows g.R.TreeRep.contents g.S.TreeRep.contents start s → Fed g.R.TreeRep.contents g.S.TreeRep.contents files s xs start new old now (Err e) =
     λ files told s f. (let before = l.invariant.went files (table-first first here next l.invariant.read read files told) s f in
-    subst (λ ys. Fed g.R.TreeRep.contents files s ys start new old now (Err e)) (sym (split_at xs l.byte-index (omega arith)))
-    (fed-stopped files g.R.TreeRep.contents s front b (drop (l.byte-index + 1) xs) start l.self new old (known_world g.F.Files g.O.Sink l.files l.output) now e before
+    subst (λ ys. Fed g.R.TreeRep.contents g.S.TreeRep.contents files s ys start new old now (Err e)) (sym (split_at xs l.byte-index (omega arith)))
+    (fed-stopped files g.R.TreeRep.contents g.S.TreeRep.contents s front b (drop (l.byte-index + 1) xs) start l.self new old (known_world g.F.Files g.O.Sink l.files l.output) now e before
     (c.in_err-push.ensures.went files (table-second first here next l.invariant.read read files l.invariant.same told) (after_play files s front) before.0))) in
     let p = err_from_is_err_and c.from_residual.result c.from_residual.ensures.1 in rw (p.1, p.2) whole
 
@@ -79,7 +79,7 @@ pub returns-clause-went : goal.returns-clause-went
 returns-clause-went g c =
     let xs = c.args.piece.now in
     let l = c.loop-byte in
-    λ files told s f. subst (λ ys. Goes g.R.TreeRep.contents (plays files s ys) (after_play files s ys) c.args.self.now l.self (known_world g.F.Files g.O.Sink c.args.files.now c.args.output.now) (known_world g.F.Files g.O.Sink l.files l.output) (Ok tt)) (take_all l.byte-index xs (omega (arith, c.loop-byte-test.false)))
+    λ files told s f. subst (λ ys. Goes g.R.TreeRep.contents g.S.TreeRep.contents (plays files s ys) (after_play files s ys) c.args.self.now l.self (known_world g.F.Files g.O.Sink c.args.files.now c.args.output.now) (known_world g.F.Files g.O.Sink l.files l.output) (Ok tt)) (take_all l.byte-index xs (omega (arith, c.loop-byte-test.false)))
     (l.invariant.went files told s f)
 
 pub returns-in_err-push-clause-read : goal.returns-in_err-push-clause-read

@@ -9,10 +9,10 @@ use Rattle.cp_program.proofs.interpreter.Interpreter.feed.Given as goal
 
 abbrev pub invariant-loop-byte : goal.invariant-loop-byte
 invariant-loop-byte g l = record {
-  went : (files : FileTable) → IsTable files (known_files g.F.Files l.initial.files) (known_files g.F.Files l.files) → (s : Seen) → Follows g.R.TreeRep.contents l.initial.self s
-      → Goes g.R.TreeRep.contents (plays files s (take l.byte-index l.piece)) (after_play files s (take l.byte-index l.piece)) l.initial.self l.self
+  went : (files : FileTable) → IsTable files (known_files g.F.Files l.initial.files) (known_files g.F.Files l.files) → (s : Seen) → Follows g.R.TreeRep.contents g.S.TreeRep.contents l.initial.self s
+      → Goes g.R.TreeRep.contents g.S.TreeRep.contents (plays files s (take l.byte-index l.piece)) (after_play files s (take l.byte-index l.piece)) l.initial.self l.self
       (known_world g.F.Files g.O.Sink l.initial.files l.initial.output) (known_world g.F.Files g.O.Sink l.files l.output) (Ok tt);
-  stays : FollowsOne g.R.TreeRep.contents l.self;
+  stays : FollowsOne g.R.TreeRep.contents g.S.TreeRep.contents l.self;
   same : g.F.Files.found l.files ≡ g.F.Files.found l.initial.files;
   read : HasReadSome (known_files g.F.Files l.initial.files) (known_files g.F.Files l.files);
   runs : runs_of l.self.database ≤ runs_of l.initial.self.database + l.byte-index;
