@@ -6,6 +6,7 @@ use cp_cases::{Step, number_of, numbers_of, words_of};
 use cp_host::{StdinSource, StdoutSink};
 use cp_outside::{Files, MemSink, Source};
 use cp_program::run_cpdb;
+use cp_tree::TreeRep;
 use std::alloc::{AllocError, Global};
 
 /// A call to come.
@@ -32,6 +33,15 @@ pub(crate) struct Outcome {
     pub(crate) left: u64,
 }
 
+impl Outcome {
+    /// Says whether another call gave just the same.
+    pub(crate) fn is_same(&self, other: &Outcome) -> bool {
+        self.status == other.status
+            && self.left == other.left
+            && self.output.as_slice() == other.output.as_slice()
+    }
+}
+
 impl Call {
     /// A call with no words at all, not even the program's name, with no input, in which nothing
     /// fails.
@@ -55,6 +65,11 @@ impl Call {
             call.words.push(word)?;
         }
         Ok(call)
+    }
+
+    /// Counts the bytes of the input.
+    pub(crate) fn input_len(&self) -> usize {
+        self.input.len()
     }
 
     /// Notes what fails, and says whether the line is understood.
@@ -86,20 +101,26 @@ impl Call {
     }
 
     /// Makes the call over an output in memory, and gives the status and the output.
-    fn write_to_memory<F: Files, I: Source>(
+    fn write_to_memory<R: TreeRep, S: TreeRep, F: Files, I: Source>(
         &self,
         alloc: Global,
         files: &mut F,
         input: &mut I,
     ) -> Result<(u8, Vec<u8>), AllocError> {
         let mut output = MemSink::with_faults(alloc, &self.failing_writes)?;
-        let status = run_cpdb(alloc, self.words.as_slice(), files, input, &mut output);
+        let status = run_cpdb::<R, S, F, I, _>(
+            alloc,
+            self.words.as_slice(),
+            files,
+            input,
+            &mut output,
+        );
         Ok((status.code, output.bytes().to_vec(alloc)?))
     }
 
     /// Makes the call over an output that takes so many bytes, one by one, and gives the status and
     /// what it took.
-    fn write_to_screen<F: Files, I: Source>(
+    fn write_to_screen<R: TreeRep, S: TreeRep, F: Files, I: Source>(
         &self,
         alloc: Global,
         room: usize,
@@ -111,25 +132,31 @@ impl Call {
             room,
         };
         let mut output = StdoutSink::new(&mut screen);
-        let status = run_cpdb(alloc, self.words.as_slice(), files, input, &mut output);
+        let status = run_cpdb::<R, S, F, I, _>(
+            alloc,
+            self.words.as_slice(),
+            files,
+            input,
+            &mut output,
+        );
         (status.code, screen.took)
     }
 
     /// Makes the call over this input, and gives the status and the output.
-    fn make_over<F: Files, I: Source>(
+    fn make_over<R: TreeRep, S: TreeRep, F: Files, I: Source>(
         &self,
         alloc: Global,
         files: &mut F,
         input: &mut I,
     ) -> Result<(u8, Vec<u8>), AllocError> {
         match self.room {
-            Some(room) => Ok(self.write_to_screen(alloc, room, files, input)),
-            None => self.write_to_memory(alloc, files, input),
+            Some(room) => Ok(self.write_to_screen::<R, S, F, I>(alloc, room, files, input)),
+            None => self.write_to_memory::<R, S, F, I>(alloc, files, input),
         }
     }
 
-    /// Makes the call over these files.
-    pub(crate) fn make<F: Files>(
+    /// Makes the call over these files, with these forms of the committed tree and of the sources' trees.
+    pub(crate) fn make<R: TreeRep, S: TreeRep, F: Files>(
         &self,
         alloc: Global,
         files: &mut F,
@@ -141,7 +168,7 @@ impl Call {
             reads: 0,
         };
         let mut input = StdinSource::new(&mut pieces);
-        let (status, output) = self.make_over(alloc, files, &mut input)?;
+        let (status, output) = self.make_over::<R, S, F, _>(alloc, files, &mut input)?;
         Ok(Outcome {
             status,
             output,

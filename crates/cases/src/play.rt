@@ -19,12 +19,20 @@
 //! | `ends N` | the exit status, where all of the input was taken |
 //! | `status N`, `status one of N N ..` | the exit status |
 //! | `left N` | how many bytes of the input weren't taken |
+//!
+//! A call whose input and files have at most 65,536 bytes is made once more with each other form of trees, and has to give
+//! the same.
 
 use crate::call::{Call, Outcome};
 use cp_cases::{Player, Step, compare, numbers_of};
 use cp_host::HostFiles;
 use cp_outside::{MemFile, MemFiles};
 use cp_path::{Bytes, Text};
+use cp_tree::TreeRep;
+use cp_tree_arena::ArenaTree;
+use cp_tree_box::BoxTree;
+use cp_tree_rows::RowTree;
+use cp_tree_share::ShareTree;
 use std::alloc::{AllocError, Global};
 use std::rt::Files;
 
@@ -36,6 +44,8 @@ pub(crate) struct Stage<'a, R> {
     files: Vec<MemFile>,
     call: Option<Call>,
     outcome: Option<Outcome>,
+    /// Whether some forms of trees gave another outcome.
+    differs: bool,
 }
 
 /// Says that the number isn't one of those on the line; `None` where it is.
@@ -88,22 +98,51 @@ impl<R: Files> Stage<'_, R> {
             files: Vec::new(alloc),
             call: None,
             outcome: None,
+            differs: false,
         }
     }
 
-    /// What the call gives, over the files of the case.
-    fn outcome_of(&self, alloc: Global, call: &Call) -> Result<Outcome, AllocError> {
+    /// What the call gives, over the files of the case, with these forms of the committed tree and of sources' trees.
+    fn outcome_of<T: TreeRep, S: TreeRep>(
+        &self,
+        alloc: Global,
+        call: &Call,
+    ) -> Result<Outcome, AllocError> {
         if self.real {
-            return call.make(alloc, &mut HostFiles::new(self.runtime));
+            return call.make::<T, S, _>(alloc, &mut HostFiles::new(self.runtime));
         }
         let mut files = MemFiles::with_faults(alloc, &self.files, &call.failing_files)?;
-        call.make(alloc, &mut files)
+        call.make::<T, S, _>(alloc, &mut files)
+    }
+
+    /// Says whether the input and the files of the case have at most 65,536 bytes.
+    fn is_small(&self, call: &Call) -> bool {
+        let mut bytes = call.input_len();
+        for file in &self.files {
+            bytes = bytes.saturating_add(file.bytes.items.len());
+        }
+        bytes <= 65_536
+    }
+
+    /// Makes the call once more with each other form of trees, and says whether all gave the same as the first.
+    fn is_same_in_all(
+        &self,
+        alloc: Global,
+        call: &Call,
+        first: &Outcome,
+    ) -> Result<bool, AllocError> {
+        let boxes = self.outcome_of::<BoxTree, ShareTree>(alloc, call)?;
+        let rows = self.outcome_of::<RowTree, BoxTree>(alloc, call)?;
+        let arena = self.outcome_of::<ArenaTree, RowTree>(alloc, call)?;
+        Ok(boxes.is_same(first) && rows.is_same(first) && arena.is_same(first))
     }
 
     /// Makes the call that is to come.
     fn settle(&mut self, alloc: Global) -> Result<(), AllocError> {
         if let Some(call) = self.call.take() {
-            self.outcome = Some(self.outcome_of(alloc, &call)?);
+            let outcome = self.outcome_of::<ShareTree, ArenaTree>(alloc, &call)?;
+            self.differs = self.is_small(&call) && !self.is_same_in_all(alloc, &call, &outcome)?;
+            self.outcome = Some(outcome);
         }
         Ok(())
     }
@@ -141,6 +180,9 @@ impl<R: Files> Stage<'_, R> {
     /// Makes the call if it is to come, and says what it gave other than the part.
     fn take_last(&mut self, alloc: Global, step: &Step) -> Result<Option<String>, AllocError> {
         self.settle(alloc)?;
+        if self.differs {
+            return Ok(Some("other trees, another outcome".to_string(alloc)?));
+        }
         match (&self.outcome, step.key.as_str()) {
             (Some(outcome), "out" | "starts" | "ends" | "status" | "left") => {
                 compare_outcome(alloc, outcome, step)
@@ -160,6 +202,7 @@ impl<R: Files> Player for Stage<'_, R> {
         self.files = Vec::new(alloc);
         self.call = None;
         self.outcome = None;
+        self.differs = false;
     }
 
     fn take(&mut self, alloc: Global, step: &Step) -> Result<Option<String>, AllocError> {

@@ -5,6 +5,3 @@ mod change;
 mod naive;
 
 pub use naive::NaiveStore;
-
-#[cfg(test)]
-mod tests;

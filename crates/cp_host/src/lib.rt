@@ -11,6 +11,3 @@ mod output;
 pub use files::HostFiles;
 pub use input::StdinSource;
 pub use output::StdoutSink;
-
-#[cfg(test)]
-mod tests;

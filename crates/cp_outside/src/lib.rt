@@ -22,6 +22,3 @@ pub use memory_sink::MemSink;
 pub use memory_source::MemSource;
 pub use sink::{Sink, SinkFault, write_all};
 pub use source::Source;
-
-#[cfg(test)]
-mod tests;

@@ -9,6 +9,3 @@ mod unpack;
 pub use cp_model::{RecOp, Record, RecordList};
 pub use length::op_length;
 pub use packed::PackedRecords;
-
-#[cfg(test)]
-mod tests;

@@ -1,8 +1,8 @@
 ghost use Rattle.std.specs.Prelude.{◌≤◌, length, IfOk};
 
-use crate::{PackedRecords, RecOp, Record, op_length};
-use cp_model::{Literal, Op};
+use cp_model::{Literal, Op, RecOp, Record};
 use cp_path::{Label, Loc, Name, Path, PathFault, Value, Whole};
+use cp_record::{PackedRecords, op_length};
 use std::alloc::{AllocError, Global};
 use std::test::Fail;
 

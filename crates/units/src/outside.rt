@@ -1,4 +1,7 @@
-use super::*;
+use cp_outside::{
+    Failed, FileEnd, Files, FilesFault, MemFile, MemFiles, MemSink, MemSource, Sink, SinkFault,
+    Source, write_all,
+};
 use cp_path::{Bytes, Text};
 use std::alloc::AllocError;
 use std::test::*;

@@ -1,4 +1,4 @@
-use super::*;
+use cp_host::{HostFiles, StdinSource, StdoutSink};
 use cp_outside::{Failed, FileEnd, Files, FilesFault, Sink, SinkFault, Source, write_all};
 use std::alloc::{AllocError, Global};
 use std::io::{Error, ErrorKind, Read, Write};

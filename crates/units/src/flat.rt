@@ -2,7 +2,7 @@ ghost use Rattle.std.specs.Prelude.{◌≡◌, [], ◌∷◌, IfOk};
 ghost use Rattle.cp_model.specs.Place.{at_target};
 ghost use Rattle.cp_store.specs.Changes.{AreNext};
 
-use crate::NaiveStore;
+use cp_flat::NaiveStore;
 use cp_model::{RecOp, Record};
 use cp_path::{Label, Loc, Name, Path, PathFault};
 use cp_store::{Change, ProvStore, What};

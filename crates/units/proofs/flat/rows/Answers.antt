@@ -1,6 +1,6 @@
 use Rattle.std.proofs.Common.{◌≡◌, List, ◌++◌, ◌∷◌, [], refl, sym, ap, subst, ◌∙◌}
 use Rattle.cp_store.specs.Changes.{AreNext}
-use Rattle.cp_flat.proofs.tests.rows.Goals as goal
+use Rattle.units.proofs.flat.rows.Goals as goal
 
 pushed : {X : Type 0} (new old xs : List X) (r s : X) → new ≡ old ++ r ∷ [] → old ≡ xs → r ≡ s → new ≡ xs ++ s ∷ []
 pushed new old xs r s e f g = e ∙ ap (λ l. l ++ r ∷ []) f ∙ ap (λ q. xs ++ q ∷ []) g
