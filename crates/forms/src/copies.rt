@@ -4,7 +4,7 @@ ghost use Rattle.std.specs.Prelude.{◌≡◌, IfOk};
 use cp_csv::tree_of_csv;
 use cp_json::tree_of_json;
 use cp_model::Content;
-use cp_path::{Name, Path};
+use cp_path::{Label, Name, Path};
 use cp_tree::{TreeRep, graft};
 use std::alloc::{AllocError, Global};
 
@@ -32,10 +32,14 @@ pub(crate) fn from_text<R: TreeRep>(alloc: Global, text: &str) -> Result<R, Allo
     }
 }
 
-/// Counts the places of the tree of a CSV text, `None` where it is refused.
-pub(crate) fn count_in<R: TreeRep>(alloc: Global, text: &[u8]) -> Result<Option<u32>, AllocError> {
+/// Counts the places of the tree of a CSV text with this key column, `None` where it is refused.
+pub(crate) fn count_in<R: TreeRep>(
+    alloc: Global,
+    text: &[u8],
+    key: &Label,
+) -> Result<Option<u32>, AllocError> {
     let name = Name::target(alloc)?;
-    match tree_of_csv::<R>(alloc, &name, text, None) {
+    match tree_of_csv::<R>(alloc, &name, text, Some(key)) {
         Ok(tree) => Ok(Some(tree.count())),
         Err(_) => Ok(None),
     }

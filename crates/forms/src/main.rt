@@ -1,12 +1,13 @@
 //! Makes trees in every form, copies each into every form, and counts those that are the same; makes and drops trees at
-//! each limit in every form; and copies a tree a million times. With two words, a form's name and a CSV file, it makes the
-//! file's tree alone, so that its time and memory can be measured.
+//! each limit in every form; and copies a tree a million times. With three words, a form's name, a CSV file and its key
+//! column, it makes the file's tree alone, so that its time and memory can be measured.
 #![tactic(auto)]
 
 mod copies;
 mod text;
 
 use crate::copies::{Tally, are_same, copy_often, count_in, from_text, moved};
+use cp_path::Label;
 use cp_tree::TreeRep;
 use cp_tree_arena::ArenaTree;
 use cp_tree_box::BoxTree;
@@ -52,14 +53,17 @@ fn counts_of(alloc: Global, text: &str) -> Result<[u32; 4], AllocError> {
     ])
 }
 
-/// Counts the places of the tree of a CSV file, in the form of this name.
-fn count_in_file(rt: &HostRuntime, form: &str, file: &str) -> io::Result<Option<u32>> {
+/// Counts the places of the tree of a CSV file with this key column, in the form of this name.
+fn count_in_file(rt: &HostRuntime, form: &str, file: &str, key: &str) -> io::Result<Option<u32>> {
+    let Ok(key) = Label::new(rt.alloc(), key) else {
+        return Ok(None);
+    };
     let bytes = fs::read(rt, file)?;
     let count = match form {
-        "box" => count_in::<BoxTree>(rt.alloc(), bytes.as_slice())?,
-        "share" => count_in::<ShareTree>(rt.alloc(), bytes.as_slice())?,
-        "arena" => count_in::<ArenaTree>(rt.alloc(), bytes.as_slice())?,
-        "rows" => count_in::<RowTree>(rt.alloc(), bytes.as_slice())?,
+        "box" => count_in::<BoxTree>(rt.alloc(), bytes.as_slice(), &key)?,
+        "share" => count_in::<ShareTree>(rt.alloc(), bytes.as_slice(), &key)?,
+        "arena" => count_in::<ArenaTree>(rt.alloc(), bytes.as_slice(), &key)?,
+        "rows" => count_in::<RowTree>(rt.alloc(), bytes.as_slice(), &key)?,
         _ => None,
     };
     Ok(count)
@@ -83,11 +87,11 @@ fn make_all(rt: &HostRuntime) -> io::Result<()> {
 
 fn main(rt: HostRuntime) -> io::Result<ExitCode> {
     let words = env::args(&rt)?.collect::<Vec<String>>(rt.alloc())?;
-    let [_, form, file] = words.as_slice() else {
+    let [_, form, file, key] = words.as_slice() else {
         make_all(&rt)?;
         return Ok(ExitCode::SUCCESS);
     };
-    match count_in_file(&rt, form.as_str(), file.as_str())? {
+    match count_in_file(&rt, form.as_str(), file.as_str(), key.as_str())? {
         Some(count) => println!(rt; "{count} places")?,
         None => return Ok(ExitCode::FAILURE),
     }
