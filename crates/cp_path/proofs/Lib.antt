@@ -15,3 +15,4 @@ pub mod Sound
 pub mod Spelled
 pub mod ValueLaws
 pub mod WordLaws
+mod Held

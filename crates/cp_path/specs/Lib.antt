@@ -9,3 +9,4 @@ pub mod Scan
 pub mod Words
 pub mod Laws
 pub mod Encoding
+pub mod Room
