@@ -15,13 +15,13 @@ use Rattle.cp_model.specs.Subtrees.{is_there}
 use Rattle.cp_model.specs.Tree.{Tree, Source, IsTree}
 use Rattle.cp_model.specs.Step.{Origin, new, was, Worked, Working, done, step}
 use Rattle.cp_model.specs.Past.{AgedTree, tree_of, loses_child, is_child}
-use Rattle.cp_model.specs.Rows.{Effect, same, from, left, effect, effect_at}
+use Rattle.cp_model.specs.Rows.{Effect, same, from, left, effect, effect_at, limited}
 use Rattle.cp_model.specs.History.{AreWritten, rows_of, read_rows}
 use Rattle.cp_model.proofs.Kept.{closed-step}
 use Rattle.cp_model.specs.Laws.{AreSources, Every, IsOrigin, Sound}
 use Rattle.cp_model.proofs.Histories.{trees-sources}
 use Rattle.cp_model.proofs.Origins.{sound-step}
-use Rattle.cp_model.proofs.Reading.{limited, IsWorking, read-full_rows, read-reduced_rows}
+use Rattle.cp_model.proofs.Reading.{IsWorking, read-full_rows, read-reduced_rows}
 use Rattle.cp_model.specs.Records.{is_D}
 use Rattle.cp_model.proofs.Losses.{losses-full_rows, losses-reduced_rows, loses-tree}
 

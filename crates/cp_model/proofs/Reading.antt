@@ -16,15 +16,9 @@ use Rattle.cp_model.specs.Closed.{Closed}
 use Rattle.cp_model.specs.Subtrees.{is_there}
 use Rattle.cp_model.specs.Tree.{Tree}
 use Rattle.cp_model.specs.Step.{Working}
-use Rattle.cp_model.specs.Rows.{Effect, same, made, from, Reading, left, gone, Mark, I, C, D, K, effect, gives, effect_at, full_mark, reduced_mark, effect_eq, effect_given, effect_given_by, or_same, lost_below_same, full_here, reduced_here, parent_there, full_rows, reduced_rows, from_if_within, read_mark, read_nearest, read_full, read_reduced}
+use Rattle.cp_model.specs.Rows.{Effect, same, made, from, Reading, left, gone, Mark, I, C, D, K, effect, gives, effect_at, full_mark, reduced_mark, effect_eq, effect_given, effect_given_by, or_same, lost_below_same, full_here, reduced_here, parent_there, full_rows, reduced_rows, from_if_within, limited, read_mark, read_nearest, read_full, read_reduced}
 use Rattle.cp_model.proofs.Strips.{append-nil, path_ind, nearest-snoc, further, parent-snoc, last_label-snoc}
 use Rattle.cp_model.proofs.Marks.{find-full_rows, find-reduced_rows}
-
--- an effect whose place is over a limit counts as Same
-abbrev pub limited : Effect → Effect
-limited same = same
-limited made = made
-limited (from q) = from_if_within q
 
 -- below a place by nothing is that place
 pub below_place-nil : (q : Loc) → below_place q [] ≡ q

@@ -132,6 +132,12 @@ reduced_rows a w = rows_with_marks (reduced_here a w) (all_paths a w)
 abbrev pub from_if_within : Loc → Effect
 from_if_within q = if over_limit q then same else from q
 
+-- the same, of any effect
+abbrev pub limited : Effect → Effect
+limited same = same
+limited made = made
+limited (from q) = from_if_within q
+
 -- what a row says of the place this far below it
 abbrev pub read_mark : Mark → Path → Reading
 read_mark I s = left made
