@@ -1,5 +1,5 @@
 //! A tree grown from a value, place by place.
-ghost use Rattle.std.specs.Prelude.{◌≡◌, ◌≤◌, [], ◌∷◌, IfOk, OnOk, Some};
+ghost use Rattle.std.specs.Prelude.{◌≡◌, ◌≤◌, ◌<◌, [], ◌∷◌, length, IfOk, OnOk, Some};
 ghost use Rattle.serde_json.specs.View.{view, items_view, members_view};
 ghost use Rattle.cp_model.specs.Tree.{text_bytes};
 ghost use Rattle.cp_model.specs.Place.{child};
@@ -9,7 +9,7 @@ ghost use Rattle.cp_json.specs.Growing.{or_node, with_leaf, CanPut, CanGrow, gro
 ghost use Rattle.cp_json.specs.Walks.{walk_below, walk_items, walk_members, NeedsBelow, NeedsItems, NeedsMembers};
 
 use crate::value::{content_of, index_label};
-use cp_path::{Label, Path};
+use cp_path::{LABELS_MAX, Label, Path};
 use cp_tree::TreeRep;
 use serde_json::{Map, Value};
 use std::alloc::{AllocError, Global};
@@ -42,7 +42,6 @@ fn add<R: TreeRep>(
 }
 
 /// Adds the places below that of the value.
-#[cycle(grow)]
 fn add_below<R: TreeRep>(
     alloc: Global,
     tree: &mut R,
@@ -55,6 +54,32 @@ fn add_below<R: TreeRep>(
     match value {
         Value::Array(items) => add_items(alloc, tree, at, items),
         Value::Object(members) => add_members(alloc, tree, at, members),
+        _ => Ok(()),
+    }
+}
+
+/// Adds the places below the value that stands at a label. Its path is made only where there are some.
+#[cycle(grow)]
+fn add_under<R: TreeRep>(
+    alloc: Global,
+    tree: &mut R,
+    at: &Path,
+    label: &Label,
+    value: &Value,
+) -> Result<(), AllocError>
+    requires room { length at.now < LABELS_MAX }
+    requires below { NeedsBelow child with_leaf CanPut (child at.now label.now) (view value.now) (R.contents tree.old) }
+    ensures { OnOk result (R.contents tree.new ≡ walk_below child with_leaf (child at.now label.now) (view value.now) (R.contents tree.old)) }
+{
+    match value {
+        Value::Array(items) => {
+            let below = at.child(label)?;
+            add_items(alloc, tree, &below, items)
+        }
+        Value::Object(members) => {
+            let below = at.child(label)?;
+            add_members(alloc, tree, &below, members)
+        }
         _ => Ok(()),
     }
 }
@@ -74,8 +99,7 @@ fn add_items<R: TreeRep>(
         let name = index_label(alloc, i)?;
         let label = Label::copy_of(alloc, name.as_str())?;
         add(alloc, tree, at, &label, item)?;
-        let below = at.child(&label)?;
-        add_below(alloc, tree, &below, item)?;
+        add_under(alloc, tree, at, &label, item)?;
         i += 1;
     }
     Ok(())
@@ -94,8 +118,7 @@ fn add_members<R: TreeRep>(
     for (key, member) in members.iter() {
         let label = Label::copy_of(alloc, key.as_str())?;
         add(alloc, tree, at, &label, member)?;
-        let below = at.child(&label)?;
-        add_below(alloc, tree, &below, member)?;
+        add_under(alloc, tree, at, &label, member)?;
     }
     Ok(())
 }
