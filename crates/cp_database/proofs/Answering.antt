@@ -9,11 +9,11 @@ use Rattle.cp_model.specs.Tree.{Tree, Source}
 use Rattle.cp_model.specs.Step.{step}
 use Rattle.cp_model.specs.Past.{tree_of}
 use Rattle.cp_model.specs.History.{State}
+use Rattle.cp_model.specs.declared.kind.Kind.{Kind}
 use Rattle.cp_model.specs.Answers.{answer_to}
 use Rattle.cp_model.specs.declared.answer.Answer.{Answer}
 use Rattle.cp_model.specs.declared.op.Op.{Op}
 use Rattle.cp_model.specs.declared.query.Query.{Query}
-use Rattle.cp_model.specs.declared.row.Row.{Row}
 use Rattle.cp_lang.specs.declared.syntax_tree.Stmt.TheVariants as stmt
 use Rattle.cp_reply.specs.declared.reply.Of.TheVariants as of
 use Rattle.cp_reply.specs.declared.reply.Why.TheVariants as why
@@ -52,31 +52,31 @@ module _ {R S P : Type 0} (view : R → Tree) (source_view : S → Tree) (g : Gh
   abbrev ss : List Source
   ss = z.state.sources
 
-  closed_tree : (o : OpenTransaction) → Opens view None ss t n o → t ≡ current_tree z.state o
+  closed_tree : (o : OpenTransaction) → Opens view None z.state.kind ss t n o → t ≡ current_tree z.state o
   closed_tree closed h = refl
   closed_tree (going ops) h = absurd h
   closed_tree (failed k c) h = absurd h
 
   -- where no transaction is open, the committed tree is shown
   pub tree-closed : d.transaction ≡ None → view d.tree ≡ current_tree z.state s.opened
-  tree-closed e = z.tree ∙ closed_tree s.opened (subst (λ y. Opens view y ss t n s.opened) e z.opened)
+  tree-closed e = z.tree ∙ closed_tree s.opened (subst (λ y. Opens view y z.state.kind ss t n s.opened) e z.opened)
 
-  module _ (x : Txn R) (there : d.transaction ≡ Some x) (k : TxnState) (is : (ss : List Source) (t : Tree) (n : ℕ) (p : txn.Progress) → txn.Stands view x ss t n p → k ≡ txn.state_of p) where
-    stands_open : Opens view (Some x) ss t n s.opened
-    stands_open = subst (λ y. Opens view y ss t n s.opened) there z.opened
+  module _ (x : Txn R) (there : d.transaction ≡ Some x) (k : TxnState) (is : (q : Kind) (ss : List Source) (t : Tree) (n : ℕ) (p : txn.Progress) → txn.Stands view x q ss t n p → k ≡ txn.state_of p) where
+    stands_open : Opens view (Some x) z.state.kind ss t n s.opened
+    stands_open = subst (λ y. Opens view y z.state.kind ss t n s.opened) there z.opened
 
-    going_tree : (j : ℕ) (u : Tree) (o : OpenTransaction) → Opens view (Some x) ss t n o → k ≡ state.Going j → ((ops : List Op) → txn.Stands view x ss t n (txn.going ops) → u ≡ (stage_after ss t n ops).tree) → u ≡ current_tree z.state o
+    going_tree : (j : ℕ) (u : Tree) (o : OpenTransaction) → Opens view (Some x) z.state.kind ss t n o → k ≡ state.Going j → ((ops : List Op) → txn.Stands view x z.state.kind ss t n (txn.going ops) → u ≡ (stage_after ss t n ops).tree) → u ≡ current_tree z.state o
     going_tree j u closed h e f = absurd h
     going_tree j u (going ops) h e f = f ops h.0 ∙ working_tree z.state n ops h.0.accepted
-    going_tree j u (failed i c) h e f = let same = is ss t n (txn.failed i c) h in absurd (cc)
+    going_tree j u (failed i c) h e f = let same = is z.state.kind ss t n (txn.failed i c) h in absurd (cc)
 
     -- where it is going, its working tree is shown
-    pub tree-going : (j : ℕ) (u : Tree) → k ≡ state.Going j → ((ss : List Source) (t : Tree) (n : ℕ) (ops : List Op) → txn.Stands view x ss t n (txn.going ops) → u ≡ (stage_after ss t n ops).tree) → u ≡ current_tree z.state s.opened
-    tree-going j u e f = going_tree j u s.opened stands_open e (f ss t n)
+    pub tree-going : (j : ℕ) (u : Tree) → k ≡ state.Going j → ((q : Kind) (ss : List Source) (t : Tree) (n : ℕ) (ops : List Op) → txn.Stands view x q ss t n (txn.going ops) → u ≡ (stage_after ss t n ops).tree) → u ≡ current_tree z.state s.opened
+    tree-going j u e f = going_tree j u s.opened stands_open e (f z.state.kind ss t n)
 
-    failed_tree : (o : OpenTransaction) → Opens view (Some x) ss t n o → ((j : ℕ) → k ≡ state.Going j → ⊥) → t ≡ current_tree z.state o
+    failed_tree : (o : OpenTransaction) → Opens view (Some x) z.state.kind ss t n o → ((j : ℕ) → k ≡ state.Going j → ⊥) → t ≡ current_tree z.state o
     failed_tree closed h e = absurd h
-    failed_tree (going ops) h e = absurd (e _ (is ss t n (txn.going ops) h.0))
+    failed_tree (going ops) h e = absurd (e _ (is z.state.kind ss t n (txn.going ops) h.0))
     failed_tree (failed i c) h e = refl
 
     -- where it has failed, the committed tree is shown

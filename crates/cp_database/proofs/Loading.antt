@@ -11,6 +11,7 @@ use Rattle.cp_model.specs.Place.{label_eq, target}
 use Rattle.cp_model.specs.Tree.{Tree, IsTree, Source, source}
 use Rattle.cp_model.specs.Past.{tree_of}
 use Rattle.cp_model.specs.History.{State, replay, load, after_load, then_entry, CanLoad, CanFollow}
+use Rattle.cp_model.specs.declared.kind.Kind.{Kind}
 use Rattle.cp_model.proofs.Histories.{replay-snoc, legal-snoc}
 use Rattle.cp_lang.specs.declared.syntax_tree.Load.{Load}
 use Rattle.cp_lang.specs.declared.syntax_tree.Stmt.TheVariants as stmt
@@ -34,16 +35,16 @@ use Rattle.cp_store.specs.declared.store.ProvStore.{Ghosts}
 -- ---- why nothing is loaded
 
 -- a transaction is open
-open_isn't_closed : {R : Type 0} (view : R → Tree) (x : Txn R) (ss : List Source) (t : Tree) (n : ℕ) (o : OpenTransaction) → Opens view (Some x) ss t n o → is_closed o ≡ false
-open_isn't_closed view x ss t n closed h = absurd h
-open_isn't_closed view x ss t n (going ops) h = refl
-open_isn't_closed view x ss t n (failed k c) h = refl
+open_isn't_closed : {R : Type 0} (view : R → Tree) (x : Txn R) (i : Kind) (ss : List Source) (t : Tree) (n : ℕ) (o : OpenTransaction) → Opens view (Some x) i ss t n o → is_closed o ≡ false
+open_isn't_closed view x i ss t n closed h = absurd h
+open_isn't_closed view x i ss t n (going ops) h = refl
+open_isn't_closed view x i ss t n (failed k c) h = refl
 
 -- none is
-none_is_closed : {R : Type 0} (view : R → Tree) (ss : List Source) (t : Tree) (n : ℕ) (o : OpenTransaction) → Opens view None ss t n o → is_closed o ≡ true
-none_is_closed view ss t n closed h = refl
-none_is_closed view ss t n (going ops) h = absurd h
-none_is_closed view ss t n (failed k c) h = absurd h
+none_is_closed : {R : Type 0} (view : R → Tree) (i : Kind) (ss : List Source) (t : Tree) (n : ℕ) (o : OpenTransaction) → Opens view None i ss t n o → is_closed o ≡ true
+none_is_closed view i ss t n closed h = refl
+none_is_closed view i ss t n (going ops) h = absurd h
+none_is_closed view i ss t n (failed k c) h = absurd h
 
 some_is : {X : Type 0} (o : Option X) → is_some o ≡ true → (x : X) × (o ≡ Some x)
 some_is None h = absurd (cc)
@@ -56,10 +57,10 @@ module _ {R S P : Type 0} (view : R → Tree) (source_view : S → Tree) (g : Gh
   is_open : is_some d.transaction ≡ true → is_closed s.opened ≡ false
   is_open e =
       let x = some_is d.transaction e in
-      open_isn't_closed view x.0 t.sources (tree_of t.tree) (t.now + 1) s.opened (subst (λ y. Opens view y t.sources (tree_of t.tree) (t.now + 1) s.opened) x.1 z.opened)
+      open_isn't_closed view x.0 t.kind t.sources (tree_of t.tree) (t.now + 1) s.opened (subst (λ y. Opens view y t.kind t.sources (tree_of t.tree) (t.now + 1) s.opened) x.1 z.opened)
 
   pub is_shut : is_some d.transaction ≡ false → is_closed s.opened ≡ true
-  is_shut e = none_is_closed view t.sources (tree_of t.tree) (t.now + 1) s.opened (subst (λ y. Opens view y t.sources (tree_of t.tree) (t.now + 1) s.opened) (none_is d.transaction e) z.opened)
+  is_shut e = none_is_closed view t.kind t.sources (tree_of t.tree) (t.now + 1) s.opened (subst (λ y. Opens view y t.kind t.sources (tree_of t.tree) (t.now + 1) s.opened) (none_is d.transaction e) z.opened)
 
   -- while a transaction is open
   pub why-open : is_some d.transaction ≡ true → Some why.TransactionOpen ≡ why_not_loaded t s.opened name
@@ -88,10 +89,10 @@ module _ {R S P : Type 0} (view : R → Tree) (source_view : S → Tree) (g : Gh
 -- ---- what is loaded
 
 module _ {R S P : Type 0} (view : R → Tree) (source_view : S → Tree) (g : Ghosts P) (d m : Database R S P) (s : Session) (z : Stands view source_view g d s) (name : List ℕ) (u : Tree) where
-  opened_on : (ss : List Source) (o : OpenTransaction) → d.transaction ≡ None → Opens view d.transaction z.state.sources (tree_of z.state.tree) (z.state.now + 1) o → Opens view None ss (tree_of z.state.tree) (z.state.now + 1) o
+  opened_on : (ss : List Source) (o : OpenTransaction) → d.transaction ≡ None → Opens view d.transaction z.state.kind z.state.sources (tree_of z.state.tree) (z.state.now + 1) o → Opens view None z.state.kind ss (tree_of z.state.tree) (z.state.now + 1) o
   opened_on ss closed e h = tt
-  opened_on ss (going ops) e h = absurd (subst (λ y. Opens view y z.state.sources (tree_of z.state.tree) (z.state.now + 1) (going ops)) e h)
-  opened_on ss (failed k c) e h = absurd (subst (λ y. Opens view y z.state.sources (tree_of z.state.tree) (z.state.now + 1) (failed k c)) e h)
+  opened_on ss (going ops) e h = absurd (subst (λ y. Opens view y z.state.kind z.state.sources (tree_of z.state.tree) (z.state.now + 1) (going ops)) e h)
+  opened_on ss (failed k c) e h = absurd (subst (λ y. Opens view y z.state.kind z.state.sources (tree_of z.state.tree) (z.state.now + 1) (failed k c)) e h)
 
   -- the tree is a source of the session's history
   pub stands-loaded : is_name name ≡ true → label_eq name target ≡ false → IsTree u → FitsUnder name u → is_some (source (sources_in source_view d.sources) name) ≡ false → length (sources_in source_view d.sources) < SOURCES_MAX → d.transaction ≡ None
@@ -109,13 +110,13 @@ module _ {R S P : Type 0} (view : R → Tree) (source_view : S → Tree) (g : Gh
         replayed = replay-snoc s.history (load name u) ∙ ap (λ r. then_entry r (load name u)) z.replayed;
         legal = legal-snoc s.history (load name u) z.legal (subst (λ r. CanFollow r (load name u)) (sym z.replayed) can);
         kind = ap g.kept_kind store ∙ z.kind;
-        naive = z.naive;
+        built = z.built;
         sources = added ∙ ap (λ ss. ss ++ record { name = name; tree = u } ∷ []) z.sources;
         bounded = omega (arith, length-append z.state.sources (record { name = name; tree = u } ∷ []), ap length z.sources, bound);
         tree = ap view same ∙ z.tree;
         rows = ap g.kept_rows store ∙ z.rows;
         upto = ap g.last_tid store ∙ z.upto;
-        opened = subst (λ y. Opens view y (after_load z.state name u).sources (tree_of z.state.tree) (z.state.now + 1) s.opened) (sym none) (opened_on (after_load z.state name u).sources s.opened shut z.opened);
+        opened = subst (λ y. Opens view y z.state.kind (after_load z.state name u).sources (tree_of z.state.tree) (z.state.now + 1) s.opened) (sym none) (opened_on (after_load z.state name u).sources s.opened shut z.opened);
         few = subst (λ n. z.state.now + held_in s.opened ≤ n) (sym runs) z.few;
       }
 

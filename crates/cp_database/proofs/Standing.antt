@@ -1,18 +1,19 @@
 -- A database goes on standing for its session.
-use Rattle.std.specs.Prelude.{◌≡◌, ◌+◌, ◌≤◌, [], refl, IfOk, OnOk, Result, Ok, Err}
+use Rattle.std.specs.Prelude.{◌≡◌, true, ◌+◌, ◌≤◌, [], refl, IfOk, OnOk, Result, Ok, Err}
 use Rattle.std.proofs.Common.{sym, ap, subst, ◌∙◌, arith}
 use Rattle.std.specs.declared.option.Option.{Option}
 use Rattle.std.specs.declared.option.Option.TheVariants.{None}
 use Rattle.cp_model.specs.Tree.{Tree, IsTree}
+use Rattle.cp_model.specs.Laws.{AreSources}
 use Rattle.cp_model.specs.Past.{tree_of}
 use Rattle.cp_model.specs.History.{start_state, replay}
 use Rattle.cp_model.proofs.Histories.{legal-tree}
 use Rattle.cp_model.proofs.Contents.{tree_of-aged}
-use Rattle.cp_model.specs.declared.kind.Kind.TheVariants as kind
 use Rattle.cp_lang.specs.declared.syntax_tree.Stmt.{Stmt}
 use Rattle.cp_reply.specs.declared.reply.Reply.{Reply}
 use Rattle.cp_session.specs.Session.{Session, OpenTransaction, closed, with_opened, says, turn_of, turn_by, turn_on}
 use Rattle.cp_engine.specs.Loaded.{sources_in}
+use Rattle.cp_engine.specs.Passed.{is_built}
 use Rattle.cp_outside.specs.FileReads.{FileTable}
 use Rattle.cp_database.specs.Texts.{setting, begun_session}
 use Rattle.cp_database.specs.Databases.{Stands, Opens, Turned, held_in}
@@ -34,15 +35,19 @@ module _ {R S P : Type 0} (view : R → Tree) (source_view : S → Tree) (g : Gh
   pub committed-tree : IsTree (tree_of z.state.tree)
   committed-tree = (legal-tree s.history z.state z.legal z.replayed).tree
 
+  -- and so are the sources
+  pub committed-sources : AreSources z.state.sources
+  committed-sources = (legal-tree s.history z.state z.legal z.replayed).sources
+
   -- it stands for a session whose transaction alone has changed
-  pub stands-with : (o : OpenTransaction) → view m.tree ≡ view d.tree → m.sources ≡ d.sources → IsSameStore g d.store m.store → Opens view m.transaction z.state.sources (tree_of z.state.tree) (z.state.now + 1) o → z.state.now + held_in o ≤ m.runs →
+  pub stands-with : (o : OpenTransaction) → view m.tree ≡ view d.tree → m.sources ≡ d.sources → IsSameStore g d.store m.store → Opens view m.transaction z.state.kind z.state.sources (tree_of z.state.tree) (z.state.now + 1) o → z.state.now + held_in o ≤ m.runs →
       Stands view source_view g m (with_opened s o)
   stands-with o tree kept same h few = record {
     state = z.state;
     replayed = z.replayed;
     legal = z.legal;
     kind = same.kind ∙ z.kind;
-    naive = z.naive;
+    built = z.built;
     sources = ap (sources_in source_view) kept ∙ z.sources;
     bounded = z.bounded;
     tree = tree ∙ z.tree;
@@ -55,7 +60,7 @@ module _ {R S P : Type 0} (view : R → Tree) (source_view : S → Tree) (g : Gh
   -- it stands for the same session
   pub stands-same : view m.tree ≡ view d.tree → m.sources ≡ d.sources → IsSameStore g d.store m.store → m.transaction ≡ d.transaction → m.runs ≡ d.runs → Stands view source_view g m s
   stands-same tree kept same h runs =
-      stands-with s.opened tree kept same (subst (λ x. Opens view x z.state.sources (tree_of z.state.tree) (z.state.now + 1) s.opened) (sym h) z.opened) (subst (λ n. z.state.now + held_in s.opened ≤ n) (sym runs) z.few)
+      stands-with s.opened tree kept same (subst (λ x. Opens view x z.state.kind z.state.sources (tree_of z.state.tree) (z.state.now + 1) s.opened) (sym h) z.opened) (subst (λ n. z.state.now + held_in s.opened ≤ n) (sym runs) z.few)
 
 module _ {R S P : Type 0} (view : R → Tree) (source_view : S → Tree) (g : Ghosts P) (files : FileTable) (d m : Database R S P) (s : Session) (z : Stands view source_view g d s) where
   -- a turn is the one on the state to which the history leads
@@ -63,20 +68,20 @@ module _ {R S P : Type 0} (view : R → Tree) (source_view : S → Tree) (g : Gh
   turned-on x r h = subst (λ o. Turned view source_view g (turn_by (setting files) s o x) m r) (sym z.replayed) h
 
 -- a tree without rows and sources stands for a session that begins on it
-pub stands-begun : {R S P : Type 0} (view : R → Tree) (source_view : S → Tree) (g : Ghosts P) (d : Database R S P) → IsTree (view d.tree) → sources_in source_view d.sources ≡ [] → g.kept_kind d.store ≡ kind.N → g.kept_rows d.store ≡ [] → g.last_tid d.store ≡ 0 → d.transaction ≡ None → Stands view source_view g d (begun_session (view d.tree))
+pub stands-begun : {R S P : Type 0} (view : R → Tree) (source_view : S → Tree) (g : Ghosts P) (d : Database R S P) → IsTree (view d.tree) → sources_in source_view d.sources ≡ [] → is_built (g.kept_kind d.store) ≡ true → g.kept_rows d.store ≡ [] → g.last_tid d.store ≡ 0 → d.transaction ≡ None → Stands view source_view g d (begun_session (g.kept_kind d.store) (view d.tree))
 unfolding replay start_state
-stands-begun view source_view g d h none_loaded naive list upto none = record {
-  state = start_state kind.N (view d.tree);
+stands-begun view source_view g d h none_loaded built list upto none = record {
+  state = start_state (g.kept_kind d.store) (view d.tree);
   replayed = refl;
   legal = (h, tt);
-  kind = naive;
-  naive = refl;
+  kind = refl;
+  built = built;
   sources = none_loaded;
   bounded = omega arith;
   tree = sym (tree_of-aged (view d.tree));
   rows = list;
   upto = upto;
-  opened = subst (λ y. Opens view y [] (tree_of (start_state kind.N (view d.tree)).tree) 1 closed) (sym none) tt;
+  opened = subst (λ y. Opens view y (g.kept_kind d.store) [] (tree_of (start_state (g.kept_kind d.store) (view d.tree)).tree) 1 closed) (sym none) tt;
   few = omega arith;
 }
 

@@ -1,5 +1,5 @@
 -- What a database keeps of a session: the committed tree with its rows, and the open transaction.
-use Rattle.std.specs.Prelude.{ℕ, ◌≡◌, ◌+◌, ◌-◌, ◌≤◌, ◌^◌, List, [], length, map, if◌then◌else◌, ⊤}
+use Rattle.std.specs.Prelude.{ℕ, ◌≡◌, true, ◌+◌, ◌-◌, ◌≤◌, ◌^◌, List, [], length, map, if◌then◌else◌, ⊤}
 use Rattle.std.specs.declared.option.Option.{Option}
 use Rattle.std.specs.declared.option.Option.TheVariants.{None, Some}
 use Rattle.cp_path.specs.declared.loc.Loc.{Loc}
@@ -10,7 +10,7 @@ use Rattle.cp_model.specs.Past.{tree_of}
 use Rattle.cp_model.specs.Keyed.{len}
 use Rattle.cp_model.specs.Subtrees.{is_there, below}
 use Rattle.cp_model.specs.History.{State, IsLegal, replay, load}
-use Rattle.cp_model.specs.declared.kind.Kind.TheVariants.{N}
+use Rattle.cp_model.specs.declared.kind.Kind.{Kind}
 use Rattle.cp_model.specs.declared.op.Op.{Op}
 use Rattle.cp_reply.specs.declared.reply.Reply.{Reply}
 use Rattle.cp_reply.specs.declared.reply.Of.TheVariants as of
@@ -18,6 +18,7 @@ use Rattle.cp_reply.specs.declared.reply.Why.TheVariants as why
 use Rattle.cp_reply.specs.declared.reply.Reply.TheVariants as reply
 use Rattle.cp_session.specs.Session.{Session, OpenTransaction, closed, going, failed, Turn, current_tree, with_entry, row_of}
 use Rattle.cp_engine.specs.Loaded.{sources_in}
+use Rattle.cp_engine.specs.Passed.{is_built}
 use Rattle.cp_engine.specs.Transactions as txn
 use Rattle.cp_engine.specs.declared.txn.Txn.{Txn}
 use Rattle.cp_engine.specs.declared.txn.Step.{Step}
@@ -32,13 +33,13 @@ held_in (going ops) = length ops
 held_in (failed n c) = 0
 
 -- the transaction, if one is open, has come as far as the session's
-abbrev pub Opens : {R : Type 0} → (R → Tree) → Option (Txn R) → List Source → Tree → ℕ → OpenTransaction → Type 0
-Opens view None ss t n closed = ⊤
-Opens view None ss t n (going ops) = ⊥
-Opens view None ss t n (failed k c) = ⊥
-Opens view (Some x) ss t n closed = ⊥
-Opens view (Some x) ss t n (going ops) = txn.Stands view x ss t n (txn.going ops) × (1 ≤ length ops)
-Opens view (Some x) ss t n (failed k c) = txn.Stands view x ss t n (txn.failed k c)
+abbrev pub Opens : {R : Type 0} → (R → Tree) → Option (Txn R) → Kind → List Source → Tree → ℕ → OpenTransaction → Type 0
+Opens view None k ss t n closed = ⊤
+Opens view None k ss t n (going ops) = ⊥
+Opens view None k ss t n (failed i c) = ⊥
+Opens view (Some x) k ss t n closed = ⊥
+Opens view (Some x) k ss t n (going ops) = txn.Stands view x k ss t n (txn.going ops) × (1 ≤ length ops)
+Opens view (Some x) k ss t n (failed i c) = txn.Stands view x k ss t n (txn.failed i c)
 
 -- the tree, the sources and the store are those to which the session's history leads, and the transaction is the session's;
 -- no more Tids were given than statements were run
@@ -47,14 +48,14 @@ pub record Stands {R S P : Type 0} (view : R → Tree) (source_view : S → Tree
   pub replayed : replay s.history ≡ Some state
   pub legal : IsLegal s.history
   pub kind : g.kept_kind d.store ≡ state.kind
-  -- a transaction makes the rows of a naive store, and of no other yet
-  pub naive : state.kind ≡ N
+  -- of the kinds in which transactions are made
+  pub built : is_built state.kind ≡ true
   pub sources : sources_in source_view d.sources ≡ state.sources
   pub bounded : length state.sources ≤ SOURCES_MAX
   pub tree : view d.tree ≡ tree_of state.tree
   pub rows : g.kept_rows d.store ≡ state.rows
   pub upto : g.last_tid d.store ≡ state.now
-  pub opened : Opens view d.transaction state.sources (tree_of state.tree) (state.now + 1) s.opened
+  pub opened : Opens view d.transaction state.kind state.sources (tree_of state.tree) (state.now + 1) s.opened
   pub few : state.now + held_in s.opened ≤ d.runs
 
 -- it stands for some session
@@ -89,7 +90,7 @@ progress_of (failed n c) = txn.failed n c
 
 -- the transaction is the open one, or one that begins on the committed tree
 abbrev pub IsOpened : {R S P : Type 0} → (R → Tree) → (S → Tree) → Ghosts P → Database R S P → Txn R → Type 0
-IsOpened view source_view g d x = (s : Session) → (z : Stands view source_view g d s) → txn.Stands view x z.state.sources (tree_of z.state.tree) (z.state.now + 1) (progress_of s.opened)
+IsOpened view source_view g d x = (s : Session) → (z : Stands view source_view g d s) → txn.Stands view x z.state.kind z.state.sources (tree_of z.state.tree) (z.state.now + 1) (progress_of s.opened)
 
 -- the transaction is open
 abbrev pub holding : {R S P : Type 0} → Database R S P → Txn R → Database R S P
@@ -102,7 +103,7 @@ pub record Makes {R S P : Type 0} (view : R → Tree) (source_view : S → Tree)
   pub stands : Stands view source_view g (holding d transaction) s
   pub ops : List Op
   pub opened : s.opened ≡ going ops
-  pub step : txn.IsStep view stands.state.sources (tree_of stands.state.tree) (stands.state.now + 1) ops (2 ^ 64 - 1) x
+  pub step : txn.IsStep view stands.state.kind stands.state.sources (tree_of stands.state.tree) (stands.state.now + 1) ops (2 ^ 64 - 1) x
 
 -- the tree is kept as a source under the name, and the reply says so
 abbrev pub Loads : {R S P : Type 0} → (R → Tree) → (S → Tree) → Ghosts P → Session → List ℕ → Tree → Database R S P → Reply → Type 0

@@ -1,7 +1,7 @@
 -- What a text says, and what a session is run with.
 use Rattle.std.specs.Prelude.{ℕ, ◌≡◌, List, [], Bool, true, Result, Ok, Err, length, if◌then◌else◌}
 use Rattle.cp_model.specs.Tree.{Tree}
-use Rattle.cp_model.specs.declared.kind.Kind.TheVariants as kind
+use Rattle.cp_model.specs.declared.kind.Kind.{Kind}
 use Rattle.cp_lang.specs.Lexer.{tokens_of, first_offset}
 use Rattle.cp_lang.specs.Grammar.{bytes_reading}
 use Rattle.cp_lang.specs.declared.syntax_tree.Stmt.{Stmt}
@@ -46,9 +46,9 @@ reading text = read_as text (bytes_reading text)
 abbrev pub setting : FileTable → Setting
 setting files = record { read = reading; fetch = fetch files; fits = λ history stamp ops records. true; has_room = λ history n t. true; curator = [] }
 
--- a naive store that starts from this tree
-abbrev pub begun_session : Tree → Session
-begun_session t = fresh kind.N t []
+-- a store of this kind that starts from this tree
+abbrev pub begun_session : Kind → Tree → Session
+begun_session k t = fresh k t []
 
 -- What the code made of a text: a statement that is run, or why it is refused.
 abbrev pub SaysAs : List ℕ → Result Stmt Why → Type 0

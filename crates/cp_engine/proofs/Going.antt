@@ -1,18 +1,31 @@
 -- What each call does to a transaction.
 use Rattle.cp_model.specs.declared.limits.TheConstants.{OPS_MAX}
-use Rattle.std.specs.Prelude.{ℕ, ◌+◌, ◌≤◌, ◌<◌, ◌≡◌, ◌^◌, List, [], ◌∷◌, ◌++◌, length}
-use Rattle.std.proofs.Common.{sym, ap, ◌∙◌, arith, length-append}
+use Rattle.std.specs.Prelude.{ℕ, ◌+◌, ◌≤◌, ◌<◌, ◌≡◌, ◌^◌, true, List, [], ◌∷◌, ◌++◌, length}
+use Rattle.std.proofs.Common.{sym, ap, subst, ◌∙◌, arith, length-append}
+use Rattle.std.proofs.lemmas.List.Sums.{fold-append}
 use Rattle.std.specs.declared.option.Option.TheVariants.{None}
 use Rattle.cp_model.specs.Tree.{Tree, Source, IsTree, refusal, tree_after}
-use Rattle.cp_model.specs.Laws.{AreTrees}
-use Rattle.cp_model.specs.History.{IsWritten, with_tid}
+use Rattle.cp_model.specs.Laws.{AreSources, Sound}
+use Rattle.cp_model.specs.Step.{Working, contents, open_tree, apply_op, done, then_op, step}
+use Rattle.cp_model.specs.History.{IsWritten, AreWritten, with_tid}
+use Rattle.cp_model.specs.declared.kind.Kind.{Kind}
+use Rattle.cp_model.specs.declared.kind.Kind.TheVariants as kind
 use Rattle.cp_model.specs.declared.op.Op.{Op}
-use Rattle.cp_engine.specs.Passed.{Stage, stage_after, next_stage}
-use Rattle.cp_engine.specs.Held.{Appended}
+use Rattle.cp_model.specs.declared.origin.Origin.{Origin}
+use Rattle.cp_model.specs.declared.origin.Origin.TheVariants.{New as new, Was as was}
+use Rattle.cp_model.specs.declared.record.Record.{Record}
+use Rattle.cp_model.proofs.Folds.{then-accepted}
+use Rattle.cp_model.proofs.Histories.{trees-sources}
+use Rattle.cp_model.proofs.Kept.{closed-step}
+use Rattle.cp_model.proofs.Origins.{sound-step}
+use Rattle.cp_overlay.specs.Kept.{Kept}
+use Rattle.cp_overlay.specs.Kept as overlay
+use Rattle.cp_overlay.specs.Seen.{seen}
+use Rattle.cp_engine.specs.Passed.{Stage, stage_after, next_stage, AllAccepted, is_built, outcome_records, records_of}
 use Rattle.cp_engine.specs.RowsAlone.{op_rows}
 use Rattle.cp_engine.proofs.RowsAloneLemmas.{rows-alone}
-use Rattle.cp_engine.proofs.Linked.{passed-snoc, pass-tree, accepted-snoc, written-snoc, passed-next, tree-passed}
-use Rattle.cp_engine.specs.Transactions.{IsGoing}
+use Rattle.cp_engine.proofs.Linked.{passed-snoc, pass-tree, accepted-step, accepted-snoc, written-snoc, passed-next, tree-passed}
+use Rattle.cp_engine.specs.Transactions.{Keeps, Adds, Packs, IsGoing}
 use Rattle.cp_engine.specs.declared.txn.Txn.{Txn}
 
 -- the records of one accepted operation more
@@ -20,30 +33,116 @@ pass-records : (ss : List Source) (x : Stage) (op : Op) → IsTree x.tree → Is
 unfolding next_stage
 pass-records ss x op h w n = ap (λ rows. x.records ++ with_tid x.next rows) (rows-alone ss x.tree op h w n)
 
+-- ---- what is kept
+
+-- after accepted operations the working tree is one that an overlay may stand for
+working-done : (ss : List Source) (t : Tree) (ops : List Op) (k : ℕ) (w : Working) → IsTree t → AreSources ss → AreWritten ops → step t ss ops ≡ done k w → overlay.IsWorking w
+working-done ss t ops k w h s a e = record {
+  closed = closed-step t ss ops k w h (trees-sources ss s) a e;
+  fits = λ p x i. fit x.origin (sound-step t ss ops k w h s e p x i);
+}
+  where
+    fit : (o : Origin) → Sound ss t o → overlay.Fits o
+    fit new s = tt
+    fit (was q) s = s.fits
+
+-- one accepted operation more is one more in the same step
+step-snoc : (ss : List Source) (t : Tree) (ops : List Op) (op : Op) (k : ℕ) (w : Working) → step t ss ops ≡ done k w → refusal ss (contents w) op ≡ None → step t ss (ops ++ op ∷ []) ≡ done (k + 1) (apply_op ss w op)
+unfolding step
+step-snoc ss t ops op k w e n =
+    fold-append (then_op ss) (done 0 (open_tree t)) ops (op ∷ [])
+    ∙ ap (λ o. then_op ss o op) e
+    ∙ then-accepted ss op k w n
+
+same-end : (j k : ℕ) (v w : Working) → done j v ≡ done k w → v ≡ w
+same-end j k v w e = cc
+
+-- nothing is kept where nothing is held
+kept-begun : (k : Kind) (rows : List Record) (o : Kept) (ss : List Source) (t : Tree) (n : ℕ) → is_built k ≡ true → rows ≡ [] → ((t : Tree) → overlay.Stands o t (open_tree t)) → Keeps k rows o ss t n []
+unfolding stage_after step
+kept-begun kind.N rows o ss t n b e h = e
+kept-begun kind.T rows o ss t n b e h = λ w d. subst (overlay.Stands o t) (same-end 0 0 (open_tree t) w d) (h t)
+kept-begun kind.H rows o ss t n b e h = absurd (cc)
+kept-begun kind.HT rows o ss t n b e h = absurd (cc)
+
+-- what holds of a transaction's tree and operations, where one operation more is accepted
+record IsNext (ss : List Source) (t : Tree) (n : ℕ) (ops : List Op) (op : Op) : Type 0 where
+  start : IsTree t
+  sources : AreSources ss
+  written : AreWritten ops
+  accepted : AllAccepted ss t ops
+  more : IsWritten op
+  accept : refusal ss (stage_after ss t n ops).tree op ≡ None
+
+-- one operation more is kept
+kept-more : (k : Kind) (rows more : List Record) (o later : Kept) (ss : List Source) (t : Tree) (n : ℕ) (ops : List Op) (op : Op) → IsNext ss t n ops op → Keeps k rows o ss t n ops →
+    Adds k rows o more later ss t (stage_after ss t n ops).tree (stage_after ss t n ops).next op → Keeps k more later ss t n (ops ++ op ∷ [])
+kept-more kind.N rows more o later ss t n ops op h e a =
+    let p = stage_after ss t n ops in
+    a.is
+    ∙ ap (λ rs. rs ++ with_tid p.next (op_rows ss p.tree op)) e
+    ∙ sym (pass-records ss p op (tree-passed ss t n ops h.start (trees-sources ss h.sources) h.written h.accepted) h.more h.accept)
+    ∙ ap (λ q. q.records) (sym (passed-snoc ss t n ops op))
+kept-more kind.T rows more o later ss t n ops op h e a = λ v d.
+    let x = accepted-step ss t n ops h.accepted in
+    let none : refusal ss (contents x.0) op ≡ None = ap (λ u. refusal ss u op) x.2 ∙ h.accept in
+    let one = step-snoc ss t ops op (length ops) x.0 x.1 none in
+    subst (overlay.Stands later t) (same-end (length ops + 1) (length (ops ++ op ∷ [])) (apply_op ss x.0 op) v (sym one ∙ d))
+    (a x.0 (working-done ss t ops (length ops) x.0 h.start h.sources h.written x.1) none (e x.0 x.1))
+kept-more kind.H rows more o later ss t n ops op h e a = absurd e
+kept-more kind.HT rows more o later ss t n ops op h e a = absurd e
+
+-- what is packed are the records of the steps
+packed-kept : (k : Kind) (rows rs : List Record) (o : Kept) (ss : List Source) (t : Tree) (n : ℕ) (ops : List Op) → IsTree t → AreSources ss → AreWritten ops → AllAccepted ss t ops → Keeps k rows o ss t n ops →
+    Packs k rows o t (stage_after ss t n ops).tree n rs → rs ≡ records_of k ss t n ops
+packed-kept kind.N rows rs o ss t n ops h s w a e p = p ∙ e
+packed-kept kind.T rows rs o ss t n ops h s w a e p =
+    let x = accepted-step ss t n ops a in
+    p x.0 (working-done ss t ops (length ops) x.0 h s w x.1) (e x.0 x.1) x.2 ∙ ap (outcome_records t n) (sym x.1)
+packed-kept kind.H rows rs o ss t n ops h s w a e p = absurd e
+packed-kept kind.HT rows rs o ss t n ops h s w a e p = absurd e
+
+-- ---- transactions
+
 module _ {R : Type 0} (view : R → Tree) (ss : List Source) where
   -- a transaction that has just begun
-  pub going-begun : (x : Txn R) (t : Tree) (n : ℕ) → IsTree t → n ≤ 2 ^ 63 → x.ops ≡ [] → x.first ≡ n → view x.tree ≡ t → x.rows ≡ [] → x.failure ≡ None → IsGoing view x ss t n []
+  pub going-begun : (x : Txn R) (k : Kind) (t : Tree) (n : ℕ) → is_built k ≡ true → IsTree t → AreSources ss → n ≤ 2 ^ 63 → x.ops ≡ [] → x.first ≡ n → view x.tree ≡ t → x.kind ≡ k → view x.start ≡ t → x.rows ≡ [] → ((t : Tree) → overlay.Stands (seen x.overlay) t (open_tree t)) →
+      x.failure ≡ None → IsGoing view x k ss t n []
   unfolding stage_after
-  going-begun x t n h b o f e r k = record { start = h; first = b; few = omega arith; written = tt; accepted = tt; held = o; tid = f; tree = e; rows = r; failure = k }
+  going-begun x k t n b h s u o f e i a r v l = record {
+    start = h;
+    sources = s;
+    first = u;
+    few = omega arith;
+    written = tt;
+    accepted = tt;
+    held = o;
+    tid = f;
+    tree = e;
+    kind = i;
+    begun = a;
+    kept = kept-begun k x.rows (seen x.overlay) ss t n b r v;
+    failure = l;
+  }
 
   -- one operation more is held
-  pub going-more : (x y : Txn R) (t : Tree) (n tid : ℕ) (ops : List Op) (op : Op) → AreTrees ss → IsWritten op → length x.ops < OPS_MAX → refusal ss (view x.tree) op ≡ None → tid ≡ x.first + length x.ops →
-      y.ops ≡ x.ops ++ op ∷ [] → y.first ≡ x.first → view y.tree ≡ tree_after ss (view x.tree) op → Appended x.rows y.rows (with_tid tid (op_rows ss (view x.tree) op)) → y.failure ≡ x.failure →
-      IsGoing view x ss t n ops → IsGoing view y ss t n (ops ++ op ∷ [])
-  going-more x y t n tid ops op k w b a i o f e r l h =
+  pub going-more : (x y : Txn R) (k : Kind) (t : Tree) (n tid : ℕ) (ops : List Op) (op : Op) → IsWritten op → length x.ops < OPS_MAX → refusal ss (view x.tree) op ≡ None → tid ≡ x.first + length x.ops →
+      y.ops ≡ x.ops ++ op ∷ [] → y.first ≡ x.first → y.kind ≡ x.kind → view y.start ≡ view x.start → view y.tree ≡ tree_after ss (view x.tree) op → Adds x.kind x.rows (seen x.overlay) y.rows (seen y.overlay) ss (view x.start) (view x.tree) tid op → y.failure ≡ x.failure →
+      IsGoing view x k ss t n ops → IsGoing view y k ss t n (ops ++ op ∷ [])
+  going-more x y k t n tid ops op w b a i o f j s e r l h =
       let p = stage_after ss t n ops in
       let more : stage_after ss t n (ops ++ op ∷ []) ≡ next_stage ss p op = passed-snoc ss t n ops op in
       let accept : refusal ss p.tree op ≡ None = ap (λ u. refusal ss u op) (sym h.tree) ∙ a in
-      let is_tree : IsTree p.tree = tree-passed ss t n ops h.start k h.written h.accepted in
       let number : tid ≡ p.next = omega (arith, i, passed-next ss t n ops, h.tid, ap length h.held) in
-      let records : p.records ++ with_tid tid (op_rows ss (view x.tree) op) ≡ (stage_after ss t n (ops ++ op ∷ [])).records =
-      ap (λ n. p.records ++ with_tid n (op_rows ss (view x.tree) op)) number
-      ∙ ap (λ u. p.records ++ with_tid p.next (op_rows ss u op)) h.tree
-      ∙ sym (pass-records ss p op is_tree w accept)
-      ∙ ap (λ q. q.records) (sym more)
+      let adds : Adds k x.rows (seen x.overlay) y.rows (seen y.overlay) ss t p.tree p.next op =
+      subst (λ d. Adds d x.rows (seen x.overlay) y.rows (seen y.overlay) ss t p.tree p.next op) h.kind
+      (subst (λ a. Adds x.kind x.rows (seen x.overlay) y.rows (seen y.overlay) ss a p.tree p.next op) h.begun
+      (subst (λ u. Adds x.kind x.rows (seen x.overlay) y.rows (seen y.overlay) ss (view x.start) u p.next op) h.tree
+      (subst (λ m. Adds x.kind x.rows (seen x.overlay) y.rows (seen y.overlay) ss (view x.start) (view x.tree) m op) number r)))
       in
       record {
         start = h.start;
+        sources = h.sources;
         first = h.first;
         few = omega (arith, b, length-append ops (op ∷ []), ap length h.held);
         written = written-snoc ops op h.written w;
@@ -51,6 +150,37 @@ module _ {R : Type 0} (view : R → Tree) (ss : List Source) where
         held = o ∙ ap (λ os. os ++ op ∷ []) h.held;
         tid = f ∙ h.tid;
         tree = e ∙ ap (λ u. tree_after ss u op) h.tree ∙ sym (pass-tree ss p op) ∙ ap (λ q. q.tree) (sym more);
-        rows = r.is ∙ ap (λ rs. rs ++ with_tid tid (op_rows ss (view x.tree) op)) h.rows ∙ records;
+        kind = j ∙ h.kind;
+        begun = s ∙ h.begun;
+        kept = kept-more k x.rows y.rows (seen x.overlay) (seen y.overlay) ss t n ops op (record { start = h.start; sources = h.sources; written = h.written; accepted = h.accepted; more = w; accept = accept }) h.kept adds;
         failure = l ∙ h.failure;
       }
+
+  -- what keeps everything that counts goes on as it was
+  pub going-same : (x y : Txn R) (k : Kind) (t : Tree) (n : ℕ) (ops : List Op) → y.ops ≡ x.ops → y.first ≡ x.first → y.kind ≡ x.kind → view y.start ≡ view x.start → view y.tree ≡ view x.tree → y.rows ≡ x.rows → seen y.overlay ≡ seen x.overlay → y.failure ≡ x.failure →
+      IsGoing view x k ss t n ops → IsGoing view y k ss t n ops
+  going-same x y k t n ops o f j s e r v l h = record {
+    start = h.start;
+    sources = h.sources;
+    first = h.first;
+    few = h.few;
+    written = h.written;
+    accepted = h.accepted;
+    held = o ∙ h.held;
+    tid = f ∙ h.tid;
+    tree = e ∙ h.tree;
+    kind = j ∙ h.kind;
+    begun = s ∙ h.begun;
+    kept = subst (λ z. Keeps k y.rows z ss t n ops) (sym v) (subst (λ z. Keeps k z (seen x.overlay) ss t n ops) (sym r) h.kept);
+    failure = l ∙ h.failure;
+  }
+
+  -- what is packed are the records of its steps
+  pub packed-going : (x : Txn R) (k : Kind) (t : Tree) (n tid : ℕ) (ops : List Op) (rs : List Record) → tid ≡ x.first + 0 → IsGoing view x k ss t n ops → Packs x.kind x.rows (seen x.overlay) (view x.start) (view x.tree) tid rs → rs ≡ records_of k ss t n ops
+  packed-going x k t n tid ops rs i h r =
+      let number : tid ≡ n = omega (arith, i, h.tid) in
+      packed-kept k x.rows rs (seen x.overlay) ss t n ops h.start h.sources h.written h.accepted h.kept
+      (subst (λ d. Packs d x.rows (seen x.overlay) t (stage_after ss t n ops).tree n rs) h.kind
+      (subst (λ a. Packs x.kind x.rows (seen x.overlay) a (stage_after ss t n ops).tree n rs) h.begun
+      (subst (λ u. Packs x.kind x.rows (seen x.overlay) (view x.start) u n rs) h.tree
+      (subst (λ m. Packs x.kind x.rows (seen x.overlay) (view x.start) (view x.tree) m rs) number r))))

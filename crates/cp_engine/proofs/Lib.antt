@@ -5,9 +5,12 @@ pub mod Changed
 pub mod Depths
 pub mod Recorded
 pub mod OpRows
+mod Finishing
+mod Followed
 pub mod Going
 pub mod Loading
 pub mod Linked
 pub mod LoadedLemmas
 pub mod Rising
 pub mod RowsAloneLemmas
+pub mod Stepped

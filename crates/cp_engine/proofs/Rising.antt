@@ -20,7 +20,7 @@ use Rattle.cp_model.proofs.Passing.{and_true, and_both, or_true}
 use Rattle.cp_model.proofs.Sorted.{parts_of}
 use Rattle.cp_store.specs.Changes.{goes_before, rises, is_source, is_between, AreNext}
 use Rattle.cp_engine.specs.Passed.{Stage, next_stage, stage_after}
-use Rattle.cp_engine.proofs.RowsAloneLemmas.{sorted-full_rows}
+use Rattle.cp_overlay.proofs.Marking.{sorted-full_rows}
 
 -- a record has the Tid of its step
 pub tid-record_of : (t : ℕ) (p : Path) (m : Mark) → (record_of t p m).tid ≡ t

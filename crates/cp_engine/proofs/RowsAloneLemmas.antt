@@ -1,12 +1,11 @@
 -- The full rows of a step of one operation.
-use Rattle.std.specs.Prelude.{ℕ, ◌≡◌, Bool, true, false, cond, ◌&&◌, List, [], ◌∷◌, ◌++◌, map, is_some, if◌then◌else◌, refl}
+use Rattle.std.specs.Prelude.{ℕ, ◌≡◌, Bool, true, false, cond, ◌&&◌, List, [], ◌∷◌, ◌++◌, is_some, if◌then◌else◌, refl}
 use Rattle.std.proofs.Common.{sym, ap, subst, ◌∙◌, T, append_assoc}
 use Rattle.std.proofs.lemmas.List.{append_cancel_right}
-use Rattle.std.specs.List.{cons_option}
 use Rattle.std.specs.declared.option.Option.{Option}
 use Rattle.std.specs.declared.option.Option.TheVariants.{None, Some}
 use Rattle.std.specs.Ordering.{is_lt}
-use Rattle.std.specs.FinMap.Entries.{is_sorted, below_all, same_entries}
+use Rattle.std.specs.FinMap.Entries.{is_sorted, below_all}
 use Rattle.cp_path.specs.declared.loc.Loc.{Loc}
 use Rattle.cp_path.specs.Text.{text_eq}
 use Rattle.cp_model.specs.declared.row.Content.{Content}
@@ -14,12 +13,11 @@ use Rattle.cp_model.specs.declared.literal.Literal.{Literal}
 use Rattle.cp_model.specs.declared.op.Op.{Op}
 use Rattle.cp_model.specs.declared.op.Op.TheVariants.{Ins, Del, Copy}
 use Rattle.cp_model.specs.Place.{Label, Path, path_cmp, path_eq, place_eq, target, at_target, in_target, child, below_place, strip, label_eq, option_map, or_else, nearest, with_rest}
-use Rattle.cp_path.proofs.Same.{path_same, path_eq-same, text_eq-same, place_eq-refl, place_eq-same}
-use Rattle.cp_path.specs.PathOrder.{path_total, path_eq_equiv}
+use Rattle.cp_path.proofs.Same.{path_eq-same, text_eq-same, place_eq-refl, place_eq-same}
+use Rattle.cp_path.specs.PathOrder.{path_eq_equiv}
 use Rattle.cp_model.specs.Keyed as keyed
 use Rattle.cp_model.specs.Keyed.{look}
-use Rattle.cp_model.proofs.KeyedLemmas.{look-find}
-use Rattle.cp_model.specs.Subtrees.{is_there, below, entries_under, without, with_subtree, with_values, map_values}
+use Rattle.cp_model.specs.Subtrees.{is_there, below, entries_under, without, with_subtree, with_values}
 use Rattle.cp_model.specs.Literals.{literal_rows}
 use Rattle.cp_model.specs.Tree.{Tree, Source, source, database, subtree_at, IsTree, IsRooted, refusal}
 use Rattle.cp_model.specs.declared.origin.Origin.TheVariants.{New as new, Was as was}
@@ -28,41 +26,21 @@ use Rattle.cp_model.specs.declared.record.RowMark.TheVariants.{Made as I, Copied
 use Rattle.cp_model.specs.Step.{Worked, Working, open_tree, as_new, from_source, entries_to_copy, apply_op}
 use Rattle.cp_model.specs.declared.effect.Effect.{Effect}
 use Rattle.cp_model.specs.declared.effect.Effect.TheVariants.{Same as same, From as from}
-use Rattle.cp_model.specs.Rows.{effect, effect_at, full_mark, is_same, nearest_is_same, same_above, lost_below_same, full_here, rows_with_marks, all_paths, full_rows}
+use Rattle.cp_model.specs.Rows.{effect, effect_at, full_mark, is_same, nearest_is_same, same_above, lost_below_same, full_here, full_rows}
 use Rattle.cp_model.specs.History.{IsWritten}
 use Rattle.cp_model.proofs.Strips.{strip_is, strip-append, append-nil, nearest-below}
 use Rattle.cp_model.specs.Laws.{at_rest_or}
 use Rattle.cp_model.proofs.Lookups.{find-moved, find-below, find-with_values, get-without, get-replaced, get-mapped}
-use Rattle.cp_model.proofs.Sorted.{path_cmp-append, parts_of, all_of, sorted-entries, sorted-below}
+use Rattle.cp_model.proofs.Sorted.{path_cmp-append, parts_of, all_of, sorted-below}
 use Rattle.cp_model.proofs.Accepted.{InsAccepted, ins_accepted, DelAccepted, del_accepted, copy_accepted}
 use Rattle.cp_model.proofs.Marks.{find-full_rows}
 use Rattle.cp_tree.proofs.Leaves.{nothing-below}
+use Rattle.cp_overlay.proofs.Marking.{sorted-full_rows, same_rows}
 use Rattle.cp_engine.specs.RowsAlone.{marks_below, op_rows}
 
 -- ---- rows that rise
 
 module _ {X : Type 0} where
-  below_marked : (f : Path → Option Mark) (k : Path) (es : List (Path × X)) → T (below_all path_cmp k es) → T (below_all path_cmp k (rows_with_marks f (map (λ e. e.0) es)))
-  below_marked f k [] h = tt
-  below_marked f k (e ∷ es) h =
-      let parts = parts_of (is_lt (path_cmp k e.0)) (below_all path_cmp k es) h in
-      let rest = below_marked f k es parts.1 in
-      elim (f e.0) as (λ o. T (below_all path_cmp k (cons_option (option_map (λ m. (e.0, m)) o) (rows_with_marks f (map (λ e. e.0) es))))) [
-        | None ↦ rest
-        | Some m ↦ all_of (is_lt (path_cmp k e.0)) (below_all path_cmp k (rows_with_marks f (map (λ e. e.0) es))) parts.0 rest
-      ]
-
-  -- marks at paths that rise are rows that rise
-  pub sorted-marked : (f : Path → Option Mark) (es : List (Path × X)) → T (is_sorted path_cmp es) → T (is_sorted path_cmp (rows_with_marks f (map (λ e. e.0) es)))
-  sorted-marked f [] h = tt
-  sorted-marked f (e ∷ es) h =
-      let parts = parts_of (below_all path_cmp e.0 es) (is_sorted path_cmp es) h in
-      let rest = sorted-marked f es parts.1 in
-      elim (f e.0) as (λ o. T (is_sorted path_cmp (cons_option (option_map (λ m. (e.0, m)) o) (rows_with_marks f (map (λ e. e.0) es))))) [
-        | None ↦ rest
-        | Some m ↦ all_of (below_all path_cmp e.0 (rows_with_marks f (map (λ e. e.0) es))) (is_sorted path_cmp (rows_with_marks f (map (λ e. e.0) es))) (below_marked f e.0 es parts.0) rest
-      ]
-
   below_behind : (p : Path) (f : Path → Mark) (k : Path) (es : List (Path × X)) → T (below_all path_cmp k es) → T (below_all path_cmp (p ++ k) (marks_below p f es))
   below_behind p f k [] h = tt
   below_behind p f k (e ∷ es) h =
@@ -89,15 +67,6 @@ module _ {X : Type 0} where
         | None ↦ refl
         | Some s ↦ find-with_values (λ s _. f s) s es
       ]
-
--- the full rows of a step rise
-pub sorted-full_rows : (a : Tree) (w : Working) → T (is_sorted path_cmp (full_rows a w))
-unfolding all_paths
-sorted-full_rows a w = sorted-marked (full_here a w) (keyed.entries (keyed.put_all (with_values (λ _ _. true) (keyed.entries w)) (map_values (λ _ _. true) a))) (sorted-entries _)
-
--- rows that rise and answer alike are the same
-pub same_rows : {X : Type 0} (es fs : List (Path × X)) → T (is_sorted path_cmp es) → T (is_sorted path_cmp fs) → ((r : Path) → look r es ≡ look r fs) → es ≡ fs
-same_rows es fs g h is = same_entries path_cmp path_total path_same es fs g h (λ r. sym (look-find r es) ∙ is r ∙ look-find r fs)
 
 -- ---- what one operation does to a place
 

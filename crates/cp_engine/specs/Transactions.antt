@@ -3,12 +3,23 @@ use Rattle.cp_model.specs.declared.limits.TheConstants.{OPS_MAX}
 use Rattle.std.specs.Prelude.{ℕ, ◌+◌, ◌-◌, ◌≡◌, ◌≤◌, ◌<◌, ◌^◌, List, [], ◌∷◌, ◌++◌, length, Result, Ok, Err, ⊤}
 use Rattle.std.specs.declared.option.Option.TheVariants.{None, Some}
 use Rattle.cp_model.specs.Tree.{Tree, Source, IsTree}
-use Rattle.cp_model.specs.History.{AreWritten}
+use Rattle.cp_model.specs.Laws.{AreSources}
+use Rattle.cp_model.specs.Step.{Working, contents, step, done}
+use Rattle.cp_model.specs.Rows.{full_rows}
+use Rattle.cp_model.specs.History.{AreWritten, steps_of, with_tid}
+use Rattle.cp_model.specs.declared.kind.Kind.{Kind}
+use Rattle.cp_model.specs.declared.kind.Kind.TheVariants as kind
 use Rattle.cp_model.specs.declared.op.Op.{Op}
+use Rattle.cp_model.specs.declared.record.Record.{Record}
 use Rattle.cp_model.specs.declared.refusal.Cause.{Cause}
 use Rattle.cp_model.specs.declared.refusal.Cause.TheVariants.{Refused, Unread}
 use Rattle.cp_record.specs.Bytes.{commit_length}
-use Rattle.cp_engine.specs.Passed.{stage_after, refusal_behind, AllAccepted}
+use Rattle.cp_overlay.specs.Kept.{Kept}
+use Rattle.cp_overlay.specs.Kept as overlay
+use Rattle.cp_overlay.specs.Seen.{seen}
+use Rattle.cp_engine.specs.Held.{Appended}
+use Rattle.cp_engine.specs.RowsAlone.{op_rows}
+use Rattle.cp_engine.specs.Passed.{stage_after, records_of, refusal_behind, AllAccepted}
 use Rattle.cp_engine.specs.declared.txn.Txn.{Txn}
 use Rattle.cp_engine.specs.declared.txn.Step.{Step}
 use Rattle.cp_engine.specs.declared.state.TxnState.{TxnState}
@@ -38,9 +49,33 @@ abbrev pub held_count : Progress → ℕ
 held_count (going ops) = length ops
 held_count (failed n c) = n - 1
 
--- the transaction holds these operations, which lead from the tree t with these sources, the first with the Tid n
-pub record IsGoing {R : Type 0} (view : R → Tree) (x : Txn R) (ss : List Source) (t : Tree) (n : ℕ) (ops : List Op) : Type 0 where
+-- what is kept of the operations that are held: in the naive kind the records of their steps, in the transactional kind the
+-- effects of the one step that they are
+abbrev pub Keeps : Kind → List Record → Kept → List Source → Tree → ℕ → List Op → Type 0
+Keeps kind.N rows o ss t n ops = rows ≡ (stage_after ss t n ops).records
+Keeps kind.T rows o ss t n ops = (w : Working) → step t ss ops ≡ done (length ops) w → overlay.Stands o t w
+Keeps kind.H rows o ss t n ops = ⊥
+Keeps kind.HT rows o ss t n ops = ⊥
+
+-- what is kept after one operation more, on the tree t of a step that began on the tree a: its records are behind the others,
+-- or the overlay has followed it
+abbrev pub Adds : Kind → List Record → Kept → List Record → Kept → List Source → Tree → Tree → ℕ → Op → Type 0
+Adds kind.N rows o more later ss a t n op = Appended rows more (with_tid n (op_rows ss t op))
+Adds kind.T rows o more later ss a t n op = overlay.Follows ss a o later op
+Adds kind.H rows o more later ss a t n op = ⊤
+Adds kind.HT rows o more later ss a t n op = ⊤
+
+-- the records of a commit, from what is kept: those of the steps, or those of the one step from the tree a to the tree t
+abbrev pub Packs : Kind → List Record → Kept → Tree → Tree → ℕ → List Record → Type 0
+Packs kind.N rows o a t n rs = rs ≡ rows
+Packs kind.T rows o a t n rs = (w : Working) → overlay.IsWorking w → overlay.Stands o a w → contents w ≡ t → rs ≡ with_tid n (full_rows a w)
+Packs kind.H rows o a t n rs = ⊤
+Packs kind.HT rows o a t n rs = ⊤
+
+-- the transaction holds these operations of a kind, which lead from the tree t with these sources, the first with the Tid n
+pub record IsGoing {R : Type 0} (view : R → Tree) (x : Txn R) (k : Kind) (ss : List Source) (t : Tree) (n : ℕ) (ops : List Op) : Type 0 where
   pub start : IsTree t
+  pub sources : AreSources ss
   pub first : n ≤ 2 ^ 63
   pub few : length ops ≤ OPS_MAX
   pub written : AreWritten ops
@@ -48,7 +83,9 @@ pub record IsGoing {R : Type 0} (view : R → Tree) (x : Txn R) (ss : List Sourc
   pub held : x.ops ≡ ops
   pub tid : x.first ≡ n
   pub tree : view x.tree ≡ (stage_after ss t n ops).tree
-  pub rows : x.rows ≡ (stage_after ss t n ops).records
+  pub kind : x.kind ≡ k
+  pub begun : view x.start ≡ t
+  pub kept : Keeps k x.rows (seen x.overlay) ss t n ops
   pub failure : x.failure ≡ None
 
 -- the transaction failed at this number, for this cause, and holds the operations before it
@@ -59,39 +96,39 @@ pub record IsFailed {R : Type 0} (view : R → Tree) (x : Txn R) (ss : List Sour
   pub failure : x.failure ≡ Some (record { number = k; cause = c })
 
 -- the transaction stands where this progress was made from the tree t
-abbrev pub Stands : {R : Type 0} → (R → Tree) → Txn R → List Source → Tree → ℕ → Progress → Type 0
-Stands view x ss t n (going ops) = IsGoing view x ss t n ops
-Stands view x ss t n (failed k c) = IsFailed view x ss t n k c
+abbrev pub Stands : {R : Type 0} → (R → Tree) → Txn R → Kind → List Source → Tree → ℕ → Progress → Type 0
+Stands view x k ss t n (going ops) = IsGoing view x k ss t n ops
+Stands view x k ss t n (failed j c) = IsFailed view x ss t n j c
 
 -- an operation is held behind the others, or refused by the first case that applies, or there was no memory for it
-abbrev pub Applies : {R : Type 0} → (R → Tree) → List Source → Tree → ℕ → Progress → Op → Txn R → Result ⊤ ApplyFault → Type 0
-Applies view ss t n (going ops) op new (Ok x) = (refusal_behind ss t n ops op ≡ None) × Stands view new ss t n (going (ops ++ op ∷ []))
-Applies view ss t n (going ops) op new (Err (denied.Failed k)) = ⊥
-Applies view ss t n (going ops) op new (Err (denied.Refused r)) = (refusal_behind ss t n ops op ≡ Some r) × Stands view new ss t n (failed (length ops + 1) (Refused r))
-Applies view ss t n (going ops) op new (Err denied.Memory) = Stands view new ss t n (going ops)
-Applies view ss t n (failed k c) op new (Ok x) = ⊥
-Applies view ss t n (failed k c) op new (Err (denied.Failed j)) = (j ≡ k) × Stands view new ss t n (failed k c)
-Applies view ss t n (failed k c) op new (Err (denied.Refused r)) = ⊥
-Applies view ss t n (failed k c) op new (Err denied.Memory) = ⊥
+abbrev pub Applies : {R : Type 0} → (R → Tree) → Kind → List Source → Tree → ℕ → Progress → Op → Txn R → Result ⊤ ApplyFault → Type 0
+Applies view k ss t n (going ops) op new (Ok x) = (refusal_behind ss t n ops op ≡ None) × Stands view new k ss t n (going (ops ++ op ∷ []))
+Applies view k ss t n (going ops) op new (Err (denied.Failed j)) = ⊥
+Applies view k ss t n (going ops) op new (Err (denied.Refused r)) = (refusal_behind ss t n ops op ≡ Some r) × Stands view new k ss t n (failed (length ops + 1) (Refused r))
+Applies view k ss t n (going ops) op new (Err denied.Memory) = Stands view new k ss t n (going ops)
+Applies view k ss t n (failed i c) op new (Ok x) = ⊥
+Applies view k ss t n (failed i c) op new (Err (denied.Failed j)) = (j ≡ i) × Stands view new k ss t n (failed i c)
+Applies view k ss t n (failed i c) op new (Err (denied.Refused r)) = ⊥
+Applies view k ss t n (failed i c) op new (Err denied.Memory) = ⊥
 
--- the operations, the tree to which they lead, their records and their number, within the limit of a commit's bytes
-pub record IsStep {R : Type 0} (view : R → Tree) (ss : List Source) (t : Tree) (n : ℕ) (ops : List Op) (limit : ℕ) (x : Step R) : Type 0 where
+-- the operations, the tree to which they lead, the records and the number of their steps, within the limit of a commit's bytes
+pub record IsStep {R : Type 0} (view : R → Tree) (k : Kind) (ss : List Source) (t : Tree) (n : ℕ) (ops : List Op) (limit : ℕ) (x : Step R) : Type 0 where
   pub some : 1 ≤ length ops
   pub held : x.ops ≡ ops
   pub tree : view x.tree ≡ (stage_after ss t n ops).tree
-  pub rows : x.rows ≡ (stage_after ss t n ops).records
-  pub tids : x.tids ≡ length ops
-  pub small : commit_length ops (stage_after ss t n ops).records ≤ limit
+  pub rows : x.rows ≡ records_of k ss t n ops
+  pub tids : x.tids ≡ length (steps_of k ops)
+  pub small : commit_length ops (records_of k ss t n ops) ≤ limit
 
 -- the step that a transaction makes, or why it makes none
-abbrev pub Finishes : {R : Type 0} → (R → Tree) → List Source → Tree → ℕ → Progress → ℕ → Result (Step R) FinishFault → Type 0
-Finishes view ss t n (going ops) limit (Ok x) = IsStep view ss t n ops limit x
-Finishes view ss t n (going ops) limit (Err unfinished.Empty) = ops ≡ []
-Finishes view ss t n (going ops) limit (Err (unfinished.Failed k c)) = ⊥
-Finishes view ss t n (going ops) limit (Err unfinished.TooLarge) = (1 ≤ length ops) × (limit < commit_length ops (stage_after ss t n ops).records) × (commit_length ops (stage_after ss t n ops).records < 2 ^ 64)
-Finishes view ss t n (going ops) limit (Err unfinished.Memory) = 1 ≤ length ops
-Finishes view ss t n (failed k c) limit (Ok x) = ⊥
-Finishes view ss t n (failed k c) limit (Err unfinished.Empty) = ⊥
-Finishes view ss t n (failed k c) limit (Err (unfinished.Failed j d)) = (j ≡ k) × (d ≡ c)
-Finishes view ss t n (failed k c) limit (Err unfinished.TooLarge) = ⊥
-Finishes view ss t n (failed k c) limit (Err unfinished.Memory) = ⊥
+abbrev pub Finishes : {R : Type 0} → (R → Tree) → Kind → List Source → Tree → ℕ → Progress → ℕ → Result (Step R) FinishFault → Type 0
+Finishes view k ss t n (going ops) limit (Ok x) = IsStep view k ss t n ops limit x
+Finishes view k ss t n (going ops) limit (Err unfinished.Empty) = ops ≡ []
+Finishes view k ss t n (going ops) limit (Err (unfinished.Failed j c)) = ⊥
+Finishes view k ss t n (going ops) limit (Err unfinished.TooLarge) = (1 ≤ length ops) × (limit < commit_length ops (records_of k ss t n ops)) × (commit_length ops (records_of k ss t n ops) < 2 ^ 64)
+Finishes view k ss t n (going ops) limit (Err unfinished.Memory) = 1 ≤ length ops
+Finishes view k ss t n (failed i c) limit (Ok x) = ⊥
+Finishes view k ss t n (failed i c) limit (Err unfinished.Empty) = ⊥
+Finishes view k ss t n (failed i c) limit (Err (unfinished.Failed j d)) = (j ≡ i) × (d ≡ c)
+Finishes view k ss t n (failed i c) limit (Err unfinished.TooLarge) = ⊥
+Finishes view k ss t n (failed i c) limit (Err unfinished.Memory) = ⊥

@@ -17,12 +17,12 @@ use crate::sources::Sources;
 use cp_model::Op;
 use cp_path::Loc;
 use cp_record::PackedRecords;
-use cp_tree::{TreeRep, insert_tree};
+use cp_tree::{TreeRep, graft, insert_tree};
 use std::alloc::{AllocError, Global};
 
 /// Changes the tree by an operation that it doesn't refuse, and appends the operation's records. After an error the tree
 /// is as it was, and there may be more records. Costs the change, and the bytes of the records' places.
-pub(crate) fn change<R: TreeRep, S: TreeRep>(
+fn change<R: TreeRep, S: TreeRep>(
     alloc: Global,
     rows: &mut PackedRecords,
     tid: u64,
@@ -118,4 +118,73 @@ fn copy_from<R: TreeRep, S: TreeRep>(
     let list = source.rows(alloc, &from.path)?;
     push_copies(rows, tid, &into.path, &list, from)?;
     tree.put_rows(alloc, &into.path, list.items.as_slice())
+}
+
+/// Changes the tree by an operation that it doesn't refuse, and keeps the operation's records behind the others. After an
+/// error tree and records are as they were. Costs the change, and the bytes of the records' places.
+pub(crate) fn record_op<R: TreeRep, S: TreeRep>(
+    alloc: Global,
+    rows: &mut PackedRecords,
+    tid: u64,
+    tree: &mut R,
+    sources: &Sources<S>,
+    op: &Op,
+) -> Result<(), AllocError>
+    requires written { IsWritten op.now }
+    requires accepted { refusal (sources_in S.contents sources.now) (R.contents tree.old) op.now ≡ None }
+    ensures tree { OnOk result (R.contents tree.new ≡ tree_after (sources_in S.contents sources.now) (R.contents tree.old) op.now) }
+    ensures rows { OnOk result (Appended rows.old rows.new (with_tid tid (op_rows (sources_in S.contents sources.now) (R.contents tree.old) op.now))) }
+    ensures same_tree { OnErr result (R.contents tree.new ≡ R.contents tree.old) }
+    ensures same_rows { OnErr result (rows.new ≡ rows.old) }
+{
+    let bytes = rows.len();
+    if let Err(fault) = change(alloc, rows, tid, tree, sources, op) {
+        rows.truncate(bytes);
+        return Err(fault);
+    }
+    Ok(())
+}
+
+/// Changes the tree by an operation that it doesn't refuse. After an error the tree is as it was. Costs the change.
+pub(crate) fn change_tree<R: TreeRep, S: TreeRep>(
+    alloc: Global,
+    tree: &mut R,
+    sources: &Sources<S>,
+    op: &Op,
+) -> Result<(), AllocError>
+    requires written { IsWritten op.now }
+    requires accepted { refusal (sources_in S.contents sources.now) (R.contents tree.old) op.now ≡ None }
+    ensures tree { OnOk result (R.contents tree.new ≡ tree_after (sources_in S.contents sources.now) (R.contents tree.old) op.now) }
+    ensures err { OnErr result (R.contents tree.new ≡ R.contents tree.old) }
+{
+    match op {
+        Op::Ins {
+            into,
+            label,
+            tree: literal,
+        } => insert_tree(alloc, tree, &into.path, label, literal),
+        Op::Del { label, from } => tree.remove(alloc, &from.path, label),
+        Op::Copy { from, into } => copy_tree(alloc, tree, sources, from, into),
+    }
+}
+
+/// The place becomes a copy of one of the tree or of a source.
+fn copy_tree<R: TreeRep, S: TreeRep>(
+    alloc: Global,
+    tree: &mut R,
+    sources: &Sources<S>,
+    from: &Loc,
+    into: &Loc,
+) -> Result<(), AllocError>
+    requires accepted { refusal (sources_in S.contents sources.now) (R.contents tree.old) (Copy from.now into.now) ≡ None }
+    ensures tree { OnOk result (R.contents tree.new ≡ tree_after (sources_in S.contents sources.now) (R.contents tree.old) (Copy from.now into.now)) }
+    ensures err { OnErr result (R.contents tree.new ≡ R.contents tree.old) }
+{
+    if from.db.is_target() {
+        return tree.copy_inside(alloc, &from.path, &into.path);
+    }
+    match sources.get(&from.db) {
+        Some(source) => graft(alloc, tree, source, &from.path, &into.path),
+        None => unreachable!(),
+    }
 }

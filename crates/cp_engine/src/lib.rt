@@ -5,6 +5,7 @@ mod change;
 mod checks;
 mod copy;
 mod fault;
+mod follow;
 mod held;
 mod rows;
 mod sources;

@@ -1,35 +1,46 @@
-ghost use Rattle.std.specs.Prelude.{◌≡◌, ◌==◌, ◌≤◌, ◌<◌, ◌+◌, ◌^◌, ℕ, List, [], ◌∷◌, ◌++◌, length, if◌then◌else◌, IfOk, OnOk, OnErr};
+ghost use Rattle.std.specs.Prelude.{◌≡◌, true, ◌==◌, ◌≤◌, ◌<◌, ◌+◌, ◌^◌, ℕ, List, [], ◌∷◌, ◌++◌, length, if◌then◌else◌, IfOk, OnOk, OnErr};
 ghost use Rattle.std.specs.declared.option.Option.TheVariants.{None, Some};
-ghost use Rattle.cp_model.specs.Tree.{Tree, Source, refusal};
-ghost use Rattle.cp_model.specs.History.{IsWritten};
+ghost use Rattle.cp_model.specs.Laws.{AreSources};
+ghost use Rattle.cp_model.specs.Tree.{Tree, Source, refusal, tree_after};
+ghost use Rattle.cp_model.specs.History.{IsWritten, steps_of};
+ghost use Rattle.cp_model.specs.declared.kind.Kind.{Kind as KindValue};
 ghost use Rattle.cp_model.specs.declared.op.Op.{Op};
-ghost use Rattle.cp_model.specs.declared.record.Record.{Record};
 ghost use Rattle.cp_model.specs.declared.refusal.Cause.{Cause};
 ghost use Rattle.cp_model.specs.declared.refusal.Refusal.TheVariants.{TooManyOps};
 ghost use Rattle.cp_record.specs.Bytes.{commit_length};
+ghost use Rattle.cp_overlay.specs.Seen.{seen};
 ghost use Rattle.cp_engine.specs.Loaded.{sources_in};
-ghost use Rattle.cp_engine.specs.Passed.{stage_after};
-ghost use Rattle.cp_engine.specs.Transactions.{Progress, going, IsFailed, Stands, Applies, Finishes, IsGoing, state_of, after_unread, held_count};
+ghost use Rattle.cp_engine.specs.Passed.{stage_after, is_built};
+ghost use Rattle.cp_engine.specs.Transactions.{Progress, going, IsFailed, Stands, Applies, Adds, Packs, Finishes, IsGoing, state_of, after_unread, held_count};
 
-use crate::change::change;
+use crate::change::record_op;
 use crate::checks::check;
 use crate::copy::copy_op;
 use crate::fault::{ApplyFault, FinishFault};
+use crate::follow::follow_op;
 use crate::held::{FirstTid, HeldOps};
 use crate::sources::Sources;
 use crate::state::{Failure, TxnState};
-use cp_model::{Cause, OPS_MAX, Op, OpList, RecordList, Refusal};
+use cp_model::{Cause, Kind, OPS_MAX, Op, OpList, RecordList, Refusal};
+use cp_overlay::Overlay;
 use cp_record::PackedRecords;
 use cp_tree::TreeRep;
 use std::alloc::{AllocError, Global};
 
-/// Operations on a working tree of their own, each a step with a Tid of its own.
+/// Operations on a working tree of their own. In the naive kind each of them is a step with a Tid of its own, whose records
+/// are kept. In the transactional kind they are one step, whose effects an overlay keeps.
 #[derive(Drop)]
 pub struct Txn<R: TreeRep> {
+    kind: Kind,
+    /// The tree on which the transaction began.
+    start: R,
     tree: R,
     first: FirstTid,
     ops: HeldOps,
+    /// Those of the steps that are done.
     rows: PackedRecords,
+    /// That of the open step.
+    overlay: Overlay,
     failure: Option<Failure>,
 }
 
@@ -43,16 +54,20 @@ pub struct Step<R: TreeRep> {
 }
 
 impl<R: TreeRep> Txn<R> {
-    /// A transaction on a copy of the tree, whose first operation gets the Tid `first`. Costs the copy.
-    pub fn begin(alloc: Global, tree: &R, first: u64) -> Result<Txn<R>, AllocError>
+    /// A transaction on a copy of the tree, whose first step gets the Tid `first`. Costs two copies.
+    pub fn begin(alloc: Global, tree: &R, kind: Kind, first: u64) -> Result<Txn<R>, AllocError>
+        requires kind { is_built kind ≡ true }
         requires first { first ≤ 2 ^ 63 }
-        ensures { IfOk result (λ x. (ss : List Source) → Stands R.contents x ss (R.contents tree.now) first (going [])) }
+        ensures { IfOk result (λ x. (ss : List Source) → AreSources ss → Stands R.contents x kind ss (R.contents tree.now) first (going [])) }
     {
         Ok(Txn {
+            kind,
+            start: tree.copy(alloc)?,
             tree: tree.copy(alloc)?,
             first: FirstTid::new(first),
             ops: HeldOps::new(alloc),
             rows: PackedRecords::new(alloc),
+            overlay: Overlay::new(alloc),
             failure: None,
         })
     }
@@ -66,7 +81,7 @@ impl<R: TreeRep> Txn<R> {
         sources: &Sources<S>,
     ) -> Result<(), ApplyFault>
         requires written { IsWritten op.now }
-        ensures { (t : Tree) (n : ℕ) (p : Progress) → Stands R.contents self.old (sources_in S.contents sources.now) t n p → Applies R.contents (sources_in S.contents sources.now) t n p op.now self.new result }
+        ensures { (k : KindValue) (t : Tree) (n : ℕ) (p : Progress) → Stands R.contents self.old k (sources_in S.contents sources.now) t n p → Applies R.contents k (sources_in S.contents sources.now) t n p op.now self.new result }
     {
         if let Some(failure) = self.failure {
             return Err(ApplyFault::Failed(failure.number));
@@ -104,19 +119,50 @@ impl<R: TreeRep> Txn<R> {
         requires written { IsWritten op.now }
         requires few { length self.old.ops < OPS_MAX }
         requires accepted { refusal (sources_in S.contents sources.now) (R.contents self.old.tree) op.now ≡ None }
-        ensures ok { (t : Tree) (n : ℕ) (ops : List Op) → IsGoing R.contents self.old (sources_in S.contents sources.now) t n ops → OnOk result (IsGoing R.contents self.new (sources_in S.contents sources.now) t n (ops ++ op.now ∷ [])) }
-        ensures err { (t : Tree) (n : ℕ) (ops : List Op) → IsGoing R.contents self.old (sources_in S.contents sources.now) t n ops → OnErr result (IsGoing R.contents self.new (sources_in S.contents sources.now) t n ops) }
+        ensures ok { (k : KindValue) (t : Tree) (n : ℕ) (ops : List Op) → IsGoing R.contents self.old k (sources_in S.contents sources.now) t n ops → OnOk result (IsGoing R.contents self.new k (sources_in S.contents sources.now) t n (ops ++ op.now ∷ [])) }
+        ensures err { (k : KindValue) (t : Tree) (n : ℕ) (ops : List Op) → IsGoing R.contents self.old k (sources_in S.contents sources.now) t n ops → OnErr result (IsGoing R.contents self.new k (sources_in S.contents sources.now) t n ops) }
     {
         let held = copy_op(alloc, op)?;
-        let bytes = self.rows.len();
         let tid = self.first.after(self.ops.len());
         self.ops.push(held)?;
-        if let Err(fault) = change(alloc, &mut self.rows, tid, &mut self.tree, sources, op) {
+        if let Err(fault) = self.advance(alloc, tid, op, sources) {
             self.ops.pop();
-            self.rows.truncate(bytes);
             return Err(fault);
         }
         Ok(())
+    }
+
+    /// Does an operation that isn't refused: as a step of its own with this Tid, or in the open step. After an error the
+    /// transaction is as it was.
+    fn advance<S: TreeRep>(
+        &mut self,
+        alloc: Global,
+        tid: u64,
+        op: &Op,
+        sources: &Sources<S>,
+    ) -> Result<(), AllocError>
+        requires written { IsWritten op.now }
+        requires accepted { refusal (sources_in S.contents sources.now) (R.contents self.old.tree) op.now ≡ None }
+        ensures rest { self.new ≡ record self.old { tree = self.new.tree; rows = self.new.rows; overlay = self.new.overlay } }
+        ensures tree { OnOk result (R.contents self.new.tree ≡ tree_after (sources_in S.contents sources.now) (R.contents self.old.tree) op.now) }
+        ensures adds { OnOk result (Adds self.old.kind self.old.rows (seen self.old.overlay) self.new.rows (seen self.new.overlay) (sources_in S.contents sources.now) (R.contents self.old.start) (R.contents self.old.tree) tid op.now) }
+        ensures err { OnErr result ((R.contents self.new.tree ≡ R.contents self.old.tree) × (self.new.rows ≡ self.old.rows) × (seen self.new.overlay ≡ seen self.old.overlay)) }
+    {
+        match self.kind {
+            Kind::N | Kind::H => {
+                record_op(alloc, &mut self.rows, tid, &mut self.tree, sources, op)
+            }
+            Kind::T | Kind::HT => {
+                follow_op(
+                    alloc,
+                    &mut self.overlay,
+                    &self.start,
+                    &mut self.tree,
+                    sources,
+                    op,
+                )
+            }
+        }
     }
 
     /// Lets the transaction fail at the operation behind the held ones.
@@ -132,7 +178,7 @@ impl<R: TreeRep> Txn<R> {
 
     /// Counts a text that couldn't be read as the next operation, at which a going transaction fails.
     pub fn spoil(&mut self)
-        ensures { (ss : List Source) (t : Tree) (n : ℕ) (p : Progress) → Stands R.contents self.old ss t n p → Stands R.contents self.new ss t n (after_unread p) }
+        ensures { (k : KindValue) (ss : List Source) (t : Tree) (n : ℕ) (p : Progress) → Stands R.contents self.old k ss t n p → Stands R.contents self.new k ss t n (after_unread p) }
     {
         if self.failure.is_none() {
             self.fail(Cause::Unread);
@@ -142,14 +188,14 @@ impl<R: TreeRep> Txn<R> {
     /// The working tree. Of a failed transaction it is the tree to which the operations before the failure lead.
     pub fn tree(&self) -> &R
         ensures failed { (ss : List Source) (t : Tree) (n k : ℕ) (c : Cause) → (h : IsFailed R.contents self.now ss t n k c) → R.contents result.now ≡ (stage_after ss t n h.ops).tree }
-        ensures going { (ss : List Source) (t : Tree) (n : ℕ) (ops : List Op) → Stands R.contents self.now ss t n (going ops) → R.contents result.now ≡ (stage_after ss t n ops).tree }
+        ensures going { (k : KindValue) (ss : List Source) (t : Tree) (n : ℕ) (ops : List Op) → Stands R.contents self.now k ss t n (going ops) → R.contents result.now ≡ (stage_after ss t n ops).tree }
     {
         &self.tree
     }
 
     /// How far the transaction has come.
     pub fn state(&self) -> TxnState
-        ensures { (ss : List Source) (t : Tree) (n : ℕ) (p : Progress) → Stands R.contents self.now ss t n p → result ≡ state_of p }
+        ensures { (k : KindValue) (ss : List Source) (t : Tree) (n : ℕ) (p : Progress) → Stands R.contents self.now k ss t n p → result ≡ state_of p }
     {
         match self.failure {
             Some(failure) => TxnState::Failed(failure.number, failure.cause),
@@ -157,10 +203,11 @@ impl<R: TreeRep> Txn<R> {
         }
     }
 
-    /// Ends the transaction with the step that it makes, whose bytes in a commit are at most `limit`. The transaction is
-    /// given up where it gives none. Costs the bytes of its records.
+    /// Ends the transaction with what it makes, whose bytes in a commit are at most `limit`. The transaction is given up
+    /// where it makes nothing. Costs the bytes of its records; in the transactional kind also what the overlay's net effect
+    /// costs.
     pub fn finish(self, alloc: Global, limit: u64) -> Result<Step<R>, FinishFault>
-        ensures { (ss : List Source) (t : Tree) (n : ℕ) (p : Progress) → Stands R.contents self ss t n p → Finishes R.contents ss t n p limit result }
+        ensures { (k : KindValue) (ss : List Source) (t : Tree) (n : ℕ) (p : Progress) → Stands R.contents self k ss t n p → Finishes R.contents k ss t n p limit result }
     {
         if let Some(failure) = self.failure {
             return Err(FinishFault::Failed(failure.number, failure.cause));
@@ -168,11 +215,21 @@ impl<R: TreeRep> Txn<R> {
         if self.ops.len() == 0 {
             return Err(FinishFault::Empty);
         }
-        if self.commit_length() > limit {
+        let first = self.first.after(0);
+        let rows = pack(
+            alloc,
+            self.kind,
+            self.rows,
+            &self.overlay,
+            &self.start,
+            &self.tree,
+            first,
+        )?;
+        if commit_length(&self.ops, &rows) > limit {
             return Err(FinishFault::TooLarge);
         }
-        let rows = self.rows.records(alloc)?;
-        let tids = self.ops.len() as u64;
+        let rows = rows.records(alloc)?;
+        let tids = steps_of(self.kind, self.ops.len());
         Ok(Step {
             ops: self.ops.into_list(),
             tree: self.tree,
@@ -181,21 +238,50 @@ impl<R: TreeRep> Txn<R> {
         })
     }
 
-    /// The bytes of the commit. Costs the places of its operations.
-    fn commit_length(&self) -> u64
-        ensures length { result ≡ commit_length self.now.ops self.now.rows }
-        ensures fits { result < 2 ^ 64 }
-    {
-        9 + self.ops.bytes() + self.rows.len() as u64
-    }
-
     /// Gives the transaction up, and says how many accepted operations it held.
     pub fn abort(self) -> u32
-        ensures { (ss : List Source) (t : Tree) (n : ℕ) (p : Progress) → Stands R.contents self ss t n p → result ≡ held_count p }
+        ensures { (k : KindValue) (ss : List Source) (t : Tree) (n : ℕ) (p : Progress) → Stands R.contents self k ss t n p → result ≡ held_count p }
     {
         match self.failure {
             Some(failure) => failure.number.saturating_sub(1),
             None => self.ops.len(),
         }
+    }
+}
+
+/// The records of a commit, whose first step has the Tid `first`: those that are kept, or those of the overlay's net effect
+/// between the two trees.
+fn pack<R: TreeRep>(
+    alloc: Global,
+    kind: Kind,
+    rows: PackedRecords,
+    overlay: &Overlay,
+    start: &R,
+    tree: &R,
+    first: u64,
+) -> Result<PackedRecords, AllocError>
+    ensures { IfOk result (λ rs. Packs kind rows (seen overlay.now) (R.contents start.now) (R.contents tree.now) first rs) }
+{
+    match kind {
+        Kind::N | Kind::H => Ok(rows),
+        Kind::T | Kind::HT => overlay.net(alloc, start, tree, first),
+    }
+}
+
+/// The bytes of the commit. Costs the places of its operations.
+fn commit_length(ops: &HeldOps, rows: &PackedRecords) -> u64
+    ensures length { result ≡ commit_length ops.now rows.now }
+    ensures fits { result < 2 ^ 64 }
+{
+    9 + ops.bytes() + rows.len() as u64
+}
+
+/// The number of steps that so many operations are in a kind.
+fn steps_of(kind: Kind, count: u32) -> u64
+    ensures { (ops : List Op) → length ops ≡ count → result ≡ length (steps_of kind ops) }
+{
+    match kind {
+        Kind::N | Kind::H => count as u64,
+        Kind::T | Kind::HT => 1,
     }
 }

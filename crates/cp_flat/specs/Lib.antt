@@ -1,2 +1,3 @@
 pub mod Changes
-pub mod Naive
+pub mod Stores
+pub mod Either

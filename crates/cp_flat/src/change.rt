@@ -5,14 +5,15 @@ ghost use Rattle.cp_path.specs.Encoding.{counted_bytes};
 ghost use Rattle.cp_model.specs.Place.{Path, over_limit};
 ghost use Rattle.cp_model.specs.Rows.{read_mark};
 ghost use Rattle.cp_model.specs.Leaps.{last};
-ghost use Rattle.cp_store.specs.Changes.{change_told};
+ghost use Rattle.cp_model.specs.declared.kind.Kind.TheVariants as kind;
+ghost use Rattle.cp_store.specs.Changes.{change_told, change_at};
 ghost use Rattle.cp_rows.specs.Rows.{IsKey};
 ghost use Rattle.cp_rows.specs.Steps.{steps_in};
 ghost use Rattle.cp_flat.specs.Changes.{rows_tell, reading_if};
 
 use cp_model::RowMark;
 use cp_path::{LABELS_MAX, LOC_MAX, Loc};
-use cp_rows::Rows;
+use cp_rows::{Rows, key_of};
 use cp_store::{Change, What};
 use std::alloc::{AllocError, Global};
 
@@ -43,7 +44,7 @@ fn done_by(mark: RowMark) -> Option<What>
 
 /// The newest change up to `t` of the place of the key. Costs a logarithm of the places and one of the place's steps, for
 /// the answer and for each step from there to `t` that changed nothing.
-pub(crate) fn newest_change(
+fn newest_change(
     rows: &Rows,
     alloc: Global,
     key: &[u8],
@@ -69,4 +70,22 @@ pub(crate) fn newest_change(
         high = step.tid - 1;
     }
     Ok(None)
+}
+
+/// The newest change of the place up to `t`, the same in both kinds. Costs the place's size, and a logarithm of the places
+/// and one of the place's steps, for the answer and for each step from there to `t` that changed nothing at the place.
+pub(crate) fn last_change(
+    rows: &Rows,
+    alloc: Global,
+    loc: &Loc,
+    t: u64,
+) -> Result<Option<Change>, AllocError>
+    ensures naive { IfOk result (λ c. change_told c ≡ change_at kind.N rows.now.list t loc.now) }
+    ensures transactional { IfOk result (λ c. change_told c ≡ change_at kind.T rows.now.list t loc.now) }
+{
+    if !loc.db.is_target() {
+        return Ok(None);
+    }
+    let key = key_of(alloc, &loc.path)?;
+    newest_change(rows, alloc, key.as_slice(), t)
 }

@@ -2,6 +2,10 @@
 #![tactic(auto)]
 
 mod change;
+mod either;
 mod naive;
+mod trans;
 
+pub use either::FlatStore;
 pub use naive::NaiveStore;
+pub use trans::TransStore;

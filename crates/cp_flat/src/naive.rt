@@ -1,9 +1,9 @@
 ghost use Rattle.std.specs.Prelude.{◌≡◌, [], IfOk};
 
-use crate::change::newest_change;
+use crate::change::last_change;
 use cp_model::{Kind, Record, RecordList};
 use cp_path::Loc;
-use cp_rows::{Rows, key_of};
+use cp_rows::Rows;
 use cp_store::{Change, ProvStore, StoreFault};
 use std::alloc::{AllocError, Global};
 use std::marker::Model;
@@ -61,11 +61,7 @@ impl ProvStore for NaiveStore {
         loc: &Loc,
         t: u64,
     ) -> Result<Option<Change>, StoreFault> {
-        if !loc.db.is_target() {
-            return Ok(None);
-        }
-        let key = key_of(alloc, &loc.path)?;
-        Ok(newest_change(&self.rows, alloc, key.as_slice(), t)?)
+        Ok(last_change(&self.rows, alloc, loc, t)?)
     }
 
     /// Costs a logarithm of the rows, and the answer's size.

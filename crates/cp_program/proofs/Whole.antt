@@ -9,9 +9,10 @@ use Rattle.cp_outside.specs.Causes.{Accounts, Rose}
 use Rattle.cp_outside.specs.FileReads.{FileTable}
 use Rattle.std.proofs.KnownBytes.{Consumes-nil}
 use Rattle.cp_model.specs.Tree.{Tree}
+use Rattle.cp_model.specs.declared.kind.Kind.{Kind}
 use Rattle.cp_session.specs.Session.{FetchedFile, gives, withholds}
 use Rattle.cp_reply.specs.declared.reply.Why.{Why}
-use Rattle.cp_program.specs.Words.{Start, usage_text, file_line, memory_line}
+use Rattle.cp_program.specs.Words.{Scratch, usage_text, file_line, memory_line}
 use Rattle.cp_program.specs.Job.{job_so_far, job, start_given, start_reads, refused_start}
 use Rattle.cp_database.specs.Fetched.{Gives}
 use Rattle.cp_database.specs.Files.{KnownFiles, HasRead, HasReadSome, IsTable, ReadsBefore}
@@ -34,18 +35,18 @@ use Rattle.cp_program.proofs.Runs.{parts}
 use Rattle.cp_program.proofs.Plays.{plays-none}
 
 -- no byte of the input writes nothing
-played-none : (files : FileTable) (t : Tree) → (job_so_far files t []).out ≡ []
+played-none : (j : Kind) (files : FileTable) (t : Tree) → (job_so_far j files t []).out ≡ []
 unfolding plays job_so_far
-played-none files t = (plays-none files (start t)).0
+played-none j files t = (plays-none files (start j t)).0
 
 -- ---- from the start tree on
 
 -- what a session does from its start is what the whole session does, after what was read for its start
-module _ (files : FileTable) (k : ℕ) (t : Tree) (taken : List ℕ) (i : KnownInput) (f fb : KnownFiles) (o : KnownOutput) (a : Outside) (r : HasRead f fb k) where
+module _ (j : Kind) (files : FileTable) (k : ℕ) (t : Tree) (taken : List ℕ) (i : KnownInput) (f fb : KnownFiles) (o : KnownOutput) (a : Outside) (r : HasRead f fb k) where
   abbrev read_all : (n m : ℕ) → m ≡ k + n → HasRead fb a.files n → HasRead f a.files m
   read_all n m e w = read-sum f fb a.files k n m e r w
 
-  did-start : (e : End) → Did (work_from files (start t) false) 0 taken (parts i fb o) a e → Did (work_on files k t) 0 taken (parts i f o) a e
+  did-start : (e : End) → Did (work_from files (start j t) false) 0 taken (parts i fb o) a e → Did (work_on j files k t) 0 taken (parts i f o) a e
   unfolding plays plays_all job_so_far job
   did-start how.Done w = record { refused_is = w.refused_is; wrote = w.wrote; read = read_all _ _ refl w.read }
   did-start how.Refused w = record { refused_is = w.refused_is; wrote = w.wrote; read = read_all _ _ refl w.read }
@@ -68,9 +69,9 @@ on-done (Ok x) f h = f h
 on-done (Err e) f h = tt
 
 -- a run of a session that begins on its start tree
-pub ran-begun : {R S : Type 0} (view : R → Tree) (source_view : S → Tree) (given : FileTable → FetchedFile) (k : ℕ) (x : Interpreter R S) (i : KnownInput) (f fb : KnownFiles) (o : KnownOutput) (a : Outside) (e : End) → fb.found ≡ f.found → HasRead f fb k → HasReadSome fb a.files
-    → x.refused ≡ false → ((t : FileTable) → IsTable t f fb → Begun view source_view (given t) (Ok x)) → RanFrom view source_view x 0 (parts i fb o) a e → Ran given k (parts i f o) a e
-ran-begun {R} {S} view source_view given k x i f fb o a e same read more none begun w = record {
+pub ran-begun : {R S : Type 0} (view : R → Tree) (source_view : S → Tree) (j : Kind) (given : FileTable → FetchedFile) (k : ℕ) (x : Interpreter R S) (i : KnownInput) (f fb : KnownFiles) (o : KnownOutput) (a : Outside) (e : End) → fb.found ≡ f.found → HasRead f fb k → HasReadSome fb a.files
+    → x.refused ≡ false → ((t : FileTable) → IsTable t f fb → Begun view source_view j (given t) (Ok x)) → RanFrom view source_view x 0 (parts i fb o) a e → Ran j given k (parts i f o) a e
+ran-begun {R} {S} view source_view j given k x i f fb o a e same read more none begun w = record {
   taken = w.taken;
   took = w.took;
   counted = w.counted;
@@ -82,19 +83,19 @@ ran-begun {R} {S} view source_view given k x i f fb o a e same read more none be
       inr (did_from files (given files) (begun files first) (table-second f fb a.files (k, read) more files same t)));
 }
   where
-    did_from : (files : FileTable) (g : FetchedFile) → Begun view source_view g (Ok x) → IsTable files fb a.files → DidFrom files g k w.taken (parts i f o) a e
+    did_from : (files : FileTable) (g : FetchedFile) → Begun view source_view j g (Ok x) → IsTable files fb a.files → DidFrom j files g k w.taken (parts i f o) a e
     did_from files (gives t) b table =
-        did-start files k t w.taken i f fb o a read e (subst (λ v. Did (work_from files (start t) v) 0 w.taken (parts i fb o) a e) none (w.did files table (start t) b))
+        did-start j files k t w.taken i f fb o a read e (subst (λ v. Did (work_from files (start j t) v) 0 w.taken (parts i fb o) a e) none (w.did files table (start j t) b))
     did_from files (withholds v) b table = absurd b
 
 -- a session begins on the tree that is given
-pub begun-given : {R S : Type 0} (view : R → Tree) (source_view : S → Tree) (g : FetchedFile) (tree : R) (x : Interpreter R S) → Gives view g (Ok tree) → Follows view source_view x (start (view tree)) → Begun view source_view g (Ok x)
-begun-given view source_view (gives t) tree x h f = subst (λ u. Follows view source_view x (start u)) h f
-begun-given view source_view (withholds v) tree x h f = absurd h
+pub begun-given : {R S : Type 0} (view : R → Tree) (source_view : S → Tree) (j : Kind) (g : FetchedFile) (tree : R) (x : Interpreter R S) → Gives view g (Ok tree) → Follows view source_view x (start j (view tree)) → Begun view source_view j g (Ok x)
+begun-given view source_view j (gives t) tree x h f = subst (λ u. Follows view source_view x (start j u)) h f
+begun-given view source_view j (withholds v) tree x h f = absurd h
 
-pub refused-given : {R S : Type 0} (view : R → Tree) (source_view : S → Tree) (g : FetchedFile) (w : Why) → Gives view g (Err w) → Begun view source_view g (Err w)
-refused-given view source_view (gives t) w h = absurd h
-refused-given view source_view (withholds v) w h = h
+pub refused-given : {R S : Type 0} (view : R → Tree) (source_view : S → Tree) (j : Kind) (g : FetchedFile) (w : Why) → Gives view g (Err w) → Begun view source_view j g (Err w)
+refused-given view source_view j (gives t) w h = absurd h
+refused-given view source_view j (withholds v) w h = h
 
 -- ---- calls that run no session
 
@@ -113,9 +114,9 @@ module _ (line : List ℕ) (o p : KnownOutput) where
   refused-end taken left how.Memory none w = tt
   refused-end taken left how.TooLong none w = tt
 
-pub ran-refused : {R S : Type 0} (view : R → Tree) (source_view : S → Tree) (given : FileTable → FetchedFile) (k : ℕ) (y : Why) (i : KnownInput) (f fb : KnownFiles) (o p : KnownOutput) (e : End) → HasRead f fb k → ((t : FileTable) → IsTable t f fb → Begun view source_view (given t) (Err y))
-    → RefusedStart (refused_start y) o p e → Ran given k (parts i f o) (parts i fb p) e
-ran-refused {R} {S} view source_view given k y i f fb o p e read begun w = record {
+pub ran-refused : {R S : Type 0} (view : R → Tree) (source_view : S → Tree) (j : Kind) (given : FileTable → FetchedFile) (k : ℕ) (y : Why) (i : KnownInput) (f fb : KnownFiles) (o p : KnownOutput) (e : End) → HasRead f fb k → ((t : FileTable) → IsTable t f fb → Begun view source_view j (given t) (Err y))
+    → RefusedStart (refused_start y) o p e → Ran j given k (parts i f o) (parts i fb p) e
+ran-refused {R} {S} view source_view j given k y i f fb o p e read begun w = record {
   taken = [];
   took = Consumes-nil i.left;
   counted = omega arith;
@@ -125,13 +126,13 @@ ran-refused {R} {S} view source_view given k y i f fb o p e read begun w = recor
   did = λ files t. inr (did_from files (given files) (begun files t));
 }
   where
-    did_from : (files : FileTable) (g : FetchedFile) → Begun view source_view g (Err y) → DidFrom files g k [] (parts i f o) (parts i fb p) e
+    did_from : (files : FileTable) (g : FetchedFile) → Begun view source_view j g (Err y) → DidFrom j files g k [] (parts i f o) (parts i fb p) e
     did_from files (gives t) b = absurd b
     did_from files (withholds v) b = (refl, subst (λ z. RefusedStart (refused_start z) o p e) b w, λ h. read)
 
 -- a call that ran out of memory before it took a byte
-pub ran-out : (given : FileTable → FetchedFile) (k : ℕ) (i : KnownInput) (f fb : KnownFiles) (o p : KnownOutput) → WritesLast o p [] memory_line → Ran given k (parts i f o) (parts i fb p) how.Memory
-ran-out given k i f fb o p w = record {
+pub ran-out : (j : Kind) (given : FileTable → FetchedFile) (k : ℕ) (i : KnownInput) (f fb : KnownFiles) (o p : KnownOutput) → WritesLast o p [] memory_line → Ran j given k (parts i f o) (parts i fb p) how.Memory
+ran-out j given k i f fb o p w = record {
   taken = [];
   took = Consumes-nil i.left;
   counted = omega arith;
@@ -141,18 +142,18 @@ ran-out given k i f fb o p w = record {
   did = λ files t. inr (did_from files (given files));
 }
   where
-    did_from : (files : FileTable) (g : FetchedFile) → DidFrom files g k [] (parts i f o) (parts i fb p) how.Memory
-    did_from files (gives t) = inr (record { at = 0; within = omega arith; wrote = subst (λ z. WritesLast o p z memory_line) (sym (played-none files t)) w })
+    did_from : (files : FileTable) (g : FetchedFile) → DidFrom j files g k [] (parts i f o) (parts i fb p) how.Memory
+    did_from files (gives t) = inr (record { at = 0; within = omega arith; wrote = subst (λ z. WritesLast o p z memory_line) (sym (played-none j files t)) w })
     did_from files (withholds v) = (refl, inr w, λ h. absurd (cc))
 
 -- a call that was stopped before it took a byte: by its start tree's file, or as memory ran out
-pub ran-early : (given : FileTable → FetchedFile) (k : ℕ) (i : KnownInput) (f fb : KnownFiles) (o p : KnownOutput) (fault : FilesFault) (stop : Stop) → (fault ≡ fails.Failed → stop ≡ File) × (fault ≡ fails.Memory → stop ≡ Memory) → ReadsBefore IsFailedFile k f fb fault → TellsStop o p stop
-    → Ran given k (parts i f o) (parts i fb p) (end_of_stop stop)
-ran-early given k i f fb o p fails.Failed stop becomes r w =
+pub ran-early : (j : Kind) (given : FileTable → FetchedFile) (k : ℕ) (i : KnownInput) (f fb : KnownFiles) (o p : KnownOutput) (fault : FilesFault) (stop : Stop) → (fault ≡ fails.Failed → stop ≡ File) × (fault ≡ fails.Memory → stop ≡ Memory) → ReadsBefore IsFailedFile k f fb fault → TellsStop o p stop
+    → Ran j given k (parts i f o) (parts i fb p) (end_of_stop stop)
+ran-early j given k i f fb o p fails.Failed stop becomes r w =
     let is = becomes.0 refl in
     let x = r.blamed refl in
     let last : WritesLast o p [] file_line = subst (TellsStop o p) is w in
-    subst (λ z. Ran given k (parts i f o) (parts i fb p) (end_of_stop z)) (sym is) (record {
+    subst (λ z. Ran j given k (parts i f o) (parts i fb p) (end_of_stop z)) (sym is) (record {
       taken = [];
       took = Consumes-nil i.left;
       counted = omega arith;
@@ -161,9 +162,9 @@ ran-early given k i f fb o p fails.Failed stop becomes r w =
       ended = tt;
       did = λ files t. inl (refl, x.0, refl, last, x.1);
     })
-ran-early given k i f fb o p fails.Memory stop becomes r w =
+ran-early j given k i f fb o p fails.Memory stop becomes r w =
     let is = becomes.1 refl in
-    subst (λ z. Ran given k (parts i f o) (parts i fb p) (end_of_stop z)) (sym is) (ran-out given k i f fb o p (subst (TellsStop o p) is w))
+    subst (λ z. Ran j given k (parts i f o) (parts i fb p) (end_of_stop z)) (sym is) (ran-out j given k i f fb o p (subst (TellsStop o p) is w))
 
 -- ---- causes
 
@@ -219,15 +220,15 @@ causes-early i f fb o p fails.Memory stop becomes found more rose later =
 -- ---- whole calls
 
 -- where nothing failed and little came, the call ends with an answer
-complete : (given : FileTable → FetchedFile) (k : ℕ) (before now : Outside) (e : End) → Ran given k before now e → HasCauses before now e → IsShort before.input.left → IsFaultless before now → (e ≡ how.Done) ⊎ (e ≡ how.Refused) ⊎ (e ≡ how.Memory)
-complete given k before now how.Done w c short calm = inl refl
-complete given k before now how.Refused w c short calm = inr (inl refl)
-complete given k before now how.Usage w c short calm = absurd (w.fitting refl)
-complete given k before now how.Input w c short calm = absurd (calm.input (c.input.blamed refl))
-complete given k before now how.File w c short calm = absurd (calm.files (c.world.files.blamed refl))
-complete given k before now how.Output w c short calm = absurd (calm.output (c.world.output.blamed refl))
-complete given k before now how.Memory w c short calm = inr (inr refl)
-complete given k before now how.TooLong w c short calm = absurd (too_much before.input.left now.input.left w.took short)
+complete : (j : Kind) (given : FileTable → FetchedFile) (k : ℕ) (before now : Outside) (e : End) → Ran j given k before now e → HasCauses before now e → IsShort before.input.left → IsFaultless before now → (e ≡ how.Done) ⊎ (e ≡ how.Refused) ⊎ (e ≡ how.Memory)
+complete j given k before now how.Done w c short calm = inl refl
+complete j given k before now how.Refused w c short calm = inr (inl refl)
+complete j given k before now how.Usage w c short calm = absurd (w.fitting refl)
+complete j given k before now how.Input w c short calm = absurd (calm.input (c.input.blamed refl))
+complete j given k before now how.File w c short calm = absurd (calm.files (c.world.files.blamed refl))
+complete j given k before now how.Output w c short calm = absurd (calm.output (c.world.output.blamed refl))
+complete j given k before now how.Memory w c short calm = inr (inr refl)
+complete j given k before now how.TooLong w c short calm = absurd (too_much before.input.left now.input.left w.took short)
   where
     too_much : (l m : Option (List ℕ)) → Consumes l m w.taken → IsShort l → ⊥
     too_much None m t s = s
@@ -237,12 +238,12 @@ complete given k before now how.TooLong w c short calm = absurd (too_much before
         absurd (omega (arith, w.too_much.0 refl, n, s))
 
 -- a call with words that fit
-pub called : (start : Start) (before now : Outside) (e : End) (code : ℕ) → code ≡ code_of e → Ran (λ files. start_given files start) (start_reads start) before now e → HasCauses before now e → Called (Some start) before now code
-called start before now e code n w c = record {
+pub called : (asked : Scratch) (before now : Outside) (e : End) (code : ℕ) → code ≡ code_of e → Ran asked.kind (λ files. start_given files asked.start) (start_reads asked.start) before now e → HasCauses before now e → Called (Some asked) before now code
+called asked before now e code n w c = record {
   end = e;
   number = n;
   ran = w;
-  complete = λ _ short calm. complete _ _ before now e w c short calm;
+  complete = λ _ short calm. complete _ _ _ before now e w c short calm;
   causes = c;
 }
 

@@ -5,6 +5,7 @@ use Rattle.cp_model.specs.Place.{target}
 use Rattle.cp_model.specs.Keyed as keyed
 use Rattle.cp_model.specs.Tree.{Tree}
 use Rattle.cp_model.specs.declared.row.Content.TheVariants.{Node}
+use Rattle.cp_model.specs.declared.kind.Kind.{Kind}
 use Rattle.cp_model.specs.declared.query.Form.TheVariants.{Json}
 use Rattle.cp_lang.specs.Cuts.{cuts_in, cuts_of}
 use Rattle.cp_lang.specs.declared.cut.Cut.{Cut}
@@ -56,13 +57,13 @@ report_of files s cuts =
     let replies = replies_to (setting files) s cuts in
     record { out = flat_map lines replies; refused = list_any is_refusal replies; reads = reads_in (setting files) s cuts }
 
--- what the statements do that end in these bytes, with these files and this start tree
-unfoldable pub job_so_far : FileTable → Tree → List ℕ → Report
-job_so_far files t bytes = report_of files (begun_session t) (cuts_in bytes)
+-- what the statements do that end in these bytes, in a session of a kind, with these files and this start tree
+unfoldable pub job_so_far : Kind → FileTable → Tree → List ℕ → Report
+job_so_far k files t bytes = report_of files (begun_session k t) (cuts_in bytes)
 
 -- what all statements of a whole input do
-unfoldable pub job : FileTable → Tree → List ℕ → Report
-job files t bytes = report_of files (begun_session t) (cuts_of bytes)
+unfoldable pub job : Kind → FileTable → Tree → List ℕ → Report
+job k files t bytes = report_of files (begun_session k t) (cuts_of bytes)
 
 -- how many files are read for the start tree
 abbrev pub start_reads : Start → ℕ

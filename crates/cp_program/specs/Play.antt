@@ -3,6 +3,7 @@ use Rattle.std.specs.Prelude.{ℕ, List, ◌++◌}
 use Rattle.cp_lang.specs.Cuts.{Scan, scan_start, scan_bytes, rest_of}
 use Rattle.cp_session.specs.Session.{Session, session_after}
 use Rattle.cp_model.specs.Tree.{Tree}
+use Rattle.cp_model.specs.declared.kind.Kind.{Kind}
 use Rattle.cp_outside.specs.FileReads.{FileTable}
 use Rattle.cp_database.specs.Texts.{setting, begun_session}
 use Rattle.cp_program.specs.Job.{Report, report_of}
@@ -12,9 +13,9 @@ pub record Seen : Type 0 where
   pub scan : Scan
   pub session : Session
 
--- before the first byte, where the session starts from this tree
-abbrev pub start : Tree → Seen
-start t = record { scan = scan_start; session = begun_session t }
+-- before the first byte, where a session of a kind starts from this tree
+abbrev pub start : Kind → Tree → Seen
+start k t = record { scan = scan_start; session = begun_session k t }
 
 -- what the cuts that end in the next bytes do
 unfoldable pub plays : FileTable → Seen → List ℕ → Report

@@ -8,8 +8,9 @@ use Rattle.cp_outside.specs.Causes.{Accounts, Rose}
 use Rattle.cp_outside.specs.FileReads.{FileTable}
 use Rattle.cp_outside.specs.Sinks.{TakesPart}
 use Rattle.cp_model.specs.Tree.{Tree}
+use Rattle.cp_model.specs.declared.kind.Kind.{Kind}
 use Rattle.cp_session.specs.Session.{FetchedFile, gives, withholds}
-use Rattle.cp_program.specs.Words.{Start, usage_text, input_line, file_line, memory_line, too_long_line}
+use Rattle.cp_program.specs.Words.{Scratch, usage_text, input_line, file_line, memory_line, too_long_line}
 use Rattle.cp_program.specs.Job.{Report, start_given, start_reads, job_so_far, job, refused_start}
 use Rattle.cp_database.specs.Files.{HasRead, IsTable}
 use Rattle.cp_program.specs.Outside.{KnownOutput, World, Outside, world_of}
@@ -96,12 +97,12 @@ Did work count taken before now how.TooLong = TooMuchCame work count taken befor
 abbrev pub after_reads : ℕ → Report → Report
 after_reads reads r = record r { reads = reads + r.reads }
 
--- The session on this tree, for which so many files were read.
-abbrev pub work_on : FileTable → ℕ → Tree → Work
-work_on files reads t =
+-- The session of a kind on this tree, for which so many files were read.
+abbrev pub work_on : Kind → FileTable → ℕ → Tree → Work
+work_on k files reads t =
     record {
-      so_far = λ bytes. after_reads reads (job_so_far files t bytes);
-      whole = λ bytes. after_reads reads (job files t bytes);
+      so_far = λ bytes. after_reads reads (job_so_far k files t bytes);
+      whole = λ bytes. after_reads reads (job k files t bytes);
     }
 
 -- What was written where the start tree is refused by this line: by how the call ended.
@@ -120,9 +121,9 @@ abbrev pub StartFailed : ℕ → List ℕ → Outside → Outside → End → Ty
 StartFailed reads taken before now end = (end ≡ how.File) × (reads ≡ 1) × (taken ≡ []) × WritesLast before.output now.output [] file_line × HasRead before.files now.files 1
 
 -- The session from the start tree, for which so many files are read; or the line that refuses it. Nothing of the input is taken where there is no start tree.
-abbrev pub DidFrom : FileTable → FetchedFile → ℕ → List ℕ → Outside → Outside → End → Type 0
-DidFrom files (gives t) reads taken before now end = Did (work_on files reads t) 0 taken before now end
-DidFrom files (withholds w) reads taken before now end = (taken ≡ []) × RefusedStart (refused_start w) before.output now.output end × (end ≡ how.Refused → HasRead before.files now.files reads)
+abbrev pub DidFrom : Kind → FileTable → FetchedFile → ℕ → List ℕ → Outside → Outside → End → Type 0
+DidFrom k files (gives t) reads taken before now end = Did (work_on k files reads t) 0 taken before now end
+DidFrom k files (withholds w) reads taken before now end = (taken ≡ []) × RefusedStart (refused_start w) before.output now.output end × (end ≡ how.Refused → HasRead before.files now.files reads)
 
 -- The end as a result: all was done, or it is why not.
 abbrev pub result_of : End → Result ⊤ End
@@ -137,14 +138,14 @@ result_of how.TooLong = Err how.TooLong
 
 -- A call with words that fit took these bytes of the input: all of them where all was done, unless the start tree is refused; more than a call takes exactly at that end.
 -- Where a table says what each name names, as far as the call had to know it, it did what the session from the start tree does.
-pub record Ran (given : FileTable → FetchedFile) (reads : ℕ) (before now : Outside) (end : End) : Type 0 where
+pub record Ran (k : Kind) (given : FileTable → FetchedFile) (reads : ℕ) (before now : Outside) (end : End) : Type 0 where
   pub taken : List ℕ
   pub took : Consumes before.input.left now.input.left taken
   pub counted : now.input.given ≡ before.input.given + length taken
   pub too_much : (end ≡ how.TooLong) ↔ (INPUT_MAX < length taken)
   pub fitting : end ≡ how.Usage → ⊥
   pub ended : OnOk (result_of end) (IsAtEnd now.input.left ⊎ ((end ≡ how.Refused) × (taken ≡ [])))
-  pub did : (files : FileTable) → IsTable files before.files now.files → StartFailed reads taken before now end ⊎ DidFrom files (given files) reads taken before now end
+  pub did : (files : FileTable) → IsTable files before.files now.files → StartFailed reads taken before now end ⊎ DidFrom k files (given files) reads taken before now end
 
 -- With words that fit no row the usage was written, and neither the input nor a file was read.
 pub record GaveUsage (before now : Outside) (end : End) : Type 0 where
@@ -154,9 +155,9 @@ pub record GaveUsage (before now : Outside) (end : End) : Type 0 where
   pub wrote : WritesLast before.output now.output [] usage_text
 
 -- The words, and what was done for them.
-abbrev pub RanAs : Option Start → Outside → Outside → End → Type 0
+abbrev pub RanAs : Option Scratch → Outside → Outside → End → Type 0
 RanAs None before now end = GaveUsage before now end
-RanAs (Some start) before now end = Ran (λ files. start_given files start) (start_reads start) before now end
+RanAs (Some asked) before now end = Ran asked.kind (λ files. start_given files asked.start) (start_reads asked.start) before now end
 
 -- ---- causes
 
@@ -183,10 +184,10 @@ IsShort None = ⊥
 IsShort (Some all) = length all ≤ INPUT_MAX
 
 -- One call of the program: it ended in some way, whose number the status is, and what it did and the causes are those of this end.
-pub record Called (start : Option Start) (before now : Outside) (code : ℕ) : Type 0 where
+pub record Called (asked : Option Scratch) (before now : Outside) (code : ℕ) : Type 0 where
   pub end : End
   pub number : code ≡ code_of end
-  pub ran : RanAs start before now end
+  pub ran : RanAs asked before now end
   -- where the words fit, nothing failed and not too much comes, the end is an answer, or memory ran out
-  pub complete : is_some start ≡ true → IsShort before.input.left → IsFaultless before now → (end ≡ how.Done) ⊎ (end ≡ how.Refused) ⊎ (end ≡ how.Memory)
+  pub complete : is_some asked ≡ true → IsShort before.input.left → IsFaultless before now → (end ≡ how.Done) ⊎ (end ≡ how.Refused) ⊎ (end ≡ how.Memory)
   pub causes : HasCauses before now end

@@ -15,9 +15,10 @@ use Rattle.cp_database.specs.Texts.{setting}
 use Rattle.cp_program.specs.Job.{Report, report_of}
 use Rattle.cp_program.specs.Play.{Seen, start, plays, after_play, closes, plays_all}
 use Rattle.cp_model.specs.Tree.{Tree}
+use Rattle.cp_model.specs.declared.kind.Kind.{Kind}
 use Rattle.cp_database.specs.Databases.{Stands}
 use Rattle.cp_database.specs.Files.{HasRead, HasReadSome, IsTable, UsesFiles}
-use Rattle.cp_flat.specs.Naive.{naive}
+use Rattle.cp_flat.specs.Stores.{flat}
 use Rattle.cp_program.specs.Outside.{KnownOutput, World, Outside, world_of}
 use Rattle.cp_program.specs.Story.{Writes, StopsIn, WritesLast, Work, Did, result_of}
 use Rattle.cp_program.specs.declared.interpreter.Interpreter.{Interpreter}
@@ -28,7 +29,7 @@ use Rattle.cp_program.specs.declared.stop.Stop.TheVariants.{Output, Full, File, 
 
 -- the code stands where the session does
 abbrev pub Follows : {R S : Type 0} → (R → Tree) → (S → Tree) → Interpreter R S → Seen → Type 0
-Follows view source_view x s = (x.cutter ≡ held_of s.scan) × Stands view source_view naive x.database s.session
+Follows view source_view x s = (x.cutter ≡ held_of s.scan) × Stands view source_view flat x.database s.session
 
 -- it stands where some session does
 abbrev pub FollowsOne : {R S : Type 0} → (R → Tree) → (S → Tree) → Interpreter R S → Type 0
@@ -187,8 +188,8 @@ pub record IsSteady (before now : Outside) : Type 0 where
   pub refused : now.output.refusals ≡ before.output.refusals
 
 -- the session on the tree that is given, or why none is
-abbrev pub Begun : {R S : Type 0} → (R → Tree) → (S → Tree) → FetchedFile → Result (Interpreter R S) Why → Type 0
-Begun view source_view (gives t) (Ok x) = Follows view source_view x (start t)
-Begun view source_view (gives t) (Err w) = ⊥
-Begun view source_view (withholds v) (Ok x) = ⊥
-Begun view source_view (withholds v) (Err w) = w ≡ v
+abbrev pub Begun : {R S : Type 0} → (R → Tree) → (S → Tree) → Kind → FetchedFile → Result (Interpreter R S) Why → Type 0
+Begun view source_view k (gives t) (Ok x) = Follows view source_view x (start k t)
+Begun view source_view k (gives t) (Err w) = ⊥
+Begun view source_view k (withholds v) (Ok x) = ⊥
+Begun view source_view k (withholds v) (Err w) = w ≡ v

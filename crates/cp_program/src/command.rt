@@ -1,8 +1,11 @@
 //! The words of a call.
-ghost use Rattle.std.specs.Prelude.{◌≡◌, map, string_bytes};
+ghost use Rattle.std.specs.Prelude.{◌≡◌, map, true, string_bytes, IfSome};
 ghost use Rattle.std.specs.Option.{option_map};
-ghost use Rattle.cp_program.specs.Words.{is_scratch, is_file_name, start_of};
-ghost use Rattle.cp_program.specs.Starts.{start_asked};
+ghost use Rattle.cp_engine.specs.Passed.{is_built};
+ghost use Rattle.cp_program.specs.Words.{kind_named, kind_of, is_file_name, asked_by};
+ghost use Rattle.cp_program.specs.Starts.{scratch_asked};
+
+use cp_model::Kind;
 
 /// What a session starts from.
 #[derive(Clone, Copy)]
@@ -13,12 +16,37 @@ pub(crate) enum Start<'a> {
     TreeIn(&'a str),
 }
 
-fn is_scratch(command: &str, kind: &str) -> bool
-    ensures { result ≡ is_scratch command.now kind.now }
+/// What the words ask for: a session of a kind that is built, from this start.
+#[derive(Clone, Copy)]
+pub(crate) struct Scratch<'a> {
+    pub(crate) kind: Kind,
+    pub(crate) start: Start<'a>,
+}
+
+/// The kind that a word names.
+fn kind_named(word: &str) -> Option<Kind>
+    ensures named { result ≡ kind_named word.now }
+    ensures built { IfSome result (λ k. is_built k ≡ true) }
 {
-    let scratch = command == "scratch";
-    let naive = kind == "n";
-    scratch && naive
+    if word == "n" {
+        return Some(Kind::N);
+    }
+    if word == "t" {
+        return Some(Kind::T);
+    }
+    None
+}
+
+/// The kind that the command and the word behind it ask for.
+fn kind_of(command: &str, word: &str) -> Option<Kind>
+    ensures named { result ≡ kind_of command.now word.now }
+    ensures built { IfSome result (λ k. is_built k ≡ true) }
+{
+    if command == "scratch" {
+        kind_named(word)
+    } else {
+        None
+    }
 }
 
 /// Whether the word may name a file.
@@ -32,24 +60,28 @@ fn is_file_name(word: &str) -> bool
 }
 
 /// What the words ask for, if they fit.
-pub(crate) fn start_of(words: &[String]) -> Option<Start<'_>>
-    ensures { option_map start_asked result ≡ start_of (map string_bytes words.now) }
+pub(crate) fn asked_by(words: &[String]) -> Option<Scratch<'_>>
+    ensures asked { option_map scratch_asked result ≡ asked_by (map string_bytes words.now) }
+    ensures built { IfSome result (λ s. is_built s.kind ≡ true) }
 {
     match words {
-        [_, command, kind] => {
-            if is_scratch(command.as_str(), kind.as_str()) {
-                Some(Start::Alone)
-            } else {
-                None
+        [_, command, word] => match kind_of(command.as_str(), word.as_str()) {
+            Some(kind) => Some(Scratch {
+                kind,
+                start: Start::Alone,
+            }),
+            None => None,
+        },
+        [_, command, word, file] => {
+            if !is_file_name(file.as_str()) {
+                return None;
             }
-        }
-        [_, command, kind, file] => {
-            let scratch = is_scratch(command.as_str(), kind.as_str());
-            let named = is_file_name(file.as_str());
-            if scratch && named {
-                Some(Start::TreeIn(file.as_str()))
-            } else {
-                None
+            match kind_of(command.as_str(), word.as_str()) {
+                Some(kind) => Some(Scratch {
+                    kind,
+                    start: Start::TreeIn(file.as_str()),
+                }),
+                None => None,
             }
         }
         _ => None,

@@ -1,8 +1,9 @@
 //! A session: the cuts of its input, run one after another on its database.
-ghost use Rattle.std.specs.Prelude.{◌≡◌, ◌||◌, ◌≤◌, ◌<◌, ◌+◌, false, length, IfOk, OnOk, [], ◌∷◌};
+ghost use Rattle.std.specs.Prelude.{◌≡◌, ◌||◌, ◌≤◌, ◌<◌, ◌+◌, true, false, length, IfOk, OnOk, [], ◌∷◌};
 ghost use Rattle.std.specs.Option.{option_to_list};
 ghost use Rattle.cp_outside.specs.FileReads.{FileTable};
 ghost use Rattle.cp_reply.specs.Lines.{lines};
+ghost use Rattle.cp_engine.specs.Passed.{is_built};
 ghost use Rattle.cp_lang.specs.Cuts.{rest_of};
 ghost use Rattle.cp_program.specs.Job.{is_refusal};
 ghost use Rattle.cp_database.specs.Databases.{runs_of};
@@ -15,8 +16,9 @@ ghost use Rattle.cp_database.specs.declared.limits.TheConstants.{RUNS_MAX};
 use crate::stop::{Stop, stop_of};
 use crate::tell::tell;
 use cp_database::Database;
-use cp_flat::NaiveStore;
+use cp_flat::FlatStore;
 use cp_lang::{Cut, Cutter};
+use cp_model::Kind;
 use cp_outside::{Files, Sink};
 use cp_reply::Reply;
 use cp_tree::TreeRep;
@@ -28,7 +30,7 @@ use std::mem;
 pub(crate) struct Interpreter<R: TreeRep, S: TreeRep> {
     alloc: Global,
     cutter: Cutter,
-    database: Database<R, S, NaiveStore>,
+    database: Database<R, S, FlatStore>,
     /// Room for the lines of a reply.
     text: Vec<u8>,
     /// Whether a refusal was written.
@@ -45,13 +47,14 @@ fn is_refusal(reply: &Reply) -> bool
 }
 
 impl<R: TreeRep, S: TreeRep> Interpreter<R, S> {
-    /// A session on this tree, without sources and without rows.
-    pub(crate) fn new(alloc: Global, tree: R) -> Result<Interpreter<R, S>, AllocError>
-        ensures start { IfOk result (λ x. Follows R.contents S.contents x (start (R.contents tree))) }
+    /// A session of a kind on this tree, without sources and without rows.
+    pub(crate) fn new(alloc: Global, kind: Kind, tree: R) -> Result<Interpreter<R, S>, AllocError>
+        requires built { is_built kind ≡ true }
+        ensures start { IfOk result (λ x. Follows R.contents S.contents x (start kind (R.contents tree))) }
         ensures refused { IfOk result (λ x. x.refused ≡ false) }
         ensures runs { IfOk result (λ x. runs_of x.database ≡ 0) }
     {
-        let store = NaiveStore::new(alloc, 0)?;
+        let store = FlatStore::new(alloc, kind, 0)?;
         Ok(Interpreter {
             alloc,
             cutter: Cutter::new(alloc),

@@ -1,14 +1,15 @@
 //! A call: its words, the session over its input, and its end.
-ghost use Rattle.std.specs.Prelude.{◌≡◌, ◌≤◌, ◌<◌, ◌↔◌, map, false, length, string_bytes, IfOk, IfErr};
+ghost use Rattle.std.specs.Prelude.{◌≡◌, ◌≤◌, ◌<◌, ◌↔◌, map, true, false, length, string_bytes, IfOk, IfErr};
 ghost use Rattle.std.specs.declared.option.Option.TheVariants.{None};
 ghost use Rattle.cp_outside.specs.Causes.{Accounts};
 ghost use Rattle.cp_outside.specs.FileReads.{FileTable};
 ghost use Rattle.cp_reply.specs.Lines.{lines};
-ghost use Rattle.cp_program.specs.Words.{start_of};
+ghost use Rattle.cp_engine.specs.Passed.{is_built};
+ghost use Rattle.cp_program.specs.Words.{asked_by};
 ghost use Rattle.cp_program.specs.Job.{start_given, start_reads, refused_start};
 ghost use Rattle.cp_database.specs.Fetched.{Gives};
 ghost use Rattle.cp_program.specs.Play.{Seen};
-ghost use Rattle.cp_program.specs.Starts.{start_asked};
+ghost use Rattle.cp_program.specs.Starts.{start_asked, scratch_asked};
 ghost use Rattle.cp_database.specs.Databases.{runs_of};
 ghost use Rattle.cp_database.specs.Faults.{IsFailedFile};
 ghost use Rattle.cp_database.specs.Files.{known_files, HasReadSome, IsTable, Reads, UsesFiles};
@@ -16,7 +17,7 @@ ghost use Rattle.cp_program.specs.Outside.{known_output, known_world, known_outs
 ghost use Rattle.cp_program.specs.Story.{RefusedStart, Ran, Called, WorldCauses, HasCauses, result_of};
 ghost use Rattle.cp_program.specs.Turns.{Follows, FollowsOne, Begun, SendsOut, UsesOutput, IsClosing, Closes, RanFrom, TookPiece, IsSteady};
 
-use crate::command::{Start, start_of};
+use crate::command::{Scratch, Start, asked_by};
 use crate::end::{End, Status};
 use crate::interpreter::Interpreter;
 use crate::limits::{INPUT_MAX, PIECE_MAX};
@@ -153,17 +154,18 @@ fn start_tree<R: TreeRep, F: Files>(
 /// A session on its start tree, or why there is no such tree.
 fn begin<R: TreeRep, S: TreeRep, F: Files>(
     alloc: Global,
-    start: Start<'_>,
+    asked: Scratch<'_>,
     files: &mut F,
 ) -> Result<Result<Interpreter<R, S>, Why>, FilesFault>
+    requires built { is_built asked.kind ≡ true }
     ensures begun { IfOk result (λ r. (t : FileTable) → IsTable t (known_files F.Files files.old) (known_files F.Files files.new)
-        → Begun R.contents S.contents (start_given t (start_asked start.entry)) r) }
+        → Begun R.contents S.contents asked.entry.kind (start_given t (start_asked asked.entry.start)) r) }
     ensures stands { IfOk result (λ r. IfOk r (λ x. FollowsOne R.contents S.contents x × (x.refused ≡ false) × (runs_of x.database ≡ 0))) }
     ensures used { UsesFiles IsFailedFile (known_files F.Files files.old) (known_files F.Files files.new) result }
-    ensures reads { Reads IsFailedFile (start_reads (start_asked start.entry)) (known_files F.Files files.old) (known_files F.Files files.new) result }
+    ensures reads { Reads IsFailedFile (start_reads (start_asked asked.entry.start)) (known_files F.Files files.old) (known_files F.Files files.new) result }
 {
-    match start_tree::<R, F>(alloc, start, files)? {
-        Ok(tree) => Ok(Ok(Interpreter::new(alloc, tree)?)),
+    match start_tree::<R, F>(alloc, asked.start, files)? {
+        Ok(tree) => Ok(Ok(Interpreter::new(alloc, asked.kind, tree)?)),
         Err(why) => Ok(Err(why)),
     }
 }
@@ -210,12 +212,13 @@ fn refuse_start<O: Sink>(alloc: Global, why: Why, output: &mut O) -> End
 /// The session over the input, from its start, with room for a piece of the input.
 fn scratch<R: TreeRep, S: TreeRep, F: Files, I: Source, O: Sink>(
     alloc: Global,
-    start: Start<'_>,
+    asked: Scratch<'_>,
     files: &mut F,
     input: &mut I,
     output: &mut O,
 ) -> End
-    ensures ran { Ran (λ t. start_given t (start_asked start.entry)) (start_reads (start_asked start.entry))
+    requires built { is_built asked.kind ≡ true }
+    ensures ran { Ran asked.entry.kind (λ t. start_given t (start_asked asked.entry.start)) (start_reads (start_asked asked.entry.start))
         (known_outside F.Files I.Source O.Sink files.old input.old output.old)
         (known_outside F.Files I.Source O.Sink files.new input.new output.new) result }
     ensures causes { HasCauses
@@ -225,7 +228,7 @@ fn scratch<R: TreeRep, S: TreeRep, F: Files, I: Source, O: Sink>(
     let Ok(mut piece) = vec![in alloc; 0u8; PIECE_MAX] else {
         return out_of_memory(output);
     };
-    match begin::<R, S, F>(alloc, start, files) {
+    match begin::<R, S, F>(alloc, asked, files) {
         Ok(Ok(mut session)) => turns(&mut session, &mut piece, files, input, output),
         Ok(Err(why)) => refuse_start(alloc, why, output),
         Err(fault) => stopped(output, Stop::from(fault)),
@@ -250,17 +253,17 @@ pub fn run_cpdb<R: TreeRep, S: TreeRep, F: Files, I: Source, O: Sink>(
     input: &mut I,
     output: &mut O,
 ) -> Status
-    ensures call { Called (start_of (map string_bytes words.now))
+    ensures call { Called (asked_by (map string_bytes words.now))
         (known_outside F.Files I.Source O.Sink files.old input.old output.old)
         (known_outside F.Files I.Source O.Sink files.new input.new output.new) result.code }
-    ensures usage { (result.code ≡ 2) ↔ (start_of (map string_bytes words.now) ≡ None) }
+    ensures usage { (result.code ≡ 2) ↔ (asked_by (map string_bytes words.now) ≡ None) }
 {
-    let Some(start) = start_of(words) else {
+    let Some(asked) = asked_by(words) else {
         last_line(output, USAGE);
         return Status {
             code: End::Usage.code(),
         };
     };
-    let end = scratch::<R, S, F, I, O>(alloc, start, files, input, output);
+    let end = scratch::<R, S, F, I, O>(alloc, asked, files, input, output);
     Status { code: end.code() }
 }

@@ -2,8 +2,8 @@ ghost use Rattle.std.specs.Prelude.{◌≡◌, [], ◌∷◌, IfOk};
 ghost use Rattle.cp_model.specs.Place.{at_target};
 ghost use Rattle.cp_store.specs.Changes.{AreNext};
 
-use cp_flat::NaiveStore;
-use cp_model::{RecOp, Record};
+use cp_flat::{FlatStore, NaiveStore, TransStore};
+use cp_model::{Kind, RecOp, Record};
 use cp_path::{Label, Loc, Name, Path, PathFault};
 use cp_store::{Change, ProvStore, What};
 use std::alloc::Global;
@@ -38,7 +38,7 @@ fn rows(alloc: Global) -> Result<Vec<Record>, PathFault>
 }
 
 /// The Tid of the last change and what it did.
-fn change(alloc: Global, store: &mut NaiveStore, place: &str, t: u64) -> Result<String, Fail> {
+fn change<S: ProvStore>(alloc: Global, store: &mut S, place: &str, t: u64) -> Result<String, Fail> {
     let loc = Loc::read(alloc, place)?;
     let Some(Change { tid, what }) = store.last_change(alloc, &loc, t)? else {
         return Ok(String::from_str(alloc, "none")?);
@@ -53,12 +53,19 @@ fn change(alloc: Global, store: &mut NaiveStore, place: &str, t: u64) -> Result<
     }
 }
 
-#[test]
-fn the_newest_row_up_to_a_step_answers(rt: HostRuntime) -> Result<(), Fail> {
-    let alloc = rt.alloc();
-    let mut store = NaiveStore::new(alloc, 5)?;
+/// Keeps the rows in a store whose last Tid is 5.
+fn keep_rows<S: ProvStore>(alloc: Global, store: &mut S) -> Result<(), Fail>
+    requires { S.last_tid store.old ≡ 5 }
+{
     store.absorb(alloc, 3, rows(alloc)?.as_slice())?;
-    assert!(rt; store.upto() == 8);
+    Ok(())
+}
+
+/// The first place and step of which a store that keeps the rows doesn't tell as the newest row up to it.
+fn wrong_change<S: ProvStore>(
+    alloc: Global,
+    store: &mut S,
+) -> Result<Option<(&'static str, u64)>, Fail> {
     for (place, t, found) in [
         ("T/a", 5, "none"),
         ("T/a", 6, "6 new"),
@@ -68,23 +75,62 @@ fn the_newest_row_up_to_a_step_answers(rt: HostRuntime) -> Result<(), Fail> {
         ("T/c", 8, "none"),
         ("S/a", 8, "none"),
     ] {
-        assert!(rt;
-            change(alloc, &mut store, place, t)?.as_str() == found,
-            "{place} {t}"
-        );
+        if change(alloc, store, place, t)?.as_str() != found {
+            return Ok(Some((place, t)));
+        }
     }
+    Ok(None)
+}
+
+/// The first step whose rows a store that keeps them doesn't give, by place.
+fn wrong_step<S: ProvStore>(alloc: Global, store: &mut S) -> Result<Option<u64>, Fail> {
+    let all = rows(alloc)?;
+    let all = all.as_slice();
+    for (t, found) in [(6, all.get(..2)), (7, all.get(..0)), (8, all.get(2..))] {
+        if Some(store.rows_of(alloc, t)?.items.as_slice()) != found {
+            return Ok(Some(t));
+        }
+    }
+    Ok(None)
+}
+
+#[test]
+fn a_naive_store_answers(rt: HostRuntime) -> Result<(), Fail> {
+    let alloc = rt.alloc();
+    let mut store = NaiveStore::new(alloc, 5)?;
+    assert!(rt; store.kind() == Kind::N);
+    assert!(rt; store.upto() == 5);
+    keep_rows(alloc, &mut store)?;
+    assert!(rt; store.upto() == 8);
+    assert_eq!(rt; wrong_change(alloc, &mut store)?, None);
+    assert_eq!(rt; wrong_step(alloc, &mut store)?, None);
     Ok(())
 }
 
 #[test]
-fn the_rows_of_a_step_are_given_by_place(rt: HostRuntime) -> Result<(), Fail> {
+fn a_transactional_store_answers(rt: HostRuntime) -> Result<(), Fail> {
     let alloc = rt.alloc();
-    let mut store = NaiveStore::new(alloc, 5)?;
-    let all = rows(alloc)?;
-    store.absorb(alloc, 3, all.as_slice())?;
-    assert!(rt; all.len() == 4);
-    assert!(rt; store.rows_of(alloc, 6)?.items.as_slice() == &all[..2]);
-    assert!(rt; store.rows_of(alloc, 7)?.items.is_empty());
-    assert!(rt; store.rows_of(alloc, 8)?.items.as_slice() == &all[2..]);
+    let mut store = TransStore::new(alloc, 5)?;
+    assert!(rt; store.kind() == Kind::T);
+    assert!(rt; store.upto() == 5);
+    keep_rows(alloc, &mut store)?;
+    assert!(rt; store.upto() == 8);
+    assert_eq!(rt; wrong_change(alloc, &mut store)?, None);
+    assert_eq!(rt; wrong_step(alloc, &mut store)?, None);
+    Ok(())
+}
+
+#[test]
+fn a_store_of_either_kind_answers(rt: HostRuntime) -> Result<(), Fail> {
+    let alloc = rt.alloc();
+    for kind in [Kind::N, Kind::T] {
+        let mut store = FlatStore::new(alloc, kind, 5)?;
+        assert!(rt; store.kind() == kind);
+        assert!(rt; store.upto() == 5);
+        keep_rows(alloc, &mut store)?;
+        assert!(rt; store.upto() == 8);
+        assert_eq!(rt; wrong_change(alloc, &mut store)?, None);
+        assert_eq!(rt; wrong_step(alloc, &mut store)?, None);
+    }
     Ok(())
 }

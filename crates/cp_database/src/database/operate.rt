@@ -28,7 +28,7 @@ impl<R: TreeRep, S: TreeRep, P: ProvStore> Database<R, S, P> {
     {
         match self.transaction.take() {
             Some(transaction) => Ok(transaction),
-            None => Txn::begin(alloc, &self.tree, self.store.upto() + 1),
+            None => Txn::begin(alloc, &self.tree, self.store.kind(), self.store.upto() + 1),
         }
     }
 

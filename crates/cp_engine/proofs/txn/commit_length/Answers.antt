@@ -1,7 +1,7 @@
 use Rattle.std.proofs.Common.{arith}
 use Rattle.cp_record.specs.Bytes.{commit_length}
-use Rattle.cp_engine.proofs.txn.Txn.commit_length.Goals as goal
+use Rattle.cp_engine.proofs.txn.commit_length.Goals as goal
 
 pub returns-clause-length : goal.returns-clause-length
 unfolding commit_length
-returns-clause-length g c = omega (arith, c.len.ensures.bytes, c.bytes.ensures.sum)
+returns-clause-length c = omega (arith, c.len.ensures.bytes, c.bytes.ensures.sum)

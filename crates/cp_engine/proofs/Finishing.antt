@@ -1,0 +1,54 @@
+-- The end of a transaction.
+use Rattle.std.specs.Prelude.{ℕ, ◌+◌, ◌≤◌, ◌<◌, ◌≡◌, ◌^◌, List, length, Ok, Err}
+use Rattle.std.proofs.Common.{sym, ap, ◌∙◌, arith}
+use Rattle.std.specs.declared.option.Option.TheVariants.{Some}
+use Rattle.cp_model.specs.Tree.{Tree, Source}
+use Rattle.cp_model.specs.History.{steps_of}
+use Rattle.cp_model.specs.declared.kind.Kind.{Kind}
+use Rattle.cp_model.specs.declared.op.Op.{Op}
+use Rattle.cp_model.specs.declared.record.Record.{Record}
+use Rattle.cp_record.specs.Bytes.{commit_length}
+use Rattle.cp_overlay.specs.Seen.{seen}
+use Rattle.cp_engine.specs.Passed.{records_of}
+use Rattle.cp_engine.specs.Transactions.{Progress, going, failed, IsGoing, Stands, Packs, Finishes}
+use Rattle.cp_engine.specs.declared.state.Failure.{Failure}
+use Rattle.cp_engine.specs.declared.txn.Txn.{Txn}
+use Rattle.cp_engine.specs.declared.txn.Step.{Step}
+use Rattle.cp_engine.specs.declared.fault.FinishFault.TheVariants.{TooLarge}
+use Rattle.cp_engine.proofs.Going.{packed-going}
+
+-- what is packed of a transaction that hasn't failed and holds some operations, with the bytes of the commit
+pub record IsPacked {R : Type 0} (view : R → Tree) (x : Txn R) (tid size : ℕ) (rs : List Record) : Type 0 where
+  pub sound : (f : Failure) → x.failure ≡ Some f → ⊥
+  pub some : 1 ≤ length x.ops
+  pub first : tid ≡ x.first + 0
+  pub packs : Packs x.kind x.rows (seen x.overlay) (view x.start) (view x.tree) tid rs
+  pub bytes : size ≡ commit_length x.ops rs
+
+module _ {R : Type 0} (view : R → Tree) (x : Txn R) (tid size : ℕ) (rs : List Record) (h : IsPacked view x tid size rs) (k : Kind) (ss : List Source) (t : Tree) (n : ℕ) where
+  size_is : (ops : List Op) → IsGoing view x k ss t n ops → size ≡ commit_length ops (records_of k ss t n ops)
+  size_is ops g = h.bytes ∙ ap (λ os. commit_length os rs) g.held ∙ ap (commit_length ops) (packed-going view ss x k t n tid ops rs h.first g h.packs)
+
+  -- one over the limit makes nothing
+  pub finishes-large : (p : Progress) (limit : ℕ) → limit < size → size < 2 ^ 64 → Stands view x k ss t n p → Finishes view k ss t n p limit (Err TooLarge)
+  finishes-large (going ops) limit l b g =
+      let bytes = size_is ops g in
+      let some = h.some in
+      (omega (arith, some, ap length g.held), omega (arith, l, bytes), omega (arith, b, bytes))
+  finishes-large (failed j c) limit l b g = h.sound _ g.failure
+
+  -- one within it makes its step
+  pub finishes-step : (p : Progress) (limit : ℕ) (st : Step R) → size ≤ limit → st.ops ≡ x.ops → view st.tree ≡ view x.tree → st.rows ≡ rs → ((ops : List Op) → length ops ≡ length x.ops → st.tids ≡ length (steps_of x.kind ops)) →
+      Stands view x k ss t n p → Finishes view k ss t n p limit (Ok st)
+  finishes-step (going ops) limit st l o e r i g =
+      let bytes = size_is ops g in
+      let some = h.some in
+      record {
+        some = omega (arith, some, ap length g.held);
+        held = o ∙ g.held;
+        tree = e ∙ g.tree;
+        rows = r ∙ packed-going view ss x k t n tid ops rs h.first g h.packs;
+        tids = i ops (sym (ap length g.held)) ∙ ap (λ d. length (steps_of d ops)) g.kind;
+        small = omega (arith, l, bytes);
+      }
+  finishes-step (failed j c) limit st l o e r i g = h.sound _ g.failure
