@@ -1,12 +1,17 @@
-# Turns the lines of drawn.awk into the replies that cpdb has to give: each node carries the Tid of its insertion along.
-$1 == "tree" {
-  born["T/" $2] = ++tid
-  for (i = 1; i <= $3; i++) born["T/" $2 "/" i] = tid
+# Turns the lines of drawn.awk into the replies that cpdb has to give: each node carries the Tid of its insertion along. With
+# kind=t a commit takes one Tid, else each operation does.
+function next_tid() {
+  return kind == "t" ? low + 1 : ++tid
 }
-$1 == "ins" { born["T/" $2] = ++tid }
-$1 == "copy" { born["T/" $3] = born["T/" $2]; ++tid }
-$1 == "del" { delete born["T/" $2]; ++tid }
+$1 == "tree" {
+  born["T/" $2] = next_tid()
+  for (i = 1; i <= $3; i++) born["T/" $2 "/" i] = born["T/" $2]
+}
+$1 == "ins" { born["T/" $2] = next_tid() }
+$1 == "copy" { born["T/" $3] = born["T/" $2]; next_tid() }
+$1 == "del" { delete born["T/" $2]; next_tid() }
 $1 == "commit" {
+  if (kind == "t") tid = low + 1
   print "committed " (tid == low + 1 ? tid : low + 1 ".." tid)
   low = tid
 }

@@ -1,0 +1,264 @@
+#!/usr/bin/env python3
+"""Draws sessions of the transactional kind, and works out what they reply.
+
+    draw.py [COUNT]     writes COUNT cases (300 without a word) in the form of the data
+
+The replies come from a replay over trees whose places carry their whole past: no records, no overlay, no index. A
+transaction is one step: at its start each place carries itself, at its end a place has the effect that what it carries
+gives. The transactions move places out and back, copy over copies, delete copies, insert whole trees, and take much of
+what they do back. The draws are those of Python's `random` from the case's number.
+"""
+import random
+import sys
+
+LABELS = ["a", "b", "c", "d", "e"]
+VALUES = ["null", "true", "false", "0", "7", "12", '"x"', '"two words"']
+
+
+def below(tree, place):
+    return {path: tree[path] for path in tree if path[: len(place)] == place}
+
+
+class Session:
+    """The committed tree with the pasts of its places, the source, and the working tree of the open transaction."""
+
+    def __init__(self, tree, source):
+        self.tree = {path: (content, []) for path, content in tree.items()}
+        self.source = source
+        self.now = 0
+        self.begin()
+
+    def begin(self):
+        self.work = {path: (content, ("T",) + path) for path, (content, _) in self.tree.items()}
+
+    def ins(self, path, label, literal):
+        for rest, content in literal.items():
+            self.work[path + (label,) + rest] = (content, None)
+
+    def delete(self, path, label):
+        for gone in below(self.work, path + (label,)):
+            del self.work[gone]
+
+    def copy(self, name, source, path):
+        if name == "T":
+            moved = {at[len(source) :]: self.work[at] for at in below(self.work, source)}
+        else:
+            moved = {
+                at[len(source) :]: (self.source[at], (name,) + at) for at in below(self.source, source)
+            }
+        for gone in below(self.work, path):
+            del self.work[gone]
+        for rest, what in moved.items():
+            self.work[path + rest] = what
+
+    def commit(self):
+        self.now += 1
+        after = {}
+        for path, (content, origin) in self.work.items():
+            if origin is None:
+                past = [("born", self.now)]
+            elif origin[0] != "T":
+                past = [("copied", self.now, origin)]
+            elif origin[1:] != path:
+                past = self.tree[origin[1:]][1] + [("copied", self.now, origin)]
+            else:
+                past = self.tree[path][1]
+            after[path] = (content, past)
+        self.tree = after
+        self.begin()
+
+    def trace(self, path):
+        segments, at, high = [], ("T",) + path, self.now
+        for event in reversed(self.tree[path][1]):
+            segments.append((at, event[1], high))
+            if event[0] == "born":
+                return segments, "new"
+            if event[2][0] != "T":
+                return segments, spelled(event[2])
+            at, high = event[2], event[1] - 1
+        segments.append((at, 0, high))
+        return segments, "start"
+
+    def src(self, path):
+        past = self.tree[path][1]
+        return past[0][1] if past and past[0][0] == "born" else None
+
+    def hist(self, path):
+        return [event[1] for event in self.tree[path][1] if event[0] == "copied"]
+
+
+def spelled(place):
+    return "/".join(place)
+
+
+def shown(tree, path=(), colon=" : "):
+    """The tree at a place, labels in the order of their bytes."""
+    content = tree[path]
+    if content != "node":
+        return content
+    labels = sorted(at[-1] for at in tree if len(at) == len(path) + 1 and at[:-1] == path)
+    parts = [spell_label(a, colon) + shown(tree, path + (a,), colon) for a in labels]
+    return "{" + ", ".join(parts) + "}"
+
+
+def spell_label(label, colon):
+    return ('"' + label + '"' if colon == ":" else label) + colon
+
+
+def drawn_tree(draw, depth, width, least=0):
+    tree = {(): "node"}
+    for label in draw.sample(LABELS, draw.randint(least, width)):
+        if depth > 1 and draw.random() < 0.6:
+            child = drawn_tree(draw, depth - 1, width)
+        else:
+            child = {(): draw.choice(VALUES + ["node"])}
+        for rest, content in child.items():
+            tree[(label,) + rest] = content
+    return tree
+
+
+class Script:
+    """The statements of one session, with the replies to them."""
+
+    def __init__(self, draw):
+        self.draw = draw
+        self.start = drawn_tree(draw, 3, 4, 2)
+        source = drawn_tree(draw, 3, 4, 1)
+        self.session = Session(self.start, source)
+        self.statements = ['load S json "s.json"']
+        self.replies = ["loaded S %d" % len(source)]
+
+    def paths(self, node=False):
+        return sorted(p for p, (content, _) in self.session.work.items() if not node or content == "node")
+
+    def target(self):
+        """A place to copy onto, seldom the root."""
+        paths = self.paths()
+        inner = [p for p in paths if p]
+        return self.draw.choice(inner if inner and self.draw.random() < 0.97 else paths)
+
+    def free(self, path):
+        taken = {p[-1] for p in self.session.work if len(p) == len(path) + 1 and p[:-1] == path}
+        return [label for label in LABELS + ["tmp"] if label not in taken]
+
+    def ins(self, path, label, literal):
+        self.session.ins(path, label, literal)
+        self.statements.append("ins {%s : %s} into %s" % (label, shown(literal), spelled(("T",) + path)))
+
+    def delete(self, path):
+        self.session.delete(path[:-1], path[-1])
+        self.statements.append("del %s from %s" % (path[-1], spelled(("T",) + path[:-1])))
+
+    def copy(self, name, source, path):
+        self.session.copy(name, source, path)
+        self.statements.append("copy %s into %s" % (spelled((name,) + source), spelled(("T",) + path)))
+
+    def too_deep(self, moved, source, path):
+        return any(len(path) + len(at) - len(source) > 7 for at in below(moved, source))
+
+    def step(self):
+        draw, kind = self.draw, self.draw.random()
+        nodes, paths = self.paths(True), self.paths()
+        if kind < 0.2 and nodes:
+            path = draw.choice(nodes)
+            labels = self.free(path)
+            if labels and len(path) < 5:
+                literal = drawn_tree(draw, 2, 2) if draw.random() < 0.5 else {(): draw.choice(VALUES + ["node"])}
+                self.ins(path, draw.choice(labels), literal)
+        elif kind < 0.4 and len(paths) > 1:
+            self.delete(draw.choice([p for p in paths if p]))
+        elif kind < 0.75:
+            source, path = draw.choice(paths), self.target()
+            if not self.too_deep(self.session.work, source, path) and len(self.session.work) < 60:
+                self.copy("T", source, path)
+        elif kind < 0.9:
+            source, path = draw.choice(sorted(self.session.source)), self.target()
+            if not self.too_deep(self.session.source, source, path) and len(self.session.work) < 60:
+                self.copy("S", source, path)
+        else:
+            self.out_and_back()
+
+    def out_and_back(self):
+        """A place goes to a temporary one, something happens to it or to its place, and it comes back."""
+        draw = self.draw
+        if ("tmp",) in self.session.work or self.session.work[()][0] != "node":
+            return
+        places = [p for p in self.paths() if p]
+        if not places:
+            return
+        place = draw.choice(places)
+        self.ins((), "tmp", {(): "node"})
+        self.copy("T", place, ("tmp",))
+        what = draw.random()
+        if what < 0.4:
+            self.delete(place)
+            self.ins(place[:-1], place[-1], {(): "node"})
+        elif what < 0.6:
+            self.copy("S", (), place)
+        elif what < 0.8:
+            inside = [p for p in self.paths() if len(p) > 1 and p[0] == "tmp"]
+            if inside:
+                self.delete(draw.choice(inside))
+        self.copy("T", ("tmp",), place)
+        self.delete(("tmp",))
+
+    def transaction(self, length):
+        count = len(self.statements)
+        for _ in range(length):
+            self.step()
+        if len(self.statements) == count:
+            self.copy("T", (), ())
+        self.statements.append("commit")
+        self.session.commit()
+        self.replies.append("committed %d" % self.session.now)
+
+    def ask(self, path):
+        place = spelled(("T",) + path)
+        segments, end = self.session.trace(path)
+        self.statements.append("trace " + place)
+        steps = ["%s@%d..%d" % (spelled(at), low, high) for at, low, high in segments]
+        self.replies.append("trace %s: %s < %s" % (place, " < ".join(steps), end))
+        if self.draw.random() < 0.3:
+            tid, tids = self.session.src(path), self.session.hist(path)
+            self.statements += ["src " + place, "hist " + place]
+            self.replies.append("src %s: %s" % (place, "none" if tid is None else tid))
+            self.replies.append("hist %s: %s" % (place, " ".join(map(str, tids)) or "none"))
+
+    def play(self):
+        for _ in range(self.draw.randint(1, 4)):
+            self.transaction(self.draw.randint(1, 14))
+            tree = sorted(self.session.tree)
+            for path in self.draw.sample(tree, min(3, len(tree))):
+                self.ask(path)
+        for path in sorted(self.session.tree):
+            self.ask(path)
+        self.statements.append("show T")
+        tree = {path: content for path, (content, _) in self.session.tree.items()}
+        self.replies.append("show T: " + shown(tree))
+
+
+def as_json(tree):
+    return shown(tree, (), ":")
+
+
+def text(lines):
+    return "\n".join("| " + line for line in lines)
+
+
+def main():
+    count = int(sys.argv[1]) if len(sys.argv) > 1 else 300
+    print("# Drawn sessions of the transactional kind, as `model/draw.py` prints them.")
+    for number in range(1, count + 1):
+        script = Script(random.Random(number))
+        script.play()
+        print("\ncase net effects %d" % number)
+        print("since 5")
+        print("file t.json -\n" + text([as_json(script.start)]))
+        print("file s.json -\n" + text([as_json(script.session.source)]))
+        print("words scratch t t.json")
+        print("in\n" + text(line + ";" for line in script.statements))
+        print("out\n" + text(script.replies))
+        print("ends 0")
+
+
+main()
