@@ -37,9 +37,9 @@ use Rattle.cp_store.specs.declared.store.ProvStore.{Ghosts}
 -- ---- the tree that is shown
 
 -- accepted operations lead to the tree after them
-working_tree : (t : State) (n : ℕ) (ops : List Op) → AllAccepted t.sources (tree_of t.tree) ops → (stage_after t.sources (tree_of t.tree) n ops).tree ≡ outcome_tree t (step (tree_of t.tree) t.sources ops)
-working_tree t n ops a =
-    let x = accepted-step t.sources (tree_of t.tree) n ops a in
+working_tree : (k : Kind) (t : State) (n : ℕ) (ops : List Op) → AllAccepted t.sources (tree_of t.tree) ops → (stage_after k t.sources (tree_of t.tree) n ops).tree ≡ outcome_tree t (step (tree_of t.tree) t.sources ops)
+working_tree k t n ops a =
+    let x = accepted-step k t.sources (tree_of t.tree) n ops a in
     sym (ap (outcome_tree t) x.1 ∙ x.2)
 
 module _ {R S P : Type 0} (view : R → Tree) (source_view : S → Tree) (g : Ghosts P) (d : Database R S P) (s : Session) (z : Stands view source_view g d s) where
@@ -65,13 +65,13 @@ module _ {R S P : Type 0} (view : R → Tree) (source_view : S → Tree) (g : Gh
     stands_open : Opens view (Some x) z.state.kind ss t n s.opened
     stands_open = subst (λ y. Opens view y z.state.kind ss t n s.opened) there z.opened
 
-    going_tree : (j : ℕ) (u : Tree) (o : OpenTransaction) → Opens view (Some x) z.state.kind ss t n o → k ≡ state.Going j → ((ops : List Op) → txn.Stands view x z.state.kind ss t n (txn.going ops) → u ≡ (stage_after ss t n ops).tree) → u ≡ current_tree z.state o
+    going_tree : (j : ℕ) (u : Tree) (o : OpenTransaction) → Opens view (Some x) z.state.kind ss t n o → k ≡ state.Going j → ((ops : List Op) → txn.Stands view x z.state.kind ss t n (txn.going ops) → u ≡ (stage_after z.state.kind ss t n ops).tree) → u ≡ current_tree z.state o
     going_tree j u closed h e f = absurd h
-    going_tree j u (going ops) h e f = f ops h.0 ∙ working_tree z.state n ops h.0.accepted
+    going_tree j u (going ops) h e f = f ops h.0 ∙ working_tree z.state.kind z.state n ops h.0.accepted
     going_tree j u (failed i c) h e f = let same = is z.state.kind ss t n (txn.failed i c) h in absurd (cc)
 
     -- where it is going, its working tree is shown
-    pub tree-going : (j : ℕ) (u : Tree) → k ≡ state.Going j → ((q : Kind) (ss : List Source) (t : Tree) (n : ℕ) (ops : List Op) → txn.Stands view x q ss t n (txn.going ops) → u ≡ (stage_after ss t n ops).tree) → u ≡ current_tree z.state s.opened
+    pub tree-going : (j : ℕ) (u : Tree) → k ≡ state.Going j → ((q : Kind) (ss : List Source) (t : Tree) (n : ℕ) (ops : List Op) → txn.Stands view x q ss t n (txn.going ops) → u ≡ (stage_after q ss t n ops).tree) → u ≡ current_tree z.state s.opened
     tree-going j u e f = going_tree j u s.opened stands_open e (f z.state.kind ss t n)
 
     failed_tree : (o : OpenTransaction) → Opens view (Some x) z.state.kind ss t n o → ((j : ℕ) → k ≡ state.Going j → ⊥) → t ≡ current_tree z.state o

@@ -15,7 +15,6 @@ use Rattle.cp_reply.specs.declared.reply.Why.TheVariants as why
 use Rattle.cp_reply.specs.declared.reply.Reply.TheVariants as reply
 use Rattle.cp_store.specs.Changes.{AreNext}
 use Rattle.cp_session.specs.Session.{Session, OpenTransaction, closed, going, failed, with_opened, says, turn_of, on_commit, count_given_up, stamp_of, after_moment, with_entry}
-use Rattle.cp_engine.specs.Passed.{is_built}
 use Rattle.cp_engine.proofs.Linked.{accepted-done}
 use Rattle.cp_engine.proofs.Stepped.{Commits, commits-step}
 use Rattle.cp_engine.specs.Transactions as txn
@@ -52,7 +51,7 @@ module _ {R S P : Type 0} (view : R → Tree) (source_view : S → Tree) (g : Gh
   few = subst (λ o. before.now + held_in o ≤ d.runs) k.opened k.stands.few
 
   at_end : Commits view before after x k.ops
-  at_end = commits-step view before before.kind ss k.ops (2 ^ 64 - 1) x refl refl k.stands.built going_on.0.accepted k.step
+  at_end = commits-step view before before.kind ss k.ops (2 ^ 64 - 1) x refl refl going_on.0.accepted k.step
 
   -- the Tids of its steps are few
   pub few-tids : before.now + x.tids ≤ d.runs
@@ -84,7 +83,6 @@ module _ {R S P : Type 0} (view : R → Tree) (source_view : S → Tree) (g : Gh
         replayed = replay-snoc s.history (commit (stamp_of (setting files) s) k.ops) ∙ ap (λ r. then_entry r (commit (stamp_of (setting files) s) k.ops)) k.stands.replayed ∙ ap (λ u. Some u) committed_state;
         legal = legal-snoc s.history (commit (stamp_of (setting files) s) k.ops) k.stands.legal (subst (λ r. CanFollow r (commit (stamp_of (setting files) s) k.ops)) (sym k.stands.replayed) can_commit);
         kind = store ∙ k.stands.kind ∙ sym at_end.kind;
-        built = ap is_built at_end.kind ∙ k.stands.built;
         sources = ap (sources_in source_view) kept ∙ k.stands.sources ∙ sym at_end.sources;
         bounded = subst (λ n. length n ≤ SOURCES_MAX) (sym at_end.sources) k.stands.bounded;
         tree = tree ∙ sym at_end.tree;

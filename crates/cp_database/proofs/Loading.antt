@@ -110,7 +110,6 @@ module _ {R S P : Type 0} (view : R → Tree) (source_view : S → Tree) (g : Gh
         replayed = replay-snoc s.history (load name u) ∙ ap (λ r. then_entry r (load name u)) z.replayed;
         legal = legal-snoc s.history (load name u) z.legal (subst (λ r. CanFollow r (load name u)) (sym z.replayed) can);
         kind = ap g.kept_kind store ∙ z.kind;
-        built = z.built;
         sources = added ∙ ap (λ ss. ss ++ record { name = name; tree = u } ∷ []) z.sources;
         bounded = omega (arith, length-append z.state.sources (record { name = name; tree = u } ∷ []), ap length z.sources, bound);
         tree = ap view same ∙ z.tree;

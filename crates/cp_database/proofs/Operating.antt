@@ -33,15 +33,15 @@ use Rattle.cp_database.proofs.Standing.{IsSameStore, committed-sources, if-ok, s
 use Rattle.cp_store.specs.declared.store.ProvStore.{Ghosts}
 
 -- behind accepted operations, the refusal on their step is the one by the tree to which they lead
-refusal_on_step : (t : State) (n : ℕ) (ops : List Op) (op : Op) → AllAccepted t.sources (tree_of t.tree) ops →
-    refusal_on t (step (tree_of t.tree) t.sources ops) op ≡ refusal t.sources (stage_after t.sources (tree_of t.tree) n ops).tree op
-refusal_on_step t n ops op a =
-    let x = accepted-step t.sources (tree_of t.tree) n ops a in
+refusal_on_step : (k : Kind) (t : State) (n : ℕ) (ops : List Op) (op : Op) → AllAccepted t.sources (tree_of t.tree) ops →
+    refusal_on t (step (tree_of t.tree) t.sources ops) op ≡ refusal t.sources (stage_after k t.sources (tree_of t.tree) n ops).tree op
+refusal_on_step k t n ops op a =
+    let x = accepted-step k t.sources (tree_of t.tree) n ops a in
     ap (λ y. refusal_on t y op) x.1 ∙ ap (λ u. refusal t.sources u op) x.2
 
 -- a session refuses what a transaction refuses
-pub refusal-is : (t : State) (n : ℕ) (ops : List Op) (op : Op) → AllAccepted t.sources (tree_of t.tree) ops → refusal_after t ops op ≡ refusal_behind t.sources (tree_of t.tree) n ops op
-refusal-is t n ops op a = ap (λ r. if length ops == OPS_MAX then Some TooManyOps else r) (refusal_on_step t n ops op a)
+pub refusal-is : (k : Kind) (t : State) (n : ℕ) (ops : List Op) (op : Op) → AllAccepted t.sources (tree_of t.tree) ops → refusal_after t ops op ≡ refusal_behind k t.sources (tree_of t.tree) n ops op
+refusal-is k t n ops op a = ap (λ r. if length ops == OPS_MAX then Some TooManyOps else r) (refusal_on_step k t n ops op a)
 
 -- what an operation does with the loaded sources it does with the session's, which are the same
 pub with_sources : {R : Type 0} (view : R → Tree) (loaded ss : List Source) → loaded ≡ ss → (y : Txn R) (op : Op) (x : Txn R) (r : Result ⊤ ApplyFault)
@@ -102,17 +102,17 @@ module _ {R S P : Type 0} (view : R → Tree) (source_view : S → Tree) (g : Gh
   -- ---- operations
 
   module _ (files : FileTable) (y : Txn R) (op : Op) (more : m.runs ≡ d.runs + 1) where
-    accepted : (ops : List Op) → z.state.now + length ops ≤ d.runs → txn.Stands view y z.state.kind ss t n (txn.going ops) → refusal_behind ss t n ops op ≡ None → txn.Stands view x z.state.kind ss t n (txn.going (ops ++ op ∷ [])) →
+    accepted : (ops : List Op) → z.state.now + length ops ≤ d.runs → txn.Stands view y z.state.kind ss t n (txn.going ops) → refusal_behind z.state.kind ss t n ops op ≡ None → txn.Stands view x z.state.kind ss t n (txn.going (ops ++ op ∷ [])) →
         Turned view source_view g (decide_op s ops op (refusal_after z.state ops op)) m None
     accepted ops few i e h =
         let len = length-append ops (op ∷ []) in
-        subst (λ r. Turned view source_view g (decide_op s ops op r) m None) (sym (refusal-is z.state n ops op i.accepted ∙ e))
+        subst (λ r. Turned view source_view g (decide_op s ops op r) m None) (sym (refusal-is z.state.kind z.state n ops op i.accepted ∙ e))
         (refl, puts_back (going (ops ++ op ∷ [])) (h, omega (arith, len)) (omega (arith, len, few, more)))
 
-    denied_by : (r : Refusal) (ops : List Op) → z.state.now + length ops ≤ d.runs → txn.Stands view y z.state.kind ss t n (txn.going ops) → refusal_behind ss t n ops op ≡ Some r → txn.Stands view x z.state.kind ss t n (txn.failed (length ops + 1) (Refused r)) →
+    denied_by : (r : Refusal) (ops : List Op) → z.state.now + length ops ≤ d.runs → txn.Stands view y z.state.kind ss t n (txn.going ops) → refusal_behind z.state.kind ss t n ops op ≡ Some r → txn.Stands view x z.state.kind ss t n (txn.failed (length ops + 1) (Refused r)) →
         Turned view source_view g (decide_op s ops op (refusal_after z.state ops op)) m (Some (reply.Refused of.Statement (why_refused op r)))
     denied_by r ops few i e h =
-        subst (λ q. Turned view source_view g (decide_op s ops op q) m (Some (reply.Refused of.Statement (why_refused op r)))) (sym (refusal-is z.state n ops op i.accepted ∙ e))
+        subst (λ q. Turned view source_view g (decide_op s ops op q) m (Some (reply.Refused of.Statement (why_refused op r)))) (sym (refusal-is z.state.kind z.state n ops op i.accepted ∙ e))
         (refl, puts_back (failed (length ops + 1) (Refused r)) h (omega (arith, few, more)))
 
     operated_ok : (o : OpenTransaction) → z.state.now + held_in o ≤ d.runs → txn.Stands view y z.state.kind ss t n (progress_of o) → txn.Applies view z.state.kind ss t n (progress_of o) op x (Ok tt) → Turned view source_view g (on_operation s z.state op o) m None

@@ -1,5 +1,5 @@
 -- A database goes on standing for its session.
-use Rattle.std.specs.Prelude.{◌≡◌, true, ◌+◌, ◌≤◌, [], refl, IfOk, OnOk, Result, Ok, Err}
+use Rattle.std.specs.Prelude.{◌≡◌, ◌+◌, ◌≤◌, [], refl, IfOk, OnOk, Result, Ok, Err}
 use Rattle.std.proofs.Common.{sym, ap, subst, ◌∙◌, arith}
 use Rattle.std.specs.declared.option.Option.{Option}
 use Rattle.std.specs.declared.option.Option.TheVariants.{None}
@@ -13,7 +13,6 @@ use Rattle.cp_lang.specs.declared.syntax_tree.Stmt.{Stmt}
 use Rattle.cp_reply.specs.declared.reply.Reply.{Reply}
 use Rattle.cp_session.specs.Session.{Session, OpenTransaction, closed, with_opened, says, turn_of, turn_by, turn_on}
 use Rattle.cp_engine.specs.Loaded.{sources_in}
-use Rattle.cp_engine.specs.Passed.{is_built}
 use Rattle.cp_outside.specs.FileReads.{FileTable}
 use Rattle.cp_database.specs.Texts.{setting, begun_session}
 use Rattle.cp_database.specs.Databases.{Stands, Opens, Turned, held_in}
@@ -47,7 +46,6 @@ module _ {R S P : Type 0} (view : R → Tree) (source_view : S → Tree) (g : Gh
     replayed = z.replayed;
     legal = z.legal;
     kind = same.kind ∙ z.kind;
-    built = z.built;
     sources = ap (sources_in source_view) kept ∙ z.sources;
     bounded = z.bounded;
     tree = tree ∙ z.tree;
@@ -68,14 +66,13 @@ module _ {R S P : Type 0} (view : R → Tree) (source_view : S → Tree) (g : Gh
   turned-on x r h = subst (λ o. Turned view source_view g (turn_by (setting files) s o x) m r) (sym z.replayed) h
 
 -- a tree without rows and sources stands for a session that begins on it
-pub stands-begun : {R S P : Type 0} (view : R → Tree) (source_view : S → Tree) (g : Ghosts P) (d : Database R S P) → IsTree (view d.tree) → sources_in source_view d.sources ≡ [] → is_built (g.kept_kind d.store) ≡ true → g.kept_rows d.store ≡ [] → g.last_tid d.store ≡ 0 → d.transaction ≡ None → Stands view source_view g d (begun_session (g.kept_kind d.store) (view d.tree))
+pub stands-begun : {R S P : Type 0} (view : R → Tree) (source_view : S → Tree) (g : Ghosts P) (d : Database R S P) → IsTree (view d.tree) → sources_in source_view d.sources ≡ [] → g.kept_rows d.store ≡ [] → g.last_tid d.store ≡ 0 → d.transaction ≡ None → Stands view source_view g d (begun_session (g.kept_kind d.store) (view d.tree))
 unfolding replay start_state
-stands-begun view source_view g d h none_loaded built list upto none = record {
+stands-begun view source_view g d h none_loaded list upto none = record {
   state = start_state (g.kept_kind d.store) (view d.tree);
   replayed = refl;
   legal = (h, tt);
   kind = refl;
-  built = built;
   sources = none_loaded;
   bounded = omega arith;
   tree = sym (tree_of-aged (view d.tree));

@@ -1,5 +1,5 @@
 -- What a database keeps of a session: the committed tree with its rows, and the open transaction.
-use Rattle.std.specs.Prelude.{ℕ, ◌≡◌, true, ◌+◌, ◌-◌, ◌≤◌, ◌^◌, List, [], length, map, if◌then◌else◌, ⊤}
+use Rattle.std.specs.Prelude.{ℕ, ◌≡◌, ◌+◌, ◌-◌, ◌≤◌, ◌^◌, List, [], length, map, if◌then◌else◌, ⊤}
 use Rattle.std.specs.declared.option.Option.{Option}
 use Rattle.std.specs.declared.option.Option.TheVariants.{None, Some}
 use Rattle.cp_path.specs.declared.loc.Loc.{Loc}
@@ -18,7 +18,6 @@ use Rattle.cp_reply.specs.declared.reply.Why.TheVariants as why
 use Rattle.cp_reply.specs.declared.reply.Reply.TheVariants as reply
 use Rattle.cp_session.specs.Session.{Session, OpenTransaction, closed, going, failed, Turn, current_tree, with_entry, row_of}
 use Rattle.cp_engine.specs.Loaded.{sources_in}
-use Rattle.cp_engine.specs.Passed.{is_built}
 use Rattle.cp_engine.specs.Transactions as txn
 use Rattle.cp_engine.specs.declared.txn.Txn.{Txn}
 use Rattle.cp_engine.specs.declared.txn.Step.{Step}
@@ -48,8 +47,6 @@ pub record Stands {R S P : Type 0} (view : R → Tree) (source_view : S → Tree
   pub replayed : replay s.history ≡ Some state
   pub legal : IsLegal s.history
   pub kind : g.kept_kind d.store ≡ state.kind
-  -- of the kinds in which transactions are made
-  pub built : is_built state.kind ≡ true
   pub sources : sources_in source_view d.sources ≡ state.sources
   pub bounded : length state.sources ≤ SOURCES_MAX
   pub tree : view d.tree ≡ tree_of state.tree

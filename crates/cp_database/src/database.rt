@@ -2,7 +2,6 @@ ghost use Rattle.std.specs.Prelude.{◌≡◌, ◌+◌, ◌<◌, ◌≤◌, [], 
 ghost use Rattle.cp_outside.specs.Causes.{Accounts};
 ghost use Rattle.cp_outside.specs.FileReads.{FileTable};
 ghost use Rattle.cp_session.specs.Session.{Session, says, turn_of};
-ghost use Rattle.cp_engine.specs.Passed.{is_built};
 ghost use Rattle.cp_database.specs.Texts.{setting, begun_session, is_run};
 ghost use Rattle.cp_database.specs.Loads.{statement_reads};
 ghost use Rattle.cp_database.specs.Files.{known_files, IsTable, Reads, UsesFiles};
@@ -42,7 +41,6 @@ pub struct Database<R: TreeRep, S: TreeRep, P: ProvStore> {
 impl<R: TreeRep, S: TreeRep, P: ProvStore> Database<R, S, P> {
     /// A tree with a store that has no rows yet, without sources and without a transaction.
     pub fn new(alloc: Global, tree: R, store: P) -> Database<R, S, P>
-        requires kind { is_built (P.kept_kind store) ≡ true }
         requires rows { P.kept_rows store ≡ [] }
         requires last { P.last_tid store ≡ 0 }
         ensures stands { Stands R.contents S.contents P.ProvStore result (begun_session (P.kept_kind store) (R.contents tree)) }

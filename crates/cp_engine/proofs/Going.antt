@@ -1,13 +1,15 @@
 -- What each call does to a transaction.
 use Rattle.cp_model.specs.declared.limits.TheConstants.{OPS_MAX}
-use Rattle.std.specs.Prelude.{ℕ, ◌+◌, ◌≤◌, ◌<◌, ◌≡◌, ◌^◌, true, List, [], ◌∷◌, ◌++◌, length}
+use Rattle.std.specs.Prelude.{ℕ, ◌+◌, ◌≤◌, ◌<◌, ◌≡◌, ◌^◌, List, [], ◌∷◌, ◌++◌, length}
 use Rattle.std.proofs.Common.{sym, ap, subst, ◌∙◌, arith, length-append}
 use Rattle.std.proofs.lemmas.List.Sums.{fold-append}
 use Rattle.std.specs.declared.option.Option.TheVariants.{None}
 use Rattle.cp_model.specs.Tree.{Tree, Source, IsTree, refusal, tree_after}
-use Rattle.cp_model.specs.Laws.{AreSources, Sound}
+use Rattle.cp_model.specs.Laws.{AreSources, AreTrees, Sound}
 use Rattle.cp_model.specs.Step.{Working, contents, open_tree, apply_op, done, then_op, step}
-use Rattle.cp_model.specs.History.{IsWritten, AreWritten, with_tid}
+use Rattle.cp_model.specs.Place.{Path}
+use Rattle.cp_model.specs.declared.record.RowMark.{RowMark as Mark}
+use Rattle.cp_model.specs.History.{IsWritten, AreWritten, rows_of, with_tid}
 use Rattle.cp_model.specs.declared.kind.Kind.{Kind}
 use Rattle.cp_model.specs.declared.kind.Kind.TheVariants as kind
 use Rattle.cp_model.specs.declared.op.Op.{Op}
@@ -21,17 +23,32 @@ use Rattle.cp_model.proofs.Origins.{sound-step}
 use Rattle.cp_overlay.specs.Kept.{Kept}
 use Rattle.cp_overlay.specs.Kept as overlay
 use Rattle.cp_overlay.specs.Seen.{seen}
-use Rattle.cp_engine.specs.Passed.{Stage, stage_after, next_stage, AllAccepted, is_built, outcome_records, records_of}
-use Rattle.cp_engine.specs.RowsAlone.{op_rows}
+use Rattle.cp_engine.specs.Passed.{Stage, stage_after, next_stage, AllAccepted, outcome_records, records_of}
+use Rattle.cp_engine.specs.RowsAlone.{op_rows, top_rows}
 use Rattle.cp_engine.proofs.RowsAloneLemmas.{rows-alone}
+use Rattle.cp_engine.proofs.TopRows.{reduced-alone}
 use Rattle.cp_engine.proofs.Linked.{passed-snoc, pass-tree, accepted-step, accepted-snoc, written-snoc, passed-next, tree-passed}
+use Rattle.cp_engine.specs.Held.{Appended}
 use Rattle.cp_engine.specs.Transactions.{Keeps, Adds, Packs, IsGoing}
 use Rattle.cp_engine.specs.declared.txn.Txn.{Txn}
 
+-- the rows of an operation in each kind
+abbrev rows_in : Kind → List Source → Tree → Op → List (Path × Mark)
+rows_in kind.N ss t op = op_rows ss t op
+rows_in kind.T ss t op = op_rows ss t op
+rows_in kind.H ss t op = top_rows op
+rows_in kind.HT ss t op = top_rows op
+
+rows-in : (k : Kind) (ss : List Source) (t : Tree) (op : Op) → AreTrees ss → IsTree t → IsWritten op → refusal ss t op ≡ None → rows_of k t (apply_op ss (open_tree t) op) ≡ rows_in k ss t op
+rows-in kind.N ss t op r h w n = rows-alone ss t op h w n
+rows-in kind.T ss t op r h w n = rows-alone ss t op h w n
+rows-in kind.H ss t op r h w n = reduced-alone ss t op r h w n
+rows-in kind.HT ss t op r h w n = reduced-alone ss t op r h w n
+
 -- the records of one accepted operation more
-pass-records : (ss : List Source) (x : Stage) (op : Op) → IsTree x.tree → IsWritten op → refusal ss x.tree op ≡ None → (next_stage ss x op).records ≡ x.records ++ with_tid x.next (op_rows ss x.tree op)
+pass-records : (k : Kind) (ss : List Source) (x : Stage) (op : Op) → AreTrees ss → IsTree x.tree → IsWritten op → refusal ss x.tree op ≡ None → (next_stage k ss x op).records ≡ x.records ++ with_tid x.next (rows_in k ss x.tree op)
 unfolding next_stage
-pass-records ss x op h w n = ap (λ rows. x.records ++ with_tid x.next rows) (rows-alone ss x.tree op h w n)
+pass-records k ss x op r h w n = ap (λ rows. x.records ++ with_tid x.next rows) (rows-in k ss x.tree op r h w n)
 
 -- ---- what is kept
 
@@ -58,58 +75,73 @@ same-end : (j k : ℕ) (v w : Working) → done j v ≡ done k w → v ≡ w
 same-end j k v w e = cc
 
 -- nothing is kept where nothing is held
-kept-begun : (k : Kind) (rows : List Record) (o : Kept) (ss : List Source) (t : Tree) (n : ℕ) → is_built k ≡ true → rows ≡ [] → ((t : Tree) → overlay.Stands o t (open_tree t)) → Keeps k rows o ss t n []
+kept-begun : (k : Kind) (rows : List Record) (o : Kept) (ss : List Source) (t : Tree) (n : ℕ) → rows ≡ [] → ((t : Tree) → overlay.Stands o t (open_tree t)) → Keeps k rows o ss t n []
 unfolding stage_after step
-kept-begun kind.N rows o ss t n b e h = e
-kept-begun kind.T rows o ss t n b e h = λ w d. subst (overlay.Stands o t) (same-end 0 0 (open_tree t) w d) (h t)
-kept-begun kind.H rows o ss t n b e h = absurd (cc)
-kept-begun kind.HT rows o ss t n b e h = absurd (cc)
+kept-begun kind.N rows o ss t n e h = e
+kept-begun kind.T rows o ss t n e h = λ w d. subst (overlay.Stands o t) (same-end 0 0 (open_tree t) w d) (h t)
+kept-begun kind.H rows o ss t n e h = e
+kept-begun kind.HT rows o ss t n e h = λ w d. subst (overlay.Stands o t) (same-end 0 0 (open_tree t) w d) (h t)
 
 -- what holds of a transaction's tree and operations, where one operation more is accepted
-record IsNext (ss : List Source) (t : Tree) (n : ℕ) (ops : List Op) (op : Op) : Type 0 where
+record IsNext (k : Kind) (ss : List Source) (t : Tree) (n : ℕ) (ops : List Op) (op : Op) : Type 0 where
   start : IsTree t
   sources : AreSources ss
   written : AreWritten ops
   accepted : AllAccepted ss t ops
   more : IsWritten op
-  accept : refusal ss (stage_after ss t n ops).tree op ≡ None
+  accept : refusal ss (stage_after k ss t n ops).tree op ≡ None
 
--- one operation more is kept
-kept-more : (k : Kind) (rows more : List Record) (o later : Kept) (ss : List Source) (t : Tree) (n : ℕ) (ops : List Op) (op : Op) → IsNext ss t n ops op → Keeps k rows o ss t n ops →
-    Adds k rows o more later ss t (stage_after ss t n ops).tree (stage_after ss t n ops).next op → Keeps k more later ss t n (ops ++ op ∷ [])
-kept-more kind.N rows more o later ss t n ops op h e a =
-    let p = stage_after ss t n ops in
+-- one operation more in a step of its own
+records-more : (k : Kind) (rows more : List Record) (ss : List Source) (t : Tree) (n : ℕ) (ops : List Op) (op : Op) → IsNext k ss t n ops op → rows ≡ (stage_after k ss t n ops).records →
+    Appended rows more (with_tid (stage_after k ss t n ops).next (rows_in k ss (stage_after k ss t n ops).tree op)) → more ≡ (stage_after k ss t n (ops ++ op ∷ [])).records
+records-more k rows more ss t n ops op h e a =
+    let p = stage_after k ss t n ops in
     a.is
-    ∙ ap (λ rs. rs ++ with_tid p.next (op_rows ss p.tree op)) e
-    ∙ sym (pass-records ss p op (tree-passed ss t n ops h.start (trees-sources ss h.sources) h.written h.accepted) h.more h.accept)
-    ∙ ap (λ q. q.records) (sym (passed-snoc ss t n ops op))
-kept-more kind.T rows more o later ss t n ops op h e a = λ v d.
-    let x = accepted-step ss t n ops h.accepted in
+    ∙ ap (λ rs. rs ++ with_tid p.next (rows_in k ss p.tree op)) e
+    ∙ sym (pass-records k ss p op (trees-sources ss h.sources) (tree-passed k ss t n ops h.start (trees-sources ss h.sources) h.written h.accepted) h.more h.accept)
+    ∙ ap (λ q. q.records) (sym (passed-snoc k ss t n ops op))
+
+-- one operation more in the open step
+stands-more : (k : Kind) (o later : Kept) (ss : List Source) (t : Tree) (n : ℕ) (ops : List Op) (op : Op) → IsNext k ss t n ops op → ((w : Working) → step t ss ops ≡ done (length ops) w → overlay.Stands o t w) →
+    overlay.Follows ss t o later op → (v : Working) → step t ss (ops ++ op ∷ []) ≡ done (length (ops ++ op ∷ [])) v → overlay.Stands later t v
+stands-more k o later ss t n ops op h e a v d =
+    let x = accepted-step k ss t n ops h.accepted in
     let none : refusal ss (contents x.0) op ≡ None = ap (λ u. refusal ss u op) x.2 ∙ h.accept in
     let one = step-snoc ss t ops op (length ops) x.0 x.1 none in
     subst (overlay.Stands later t) (same-end (length ops + 1) (length (ops ++ op ∷ [])) (apply_op ss x.0 op) v (sym one ∙ d))
     (a x.0 (working-done ss t ops (length ops) x.0 h.start h.sources h.written x.1) none (e x.0 x.1))
-kept-more kind.H rows more o later ss t n ops op h e a = absurd e
-kept-more kind.HT rows more o later ss t n ops op h e a = absurd e
+
+-- one operation more is kept
+kept-more : (k : Kind) (rows more : List Record) (o later : Kept) (ss : List Source) (t : Tree) (n : ℕ) (ops : List Op) (op : Op) → IsNext k ss t n ops op → Keeps k rows o ss t n ops →
+    Adds k rows o more later ss t (stage_after k ss t n ops).tree (stage_after k ss t n ops).next op → Keeps k more later ss t n (ops ++ op ∷ [])
+kept-more kind.N rows more o later ss t n ops op h e a = records-more kind.N rows more ss t n ops op h e a
+kept-more kind.T rows more o later ss t n ops op h e a = stands-more kind.T o later ss t n ops op h e a
+kept-more kind.H rows more o later ss t n ops op h e a = records-more kind.H rows more ss t n ops op h e a
+kept-more kind.HT rows more o later ss t n ops op h e a = stands-more kind.HT o later ss t n ops op h e a
+
+-- what is packed of the open step are its records
+packed-step : (k : Kind) (rs : List Record) (o : Kept) (ss : List Source) (t : Tree) (n : ℕ) (ops : List Op) → IsTree t → AreSources ss → AreWritten ops → AllAccepted ss t ops → ((w : Working) → step t ss ops ≡ done (length ops) w → overlay.Stands o t w) →
+    ((w : Working) → overlay.IsWorking w → overlay.Stands o t w → contents w ≡ (stage_after k ss t n ops).tree → rs ≡ with_tid n (rows_of k t w)) → rs ≡ outcome_records k t n (step t ss ops)
+packed-step k rs o ss t n ops h s w a e p =
+    let x = accepted-step k ss t n ops a in
+    p x.0 (working-done ss t ops (length ops) x.0 h s w x.1) (e x.0 x.1) x.2 ∙ ap (outcome_records k t n) (sym x.1)
 
 -- what is packed are the records of the steps
 packed-kept : (k : Kind) (rows rs : List Record) (o : Kept) (ss : List Source) (t : Tree) (n : ℕ) (ops : List Op) → IsTree t → AreSources ss → AreWritten ops → AllAccepted ss t ops → Keeps k rows o ss t n ops →
-    Packs k rows o t (stage_after ss t n ops).tree n rs → rs ≡ records_of k ss t n ops
+    Packs k rows o t (stage_after k ss t n ops).tree n rs → rs ≡ records_of k ss t n ops
 packed-kept kind.N rows rs o ss t n ops h s w a e p = p ∙ e
-packed-kept kind.T rows rs o ss t n ops h s w a e p =
-    let x = accepted-step ss t n ops a in
-    p x.0 (working-done ss t ops (length ops) x.0 h s w x.1) (e x.0 x.1) x.2 ∙ ap (outcome_records t n) (sym x.1)
-packed-kept kind.H rows rs o ss t n ops h s w a e p = absurd e
-packed-kept kind.HT rows rs o ss t n ops h s w a e p = absurd e
+packed-kept kind.T rows rs o ss t n ops h s w a e p = packed-step kind.T rs o ss t n ops h s w a e p
+packed-kept kind.H rows rs o ss t n ops h s w a e p = p ∙ e
+packed-kept kind.HT rows rs o ss t n ops h s w a e p = packed-step kind.HT rs o ss t n ops h s w a e p
 
 -- ---- transactions
 
 module _ {R : Type 0} (view : R → Tree) (ss : List Source) where
   -- a transaction that has just begun
-  pub going-begun : (x : Txn R) (k : Kind) (t : Tree) (n : ℕ) → is_built k ≡ true → IsTree t → AreSources ss → n ≤ 2 ^ 63 → x.ops ≡ [] → x.first ≡ n → view x.tree ≡ t → x.kind ≡ k → view x.start ≡ t → x.rows ≡ [] → ((t : Tree) → overlay.Stands (seen x.overlay) t (open_tree t)) →
+  pub going-begun : (x : Txn R) (k : Kind) (t : Tree) (n : ℕ) → IsTree t → AreSources ss → n ≤ 2 ^ 63 → x.ops ≡ [] → x.first ≡ n → view x.tree ≡ t → x.kind ≡ k → view x.start ≡ t → x.rows ≡ [] → ((t : Tree) → overlay.Stands (seen x.overlay) t (open_tree t)) →
       x.failure ≡ None → IsGoing view x k ss t n []
   unfolding stage_after
-  going-begun x k t n b h s u o f e i a r v l = record {
+  going-begun x k t n h s u o f e i a r v l = record {
     start = h;
     sources = s;
     first = u;
@@ -121,7 +153,7 @@ module _ {R : Type 0} (view : R → Tree) (ss : List Source) where
     tree = e;
     kind = i;
     begun = a;
-    kept = kept-begun k x.rows (seen x.overlay) ss t n b r v;
+    kept = kept-begun k x.rows (seen x.overlay) ss t n r v;
     failure = l;
   }
 
@@ -130,10 +162,10 @@ module _ {R : Type 0} (view : R → Tree) (ss : List Source) where
       y.ops ≡ x.ops ++ op ∷ [] → y.first ≡ x.first → y.kind ≡ x.kind → view y.start ≡ view x.start → view y.tree ≡ tree_after ss (view x.tree) op → Adds x.kind x.rows (seen x.overlay) y.rows (seen y.overlay) ss (view x.start) (view x.tree) tid op → y.failure ≡ x.failure →
       IsGoing view x k ss t n ops → IsGoing view y k ss t n (ops ++ op ∷ [])
   going-more x y k t n tid ops op w b a i o f j s e r l h =
-      let p = stage_after ss t n ops in
-      let more : stage_after ss t n (ops ++ op ∷ []) ≡ next_stage ss p op = passed-snoc ss t n ops op in
+      let p = stage_after k ss t n ops in
+      let more : stage_after k ss t n (ops ++ op ∷ []) ≡ next_stage k ss p op = passed-snoc k ss t n ops op in
       let accept : refusal ss p.tree op ≡ None = ap (λ u. refusal ss u op) (sym h.tree) ∙ a in
-      let number : tid ≡ p.next = omega (arith, i, passed-next ss t n ops, h.tid, ap length h.held) in
+      let number : tid ≡ p.next = omega (arith, i, passed-next k ss t n ops, h.tid, ap length h.held) in
       let adds : Adds k x.rows (seen x.overlay) y.rows (seen y.overlay) ss t p.tree p.next op =
       subst (λ d. Adds d x.rows (seen x.overlay) y.rows (seen y.overlay) ss t p.tree p.next op) h.kind
       (subst (λ a. Adds x.kind x.rows (seen x.overlay) y.rows (seen y.overlay) ss a p.tree p.next op) h.begun
@@ -146,10 +178,10 @@ module _ {R : Type 0} (view : R → Tree) (ss : List Source) where
         first = h.first;
         few = omega (arith, b, length-append ops (op ∷ []), ap length h.held);
         written = written-snoc ops op h.written w;
-        accepted = accepted-snoc ss t n ops op h.accepted accept;
+        accepted = accepted-snoc k ss t n ops op h.accepted accept;
         held = o ∙ ap (λ os. os ++ op ∷ []) h.held;
         tid = f ∙ h.tid;
-        tree = e ∙ ap (λ u. tree_after ss u op) h.tree ∙ sym (pass-tree ss p op) ∙ ap (λ q. q.tree) (sym more);
+        tree = e ∙ ap (λ u. tree_after ss u op) h.tree ∙ sym (pass-tree k ss p op) ∙ ap (λ q. q.tree) (sym more);
         kind = j ∙ h.kind;
         begun = s ∙ h.begun;
         kept = kept-more k x.rows y.rows (seen x.overlay) (seen y.overlay) ss t n ops op (record { start = h.start; sources = h.sources; written = h.written; accepted = h.accepted; more = w; accept = accept }) h.kept adds;
@@ -180,7 +212,7 @@ module _ {R : Type 0} (view : R → Tree) (ss : List Source) where
   packed-going x k t n tid ops rs i h r =
       let number : tid ≡ n = omega (arith, i, h.tid) in
       packed-kept k x.rows rs (seen x.overlay) ss t n ops h.start h.sources h.written h.accepted h.kept
-      (subst (λ d. Packs d x.rows (seen x.overlay) t (stage_after ss t n ops).tree n rs) h.kind
-      (subst (λ a. Packs x.kind x.rows (seen x.overlay) a (stage_after ss t n ops).tree n rs) h.begun
+      (subst (λ d. Packs d x.rows (seen x.overlay) t (stage_after k ss t n ops).tree n rs) h.kind
+      (subst (λ a. Packs x.kind x.rows (seen x.overlay) a (stage_after k ss t n ops).tree n rs) h.begun
       (subst (λ u. Packs x.kind x.rows (seen x.overlay) (view x.start) u n rs) h.tree
       (subst (λ m. Packs x.kind x.rows (seen x.overlay) (view x.start) (view x.tree) m rs) number r))))

@@ -14,3 +14,4 @@ pub mod LoadedLemmas
 pub mod Rising
 pub mod RowsAloneLemmas
 pub mod Stepped
+pub mod TopRows

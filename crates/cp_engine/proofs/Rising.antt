@@ -14,13 +14,13 @@ use Rattle.cp_model.specs.declared.record.RowMark.TheVariants.{Made as I, Copied
 use Rattle.cp_model.specs.Place.{Path, path_cmp, in_target, at_target}
 use Rattle.cp_model.specs.Tree.{Tree, Source}
 use Rattle.cp_model.specs.Step.{open_tree, apply_op}
-use Rattle.cp_model.specs.Rows.{full_rows}
-use Rattle.cp_model.specs.History.{record_of, with_tid}
+use Rattle.cp_model.specs.History.{record_of, rows_of, with_tid}
+use Rattle.cp_model.specs.declared.kind.Kind.{Kind}
 use Rattle.cp_model.proofs.Passing.{and_true, and_both, or_true}
 use Rattle.cp_model.proofs.Sorted.{parts_of}
 use Rattle.cp_store.specs.Changes.{goes_before, rises, is_source, is_between, AreNext}
 use Rattle.cp_engine.specs.Passed.{Stage, next_stage, stage_after}
-use Rattle.cp_overlay.proofs.Marking.{sorted-full_rows}
+use Rattle.cp_overlay.proofs.Marking.{sorted-rows_of}
 
 -- a record has the Tid of its step
 pub tid-record_of : (t : ℕ) (p : Path) (m : Mark) → (record_of t p m).tid ≡ t
@@ -127,15 +127,15 @@ next-step low high rs rows l h s = record {
       ∙ and_both (list_all (is_between low (high + 1)) rs) (list_all (is_between low (high + 1)) (with_tid (high + 1) rows)) (all-weaker (is_between low high) (is_between low (high + 1)) (between_more low high) rs h.between) (between_all low high rows l);
 }
 
-next_from : (ss : List Source) (x : Stage) (low high : ℕ) (ops : List Op) → x.next ≡ high + 1 → low ≤ high → AreNext low high x.records → AreNext low (high + length ops) (fold (next_stage ss) x ops).records
+next_from : (k : Kind) (ss : List Source) (x : Stage) (low high : ℕ) (ops : List Op) → x.next ≡ high + 1 → low ≤ high → AreNext low high x.records → AreNext low (high + length ops) (fold (next_stage k ss) x ops).records
 unfolding next_stage
-next_from ss x low high [] e l h = subst (λ n. AreNext low n x.records) (omega arith) h
-next_from ss x low high (op ∷ ops) e l h =
-    let rows = full_rows x.tree (apply_op ss (open_tree x.tree) op) in
-    let more : AreNext low (high + 1) (x.records ++ with_tid x.next rows) = subst (λ n. AreNext low (high + 1) (x.records ++ with_tid n rows)) (sym e) (next-step low high x.records rows l h (sorted-full_rows x.tree (apply_op ss (open_tree x.tree) op))) in
-    subst (λ n. AreNext low n (fold (next_stage ss) (next_stage ss x op) ops).records) (omega arith) (next_from ss (next_stage ss x op) low (high + 1) ops (omega (arith, e)) (omega (arith, l)) more)
+next_from k ss x low high [] e l h = subst (λ n. AreNext low n x.records) (omega arith) h
+next_from k ss x low high (op ∷ ops) e l h =
+    let rows = rows_of k x.tree (apply_op ss (open_tree x.tree) op) in
+    let more : AreNext low (high + 1) (x.records ++ with_tid x.next rows) = subst (λ n. AreNext low (high + 1) (x.records ++ with_tid n rows)) (sym e) (next-step low high x.records rows l h (sorted-rows_of k x.tree (apply_op ss (open_tree x.tree) op))) in
+    subst (λ n. AreNext low n (fold (next_stage k ss) (next_stage k ss x op) ops).records) (omega arith) (next_from k ss (next_stage k ss x op) low (high + 1) ops (omega (arith, e)) (omega (arith, l)) more)
 
 -- the records of operations one by one are rows of T that rise, of the steps after m
-pub rising-passed : (ss : List Source) (t : Tree) (m : ℕ) (ops : List Op) → AreNext m (m + length ops) (stage_after ss t (m + 1) ops).records
+pub rising-passed : (k : Kind) (ss : List Source) (t : Tree) (m : ℕ) (ops : List Op) → AreNext m (m + length ops) (stage_after k ss t (m + 1) ops).records
 unfolding stage_after
-rising-passed ss t m ops = next_from ss (record { tree = t; next = m + 1; records = [] }) m m ops refl (omega arith) (record { rise = refl; sources = refl; between = refl })
+rising-passed k ss t m ops = next_from k ss (record { tree = t; next = m + 1; records = [] }) m m ops refl (omega arith) (record { rise = refl; sources = refl; between = refl })

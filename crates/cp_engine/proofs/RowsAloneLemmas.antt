@@ -75,14 +75,14 @@ abbrev mark_at : Tree → Working → Path → Option Effect → Option Mark
 mark_at t w r o = elim o [ Some e ↦ full_mark e | None ↦ if lost_below_same t w r then Some D else None ]
 
 -- a place that carries itself
-abbrev itself : Path → Content → Worked
+abbrev pub itself : Path → Content → Worked
 itself r c = record { content = c; origin = was (at_target r) }
 
 here_by : (t : Tree) (w : Working) (r : Path) (o : Option Worked) → keyed.get w r ≡ o → full_here t w r ≡ mark_at t w r (option_map (λ x. effect r x.origin) o)
 unfolding full_here
 here_by t w r o e = ap (λ o. mark_at t w r (option_map (λ x. effect r x.origin) o)) e
 
-effect_itself : (r : Path) → effect r (was (at_target r)) ≡ same
+pub effect_itself : (r : Path) → effect r (was (at_target r)) ≡ same
 effect_itself r = ap (λ b. if b then same else from (at_target r)) (place_eq-refl (at_target r))
 
 -- a place that is as it was at the start of the step has no row
@@ -99,7 +99,7 @@ absent : (t : Tree) (w : Working) (r : Path) → keyed.get w r ≡ None → keye
 absent t w r e n = here_by t w r None e ∙ ap (λ o. if is_some o && same_above w r then Some D else None) n
 
 -- a path doesn't go on to what is below it
-strip-child : (p : Path) (a : Label) → strip (child p a) p ≡ None
+pub strip-child : (p : Path) (a : Label) → strip (child p a) p ≡ None
 strip-child [] a = refl
 strip-child (b ∷ p) a = ap (λ o. cond (label_eq b b) o None) (strip-child p a) ∙ elim (label_eq b b) as (λ c. cond {A = Option Path} c None None ≡ None) [ true ↦ refl | false ↦ refl ]
 
@@ -139,7 +139,7 @@ same-suffix a b s =
     ] refl
 
 -- what the entries put in place of a subtree leave at a place
-put_at : (k r : Path) (es : List (Path × Worked)) (w : Working) (o : Option Path) → strip k r ≡ o → keyed.get (with_subtree k es w) r ≡ at_rest_or o (λ s. look s es) (keyed.get w r)
+pub put_at : (k r : Path) (es : List (Path × Worked)) (w : Working) (o : Option Path) → strip k r ≡ o → keyed.get (with_subtree k es w) r ≡ at_rest_or o (λ s. look s es) (keyed.get w r)
 put_at k r es w o e = get-replaced k es w r ∙ ap (λ o. at_rest_or o (λ s. look s es) (keyed.get w r)) e
 
 -- the mark of what stands this far below a place after a copy onto it
@@ -170,7 +170,7 @@ module _ (t : Tree) (p : Loc) (a : Label) (x : DelAccepted t p a) where
   abbrev after_del : Working
   after_del = without (child p.path a) (open_tree t)
 
-  dropped : (r : Path) (o : Option Path) → strip (child p.path a) r ≡ o → keyed.get after_del r ≡ at_rest_or o (λ _. None) (keyed.get (open_tree t) r)
+  pub dropped : (r : Path) (o : Option Path) → strip (child p.path a) r ≡ o → keyed.get after_del r ≡ at_rest_or o (λ _. None) (keyed.get (open_tree t) r)
   dropped r o e = get-without (child p.path a) (open_tree t) r ∙ ap (λ o. at_rest_or o (λ _. None) (keyed.get (open_tree t) r)) e
 
   left : effect_at after_del p.path ≡ Some same
@@ -184,7 +184,7 @@ module _ (t : Tree) (p : Loc) (a : Label) (x : DelAccepted t p a) where
       ∙ ap (option_map (λ (x : Worked). effect (child p.path a ++ s) x.origin)) (dropped (child p.path a ++ s) (Some s) (strip-append (child p.path a) s))
 
   -- what is left above a deleted place is the same
-  above_del : (s : Path) → same_above after_del (child p.path a ++ s) ≡ true
+  pub above_del : (s : Path) → same_above after_del (child p.path a ++ s) ≡ true
   above_del s =
       ap nearest_is_same (
       ap (nearest (effect_at after_del)) (append_assoc p.path (a ∷ []) s)
@@ -213,7 +213,7 @@ module _ (t : Tree) (p : Loc) (a : Label) (x : DelAccepted t p a) where
       ] refl
 
 -- what is copied from q carries its place there
-abbrev copied_from : Loc → Path → Content → Worked
+abbrev pub copied_from : Loc → Path → Content → Worked
 copied_from q s c = record { content = c; origin = was (below_place q s) }
 
 module _ (t : Tree) (q p : Loc) (es : List (Path × Content)) (ws : List (Path × Worked)) (carries : (s : Path) → look s ws ≡ option_map (copied_from q s) (look s es)) (root : is_some (look [] es) ≡ true)
@@ -221,10 +221,10 @@ module _ (t : Tree) (q p : Loc) (es : List (Path × Content)) (ws : List (Path �
   abbrev after_copy : Working
   after_copy = with_subtree p.path ws (open_tree t)
 
-  at_copy : (r s : Path) → strip p.path r ≡ Some s → keyed.get after_copy r ≡ option_map (copied_from q s) (look s es)
+  pub at_copy : (r s : Path) → strip p.path r ≡ Some s → keyed.get after_copy r ≡ option_map (copied_from q s) (look s es)
   at_copy r s k = put_at p.path r ws (open_tree t) (Some s) k ∙ carries s
 
-  effect_copy : (s : Path) → effect_at after_copy (p.path ++ s) ≡ option_map (λ _. if place_eq q p then same else from (below_place q s)) (look s es)
+  pub effect_copy : (s : Path) → effect_at after_copy (p.path ++ s) ≡ option_map (λ _. if place_eq q p then same else from (below_place q s)) (look s es)
   effect_copy s =
       ap (option_map (λ (x : Worked). effect (p.path ++ s) x.origin)) (at_copy (p.path ++ s) s (strip-append p.path s))
       ∙ elim (look s es) as (λ o. option_map (λ (x : Worked). effect (p.path ++ s) x.origin) (option_map (copied_from q s) o) ≡ option_map (λ _. if place_eq q p then same else from (below_place q s)) o) [
@@ -241,7 +241,7 @@ module _ (t : Tree) (q p : Loc) (es : List (Path × Content)) (ws : List (Path �
       ] root
 
   -- what is left above a place that a copy replaces isn't the same
-  above_copy : (s : Path) → place_eq q p ≡ false → same_above after_copy (p.path ++ s) ≡ false
+  pub above_copy : (s : Path) → place_eq q p ≡ false → same_above after_copy (p.path ++ s) ≡ false
   above_copy s n =
       ap nearest_is_same (nearest-below (effect_at after_copy) p.path s (from (below_place q [])) (root_copy n))
       ∙ nearest-changed (λ r. effect_at after_copy (p.path ++ r)) s (λ r. ap is_kept (effect_copy r ∙ ap (λ b. option_map (λ _. if b then same else from (below_place q r)) (look r es)) n) ∙ changed_at r (look r es))
@@ -288,19 +288,19 @@ module _ (t : Tree) (q p : Loc) (i : in_target q ≡ true) (j : in_target p ≡ 
       ∙ ap (λ d. text_eq d target && path_eq q.path p.path) (sym (text_eq-same q.db target i))
       ∙ ap (λ d. text_eq q.db d && path_eq q.path p.path) (sym (text_eq-same p.db target j))
 
-  moves_inside : (s : Path) → effect (p.path ++ s) (was (below_place q s)) ≡ (if place_eq q p then same else from (below_place q s))
+  pub moves_inside : (s : Path) → effect (p.path ++ s) (was (below_place q s)) ≡ (if place_eq q p then same else from (below_place q s))
   moves_inside s =
       ap (λ r. effect (p.path ++ s) (was r)) (sym (place s))
       ∙ ap (λ b. if b then same else from (at_target (q.path ++ s))) (same_place s)
       ∙ ap (λ r. if place_eq q p then same else from r) (place s)
 
-  carries_inside : (s : Path) → look s (below q.path (open_tree t)) ≡ option_map (copied_from q s) (look s (below q.path t))
+  pub carries_inside : (s : Path) → look s (below q.path (open_tree t)) ≡ option_map (copied_from q s) (look s (below q.path t))
   carries_inside s =
       find-below q.path s (open_tree t) ∙ get-mapped itself t (q.path ++ s)
       ∙ ap (λ r. option_map (λ (c : Content). record { content = c; origin = was r }) (keyed.get t (q.path ++ s))) (place s)
       ∙ ap (option_map (copied_from q s)) (sym (find-below q.path s t))
 
-  stays_inside : place_eq q p ≡ true → (s : Path) → keyed.get t (p.path ++ s) ≡ look s (below q.path t)
+  pub stays_inside : place_eq q p ≡ true → (s : Path) → keyed.get t (p.path ++ s) ≡ look s (below q.path t)
   stays_inside b s = ap (λ (r : Loc). keyed.get t (r.path ++ s)) (sym (place_eq-same q p b)) ∙ sym (find-below q.path s t)
 
   here_inside : (r : Path) → full_here t (with_subtree p.path (below q.path (open_tree t)) (open_tree t)) r ≡ at_rest_or (strip p.path r) (λ s. mark_copy q p s (look s (below q.path t))) None
@@ -308,15 +308,15 @@ module _ (t : Tree) (q p : Loc) (i : in_target q ≡ true) (j : in_target p ≡ 
 
 -- a copy from a source with the tree u
 module _ (t u : Tree) (q p : Loc) (i : in_target q ≡ false) (j : in_target p ≡ true) (origin : is_there u q.path ≡ true) where
-  other_place : place_eq q p ≡ false
+  pub other_place : place_eq q p ≡ false
   other_place = ap (λ d. text_eq q.db d && path_eq q.path p.path) (text_eq-same p.db target j) ∙ ap (λ b. b && path_eq q.path p.path) i
 
-  moves_loaded : (s : Path) → effect (p.path ++ s) (was (below_place q s)) ≡ (if place_eq q p then same else from (below_place q s))
+  pub moves_loaded : (s : Path) → effect (p.path ++ s) (was (below_place q s)) ≡ (if place_eq q p then same else from (below_place q s))
   moves_loaded s =
       ap (λ b. if b && path_eq (q.path ++ s) (p.path ++ s) then same else from (below_place q s)) i
       ∙ sym (ap (λ b. if b then same else from (below_place q s)) other_place)
 
-  carries_loaded : (s : Path) → look s (from_source q (below q.path u)) ≡ option_map (copied_from q s) (look s (below q.path u))
+  pub carries_loaded : (s : Path) → look s (from_source q (below q.path u)) ≡ option_map (copied_from q s) (look s (below q.path u))
   carries_loaded s = find-with_values (copied_from q) s (below q.path u)
 
   here_loaded : (r : Path) → full_here t (with_subtree p.path (from_source q (below q.path u)) (open_tree t)) r ≡ at_rest_or (strip p.path r) (λ s. mark_copy q p s (look s (below q.path u))) None

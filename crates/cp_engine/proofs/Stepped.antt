@@ -1,29 +1,28 @@
--- What the commit of a step does to the state of a history, in every kind that is built.
-use Rattle.std.specs.Prelude.{ℕ, ◌+◌, ◌≤◌, ◌≡◌, true, List, [], ◌∷◌, ◌++◌, length, fold, refl}
+-- What the commit of a step does to the state of a history, in every kind.
+use Rattle.std.specs.Prelude.{ℕ, ◌+◌, ◌≤◌, ◌≡◌, List, [], ◌∷◌, ◌++◌, length, fold, refl}
 use Rattle.std.proofs.Common.{sym, ap, subst, ◌∙◌, arith}
 use Rattle.std.proofs.lemmas.List.{length-map}
 use Rattle.cp_model.specs.Tree.{Tree, Source}
 use Rattle.cp_model.specs.Step.{Working, done, step}
 use Rattle.cp_model.specs.Past.{tree_of}
-use Rattle.cp_model.specs.Rows.{full_rows}
 use Rattle.cp_model.specs.History.{State, steps_of, each_alone, rows_of, with_tid, after_settling, after_outcome, after_step}
 use Rattle.cp_model.specs.declared.kind.Kind.{Kind}
 use Rattle.cp_model.specs.declared.kind.Kind.TheVariants as kind
 use Rattle.cp_model.specs.declared.op.Op.{Op}
 use Rattle.cp_model.proofs.Alone.{after-step}
 use Rattle.cp_store.specs.Changes.{AreNext}
-use Rattle.cp_engine.specs.Passed.{stage_after, outcome_records, records_of, is_built, AllAccepted}
+use Rattle.cp_engine.specs.Passed.{stage_after, outcome_records, records_of, AllAccepted}
 use Rattle.cp_engine.specs.Transactions.{IsStep}
 use Rattle.cp_engine.specs.declared.txn.Step.{Step}
 use Rattle.cp_engine.proofs.Linked.{accepted-step, passed-after, now-after}
 use Rattle.cp_engine.proofs.Rising.{next-step, rising-passed}
-use Rattle.cp_overlay.proofs.Marking.{sorted-full_rows}
+use Rattle.cp_overlay.proofs.Marking.{sorted-rows_of}
 
 -- the operations lead from the state s to z, with these records
 pub record IsStepped (s z : State) (k : Kind) (ops : List Op) : Type 0 where
   pub kind : z.kind ≡ s.kind
   pub sources : z.sources ≡ s.sources
-  pub tree : tree_of z.tree ≡ (stage_after s.sources (tree_of s.tree) (s.now + 1) ops).tree
+  pub tree : tree_of z.tree ≡ (stage_after k s.sources (tree_of s.tree) (s.now + 1) ops).tree
   pub rows : z.rows ≡ s.rows ++ records_of k s.sources (tree_of s.tree) (s.now + 1) ops
   pub now : z.now ≡ s.now + length (steps_of k ops)
   pub next : AreNext s.now (s.now + length (steps_of k ops)) (records_of k s.sources (tree_of s.tree) (s.now + 1) ops)
@@ -44,41 +43,42 @@ module _ (s : State) (ops : List Op) (some : 1 ≤ length ops) (a : AllAccepted 
   abbrev t : Tree
   t = tree_of s.tree
 
-  stepped_naive : s.kind ≡ kind.N → IsStepped s (fold after_step s (each_alone ops)) kind.N ops
-  stepped_naive e =
-      let at = passed-after s.sources s ops e refl a in
-      let count : length ops ≡ length (each_alone ops) = sym (length-map ops (λ op. op ∷ [])) in
-      record {
+  stepped_alone : (k : Kind) → s.kind ≡ k → (steps_of k ops ≡ each_alone ops) → records_of k s.sources t (s.now + 1) ops ≡ (stage_after k s.sources t (s.now + 1) ops).records → IsStepped s (fold after_step s (steps_of k ops)) k ops
+  stepped_alone k e alone is =
+      let at = passed-after k s.sources s ops e refl a in
+      let count : length ops ≡ length (steps_of k ops) = sym (length-map ops (λ op. op ∷ [])) ∙ ap length (sym alone) in
+      subst (λ steps. IsStepped s (fold after_step s steps) k ops) (sym alone) record {
         kind = at.kind ∙ sym e;
         sources = at.sources;
         tree = at.tree;
-        rows = at.rows;
-        now = now-after s.sources s ops e refl a ∙ ap (λ n. s.now + n) count;
-        next = subst (λ n. AreNext s.now (s.now + n) (stage_after s.sources t (s.now + 1) ops).records) count (rising-passed s.sources t s.now ops);
+        rows = at.rows ∙ ap (λ rs. s.rows ++ rs) (sym is);
+        now = now-after k s.sources s ops e refl a ∙ ap (λ n. s.now + n) count;
+        next = subst (AreNext s.now (s.now + length (steps_of k ops))) (sym is) (subst (λ n. AreNext s.now (s.now + n) (stage_after k s.sources t (s.now + 1) ops).records) count (rising-passed k s.sources t s.now ops));
         few = omega (arith, count);
       }
 
-  stepped_whole : s.kind ≡ kind.T → IsStepped s (after_step s ops) kind.T ops
-  stepped_whole e =
-      let x = accepted-step s.sources t (s.now + 1) ops a in
+  stepped_whole : (k : Kind) → s.kind ≡ k → steps_of k ops ≡ ops ∷ [] → records_of k s.sources t (s.now + 1) ops ≡ outcome_records k t (s.now + 1) (step t s.sources ops) → IsStepped s (fold after_step s (steps_of k ops)) k ops
+  stepped_whole k e one rows =
+      let x = accepted-step k s.sources t (s.now + 1) ops a in
       let w : Working = x.0 in
       let at = after-step s ops (length ops) w x.1 in
-      let is : with_tid (s.now + 1) (full_rows t w) ≡ outcome_records t (s.now + 1) (step t s.sources ops) = ap (outcome_records t (s.now + 1)) (sym x.1) in
-      record {
+      let is : with_tid (s.now + 1) (rows_of k t w) ≡ records_of k s.sources t (s.now + 1) ops = ap (outcome_records k t (s.now + 1)) (sym x.1) ∙ sym rows in
+      let count : 1 ≡ length (steps_of k ops) = ap length (sym one) in
+      subst (λ steps. IsStepped s (fold after_step s steps) k ops) (sym one) record {
         kind = at.kind;
         sources = at.sources;
         tree = at.tree ∙ x.2;
-        rows = done_rows s ops (length ops) w kind.T e x.1 ∙ ap (λ rs. s.rows ++ rs) is;
-        now = at.now;
-        next = subst (AreNext s.now (s.now + 1)) is (next-step s.now s.now [] (full_rows t w) (omega arith) (none_next s.now) (sorted-full_rows t w));
-        few = some;
+        rows = done_rows s ops (length ops) w k e x.1 ∙ ap (λ rs. s.rows ++ rs) is;
+        now = at.now ∙ ap (λ n. s.now + n) count;
+        next = subst (AreNext s.now (s.now + length (steps_of k ops))) is (subst (λ n. AreNext s.now (s.now + n) (with_tid (s.now + 1) (rows_of k t w))) count (next-step s.now s.now [] (rows_of k t w) (omega arith) (none_next s.now) (sorted-rows_of k t w)));
+        few = omega (arith, count, some);
       }
 
-  stepped_in : (k : Kind) → s.kind ≡ k → is_built k ≡ true → IsStepped s (fold after_step s (steps_of k ops)) k ops
-  stepped_in kind.N e b = stepped_naive e
-  stepped_in kind.T e b = stepped_whole e
-  stepped_in kind.H e b = absurd (cc)
-  stepped_in kind.HT e b = absurd (cc)
+  stepped_in : (k : Kind) → s.kind ≡ k → IsStepped s (fold after_step s (steps_of k ops)) k ops
+  stepped_in kind.N e = stepped_alone kind.N e refl refl
+  stepped_in kind.T e = stepped_whole kind.T e refl refl
+  stepped_in kind.H e = stepped_alone kind.H e refl refl
+  stepped_in kind.HT e = stepped_whole kind.HT e refl refl
 
 -- where the step is committed, with accepted operations, the state is the next one
 pub record Commits {R : Type 0} (view : R → Tree) (s z : State) (x : Step R) (ops : List Op) : Type 0 where
@@ -91,17 +91,17 @@ pub record Commits {R : Type 0} (view : R → Tree) (s z : State) (x : Step R) (
   pub few : x.tids ≤ length ops
 
 -- a step leads a state of its kind and its sources to the state after its steps
-pub commits-step : {R : Type 0} (view : R → Tree) (s : State) (k : Kind) (ss : List Source) (ops : List Op) (limit : ℕ) (x : Step R) → s.kind ≡ k → s.sources ≡ ss → is_built k ≡ true → AllAccepted ss (tree_of s.tree) ops → IsStep view k ss (tree_of s.tree) (s.now + 1) ops limit x →
+pub commits-step : {R : Type 0} (view : R → Tree) (s : State) (k : Kind) (ss : List Source) (ops : List Op) (limit : ℕ) (x : Step R) → s.kind ≡ k → s.sources ≡ ss → AllAccepted ss (tree_of s.tree) ops → IsStep view k ss (tree_of s.tree) (s.now + 1) ops limit x →
     Commits view s (fold after_step s (steps_of k ops)) x ops
-commits-step view s k ss ops limit x e o b a h =
+commits-step view s k ss ops limit x e o a h =
     let t : Tree = tree_of s.tree in
-    let i = stepped_in s ops h.some (subst (λ os. AllAccepted os t ops) (sym o) a) k e b in
+    let i = stepped_in s ops h.some (subst (λ os. AllAccepted os t ops) (sym o) a) k e in
     let rows : records_of k s.sources t (s.now + 1) ops ≡ x.rows = ap (λ os. records_of k os t (s.now + 1) ops) o ∙ sym h.rows in
     let few = i.few in
     record {
       kind = i.kind;
       sources = i.sources;
-      tree = i.tree ∙ ap (λ os. (stage_after os t (s.now + 1) ops).tree) o ∙ sym h.tree;
+      tree = i.tree ∙ ap (λ os. (stage_after k os t (s.now + 1) ops).tree) o ∙ sym h.tree;
       rows = i.rows ∙ ap (λ rs. s.rows ++ rs) rows;
       now = i.now ∙ ap (λ n. s.now + n) (sym h.tids);
       next = subst (λ n. AreNext s.now (s.now + n) x.rows) (sym h.tids) (subst (AreNext s.now (s.now + length (steps_of k ops))) rows i.next);

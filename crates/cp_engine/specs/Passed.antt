@@ -1,12 +1,11 @@
 -- Operations one by one, each a step of its own: the tree they lead to and the records that they leave.
 use Rattle.cp_model.specs.declared.limits.TheConstants.{OPS_MAX}
-use Rattle.std.specs.Prelude.{ℕ, ◌+◌, ◌≡◌, ◌==◌, Bool, true, false, List, [], ◌∷◌, ◌++◌, length, fold, if◌then◌else◌, ⊤}
+use Rattle.std.specs.Prelude.{ℕ, ◌+◌, ◌≡◌, ◌==◌, List, [], ◌∷◌, ◌++◌, length, fold, if◌then◌else◌, ⊤}
 use Rattle.std.specs.declared.option.Option.{Option}
 use Rattle.std.specs.declared.option.Option.TheVariants.{None, Some}
 use Rattle.cp_model.specs.Tree.{Tree, Source, refusal, tree_after}
 use Rattle.cp_model.specs.Step.{open_tree, apply_op, step, Outcome, done, refused}
-use Rattle.cp_model.specs.Rows.{full_rows}
-use Rattle.cp_model.specs.History.{with_tid}
+use Rattle.cp_model.specs.History.{rows_of, with_tid}
 use Rattle.cp_model.specs.declared.kind.Kind.{Kind}
 use Rattle.cp_model.specs.declared.kind.Kind.TheVariants as kind
 use Rattle.cp_model.specs.declared.op.Op.{Op}
@@ -20,40 +19,33 @@ pub record Stage : Type 0 where
   pub next : ℕ
   pub records : List Record
 
--- the full rows of a step of one operation, from this tree
-abbrev pub rows_alone : List Source → Tree → Op → List Record → ℕ → List Record
-rows_alone ss t op rs n = rs ++ with_tid n (full_rows t (apply_op ss (open_tree t) op))
+-- the records of a step of one operation in each kind, from this tree, behind those of the steps before it
+abbrev pub rows_alone : Kind → List Source → Tree → Op → List Record → ℕ → List Record
+rows_alone k ss t op rs n = rs ++ with_tid n (rows_of k t (apply_op ss (open_tree t) op))
 
 -- one step more
-unfoldable pub next_stage : List Source → Stage → Op → Stage
-next_stage ss x op = record { tree = tree_after ss x.tree op; next = x.next + 1; records = rows_alone ss x.tree op x.records x.next }
+unfoldable pub next_stage : Kind → List Source → Stage → Op → Stage
+next_stage k ss x op = record { tree = tree_after ss x.tree op; next = x.next + 1; records = rows_alone k ss x.tree op x.records x.next }
 
 -- the operations in order, from the tree t with these sources, the first with the Tid n
-unfoldable pub stage_after : List Source → Tree → ℕ → List Op → Stage
-stage_after ss t n ops = fold (next_stage ss) (record { tree = t; next = n; records = [] }) ops
+unfoldable pub stage_after : Kind → List Source → Tree → ℕ → List Op → Stage
+stage_after k ss t n ops = fold (next_stage k ss) (record { tree = t; next = n; records = [] }) ops
 
--- the records of a step of the transactional kind from the tree t, where it is done
-abbrev pub outcome_records : Tree → ℕ → Outcome → List Record
-outcome_records t n (done k w) = with_tid n (full_rows t w)
-outcome_records t n (refused k r) = []
+-- the records in each kind of one step from the tree t, where it is done
+abbrev pub outcome_records : Kind → Tree → ℕ → Outcome → List Record
+outcome_records k t n (done j w) = with_tid n (rows_of k t w)
+outcome_records k t n (refused j r) = []
 
--- the records of the steps that operations make in each kind, the first with the Tid n; the hierarchical kinds aren't built yet
+-- the records of the steps that operations make in each kind, the first with the Tid n
 abbrev pub records_of : Kind → List Source → Tree → ℕ → List Op → List Record
-records_of kind.N ss t n ops = (stage_after ss t n ops).records
-records_of kind.T ss t n ops = outcome_records t n (step t ss ops)
-records_of kind.H ss t n ops = []
-records_of kind.HT ss t n ops = []
-
--- the kinds in which transactions are made
-abbrev pub is_built : Kind → Bool
-is_built kind.N = true
-is_built kind.T = true
-is_built kind.H = false
-is_built kind.HT = false
+records_of kind.N ss t n ops = (stage_after kind.N ss t n ops).records
+records_of kind.T ss t n ops = outcome_records kind.T t n (step t ss ops)
+records_of kind.H ss t n ops = (stage_after kind.H ss t n ops).records
+records_of kind.HT ss t n ops = outcome_records kind.HT t n (step t ss ops)
 
 -- the refusal of an operation behind those that are held, if there is one
-abbrev pub refusal_behind : List Source → Tree → ℕ → List Op → Op → Option Refusal
-refusal_behind ss t n ops op = if length ops == OPS_MAX then Some TooManyOps else refusal ss (stage_after ss t n ops).tree op
+abbrev pub refusal_behind : Kind → List Source → Tree → ℕ → List Op → Op → Option Refusal
+refusal_behind k ss t n ops op = if length ops == OPS_MAX then Some TooManyOps else refusal ss (stage_after k ss t n ops).tree op
 
 -- none of the operations is refused, each behind those before it
 abbrev pub AllAccepted : List Source → Tree → List Op → Type 0

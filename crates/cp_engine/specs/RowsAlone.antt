@@ -1,5 +1,6 @@
--- The full rows of a step of one operation.
-use Rattle.std.specs.Prelude.{List, [], ◌++◌, map, if◌then◌else◌}
+-- The rows of a step of one operation, in full and reduced.
+use Rattle.std.specs.Prelude.{◌<◌, List, [], ◌∷◌, ◌++◌, length, map, if◌then◌else◌, ⊤}
+use Rattle.cp_path.specs.declared.limits.TheConstants.{LABELS_MAX}
 use Rattle.cp_model.specs.declared.op.Op.{Op}
 use Rattle.cp_model.specs.declared.op.Op.TheVariants.{Ins, Del, Copy}
 use Rattle.cp_model.specs.Place.{Path, place_eq, child, below_place}
@@ -18,3 +19,15 @@ unfoldable pub op_rows : List Source → Tree → Op → List (Path × Mark)
 op_rows ss t (Ins p a l) = marks_below (child p.path a) (λ _. I) (literal_rows l)
 op_rows ss t (Del a p) = marks_below (child p.path a) (λ _. D) (below (child p.path a) t)
 op_rows ss t (Copy q p) = if place_eq q p then [] else marks_below p.path (λ s. C (below_place q s)) (subtree_at (database ss t q) q.path)
+
+-- the reduced rows of one operation: of the place that it wrote, if it has changed it
+unfoldable pub top_rows : Op → List (Path × Mark)
+top_rows (Ins p a l) = (child p.path a, I) ∷ []
+top_rows (Del a p) = (child p.path a, D) ∷ []
+top_rows (Copy q p) = if place_eq q p then [] else (p.path, C q) ∷ []
+
+-- there may be one label more below the place of an insertion or a deletion
+abbrev pub HasRoom : Op → Type 0
+HasRoom (Ins p a l) = length p.path < LABELS_MAX
+HasRoom (Del a p) = length p.path < LABELS_MAX
+HasRoom (Copy q p) = ⊤

@@ -5,8 +5,7 @@ use Rattle.std.specs.declared.option.Option.TheVariants.{None, Some}
 use Rattle.cp_model.specs.Tree.{Tree, Source, IsTree}
 use Rattle.cp_model.specs.Laws.{AreSources}
 use Rattle.cp_model.specs.Step.{Working, contents, step, done}
-use Rattle.cp_model.specs.Rows.{full_rows}
-use Rattle.cp_model.specs.History.{AreWritten, steps_of, with_tid}
+use Rattle.cp_model.specs.History.{AreWritten, rows_of, steps_of, with_tid}
 use Rattle.cp_model.specs.declared.kind.Kind.{Kind}
 use Rattle.cp_model.specs.declared.kind.Kind.TheVariants as kind
 use Rattle.cp_model.specs.declared.op.Op.{Op}
@@ -18,7 +17,7 @@ use Rattle.cp_overlay.specs.Kept.{Kept}
 use Rattle.cp_overlay.specs.Kept as overlay
 use Rattle.cp_overlay.specs.Seen.{seen}
 use Rattle.cp_engine.specs.Held.{Appended}
-use Rattle.cp_engine.specs.RowsAlone.{op_rows}
+use Rattle.cp_engine.specs.RowsAlone.{op_rows, top_rows}
 use Rattle.cp_engine.specs.Passed.{stage_after, records_of, refusal_behind, AllAccepted}
 use Rattle.cp_engine.specs.declared.txn.Txn.{Txn}
 use Rattle.cp_engine.specs.declared.txn.Step.{Step}
@@ -49,28 +48,28 @@ abbrev pub held_count : Progress → ℕ
 held_count (going ops) = length ops
 held_count (failed n c) = n - 1
 
--- what is kept of the operations that are held: in the naive kind the records of their steps, in the transactional kind the
--- effects of the one step that they are
+-- what is kept of the operations that are held: the records of their steps, where each is a step of its own; else the effects of
+-- the one step that they are
 abbrev pub Keeps : Kind → List Record → Kept → List Source → Tree → ℕ → List Op → Type 0
-Keeps kind.N rows o ss t n ops = rows ≡ (stage_after ss t n ops).records
+Keeps kind.N rows o ss t n ops = rows ≡ (stage_after kind.N ss t n ops).records
 Keeps kind.T rows o ss t n ops = (w : Working) → step t ss ops ≡ done (length ops) w → overlay.Stands o t w
-Keeps kind.H rows o ss t n ops = ⊥
-Keeps kind.HT rows o ss t n ops = ⊥
+Keeps kind.H rows o ss t n ops = rows ≡ (stage_after kind.H ss t n ops).records
+Keeps kind.HT rows o ss t n ops = (w : Working) → step t ss ops ≡ done (length ops) w → overlay.Stands o t w
 
 -- what is kept after one operation more, on the tree t of a step that began on the tree a: its records are behind the others,
 -- or the overlay has followed it
 abbrev pub Adds : Kind → List Record → Kept → List Record → Kept → List Source → Tree → Tree → ℕ → Op → Type 0
 Adds kind.N rows o more later ss a t n op = Appended rows more (with_tid n (op_rows ss t op))
 Adds kind.T rows o more later ss a t n op = overlay.Follows ss a o later op
-Adds kind.H rows o more later ss a t n op = ⊤
-Adds kind.HT rows o more later ss a t n op = ⊤
+Adds kind.H rows o more later ss a t n op = Appended rows more (with_tid n (top_rows op))
+Adds kind.HT rows o more later ss a t n op = overlay.Follows ss a o later op
 
 -- the records of a commit, from what is kept: those of the steps, or those of the one step from the tree a to the tree t
 abbrev pub Packs : Kind → List Record → Kept → Tree → Tree → ℕ → List Record → Type 0
 Packs kind.N rows o a t n rs = rs ≡ rows
-Packs kind.T rows o a t n rs = (w : Working) → overlay.IsWorking w → overlay.Stands o a w → contents w ≡ t → rs ≡ with_tid n (full_rows a w)
-Packs kind.H rows o a t n rs = ⊤
-Packs kind.HT rows o a t n rs = ⊤
+Packs kind.T rows o a t n rs = (w : Working) → overlay.IsWorking w → overlay.Stands o a w → contents w ≡ t → rs ≡ with_tid n (rows_of kind.T a w)
+Packs kind.H rows o a t n rs = rs ≡ rows
+Packs kind.HT rows o a t n rs = (w : Working) → overlay.IsWorking w → overlay.Stands o a w → contents w ≡ t → rs ≡ with_tid n (rows_of kind.HT a w)
 
 -- the transaction holds these operations of a kind, which lead from the tree t with these sources, the first with the Tid n
 pub record IsGoing {R : Type 0} (view : R → Tree) (x : Txn R) (k : Kind) (ss : List Source) (t : Tree) (n : ℕ) (ops : List Op) : Type 0 where
@@ -82,29 +81,29 @@ pub record IsGoing {R : Type 0} (view : R → Tree) (x : Txn R) (k : Kind) (ss :
   pub accepted : AllAccepted ss t ops
   pub held : x.ops ≡ ops
   pub tid : x.first ≡ n
-  pub tree : view x.tree ≡ (stage_after ss t n ops).tree
+  pub tree : view x.tree ≡ (stage_after k ss t n ops).tree
   pub kind : x.kind ≡ k
   pub begun : view x.start ≡ t
   pub kept : Keeps k x.rows (seen x.overlay) ss t n ops
   pub failure : x.failure ≡ None
 
 -- the transaction failed at this number, for this cause, and holds the operations before it
-pub record IsFailed {R : Type 0} (view : R → Tree) (x : Txn R) (ss : List Source) (t : Tree) (n k : ℕ) (c : Cause) : Type 0 where
+pub record IsFailed {R : Type 0} (view : R → Tree) (x : Txn R) (k : Kind) (ss : List Source) (t : Tree) (n j : ℕ) (c : Cause) : Type 0 where
   pub ops : List Op
-  pub number : length ops + 1 ≡ k
-  pub tree : view x.tree ≡ (stage_after ss t n ops).tree
-  pub failure : x.failure ≡ Some (record { number = k; cause = c })
+  pub number : length ops + 1 ≡ j
+  pub tree : view x.tree ≡ (stage_after k ss t n ops).tree
+  pub failure : x.failure ≡ Some (record { number = j; cause = c })
 
 -- the transaction stands where this progress was made from the tree t
 abbrev pub Stands : {R : Type 0} → (R → Tree) → Txn R → Kind → List Source → Tree → ℕ → Progress → Type 0
 Stands view x k ss t n (going ops) = IsGoing view x k ss t n ops
-Stands view x k ss t n (failed j c) = IsFailed view x ss t n j c
+Stands view x k ss t n (failed j c) = IsFailed view x k ss t n j c
 
 -- an operation is held behind the others, or refused by the first case that applies, or there was no memory for it
 abbrev pub Applies : {R : Type 0} → (R → Tree) → Kind → List Source → Tree → ℕ → Progress → Op → Txn R → Result ⊤ ApplyFault → Type 0
-Applies view k ss t n (going ops) op new (Ok x) = (refusal_behind ss t n ops op ≡ None) × Stands view new k ss t n (going (ops ++ op ∷ []))
+Applies view k ss t n (going ops) op new (Ok x) = (refusal_behind k ss t n ops op ≡ None) × Stands view new k ss t n (going (ops ++ op ∷ []))
 Applies view k ss t n (going ops) op new (Err (denied.Failed j)) = ⊥
-Applies view k ss t n (going ops) op new (Err (denied.Refused r)) = (refusal_behind ss t n ops op ≡ Some r) × Stands view new k ss t n (failed (length ops + 1) (Refused r))
+Applies view k ss t n (going ops) op new (Err (denied.Refused r)) = (refusal_behind k ss t n ops op ≡ Some r) × Stands view new k ss t n (failed (length ops + 1) (Refused r))
 Applies view k ss t n (going ops) op new (Err denied.Memory) = Stands view new k ss t n (going ops)
 Applies view k ss t n (failed i c) op new (Ok x) = ⊥
 Applies view k ss t n (failed i c) op new (Err (denied.Failed j)) = (j ≡ i) × Stands view new k ss t n (failed i c)
@@ -115,7 +114,7 @@ Applies view k ss t n (failed i c) op new (Err denied.Memory) = ⊥
 pub record IsStep {R : Type 0} (view : R → Tree) (k : Kind) (ss : List Source) (t : Tree) (n : ℕ) (ops : List Op) (limit : ℕ) (x : Step R) : Type 0 where
   pub some : 1 ≤ length ops
   pub held : x.ops ≡ ops
-  pub tree : view x.tree ≡ (stage_after ss t n ops).tree
+  pub tree : view x.tree ≡ (stage_after k ss t n ops).tree
   pub rows : x.rows ≡ records_of k ss t n ops
   pub tids : x.tids ≡ length (steps_of k ops)
   pub small : commit_length ops (records_of k ss t n ops) ≤ limit

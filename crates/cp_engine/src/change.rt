@@ -10,9 +10,9 @@ ghost use Rattle.cp_model.specs.declared.record.RowMark.TheVariants as mark;
 ghost use Rattle.cp_engine.specs.Copies.{IsCopied};
 ghost use Rattle.cp_engine.specs.Held.{Appended, Grown};
 ghost use Rattle.cp_engine.specs.Loaded.{sources_in};
-ghost use Rattle.cp_engine.specs.RowsAlone.{marks_below, op_rows};
+ghost use Rattle.cp_engine.specs.RowsAlone.{marks_below, op_rows, top_rows};
 
-use crate::rows::{push_copies, push_deleted, push_inserted, push_within};
+use crate::rows::{push_copies, push_deleted, push_inserted, push_top, push_within};
 use crate::sources::Sources;
 use cp_model::Op;
 use cp_path::Loc;
@@ -139,6 +139,32 @@ pub(crate) fn record_op<R: TreeRep, S: TreeRep>(
 {
     let bytes = rows.len();
     if let Err(fault) = change(alloc, rows, tid, tree, sources, op) {
+        rows.truncate(bytes);
+        return Err(fault);
+    }
+    Ok(())
+}
+
+/// Changes the tree by an operation that it doesn't refuse, and keeps the record of the place that it writes behind the others,
+/// if it has changed it. After an error tree and records are as they were. Costs the change, and the bytes of two places.
+pub(crate) fn record_top<R: TreeRep, S: TreeRep>(
+    alloc: Global,
+    rows: &mut PackedRecords,
+    tid: u64,
+    tree: &mut R,
+    sources: &Sources<S>,
+    op: &Op,
+) -> Result<(), AllocError>
+    requires written { IsWritten op.now }
+    requires accepted { refusal (sources_in S.contents sources.now) (R.contents tree.old) op.now ≡ None }
+    ensures tree { OnOk result (R.contents tree.new ≡ tree_after (sources_in S.contents sources.now) (R.contents tree.old) op.now) }
+    ensures rows { OnOk result (Appended rows.old rows.new (with_tid tid (top_rows op.now))) }
+    ensures same_tree { OnErr result (R.contents tree.new ≡ R.contents tree.old) }
+    ensures same_rows { OnErr result (rows.new ≡ rows.old) }
+{
+    let bytes = rows.len();
+    push_top(alloc, rows, tid, op)?;
+    if let Err(fault) = change_tree(alloc, tree, sources, op) {
         rows.truncate(bytes);
         return Err(fault);
     }

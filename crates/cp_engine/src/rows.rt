@@ -11,12 +11,12 @@ ghost use Rattle.cp_model.specs.declared.record.RecOp.TheVariants as letter;
 ghost use Rattle.cp_record.specs.Bytes.{record_below};
 ghost use Rattle.cp_tree.specs.Rows.{greatest};
 ghost use Rattle.cp_engine.specs.Held.{Appended, Grown};
-ghost use Rattle.cp_engine.specs.RowsAlone.{marks_below, op_rows};
+ghost use Rattle.cp_engine.specs.RowsAlone.{HasRoom, marks_below, op_rows, top_rows};
 ghost use Rattle.cp_model.specs.declared.record.RowMark.TheVariants as mark;
 
-use cp_model::{LitList, Literal, RowList};
+use cp_model::{LitList, Literal, Op, RecOp, RowList};
 use cp_path::{LABELS_MAX, Label, Loc, Path};
-use cp_record::{PackedRecords, RecOp};
+use cp_record::PackedRecords;
 use cp_tree::TreeRep;
 use std::alloc::{AllocError, Global};
 
@@ -76,6 +76,39 @@ pub(crate) fn push_within<R: TreeRep>(
     }
     let list = tree.rows(alloc, &from.path)?;
     push_copies(rows, tid, &into.path, &list, from)
+}
+
+/// Appends the record of the place that an operation writes; a copy of a place onto itself has none. After an error the records
+/// are as they were. Costs the bytes of its places.
+pub(crate) fn push_top(
+    alloc: Global,
+    rows: &mut PackedRecords,
+    tid: u64,
+    op: &Op,
+) -> Result<(), AllocError>
+    requires room { HasRoom op.now }
+    ensures ok { OnOk result (Appended rows.old rows.new (with_tid tid (top_rows op.now))) }
+    ensures err { OnErr result (rows.new ≡ rows.old) }
+{
+    let root = Path::root(alloc);
+    match op {
+        Op::Ins { into, label, .. } => {
+            let place = into.path.child(label)?;
+            rows.push(tid, RecOp::I, &place, &root, None)
+        }
+        Op::Del { label, from } => {
+            let place = from.path.child(label)?;
+            rows.push(tid, RecOp::D, &place, &root, None)
+        }
+        Op::Copy { from, into } => {
+            if from.is_at(into) {
+                return Ok(());
+            }
+            let _ = from.path.labels();
+            let _ = into.path.labels();
+            rows.push(tid, RecOp::C, &into.path, &root, Some(from))
+        }
+    }
 }
 
 /// Appends a record for each place of a literal tree whose root stands at `at` below the base.

@@ -1,4 +1,4 @@
-ghost use Rattle.std.specs.Prelude.{◌≡◌, true, ◌==◌, ◌≤◌, ◌<◌, ◌+◌, ◌^◌, ℕ, List, [], ◌∷◌, ◌++◌, length, if◌then◌else◌, IfOk, OnOk, OnErr};
+ghost use Rattle.std.specs.Prelude.{◌≡◌, ◌==◌, ◌≤◌, ◌<◌, ◌+◌, ◌^◌, ℕ, List, [], ◌∷◌, ◌++◌, length, if◌then◌else◌, IfOk, OnOk, OnErr};
 ghost use Rattle.std.specs.declared.option.Option.TheVariants.{None, Some};
 ghost use Rattle.cp_model.specs.Laws.{AreSources};
 ghost use Rattle.cp_model.specs.Tree.{Tree, Source, refusal, tree_after};
@@ -10,10 +10,10 @@ ghost use Rattle.cp_model.specs.declared.refusal.Refusal.TheVariants.{TooManyOps
 ghost use Rattle.cp_record.specs.Bytes.{commit_length};
 ghost use Rattle.cp_overlay.specs.Seen.{seen};
 ghost use Rattle.cp_engine.specs.Loaded.{sources_in};
-ghost use Rattle.cp_engine.specs.Passed.{stage_after, is_built};
+ghost use Rattle.cp_engine.specs.Passed.{stage_after};
 ghost use Rattle.cp_engine.specs.Transactions.{Progress, going, IsFailed, Stands, Applies, Adds, Packs, Finishes, IsGoing, state_of, after_unread, held_count};
 
-use crate::change::record_op;
+use crate::change::{record_op, record_top};
 use crate::checks::check;
 use crate::copy::copy_op;
 use crate::fault::{ApplyFault, FinishFault};
@@ -27,8 +27,8 @@ use cp_record::PackedRecords;
 use cp_tree::TreeRep;
 use std::alloc::{AllocError, Global};
 
-/// Operations on a working tree of their own. In the naive kind each of them is a step with a Tid of its own, whose records
-/// are kept. In the transactional kind they are one step, whose effects an overlay keeps.
+/// Operations on a working tree of their own. In the kinds n and h each of them is a step with a Tid of its own, whose records
+/// are kept. In the kinds t and ht they are one step, whose effects an overlay keeps.
 #[derive(Drop)]
 pub struct Txn<R: TreeRep> {
     kind: Kind,
@@ -56,7 +56,6 @@ pub struct Step<R: TreeRep> {
 impl<R: TreeRep> Txn<R> {
     /// A transaction on a copy of the tree, whose first step gets the Tid `first`. Costs two copies.
     pub fn begin(alloc: Global, tree: &R, kind: Kind, first: u64) -> Result<Txn<R>, AllocError>
-        requires kind { is_built kind ≡ true }
         requires first { first ≤ 2 ^ 63 }
         ensures { IfOk result (λ x. (ss : List Source) → AreSources ss → Stands R.contents x kind ss (R.contents tree.now) first (going [])) }
     {
@@ -73,7 +72,7 @@ impl<R: TreeRep> Txn<R> {
     }
 
     /// Applies the operation with these sources, unless it is refused; a refusal fails the transaction. Costs its check,
-    /// its change of the tree and its records.
+    /// its change of the tree and its records, of which the kind h has at most one.
     pub fn apply<S: TreeRep>(
         &mut self,
         alloc: Global,
@@ -149,9 +148,8 @@ impl<R: TreeRep> Txn<R> {
         ensures err { OnErr result ((R.contents self.new.tree ≡ R.contents self.old.tree) × (self.new.rows ≡ self.old.rows) × (seen self.new.overlay ≡ seen self.old.overlay)) }
     {
         match self.kind {
-            Kind::N | Kind::H => {
-                record_op(alloc, &mut self.rows, tid, &mut self.tree, sources, op)
-            }
+            Kind::N => record_op(alloc, &mut self.rows, tid, &mut self.tree, sources, op),
+            Kind::H => record_top(alloc, &mut self.rows, tid, &mut self.tree, sources, op),
             Kind::T | Kind::HT => {
                 follow_op(
                     alloc,
@@ -187,8 +185,8 @@ impl<R: TreeRep> Txn<R> {
 
     /// The working tree. Of a failed transaction it is the tree to which the operations before the failure lead.
     pub fn tree(&self) -> &R
-        ensures failed { (ss : List Source) (t : Tree) (n k : ℕ) (c : Cause) → (h : IsFailed R.contents self.now ss t n k c) → R.contents result.now ≡ (stage_after ss t n h.ops).tree }
-        ensures going { (k : KindValue) (ss : List Source) (t : Tree) (n : ℕ) (ops : List Op) → Stands R.contents self.now k ss t n (going ops) → R.contents result.now ≡ (stage_after ss t n ops).tree }
+        ensures failed { (k : KindValue) (ss : List Source) (t : Tree) (n j : ℕ) (c : Cause) → (h : IsFailed R.contents self.now k ss t n j c) → R.contents result.now ≡ (stage_after k ss t n h.ops).tree }
+        ensures going { (k : KindValue) (ss : List Source) (t : Tree) (n : ℕ) (ops : List Op) → Stands R.contents self.now k ss t n (going ops) → R.contents result.now ≡ (stage_after k ss t n ops).tree }
     {
         &self.tree
     }
@@ -204,8 +202,7 @@ impl<R: TreeRep> Txn<R> {
     }
 
     /// Ends the transaction with what it makes, whose bytes in a commit are at most `limit`. The transaction is given up
-    /// where it makes nothing. Costs the bytes of its records; in the transactional kind also what the overlay's net effect
-    /// costs.
+    /// where it makes nothing. Costs the bytes of its records; in the kinds t and ht also what the overlay's net effect costs.
     pub fn finish(self, alloc: Global, limit: u64) -> Result<Step<R>, FinishFault>
         ensures { (k : KindValue) (ss : List Source) (t : Tree) (n : ℕ) (p : Progress) → Stands R.contents self k ss t n p → Finishes R.contents k ss t n p limit result }
     {
@@ -264,7 +261,7 @@ fn pack<R: TreeRep>(
 {
     match kind {
         Kind::N | Kind::H => Ok(rows),
-        Kind::T | Kind::HT => overlay.net(alloc, start, tree, first),
+        Kind::T | Kind::HT => overlay.net(alloc, start, tree, kind, first),
     }
 }
 

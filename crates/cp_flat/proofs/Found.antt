@@ -19,7 +19,7 @@ use Rattle.cp_store.specs.declared.change.Change.{Change}
 use Rattle.cp_rows.specs.Steps.{steps_in}
 use Rattle.cp_rows.proofs.Steps.{row_of-says}
 use Rattle.cp_flat.specs.Changes.{own, rows_tell}
-use Rattle.cp_flat.proofs.Changes.{last-agree}
+use Rattle.cp_store.proofs.NewestLemmas.{last-agree}
 
 -- a place of a source never changes
 pub change-outside : (k : Kind) (rs : List Record) (t : ℕ) (q : Loc) → in_target q ≡ false → None ≡ change_at k rs t q

@@ -1,16 +1,7 @@
 -- What the stores that keep each row of a step keep.
-use Rattle.std.specs.Prelude.{Bool, true, false}
-use Rattle.cp_model.specs.declared.kind.Kind.{Kind}
-use Rattle.cp_model.specs.declared.kind.Kind.TheVariants.{N, T, H, HT}
+use Rattle.cp_model.specs.declared.kind.Kind.TheVariants.{N, T}
 pub use Rattle.cp_rows.specs.Rows.{Rows}
 use Rattle.cp_store.specs.declared.store.ProvStore.{Ghosts}
-
--- the kind keeps each row of a step, so that at a place its own rows alone tell of it
-abbrev pub is_flat : Kind → Bool
-is_flat N = true
-is_flat T = true
-is_flat H = false
-is_flat HT = false
 
 -- its kind is `n`, its rows are all in memory, and it has no disk that may fail
 abbrev pub naive : Ghosts Rows
@@ -19,12 +10,3 @@ naive = record { kept_kind = λ s. N; last_tid = λ s. s.upto; kept_rows = λ s.
 -- the same of the kind `t`
 abbrev pub transactional : Ghosts Rows
 transactional = record { kept_kind = λ s. T; last_tid = λ s. s.upto; kept_rows = λ s. s.list; faults = λ s. 0 }
-
--- rows, and the kind that they are of
-pub record FlatRows : Type 0 where
-  pub kind : Kind
-  pub rows : Rows
-
--- its kind is the one that it began with, its rows are all in memory, and it has no disk that may fail
-abbrev pub flat : Ghosts FlatRows
-flat = record { kept_kind = λ s. s.kind; last_tid = λ s. s.rows.upto; kept_rows = λ s. s.rows.list; faults = λ s. 0 }

@@ -1,46 +1,19 @@
 //! The newest change of a place.
-ghost use Rattle.std.specs.Prelude.{◌≡◌, [], IfOk};
+ghost use Rattle.std.specs.Prelude.{◌≡◌, IfOk};
 ghost use Rattle.std.specs.List.{flat_map};
 ghost use Rattle.cp_path.specs.Encoding.{counted_bytes};
-ghost use Rattle.cp_model.specs.Place.{Path, over_limit};
-ghost use Rattle.cp_model.specs.Rows.{read_mark};
+ghost use Rattle.cp_model.specs.Place.{Path};
 ghost use Rattle.cp_model.specs.Leaps.{last};
 ghost use Rattle.cp_model.specs.declared.kind.Kind.TheVariants as kind;
 ghost use Rattle.cp_store.specs.Changes.{change_told, change_at};
 ghost use Rattle.cp_rows.specs.Rows.{IsKey};
 ghost use Rattle.cp_rows.specs.Steps.{steps_in};
-ghost use Rattle.cp_flat.specs.Changes.{rows_tell, reading_if};
+ghost use Rattle.cp_flat.specs.Changes.{rows_tell};
 
-use cp_model::RowMark;
-use cp_path::{LABELS_MAX, LOC_MAX, Loc};
-use cp_rows::{Rows, key_of};
-use cp_store::{Change, What};
+use cp_path::Loc;
+use cp_rows::{Rows, done_by, key_of};
+use cp_store::Change;
 use std::alloc::{AllocError, Global};
-
-/// Whether the place has too many labels or is too long. Costs its labels.
-fn is_over_limit(q: &Loc) -> bool
-    ensures { result ≡ over_limit q.now }
-{
-    q.path.labels().len() > LABELS_MAX || q.size() > LOC_MAX as u32
-}
-
-/// What a row has done to its place.
-fn done_by(mark: RowMark) -> Option<What>
-    ensures { reading_if result ≡ read_mark mark [] }
-{
-    match mark {
-        RowMark::Made => Some(What::New),
-        RowMark::Gone => Some(What::Gone),
-        RowMark::Kept => None,
-        RowMark::Copied(q) => {
-            if is_over_limit(&q) {
-                None
-            } else {
-                Some(What::From(q))
-            }
-        }
-    }
-}
 
 /// The newest change up to `t` of the place of the key. Costs a logarithm of the places and one of the place's steps, for
 /// the answer and for each step from there to `t` that changed nothing.
@@ -61,7 +34,7 @@ fn newest_change(
         if step.tid == 0 {
             return Ok(None);
         }
-        if let Some(what) = done_by(rows.mark(alloc, step.row)?) {
+        if let Some(what) = done_by(rows.mark(alloc, step.row)?, &[])? {
             return Ok(Some(Change {
                 tid: step.tid,
                 what,

@@ -2,10 +2,8 @@
 #![tactic(auto)]
 
 mod change;
-mod either;
 mod naive;
 mod trans;
 
-pub use either::FlatStore;
 pub use naive::NaiveStore;
 pub use trans::TransStore;

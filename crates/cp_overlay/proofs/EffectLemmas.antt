@@ -19,7 +19,7 @@ use Rattle.cp_model.specs.Rows.{limited}
 use Rattle.cp_overlay.specs.Kept.{Kept, Origins, origin_by, origin_at, Fits, IsWorking, Stands}
 
 -- behind both the same follows
-same-suffix : (a b s : Path) → path_eq (a ++ s) (b ++ s) ≡ path_eq a b
+pub same-suffix : (a b s : Path) → path_eq (a ++ s) (b ++ s) ≡ path_eq a b
 same-suffix a b s =
     elim (path_eq a b) as (λ c. path_eq a b ≡ c → path_eq (a ++ s) (b ++ s) ≡ c) [
       | true ↦ λ e. ap (λ k. path_eq (a ++ s) (k ++ s)) (sym (path_eq-same a b e)) ∙ path_eq_equiv.refl (a ++ s)

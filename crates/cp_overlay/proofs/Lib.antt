@@ -6,9 +6,11 @@ mod Losing
 mod LostLemmas
 pub mod Marking
 mod Netting
-mod Noting
+pub mod Noting
 mod OriginLemmas
-mod Reaches
+mod OriginRows
+pub mod Reaches
+mod ReducedRows
 mod Runs
 mod Sets
 mod SparseLemmas

@@ -27,12 +27,16 @@ use Rattle.cp_overlay.specs.contracts.effect.Tag.{the_type}
 use Rattle.cp_overlay.specs.Effects.{told}
 use Rattle.cp_overlay.specs.Kept.{Kept, origin_at}
 use Rattle.cp_overlay.specs.Lost.{lost_in}
-use Rattle.cp_overlay.specs.Net.{noted, is_within, is_lost, IsLoss, LossesNoted}
+use Rattle.cp_overlay.specs.Net.{noted, is_within, is_lost, IsLoss, LossesNoted, IsLostChild, ChildrenNoted}
 use Rattle.cp_overlay.proofs.Noting.{noted-first, within-rest, within-is_there, within-there}
 
--- r is gone with one of these children
-abbrev pub any_loss : Kept → Tree → Tree → Path → List LostChild → Bool
-any_loss k a b r cs = list_any (λ c. is_lost k b c.parent c.label && is_within a (child c.parent c.label) r) cs
+-- r is gone with this child
+abbrev pub gone_with : Kept → Tree → Tree → Path → LostChild → Bool
+gone_with k a b r c = is_lost k b c.parent c.label && is_within a (child c.parent c.label) r
+
+-- r is this child, and gone
+abbrev pub gone_child : Kept → Tree → Tree → Path → LostChild → Bool
+gone_child k a b r c = is_lost k b c.parent c.label && (is_there a (child c.parent c.label) && path_eq r (child c.parent c.label))
 
 -- one that passes, which passes each test that it does
 found : {A : Type 0} (f : A → Bool) (xs : List A) → list_any f xs ≡ true → (x : A) × (f x ≡ true) × ((g : A → Bool) → g x ≡ true → list_any g xs ≡ true)
@@ -43,47 +47,90 @@ found {A = A} f (x ∷ xs) e =
       | false ↦ λ _ e. let t = found f xs e in (t.0, t.1, λ g i. or_true (g x) (list_any g xs) (t.2 g i))
     ] refl e
 
-module _ (k : Kept) (set : BTreeSet LostChild) (i : k.lost ≡ lost_in set) (a b : Tree) (r : Path) where
-  -- what is gone with one of the children that are kept is a loss
-  pub loss-any : any_loss k a b r set.keys ≡ true → IsLoss k a b r
+module _ (k : Kept) (set : BTreeSet LostChild) (i : k.lost ≡ lost_in set) where
+  -- one of these children is kept as lost
+  found-kept : (c : LostChild) → ((g : LostChild → Bool) → g c ≡ true → list_any g set.keys ≡ true) → k.lost c.parent c.label ≡ true
   unfolding lost_in
-  loss-any h =
-      let t = found (λ c. is_lost k b c.parent c.label && is_within a (child c.parent c.label) r) set.keys h in
-      let parts = and_true _ _ t.1 in
-      let rest = within-rest a (child t.0.parent t.0.label) r parts.1 in
-      record {
-        parent = t.0.parent;
-        label = t.0.label;
-        rest = rest.0;
-        place = rest.1 ∙ append_assoc t.0.parent (t.0.label ∷ []) rest.0;
-        kept = ap (λ (f : Path → Label → Bool). f t.0.parent t.0.label) i ∙ t.2 (λ c. path_eq t.0.parent c.parent && label_eq t.0.label c.label) (and_both _ _ (path_eq_equiv.refl t.0.parent) (nat_list_eq_equiv.refl t.0.label));
-        gone = parts.0;
-        was = within-is_there a (child t.0.parent t.0.label) r parts.1;
-      }
+  found-kept c h = ap (λ (f : Path → Label → Bool). f c.parent c.label) i ∙ h (λ d. path_eq c.parent d.parent && label_eq c.label d.label) (and_both _ _ (path_eq_equiv.refl c.parent) (nat_list_eq_equiv.refl c.label))
 
-  -- a loss is gone with one of the children that are kept
-  pub any-loss : IsLoss k a b r → any_loss k a b r set.keys ≡ true
+  -- a child that is kept as lost is one of these
+  kept-found : (q : Path) (l : Label) → k.lost q l ≡ true → (c : LostChild) × (q ≡ c.parent) × (l ≡ c.label) × ((g : LostChild → Bool) → g c ≡ true → list_any g set.keys ≡ true)
   unfolding lost_in
-  any-loss x =
-      let t = found (λ c. path_eq x.parent c.parent && label_eq x.label c.label) set.keys (sym (ap (λ (f : Path → Label → Bool). f x.parent x.label) i) ∙ x.kept) in
+  kept-found q l h =
+      let t = found (λ c. path_eq q c.parent && label_eq l c.label) set.keys (sym (ap (λ (f : Path → Label → Bool). f q l) i) ∙ h) in
       let parts = and_true _ _ t.1 in
-      let p : x.parent ≡ t.0.parent = path_eq-same _ _ parts.0 in
-      let l : x.label ≡ t.0.label = text_eq-same _ _ parts.1 in
-      let place : r ≡ child x.parent x.label ++ x.rest = x.place ∙ sym (append_assoc x.parent (x.label ∷ []) x.rest) in
-      let within : is_within a (child x.parent x.label) r ≡ true = ap (is_within a (child x.parent x.label)) place ∙ within-there a (child x.parent x.label) x.rest (ap (is_there a) (sym place) ∙ x.was) in
-      t.2 (λ c. is_lost k b c.parent c.label && is_within a (child c.parent c.label) r)
-      (and_both _ _ (ap (λ q. is_lost k b q t.0.label) (sym p) ∙ ap (is_lost k b x.parent) (sym l) ∙ x.gone)
-      (ap (λ q. is_within a (child q t.0.label) r) (sym p) ∙ ap (λ m. is_within a (child x.parent m) r) (sym l) ∙ within))
+      (t.0, path_eq-same _ _ parts.0, text_eq-same _ _ parts.1, t.2)
 
--- where each is noted by all children that are kept, the losses are
-pub losses-all : (k : Kept) (set : BTreeSet LostChild) (a b : Tree) (old news : List (Path × Mark)) → k.lost ≡ lost_in set → ((r : Path) → look r news ≡ noted (any_loss k a b r set.keys) (Some D) (look r old)) → LossesNoted k a b old news
-losses-all k set a b old news i h = record {
-  gone = λ r x. h r ∙ ap (λ c. noted c (Some D) (look r old)) (any-loss k set i a b r x);
-  others = λ r n. h r ∙ elim (any_loss k a b r set.keys) as (λ c. any_loss k a b r set.keys ≡ c → noted c (Some D) (look r old) ≡ look r old) [
-    | false ↦ λ _. refl
-    | true ↦ λ e. absurd (n (loss-any k set i a b r e))
-  ] refl;
-}
+  module _ (a b : Tree) (r : Path) where
+    -- what is gone with one of the children that are kept is a loss
+    loss-any : list_any (gone_with k a b r) set.keys ≡ true → IsLoss k a b r
+    loss-any h =
+        let t = found (gone_with k a b r) set.keys h in
+        let parts = and_true _ _ t.1 in
+        let rest = within-rest a (child t.0.parent t.0.label) r parts.1 in
+        record {
+          parent = t.0.parent;
+          label = t.0.label;
+          rest = rest.0;
+          place = rest.1 ∙ append_assoc t.0.parent (t.0.label ∷ []) rest.0;
+          kept = found-kept t.0 t.2;
+          gone = parts.0;
+          was = within-is_there a (child t.0.parent t.0.label) r parts.1;
+        }
+
+    -- a loss is gone with one of the children that are kept
+    any-loss : IsLoss k a b r → list_any (gone_with k a b r) set.keys ≡ true
+    any-loss x =
+        let t = kept-found x.parent x.label x.kept in
+        let place : r ≡ child x.parent x.label ++ x.rest = x.place ∙ sym (append_assoc x.parent (x.label ∷ []) x.rest) in
+        let within : is_within a (child x.parent x.label) r ≡ true = ap (is_within a (child x.parent x.label)) place ∙ within-there a (child x.parent x.label) x.rest (ap (is_there a) (sym place) ∙ x.was) in
+        t.3 (gone_with k a b r)
+        (ap (λ q. gone_with k a b r (record { parent = q; label = t.0.label })) (sym t.1) ∙ ap (λ m. gone_with k a b r (record { parent = x.parent; label = m })) (sym t.2) ∙ and_both _ _ x.gone within)
+
+    -- one of the children that are kept is a lost child, if it is gone
+    child-any : list_any (gone_child k a b r) set.keys ≡ true → IsLostChild k a b r
+    child-any h =
+        let t = found (gone_child k a b r) set.keys h in
+        let parts = and_true _ _ t.1 in
+        let here = and_true _ _ parts.1 in
+        let place = path_eq-same r (child t.0.parent t.0.label) here.1 in
+        record {
+          parent = t.0.parent;
+          label = t.0.label;
+          place = place;
+          kept = found-kept t.0 t.2;
+          gone = parts.0;
+          was = ap (is_there a) place ∙ here.0;
+        }
+
+    -- a lost child is one of the children that are kept
+    any-child : IsLostChild k a b r → list_any (gone_child k a b r) set.keys ≡ true
+    any-child x =
+        let t = kept-found x.parent x.label x.kept in
+        let here : path_eq r (child x.parent x.label) ≡ true = ap (path_eq r) (sym x.place) ∙ path_eq_equiv.refl r in
+        t.3 (gone_child k a b r)
+        (ap (λ q. gone_child k a b r (record { parent = q; label = t.0.label })) (sym t.1) ∙ ap (λ m. gone_child k a b r (record { parent = x.parent; label = m })) (sym t.2)
+        ∙ and_both _ _ x.gone (and_both _ _ (ap (is_there a) (sym x.place) ∙ x.was) here))
+
+  -- where a test that holds fails, nothing is noted
+  noted-unless : (c : Bool) (m o : Option Mark) → (c ≡ true → ⊥) → noted c m o ≡ o
+  noted-unless false m o n = refl
+  noted-unless true m o n = absurd (n refl)
+
+  module _ (a b : Tree) (old news : List (Path × Mark)) where
+    -- where each place is noted by all children that are kept, the losses are
+    pub losses-all : ((r : Path) → look r news ≡ noted (list_any (gone_with k a b r) set.keys) (Some D) (look r old)) → LossesNoted k a b old news
+    losses-all h = record {
+      gone = λ r x. h r ∙ ap (λ c. noted c (Some D) (look r old)) (any-loss a b r x);
+      others = λ r n. h r ∙ noted-unless (list_any (gone_with k a b r) set.keys) (Some D) (look r old) (λ e. n (loss-any a b r e));
+    }
+
+    -- and where each is noted by itself, the lost children are
+    pub children-all : ((r : Path) → look r news ≡ noted (list_any (gone_child k a b r) set.keys) (Some D) (look r old)) → ChildrenNoted k a b old news
+    children-all h = record {
+      gone = λ r x. h r ∙ ap (λ c. noted c (Some D) (look r old)) (any-child a b r x);
+      others = λ r n. h r ∙ noted-unless (list_any (gone_child k a b r) set.keys) (Some D) (look r old) (λ e. n (child-any a b r e));
+    }
 
 -- ---- what the code finds
 
@@ -110,11 +157,17 @@ pub lost-not : (k : Kept) (b : Tree) (q : Path) (l : Label) (v : Bool) → v ≡
 unfolding is_lost
 lost-not k b q l v h g = g ∙ ap (λ d. d && is_same (limited (effect q (origin_at k.origins q)))) (sym g ∙ h)
 
--- what is left to note after a child
-pub loss-next : (k : Kept) (a b : Tree) (r : Path) (c : LostChild) (it rest : List LostChild) (m n z next : Option Mark) → it ≡ c ∷ rest → next ≡ noted (is_lost k b c.parent c.label && is_within a (child c.parent c.label) r) m n → noted (any_loss k a b r it) m n ≡ z → noted (any_loss k a b r rest) m next ≡ z
-loss-next k a b r c it rest m n z next i e h =
-    noted-first (is_lost k b c.parent c.label && is_within a (child c.parent c.label) r) (any_loss k a b r rest) m n next z e (ap (λ cs. noted (any_loss k a b r cs) m n) (sym i) ∙ h)
+-- noting by these children would lead to what noting by all leads to
+abbrev pub LeftToNote : (Path → LostChild → Bool) → List LostChild → List LostChild → List (Path × Mark) → List (Path × Mark) → Type 0
+LeftToNote g some all old news = (r : Path) → noted (list_any (g r) some) (Some D) (look r news) ≡ noted (list_any (g r) all) (Some D) (look r old)
 
--- with no child left all is noted
-pub loss-end : (k : Kept) (a b : Tree) (r : Path) (it : List LostChild) (m n z : Option Mark) → it ≡ [] → noted (any_loss k a b r it) m n ≡ z → n ≡ z
-loss-end k a b r it m n z i h = ap (λ cs. noted (any_loss k a b r cs) m n) (sym i) ∙ h
+module _ (g : Path → LostChild → Bool) (all : List LostChild) (old : List (Path × Mark)) where
+  -- what is left after a child
+  pub left-next : (c : LostChild) (it rest : List LostChild) (mid next : List (Path × Mark)) → it ≡ c ∷ rest → ((r : Path) → look r next ≡ noted (g r c) (Some D) (look r mid)) → LeftToNote g it all old mid → LeftToNote g rest all old next
+  left-next c it rest mid next i e h r =
+      noted-first (g r c) (list_any (g r) rest) (Some D) (look r mid) (look r next) (noted (list_any (g r) all) (Some D) (look r old)) (e r)
+      (ap (λ cs. noted (list_any (g r) cs) (Some D) (look r mid)) (sym i) ∙ h r)
+
+  -- with no child left all is noted
+  pub left-end : (it : List LostChild) (news : List (Path × Mark)) → it ≡ [] → LeftToNote g it all old news → (r : Path) → look r news ≡ noted (list_any (g r) all) (Some D) (look r old)
+  left-end it news i h r = ap (λ cs. noted (list_any (g r) cs) (Some D) (look r news)) (sym i) ∙ h r

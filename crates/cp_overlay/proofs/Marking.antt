@@ -20,8 +20,10 @@ use Rattle.cp_model.specs.Keyed.{look}
 use Rattle.cp_model.specs.Subtrees.{with_values, map_values}
 use Rattle.cp_model.specs.Tree.{Tree}
 use Rattle.cp_model.specs.Step.{Working}
-use Rattle.cp_model.specs.Rows.{full_here, rows_with_marks, all_paths, full_rows}
-use Rattle.cp_model.specs.History.{record_of, with_tid}
+use Rattle.cp_model.specs.Rows.{full_here, reduced_here, rows_with_marks, all_paths, full_rows, reduced_rows}
+use Rattle.cp_model.specs.History.{record_of, rows_of, with_tid}
+use Rattle.cp_model.specs.declared.kind.Kind.{Kind}
+use Rattle.cp_model.specs.declared.kind.Kind.TheVariants as kind
 use Rattle.cp_model.proofs.KeyedLemmas.{look-find}
 use Rattle.cp_model.proofs.Lookups.{path_eq-sym}
 use Rattle.cp_model.proofs.Sorted.{parts_of, all_of, sorted-entries}
@@ -76,6 +78,18 @@ module _ {X : Type 0} where
 pub sorted-full_rows : (a : Tree) (w : Working) → T (is_sorted path_cmp (full_rows a w))
 unfolding all_paths
 sorted-full_rows a w = sorted_marked (full_here a w) (keyed.entries (keyed.put_all (with_values (λ _ _. true) (keyed.entries w)) (map_values (λ _ _. true) a))) (sorted-entries _)
+
+-- the reduced rows of a step rise
+pub sorted-reduced_rows : (a : Tree) (w : Working) → T (is_sorted path_cmp (reduced_rows a w))
+unfolding all_paths
+sorted-reduced_rows a w = sorted_marked (reduced_here a w) (keyed.entries (keyed.put_all (with_values (λ _ _. true) (keyed.entries w)) (map_values (λ _ _. true) a))) (sorted-entries _)
+
+-- the rows that a kind keeps of a step rise
+pub sorted-rows_of : (k : Kind) (a : Tree) (w : Working) → T (is_sorted path_cmp (rows_of k a w))
+sorted-rows_of kind.N a w = sorted-full_rows a w
+sorted-rows_of kind.T a w = sorted-full_rows a w
+sorted-rows_of kind.H a w = sorted-reduced_rows a w
+sorted-rows_of kind.HT a w = sorted-reduced_rows a w
 
 -- rows that rise and answer alike are the same
 pub same_rows : {X : Type 0} (es fs : List (Path × X)) → T (is_sorted path_cmp es) → T (is_sorted path_cmp fs) → ((r : Path) → look r es ≡ look r fs) → es ≡ fs

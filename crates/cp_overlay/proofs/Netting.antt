@@ -36,7 +36,7 @@ use Rattle.cp_overlay.proofs.OriginLemmas.{nearest_none}
 -- ---- where a row says gone
 
 -- what isn't there has no effect
-no_effect : (w : Working) (p : Path) → is_there w p ≡ false → effect_at w p ≡ None
+pub no_effect : (w : Working) (p : Path) → is_there w p ≡ false → effect_at w p ≡ None
 no_effect w p h = elim (keyed.get w p) as (λ o. is_some o ≡ false → option_map (λ x. effect p x.origin) o ≡ None) [ None ↦ λ _. refl | Some x ↦ λ h. absurd (cc) ] h
 
 -- what has no effect isn't there
@@ -44,7 +44,7 @@ not_there : (w : Working) (p : Path) → effect_at w p ≡ None → is_there w p
 not_there w p h = elim (keyed.get w p) as (λ o. option_map (λ x. effect p x.origin) o ≡ None → is_some o ≡ false) [ None ↦ λ _. refl | Some x ↦ λ h. absurd (cc) ] h
 
 -- an effect that is the same by the test is the same
-is_same-same : (e : Effect) → is_same e ≡ true → e ≡ same
+pub is_same-same : (e : Effect) → is_same e ≡ true → e ≡ same
 is_same-same same h = refl
 is_same-same made h = absurd (cc)
 is_same-same (from q) h = absurd (cc)
@@ -60,17 +60,17 @@ passes l (Some e) = refl
 
 module _ (k : Kept) (a b : Tree) (w : Working) (ok : IsWorking w) (st : Stands k a w) (same_tree : contents w ≡ b) where
   -- the tree after the step has the places of the working tree
-  there : (p : Path) → is_there b p ≡ is_there w p
+  pub there : (p : Path) → is_there b p ≡ is_there w p
   there p = ap (λ t. is_there t p) (sym same_tree) ∙ there-contents w p
 
   -- above a place that isn't there is what is above its parent
-  above_step : (r : Path) (l : Label) → is_there w (r ++ l ∷ []) ≡ false → same_above w (r ++ l ∷ []) ≡ same_above w r
+  pub above_step : (r : Path) (l : Label) → is_there w (r ++ l ∷ []) ≡ false → same_above w (r ++ l ∷ []) ≡ same_above w r
   above_step r l n =
       ap nearest_is_same (nearest-snoc (effect_at w) r l ∙ ap (λ o. or_else (with_rest o []) (further (l ∷ []) (nearest (effect_at w) r))) (no_effect w (r ++ l ∷ []) n))
       ∙ passes l (nearest (effect_at w) r)
 
   -- a child that is gone below one that is the same is kept as lost
-  lost_child : (r : Path) (l : Label) → effect_at w r ≡ Some same → is_there a (r ++ l ∷ []) ≡ true → is_there w (r ++ l ∷ []) ≡ false → (k.lost r l ≡ true) × (is_lost k b r l ≡ true)
+  pub lost_child : (r : Path) (l : Label) → effect_at w r ≡ Some same → is_there a (r ++ l ∷ []) ≡ true → is_there w (r ++ l ∷ []) ≡ false → (k.lost r l ≡ true) × (is_lost k b r l ≡ true)
   unfolding is_lost
   lost_child r l h i n =
       let x = effect_of w r same h in
@@ -103,7 +103,7 @@ module _ (k : Kept) (a b : Tree) (w : Working) (ok : IsWorking w) (st : Stands k
 
   module _ (r : Path) (x : IsLoss k a b r) where
     -- that place is there, the child is not, and what is kept says that the place is the same
-    lost_parts : (is_there w x.parent ≡ true) × (is_there w (child x.parent x.label) ≡ false) × (is_same (limited (effect x.parent (origin_at k.origins x.parent))) ≡ true)
+    pub lost_parts : (is_there w x.parent ≡ true) × (is_there w (child x.parent x.label) ≡ false) × (is_same (limited (effect x.parent (origin_at k.origins x.parent))) ≡ true)
     unfolding is_lost
     lost_parts =
         let p = and_true _ _ x.gone in
@@ -115,7 +115,7 @@ module _ (k : Kept) (a b : Tree) (w : Working) (ok : IsWorking w) (st : Stands k
     gone_below s = ap (is_there w) (sym (append_assoc x.parent (x.label ∷ []) s)) ∙ none-below (keyed.get w) ok.closed (child x.parent x.label) s lost_parts.1
 
     -- it isn't there
-    loss-gone : is_there w r ≡ false
+    pub loss-gone : is_there w r ≡ false
     loss-gone = ap (is_there w) x.place ∙ gone_below x.rest
 
     -- the place that lost it is the same
@@ -134,7 +134,7 @@ module _ (k : Kept) (a b : Tree) (w : Working) (ok : IsWorking w) (st : Stands k
         ∙ ap (λ o. with_rest o (x.label ∷ x.rest)) (ap (effect_at w) (append-nil x.parent) ∙ parent_same))
 
     -- so its row says gone
-    loss-lost : lost_below_same a w r ≡ true
+    pub loss-lost : lost_below_same a w r ≡ true
     loss-lost = and_both _ _ x.was loss-same
 
   -- ---- each place

@@ -19,7 +19,7 @@ sparse_is f h = record {
 }
 
 -- what is sparse isn't given
-sparse_own : (f : Origins) → IsSparse f → (r : Path) → IsGiven f r → ⊥
+pub sparse_own : (f : Origins) → IsSparse f → (r : Path) → IsGiven f r → ⊥
 sparse_own f s = path_ind (λ r. IsGiven f r → ⊥) (λ e. s.root (e ∙ ap (λ o. Some o) (given_top f))) (λ r a _ e. s.below r a (origin_at (but (r ++ a ∷ []) f) (r ++ a ∷ [])) e (sym (but_carried f r a)))
 
 -- where the places above have the same origins, a place is given the same

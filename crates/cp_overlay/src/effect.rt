@@ -49,7 +49,7 @@ impl Overlay {
 }
 
 /// Whether a place is that of these labels in T.
-fn is_own(place: &Loc, labels: &[Label]) -> bool
+pub(crate) fn is_own(place: &Loc, labels: &[Label]) -> bool
     ensures { result ≡ place_eq place.now (at_target labels.now) }
 {
     place.db.is_target() && place.path.labels() == labels

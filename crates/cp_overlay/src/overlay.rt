@@ -82,7 +82,8 @@ impl Overlay {
     }
 
     /// Follows the copy of the place `from` of T onto the place `into`. Costs the origins that are kept at and below both.
-    /// After an error nothing has changed.
+    /// After an error nothing has changed, and so where the origin of `from` would have too many labels: then the copy isn't
+    /// accepted.
     pub fn copy_within(&mut self, alloc: Global, from: &Path, into: &Path) -> Result<(), AllocError>
         ensures ok { OnOk result ((ss : List Source) (t : Tree) → Follows ss t (seen self.old) (seen self.new) (Copy (at_target from.now) (at_target into.now))) }
         ensures err { OnErr result (seen self.new ≡ seen self.old) }

@@ -40,7 +40,7 @@ use Rattle.cp_database.specs.declared.fault.DatabaseFault.TheVariants as fails
 use Rattle.cp_program.specs.Turns.{Follows, FollowsOne, SendsOut, Goes, Fed, RunsLast, cuts_play, after_cuts}
 use Rattle.cp_database.proofs.ReadCounts.{read-then}
 use Rattle.cp_program.specs.declared.stop.Stop.{Stop}
-use Rattle.cp_flat.specs.Stores.{FlatRows, flat}
+use Rattle.cp_kinds.specs.Stores.{KindRows, of_kind}
 use Rattle.cp_program.specs.declared.stop.Stop.TheVariants.{Output, Full, File, Memory}
 
 -- which of three is true
@@ -114,7 +114,7 @@ seen : Scan → Session → Seen
 seen c s = record { scan = c; session = s }
 
 -- what is kept behind a reply, where the database is this
-abbrev pub after_reply : {R S : Type 0} → Interpreter R S → Database R S FlatRows → Interpreter R S
+abbrev pub after_reply : {R S : Type 0} → Interpreter R S → Database R S KindRows → Interpreter R S
 after_reply k d = record { alloc = k.alloc; cutter = k.cutter; database = d; text = k.text; refused = k.refused }
 
 -- what is kept where the cutter is this
@@ -129,17 +129,17 @@ follows-byte view source_view k s x h f e = e ∙ ap (λ z. byte_held z x) f.0 �
 pub one-byte : {R S : Type 0} (view : R → Tree) (source_view : S → Tree) (x : ℕ) (old mid : Interpreter R S) → FollowsOne view source_view old → mid.cutter ≡ byte_held old.cutter x → mid.database ≡ old.database → FollowsOne view source_view mid
 one-byte view source_view x old mid f h l = (
   record { scan = (scan_byte f.0.scan x).scan; session = f.0.session },
-  (follows-byte view source_view old f.0 x mid.cutter f.1 h, subst (λ z. Stands view source_view flat z f.0.session) (sym l) f.1.1),
+  (follows-byte view source_view old f.0 x mid.cutter f.1 h, subst (λ z. Stands view source_view of_kind z f.0.session) (sym l) f.1.1),
 )
 
 -- a scan that begins again stands where some session does
 pub one-begun : {R S : Type 0} (view : R → Tree) (source_view : S → Tree) (c : Scan) (old mid : Interpreter R S) → FollowsOne view source_view old → mid.cutter ≡ held_of c → mid.database ≡ old.database → FollowsOne view source_view mid
-one-begun view source_view c old mid f h l = (record { scan = c; session = f.0.session }, (h, subst (λ z. Stands view source_view flat z f.0.session) (sym l) f.1.1))
+one-begun view source_view c old mid f h l = (record { scan = c; session = f.0.session }, (h, subst (λ z. Stands view source_view of_kind z f.0.session) (sym l) f.1.1))
 
 -- behind a reply that was written it stands where the database does
-pub one-told : {R S : Type 0} (view : R → Tree) (source_view : S → Tree) (old new : Interpreter R S) (d : Database R S FlatRows) (result : Result ⊤ Stop) → FollowsOne view source_view old → IsSession view source_view flat d → OnOk result (new.cutter ≡ old.cutter) → OnOk result (new.database ≡ d)
+pub one-told : {R S : Type 0} (view : R → Tree) (source_view : S → Tree) (old new : Interpreter R S) (d : Database R S KindRows) (result : Result ⊤ Stop) → FollowsOne view source_view old → IsSession view source_view of_kind d → OnOk result (new.cutter ≡ old.cutter) → OnOk result (new.database ≡ d)
     → OnOk result (FollowsOne view source_view new)
-one-told view source_view old new d (Ok x) f i h l = (record { scan = f.0.scan; session = i.0 }, (h ∙ f.1.0, subst (λ z. Stands view source_view flat z i.0) (sym l) i.1))
+one-told view source_view old new d (Ok x) f i h l = (record { scan = f.0.scan; session = i.0 }, (h ∙ f.1.0, subst (λ z. Stands view source_view of_kind z i.0) (sym l) i.1))
 one-told view source_view old new d (Err e) f i h l = tt
 
 module _ (files : FileTable) where
@@ -216,20 +216,20 @@ module _ (files : FileTable) where
   one_read s cut = omega arith
 
   -- a cut brought no reply
-  pub ran-silent : {R S : Type 0} (view : R → Tree) (source_view : S → Tree) (s : Seen) (cut : Cut) (old new : Interpreter R S) (b a : KnownFiles) (o : KnownOutput) → Turned view source_view flat (turn (setting files) s.session cut) new.database None → HasRead b a (cut_reads s.session cut) → new.cutter ≡ held_of s.scan → new.refused ≡ old.refused
+  pub ran-silent : {R S : Type 0} (view : R → Tree) (source_view : S → Tree) (s : Seen) (cut : Cut) (old new : Interpreter R S) (b a : KnownFiles) (o : KnownOutput) → Turned view source_view of_kind (turn (setting files) s.session cut) new.database None → HasRead b a (cut_reads s.session cut) → new.cutter ≡ held_of s.scan → new.refused ≡ old.refused
       → Goes view source_view (cuts_play files s (cut ∷ [])) (after_cuts files s (cut ∷ [])) old new (record { files = b; output = o }) (record { files = a; output = o }) (Ok tt)
   unfolding replies_to session_after
   ran-silent view source_view s cut old new b a o t n h f = rw (sym t.0) ((h, t.1), f ∙ or-false old.refused, Appends-nil o.contents, subst (HasRead b a) (one_read s.session cut) n)
 
   -- the lines of a cut's reply were written
   pub ran-said : {R S : Type 0} (view : R → Tree) (source_view : S → Tree) (s : Seen) (cut : Cut) (r : Reply) (old mid new : Interpreter R S) (b a : World) (result : Result ⊤ Stop)
-      → Turned view source_view flat (turn (setting files) s.session cut) mid.database (Some r) → HasRead b.files a.files (cut_reads s.session cut) → mid.cutter ≡ held_of s.scan → mid.refused ≡ old.refused
+      → Turned view source_view of_kind (turn (setting files) s.session cut) mid.database (Some r) → HasRead b.files a.files (cut_reads s.session cut) → mid.cutter ≡ held_of s.scan → mid.refused ≡ old.refused
       → SendsOut (lines r) b.output.contents a.output.contents result → OnOk result (new.cutter ≡ mid.cutter) → OnOk result (new.database ≡ mid.database) → OnOk result (new.refused ≡ (mid.refused || is_refusal r))
       → Goes view source_view (cuts_play files s (cut ∷ [])) (after_cuts files s (cut ∷ [])) old new b a result
   unfolding replies_to session_after
   ran-said view source_view s cut r old mid new b a (Ok x) t n h f w h' l' f' =
       rw (sym t.0) (
-        (h' ∙ h, subst (λ z. Stands view source_view flat z (turn (setting files) s.session cut).next) (sym l') t.1),
+        (h' ∙ h, subst (λ z. Stands view source_view of_kind z (turn (setting files) s.session cut).next) (sym l') t.1),
         f' ∙ ap (λ v. v || is_refusal r) f ∙ ap (λ v. old.refused || v) (or-false (is_refusal r)),
         subst (Appends b.output.contents a.output.contents) (sym (append-nil (lines r))) w,
         subst (HasRead b.files a.files) (one_read s.session cut) n,
@@ -272,7 +272,7 @@ module _ (files : FileTable) where
       → Follows view source_view old s → cuts ≡ byte_cuts old.cutter x → mid.cutter ≡ byte_held old.cutter x → mid.database ≡ old.database → mid.refused ≡ old.refused
       → ((t : Seen) → Follows view source_view mid t → Goes view source_view (cuts_play files t cuts) (after_cuts files t cuts) mid new b a result)
       → Goes view source_view (plays files s (x ∷ [])) (after_play files s (x ∷ [])) old new b a result
-  pushed view source_view s x cuts old mid new b a result f c h l r go = rw ((plays-one s x).0, (plays-one s x).1) (moved result (subst at (c ∙ ap (λ z. byte_cuts z x) f.0) (go t (follows-byte view source_view old s x mid.cutter f h, subst (λ z. Stands view source_view flat z s.session) (sym l) f.1))))
+  pushed view source_view s x cuts old mid new b a result f c h l r go = rw ((plays-one s x).0, (plays-one s x).1) (moved result (subst at (c ∙ ap (λ z. byte_cuts z x) f.0) (go t (follows-byte view source_view old s x mid.cutter f h, subst (λ z. Stands view source_view of_kind z s.session) (sym l) f.1))))
     where
       t : Seen
       t = record { scan = (scan_byte s.scan x).scan; session = s.session }
@@ -334,7 +334,7 @@ module _ (files : FileTable) where
       → ((t : Seen) → Follows view source_view mid t → Goes view source_view (cuts_play files t cuts) (after_cuts files t cuts) mid new b a result) → (c : Scan) → mid.cutter ≡ held_of c → RunsLast files s old new b a result
   unfolding closes
   ran-last view source_view s cuts old mid new b a result f rest l r go c h =
-      moved result (go (record { scan = c; session = s.session }) (h, subst (λ z. Stands view source_view flat z s.session) (sym l) f.1))
+      moved result (go (record { scan = c; session = s.session }) (h, subst (λ z. Stands view source_view of_kind z s.session) (sym l) f.1))
     where
       same : report_of files s.session cuts ≡ report_of files s.session (rest_of s.scan)
       same = ap (λ z. report_of files s.session z) (rest s.scan f.0)

@@ -18,7 +18,7 @@ use Rattle.cp_model.specs.Tree.{Tree}
 use Rattle.cp_model.specs.declared.kind.Kind.{Kind}
 use Rattle.cp_database.specs.Databases.{Stands}
 use Rattle.cp_database.specs.Files.{HasRead, HasReadSome, IsTable, UsesFiles}
-use Rattle.cp_flat.specs.Stores.{flat}
+use Rattle.cp_kinds.specs.Stores.{of_kind}
 use Rattle.cp_program.specs.Outside.{KnownOutput, World, Outside, world_of}
 use Rattle.cp_program.specs.Story.{Writes, StopsIn, WritesLast, Work, Did, result_of}
 use Rattle.cp_program.specs.declared.interpreter.Interpreter.{Interpreter}
@@ -29,7 +29,7 @@ use Rattle.cp_program.specs.declared.stop.Stop.TheVariants.{Output, Full, File, 
 
 -- the code stands where the session does
 abbrev pub Follows : {R S : Type 0} → (R → Tree) → (S → Tree) → Interpreter R S → Seen → Type 0
-Follows view source_view x s = (x.cutter ≡ held_of s.scan) × Stands view source_view flat x.database s.session
+Follows view source_view x s = (x.cutter ≡ held_of s.scan) × Stands view source_view of_kind x.database s.session
 
 -- it stands where some session does
 abbrev pub FollowsOne : {R S : Type 0} → (R → Tree) → (S → Tree) → Interpreter R S → Type 0

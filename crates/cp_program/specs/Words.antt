@@ -17,9 +17,14 @@ pub record Scratch : Type 0 where
   pub kind : Kind
   pub start : Start
 
--- the kind that a word names; the hierarchical kinds aren't built yet
+-- the kind that a word names
 abbrev pub kind_named : List ℕ → Option Kind
-kind_named a = if bytes_eq a (codes "n") then Some kind.N else if bytes_eq a (codes "t") then Some kind.T else None
+kind_named a =
+    if bytes_eq a (codes "n") then Some kind.N
+    else if bytes_eq a (codes "t") then Some kind.T
+    else if bytes_eq a (codes "h") then Some kind.H
+    else if bytes_eq a (codes "ht") then Some kind.HT
+    else None
 
 -- the kind that the command and the word behind it ask for
 abbrev pub kind_of : List ℕ → List ℕ → Option Kind

@@ -1,7 +1,6 @@
 //! The words of a call.
-ghost use Rattle.std.specs.Prelude.{◌≡◌, map, true, string_bytes, IfSome};
+ghost use Rattle.std.specs.Prelude.{◌≡◌, map, string_bytes};
 ghost use Rattle.std.specs.Option.{option_map};
-ghost use Rattle.cp_engine.specs.Passed.{is_built};
 ghost use Rattle.cp_program.specs.Words.{kind_named, kind_of, is_file_name, asked_by};
 ghost use Rattle.cp_program.specs.Starts.{scratch_asked};
 
@@ -16,7 +15,7 @@ pub(crate) enum Start<'a> {
     TreeIn(&'a str),
 }
 
-/// What the words ask for: a session of a kind that is built, from this start.
+/// What the words ask for: a session of a kind, from this start.
 #[derive(Clone, Copy)]
 pub(crate) struct Scratch<'a> {
     pub(crate) kind: Kind,
@@ -25,22 +24,20 @@ pub(crate) struct Scratch<'a> {
 
 /// The kind that a word names.
 fn kind_named(word: &str) -> Option<Kind>
-    ensures named { result ≡ kind_named word.now }
-    ensures built { IfSome result (λ k. is_built k ≡ true) }
+    ensures { result ≡ kind_named word.now }
 {
-    if word == "n" {
-        return Some(Kind::N);
+    match word {
+        "n" => Some(Kind::N),
+        "t" => Some(Kind::T),
+        "h" => Some(Kind::H),
+        "ht" => Some(Kind::HT),
+        _ => None,
     }
-    if word == "t" {
-        return Some(Kind::T);
-    }
-    None
 }
 
 /// The kind that the command and the word behind it ask for.
 fn kind_of(command: &str, word: &str) -> Option<Kind>
-    ensures named { result ≡ kind_of command.now word.now }
-    ensures built { IfSome result (λ k. is_built k ≡ true) }
+    ensures { result ≡ kind_of command.now word.now }
 {
     if command == "scratch" {
         kind_named(word)
@@ -61,8 +58,7 @@ fn is_file_name(word: &str) -> bool
 
 /// What the words ask for, if they fit.
 pub(crate) fn asked_by(words: &[String]) -> Option<Scratch<'_>>
-    ensures asked { option_map scratch_asked result ≡ asked_by (map string_bytes words.now) }
-    ensures built { IfSome result (λ s. is_built s.kind ≡ true) }
+    ensures { option_map scratch_asked result ≡ asked_by (map string_bytes words.now) }
 {
     match words {
         [_, command, word] => match kind_of(command.as_str(), word.as_str()) {

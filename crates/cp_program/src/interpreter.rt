@@ -3,7 +3,6 @@ ghost use Rattle.std.specs.Prelude.{◌≡◌, ◌||◌, ◌≤◌, ◌<◌, ◌
 ghost use Rattle.std.specs.Option.{option_to_list};
 ghost use Rattle.cp_outside.specs.FileReads.{FileTable};
 ghost use Rattle.cp_reply.specs.Lines.{lines};
-ghost use Rattle.cp_engine.specs.Passed.{is_built};
 ghost use Rattle.cp_lang.specs.Cuts.{rest_of};
 ghost use Rattle.cp_program.specs.Job.{is_refusal};
 ghost use Rattle.cp_database.specs.Databases.{runs_of};
@@ -16,7 +15,7 @@ ghost use Rattle.cp_database.specs.declared.limits.TheConstants.{RUNS_MAX};
 use crate::stop::{Stop, stop_of};
 use crate::tell::tell;
 use cp_database::Database;
-use cp_flat::FlatStore;
+use cp_kinds::KindStore;
 use cp_lang::{Cut, Cutter};
 use cp_model::Kind;
 use cp_outside::{Files, Sink};
@@ -30,7 +29,7 @@ use std::mem;
 pub(crate) struct Interpreter<R: TreeRep, S: TreeRep> {
     alloc: Global,
     cutter: Cutter,
-    database: Database<R, S, FlatStore>,
+    database: Database<R, S, KindStore>,
     /// Room for the lines of a reply.
     text: Vec<u8>,
     /// Whether a refusal was written.
@@ -49,12 +48,11 @@ fn is_refusal(reply: &Reply) -> bool
 impl<R: TreeRep, S: TreeRep> Interpreter<R, S> {
     /// A session of a kind on this tree, without sources and without rows.
     pub(crate) fn new(alloc: Global, kind: Kind, tree: R) -> Result<Interpreter<R, S>, AllocError>
-        requires built { is_built kind ≡ true }
         ensures start { IfOk result (λ x. Follows R.contents S.contents x (start kind (R.contents tree))) }
         ensures refused { IfOk result (λ x. x.refused ≡ false) }
         ensures runs { IfOk result (λ x. runs_of x.database ≡ 0) }
     {
-        let store = FlatStore::new(alloc, kind, 0)?;
+        let store = KindStore::new(alloc, kind, 0)?;
         Ok(Interpreter {
             alloc,
             cutter: Cutter::new(alloc),

@@ -4,7 +4,6 @@ ghost use Rattle.std.specs.declared.option.Option.TheVariants.{None};
 ghost use Rattle.cp_outside.specs.Causes.{Accounts};
 ghost use Rattle.cp_outside.specs.FileReads.{FileTable};
 ghost use Rattle.cp_reply.specs.Lines.{lines};
-ghost use Rattle.cp_engine.specs.Passed.{is_built};
 ghost use Rattle.cp_program.specs.Words.{asked_by};
 ghost use Rattle.cp_program.specs.Job.{start_given, start_reads, refused_start};
 ghost use Rattle.cp_database.specs.Fetched.{Gives};
@@ -157,7 +156,6 @@ fn begin<R: TreeRep, S: TreeRep, F: Files>(
     asked: Scratch<'_>,
     files: &mut F,
 ) -> Result<Result<Interpreter<R, S>, Why>, FilesFault>
-    requires built { is_built asked.kind ≡ true }
     ensures begun { IfOk result (λ r. (t : FileTable) → IsTable t (known_files F.Files files.old) (known_files F.Files files.new)
         → Begun R.contents S.contents asked.entry.kind (start_given t (start_asked asked.entry.start)) r) }
     ensures stands { IfOk result (λ r. IfOk r (λ x. FollowsOne R.contents S.contents x × (x.refused ≡ false) × (runs_of x.database ≡ 0))) }
@@ -217,7 +215,6 @@ fn scratch<R: TreeRep, S: TreeRep, F: Files, I: Source, O: Sink>(
     input: &mut I,
     output: &mut O,
 ) -> End
-    requires built { is_built asked.kind ≡ true }
     ensures ran { Ran asked.entry.kind (λ t. start_given t (start_asked asked.entry.start)) (start_reads (start_asked asked.entry.start))
         (known_outside F.Files I.Source O.Sink files.old input.old output.old)
         (known_outside F.Files I.Source O.Sink files.new input.new output.new) result }

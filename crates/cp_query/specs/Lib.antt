@@ -4,3 +4,4 @@ pub mod Faults
 pub mod Following
 pub mod Laws
 pub mod Legs
+pub mod Kept

@@ -9,6 +9,7 @@ ghost use Rattle.cp_query.specs.Faults.{BlamesStore};
 ghost use Rattle.cp_query.specs.declared.fault.QueryFault.TheVariants.{NoPlace, Disk};
 
 use crate::fault::QueryFault;
+use crate::listing::records;
 use crate::walk::Walk;
 use cp_model::{Answer, Query, TidList, Trace};
 use cp_path::Loc;
@@ -16,18 +17,18 @@ use cp_store::ProvStore;
 use cp_tree::TreeRep;
 use std::alloc::Global;
 
-/// Whether `answer` answers such a query. `mod`, `from`, `records` and `stats` it doesn't answer yet.
+/// Whether `answer` answers such a query. `mod`, `from` and `stats` it doesn't answer yet.
 pub fn is_answered(query: &Query) -> bool
     ensures { result ≡ is_answered query.now }
 {
     match query {
-        Query::Src(_) | Query::Hist(_) | Query::Trace(_) => true,
-        Query::Mod(_) | Query::From(_) | Query::Records(_) | Query::Stats => false,
+        Query::Src(_) | Query::Hist(_) | Query::Trace(_) | Query::Records(_) => true,
+        Query::Mod(_) | Query::From(_) | Query::Stats => false,
     }
 }
 
 /// Answers a query on the committed state that the store and the tree keep. A query of a place looks
-/// up a row for each place at which its data stood.
+/// up a row for each place at which its data stood; one of records costs a look-up for each step, and the records.
 pub fn answer<P: ProvStore, R: TreeRep>(
     alloc: Global,
     store: &mut P,
@@ -44,7 +45,8 @@ pub fn answer<P: ProvStore, R: TreeRep>(
         Query::Src(place) => Ok(Answer::Src(src(alloc, store, tree, place)?)),
         Query::Hist(place) => Ok(Answer::Tids(hist(alloc, store, tree, place)?)),
         Query::Trace(place) => Ok(Answer::Trace(trace(alloc, store, tree, place)?)),
-        Query::Mod(_) | Query::From(_) | Query::Records(_) | Query::Stats => unreachable!(),
+        Query::Records(tid) => Ok(Answer::Records(records(alloc, store, *tid)?)),
+        Query::Mod(_) | Query::From(_) | Query::Stats => unreachable!(),
     }
 }
 

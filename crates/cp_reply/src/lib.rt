@@ -11,5 +11,6 @@ mod tree;
 mod word;
 mod write;
 
+pub use record::record_text;
 pub use reply::{Of, Reply, Why};
 pub use write::lines;

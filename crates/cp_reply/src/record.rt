@@ -19,8 +19,8 @@ fn source_text(alloc: Global, source: &Option<Loc>) -> Result<String, AllocError
     }
 }
 
-/// The Tid, the letter, the place, and for a copy its source.
-pub(crate) fn record_text(alloc: Global, entry: &Record) -> Result<String, AllocError>
+/// A record as it is listed: the Tid, the letter, the place, and for a copy its source. Costs their bytes.
+pub fn record_text(alloc: Global, entry: &Record) -> Result<String, AllocError>
     ensures { IfOk result (λ s. string_bytes s ≡ record_text entry.now) }
 {
     let tid = entry.tid;

@@ -2,3 +2,4 @@ pub mod Steps
 pub mod Index
 pub mod Blocks
 pub mod Rows
+pub mod Told

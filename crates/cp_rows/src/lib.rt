@@ -6,7 +6,9 @@ mod index;
 mod key;
 mod limits;
 mod rows;
+mod told;
 
 pub use index::Step;
 pub use key::key_of;
 pub use rows::Rows;
+pub use told::done_by;

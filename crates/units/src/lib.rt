@@ -1,12 +1,16 @@
-//! Tests of functions that no case can say: the real adapters, the objects in memory, packed records and a store by itself.
+//! Tests of functions that no case can say: the real adapters, the objects in memory, packed records, the stores by themselves, and what tells of a step's records.
 //! They stand in a crate of their own, so that none of those crates is proved once more with its tests.
 #![tactic(auto)]
 
 #[cfg(test)]
-mod flat;
+mod format;
 #[cfg(test)]
 mod host;
 #[cfg(test)]
 mod outside;
 #[cfg(test)]
 mod record;
+#[cfg(test)]
+mod steps;
+#[cfg(test)]
+mod stores;

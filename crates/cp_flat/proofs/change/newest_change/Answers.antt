@@ -3,7 +3,8 @@ use Rattle.cp_model.specs.Leaps.{last}
 use Rattle.cp_rows.specs.Steps.{steps_in}
 use Rattle.cp_rows.proofs.Steps.{row_of-within}
 use Rattle.cp_flat.specs.Changes.{rows_tell}
-use Rattle.cp_flat.proofs.Changes.{last-zero, said_none, said_at, said_zero, said_change, said_same}
+use Rattle.cp_store.proofs.NewestLemmas.{last-zero}
+use Rattle.cp_flat.proofs.Changes.{said_none, said_at, said_zero, said_change, said_same}
 use Rattle.cp_flat.proofs.change.newest_change.Goals as goal
 
 pub loop-high-init : goal.loop-high-init
@@ -27,12 +28,12 @@ mark-requires c =
     let p = c.requires.place in
     row_of-within p c.in-Some.step.tid c.in-Some.step.row rs (said_at rs (steps_in p 0 rs) c.loop-high.high p c.in-Some.step (c.in-Some.ensures p c.requires.is)).1
 
-pub returns-in-Some-done_by : goal.returns-in-Some-done_by
-returns-in-Some-done_by c =
+pub returns-in-Some-2 : goal.returns-in-Some-2
+returns-in-Some-2 c =
     λ p e.
     let rs = c.args.rows.now.list in
     let pos : 0 < c.in-Some.step.tid = omega (arith, c.if-step-eq0.false) in
-    sym (said_change rs (steps_in p 0 rs) c.loop-high.high p c.in-Some.step (c.in-Some.ensures p e) c.in_ok-mark.field-0 c.in_ok-mark.ensures c.done_by.result c.done_by.ensures pos c.in-Some-done_by.what c.in-Some-done_by.is) ∙ c.loop-high.invariant.same p e
+    sym (said_change rs (steps_in p 0 rs) c.loop-high.high p c.in-Some.step (c.in-Some.ensures p e) c.in_ok-mark.field-0 c.in_ok-mark.ensures c.in_ok-what.field-0 c.in_ok-what.ensures pos c.in-Some-2.what c.in-Some-2.is) ∙ c.loop-high.invariant.same p e
 
 pub loop-high-smaller : goal.loop-high-smaller
 loop-high-smaller c =
@@ -45,7 +46,7 @@ pub loop-high-preserved : goal.loop-high-preserved
 loop-high-preserved c =
     let rs = c.args.rows.now.list in
     let pos : 0 < c.in-Some.step.tid = omega (arith, c.if-step-eq0.false) in
-    record { same = λ p e. said_same rs (steps_in p 0 rs) c.loop-high.high p c.in-Some.step (c.in-Some.ensures p e) c.in_ok-mark.field-0 c.in_ok-mark.ensures c.done_by.result c.done_by.ensures pos c.in_default-done_by.is ∙ c.loop-high.invariant.same p e }
+    record { same = λ p e. said_same rs (steps_in p 0 rs) c.loop-high.high p c.in-Some.step (c.in-Some.ensures p e) c.in_ok-mark.field-0 c.in_ok-mark.ensures c.in_ok-what.field-0 c.in_ok-what.ensures pos c.in_default-2.is ∙ c.loop-high.invariant.same p e }
 
 pub returns : goal.returns
 returns c =

@@ -1,9 +1,9 @@
 use Rattle.std.proofs.Common.{ap, subst, sym, refl, Ok}
-use Rattle.cp_model.specs.Answers.{answer_to, src, hist, trace}
+use Rattle.cp_model.specs.Answers.{answer_to, src, hist, trace, records}
 use Rattle.cp_model.specs.declared.answer.Answer.TheVariants as answer
 use Rattle.cp_model.specs.declared.query.Query.TheVariants as query
 use Rattle.cp_query.specs.Asked.{AnswersTo}
-use Rattle.cp_query.proofs.Answering.{answers-at, faults-at}
+use Rattle.cp_query.proofs.Answering.{answers-at, faults-at, answers-always, faults-always}
 use Rattle.cp_query.proofs.ask.answer.Goals as goal
 
 pub returns-in_ok-src-in-Src-clause-answer : goal.returns-in_ok-src-in-Src-clause-answer
@@ -50,3 +50,18 @@ returns-in_err-trace-in-Trace-clause-answer g c = λ s h.
     let place = c.in-Trace.place in
     subst (λ q. AnswersTo s q c.from_residual-in_err-trace-in-Trace.result) (sym c.in-Trace.is)
     (faults-at h (query.Trace place) place (answer.Trace (trace s.now s.tree place.path)) refl c.in_err-trace-in-Trace.field-0.0 c.from_residual-in_err-trace-in-Trace.result c.in_err-trace-in-Trace.ensures.place c.from_residual-in_err-trace-in-Trace.ensures.1)
+
+pub returns-in_ok-records-in-Records-clause-answer : goal.returns-in_ok-records-in-Records-clause-answer
+unfolding answer_to
+returns-in_ok-records-in-Records-clause-answer g c = λ s h.
+    let x = c.in_ok-records-in-Records.field-0 in
+    let t = c.in-Records.tid in
+    subst (λ q. AnswersTo s q (Ok (answer.Records x))) (sym c.in-Records.is)
+    (answers-always s (query.Records t) (answer.Records (records s t)) refl (answer.Records x) (ap (λ y. answer.Records y) (c.in_ok-records-in-Records.ensures.answer (g.R.TreeRep.contents c.args.tree.now) s h)))
+
+pub returns-in_err-records-in-Records-clause-answer : goal.returns-in_err-records-in-Records-clause-answer
+unfolding answer_to
+returns-in_err-records-in-Records-clause-answer g c = λ s h.
+    let t = c.in-Records.tid in
+    subst (λ q. AnswersTo s q c.from_residual-in_err-records-in-Records.result) (sym c.in-Records.is)
+    (faults-always s (query.Records t) (answer.Records (records s t)) refl c.in_err-records-in-Records.field-0.0 c.from_residual-in_err-records-in-Records.result c.from_residual-in_err-records-in-Records.ensures.1)

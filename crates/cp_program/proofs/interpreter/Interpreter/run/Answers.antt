@@ -15,7 +15,7 @@ use Rattle.cp_database.specs.Databases.{Stands, Turned}
 use Rattle.cp_program.specs.Turns.{Follows, Goes, cuts_play, after_cuts}
 use Rattle.cp_database.proofs.ReadCounts.{some-read}
 use Rattle.cp_program.proofs.Plays.{after_reply, one-told, ran-none, ran-silent, ran-said, ran-stopped_early}
-use Rattle.cp_flat.specs.Stores.{flat}
+use Rattle.cp_kinds.specs.Stores.{of_kind}
 use Rattle.cp_program.proofs.interpreter.Interpreter.run.Goals as goal
 
 pub returns-in_default-clause-went : goal.returns-in_default-clause-went
@@ -38,7 +38,7 @@ returns-in-Ok-Some-clause-went g c =
     let a = known_world g.F.Files g.O.Sink c.reply_to.new.files c.say.new.output in
     let cut = c.in-Some.cut in
     let r = c.in-Ok-Some.reply in
-    let T : Option Reply → Type 0 = λ o. (files : FileTable) → IsTable files b.files a.files → (t : Session) → Stands view source_view flat old.database t → Turned view source_view flat (turn (setting files) t cut) mid.database o in
+    let T : Option Reply → Type 0 = λ o. (files : FileTable) → IsTable files b.files a.files → (t : Session) → Stands view source_view of_kind old.database t → Turned view source_view of_kind (turn (setting files) t cut) mid.database o in
     let some : T (Some r) = subst T c.in-Ok-Some.field-0-is c.in-Ok-Some.ensures.turned in
     let P : Option Cut → Type 0 = λ o. (files : FileTable) → IsTable files b.files a.files → (s : Seen) → Follows view source_view old s → Goes view source_view (cuts_play files s (option_to_list o)) (after_cuts files s (option_to_list o)) old new b a c.say.result in
     subst P (sym c.in-Some.is) (λ files told s f. ran-said files view source_view s cut r old mid new b a c.say.result (some files told s.session f.1) (c.in-Ok-Some.ensures.reads s.session f.1) f.0 refl
@@ -57,7 +57,7 @@ returns-in-Ok-None-clause-went g c =
     let b = known_world g.F.Files g.O.Sink c.args.files.now c.args.output.now in
     let a = known_world g.F.Files g.O.Sink c.reply_to.new.files c.args.output.now in
     let cut = c.in-Some.cut in
-    let T : Option Reply → Type 0 = λ o. (files : FileTable) → IsTable files b.files a.files → (t : Session) → Stands view source_view flat old.database t → Turned view source_view flat (turn (setting files) t cut) new.database o in
+    let T : Option Reply → Type 0 = λ o. (files : FileTable) → IsTable files b.files a.files → (t : Session) → Stands view source_view of_kind old.database t → Turned view source_view of_kind (turn (setting files) t cut) new.database o in
     let none : T None = subst T c.in-Ok-None.field-0-is c.in-Ok-None.ensures.turned in
     let P : Option Cut → Type 0 = λ o. (files : FileTable) → IsTable files b.files a.files → (s : Seen) → Follows view source_view old s → Goes view source_view (cuts_play files s (option_to_list o)) (after_cuts files s (option_to_list o)) old new b a (Ok tt) in
     subst P (sym c.in-Some.is) (λ files told s f. ran-silent files view source_view s cut old new b.files a.files b.output (none files told s.session f.1) (c.in-Ok-None.ensures.reads s.session f.1) f.0 refl)

@@ -1,5 +1,4 @@
-use Rattle.std.proofs.Common.{◌<◌, true, length, sym, ◌∙◌, arith}
-use Rattle.cp_rows.specs.Rows.{is_of}
+use Rattle.std.proofs.Common.{◌<◌, length, sym, ◌∙◌, arith}
 use Rattle.cp_rows.proofs.Counting.{records-none, is_of-within, records-more, records-all}
 use Rattle.cp_rows.proofs.rows.Rows.rows_of.Goals as goal
 

@@ -1,0 +1,11 @@
+pub mod Formats
+pub mod Counted
+pub mod Faults
+pub mod Leaves
+pub mod Chars
+pub mod CharsBegun
+pub mod Texts
+pub mod Names
+pub mod Labels
+pub mod Records
+pub mod Growing

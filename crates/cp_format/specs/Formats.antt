@@ -1,0 +1,37 @@
+-- Formats: which values have a spelling as bytes, and the first byte with which no spelling goes on.
+use Rattle.std.specs.Prelude.{ℕ, ◌≡◌, ◌≤◌, ◌<◌, ◌+◌, ◌-◌, ◌++◌, List, length, take, drop}
+
+-- which values have a spelling, and what it is
+pub record Format (X : Type 0) : Type 1 where
+  pub fit : X → Type 0
+  pub bytes : X → List ℕ
+
+-- the bytes are the spelling of x, and then the rest
+pub record Reads {X : Type 0} (F : Format X) (bytes : List ℕ) (x : X) (rest : List ℕ) : Type 0 where
+  pub fit : F.fit x
+  pub is : bytes ≡ F.bytes x ++ rest
+
+-- some spelling begins with the bytes
+pub record Goes {X : Type 0} (F : Format X) (bytes : List ℕ) : Type 0 where
+  pub first : X
+  pub fit : F.fit first
+  pub rest : List ℕ
+  pub is : F.bytes first ≡ bytes ++ rest
+
+-- no spelling stands at the front of the bytes, and the byte after the first n is the first with which none goes on, or the bytes end there
+pub record Stops {X : Type 0} (F : Format X) (bytes : List ℕ) (n : ℕ) : Type 0 where
+  pub within : n ≤ length bytes
+  pub begins : Goes F (take n bytes)
+  pub stops : n < length bytes → Goes F (take (n + 1) bytes) → ⊥
+  pub none : (x : X) (rest : List ℕ) → Reads F bytes x rest → ⊥
+
+-- at the offset stands the spelling of x, and next is the offset behind it
+pub record ReadsAt {X : Type 0} (F : Format X) (bytes : List ℕ) (at : ℕ) (x : X) (next : ℕ) : Type 0 where
+  pub reads : Reads F (drop at bytes) x (drop next bytes)
+  pub count : next ≡ at + length (F.bytes x)
+  pub within : next ≤ length bytes
+
+-- from the offset on the spelling stops at the offset n
+pub record FailsAt {X : Type 0} (F : Format X) (bytes : List ℕ) (at n : ℕ) : Type 0 where
+  pub past : at ≤ n
+  pub stops : Stops F (drop at bytes) (n - at)

@@ -1,0 +1,6 @@
+pub mod Spelled
+pub mod Formats
+pub mod Faults
+pub mod Chars
+pub mod Parts
+pub mod Laws

@@ -1,0 +1,61 @@
+//! Numbers and letters, in bytes that may be anything.
+ghost use Rattle.std.specs.Prelude.{◌≡◌, ◌≤◌, ◌<◌, ℕ, length, IfErr, IfOk};
+ghost use Rattle.cp_format.specs.Faults.{FaultAt};
+ghost use Rattle.cp_format.specs.Formats.{ReadsAt};
+ghost use Rattle.cp_format.specs.Parts.{count_format, letter_format, number_format};
+
+use crate::fault::RecordFault;
+use cp_model::RecOp;
+
+/// The number in the next eight bytes.
+pub(crate) fn number_at(bytes: &[u8], at: usize) -> Result<(u64, usize), RecordFault>
+    requires { at ≤ length bytes.now }
+    ensures read { IfOk result (λ x. ReadsAt number_format bytes.now at x.0 x.1) }
+    ensures fault { IfErr result (FaultAt number_format bytes.now at) }
+{
+    match bytes[at..].split_first_chunk::<8>() {
+        Some((first, _)) => Ok((u64::from_be_bytes(*first), at + 8)),
+        None => Err(RecordFault::BadRecord(bytes.len())),
+    }
+}
+
+/// The operation of the next byte.
+pub(crate) fn letter_at(bytes: &[u8], at: usize) -> Result<(RecOp, usize), RecordFault>
+    requires { at ≤ length bytes.now }
+    ensures read { IfOk result (λ x. ReadsAt letter_format bytes.now at x.0 x.1) }
+    ensures fault { IfErr result (FaultAt letter_format bytes.now at) }
+{
+    if at == bytes.len() {
+        return Err(RecordFault::BadRecord(at));
+    }
+    match bytes[at] {
+        b'I' => Ok((RecOp::I, at + 1)),
+        b'C' => Ok((RecOp::C, at + 1)),
+        b'D' => Ok((RecOp::D, at + 1)),
+        b'K' => Ok((RecOp::K, at + 1)),
+        _ => Err(RecordFault::BadRecord(at)),
+    }
+}
+
+/// The number from `least` to `most` in the next byte.
+pub(crate) fn count_at(
+    bytes: &[u8],
+    at: usize,
+    least: usize,
+    most: usize,
+) -> Result<(usize, usize), RecordFault>
+    requires at { at ≤ length bytes.now }
+    requires some { least ≤ most }
+    requires byte { least < 256 }
+    ensures read { IfOk result (λ x. ReadsAt (count_format least most) bytes.now at x.0 x.1) }
+    ensures fault { IfErr result (FaultAt (count_format least most) bytes.now at) }
+{
+    if at == bytes.len() {
+        return Err(RecordFault::BadRecord(at));
+    }
+    let count = bytes[at] as usize;
+    if count < least || count > most {
+        return Err(RecordFault::BadRecord(at));
+    }
+    Ok((count, at + 1))
+}

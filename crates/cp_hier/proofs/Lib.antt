@@ -1,0 +1,6 @@
+mod Above
+mod Found
+mod Keys
+mod Nearest
+mod NearestRows
+mod Newest

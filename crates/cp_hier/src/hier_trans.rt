@@ -1,0 +1,76 @@
+ghost use Rattle.std.specs.Prelude.{◌≡◌, [], IfOk};
+
+use crate::change::last_change;
+use cp_model::{Kind, Record, RecordList};
+use cp_path::Loc;
+use cp_rows::Rows;
+use cp_store::{Change, ProvStore, StoreFault};
+use std::alloc::{AllocError, Global};
+use std::marker::Model;
+
+/// Each transaction is a step, and a place on which it had an effect has a row where the place above it doesn't imply it.
+#[derive(Drop)]
+pub struct HierTransStore {
+    rows: Rows,
+}
+
+impl Model for HierTransStore {
+    ghost use Rattle.cp_rows.specs.Rows.{Rows};
+
+    ghost Value = { Rows };
+
+    ghost view = { λ s. s.rows };
+}
+
+impl HierTransStore {
+    /// A store without rows, whose last Tid is `upto`.
+    pub fn new(alloc: Global, upto: u64) -> Result<HierTransStore, AllocError>
+        ensures list { IfOk result (λ s. s.list ≡ []) }
+        ensures upto { IfOk result (λ s. s.upto ≡ upto) }
+    {
+        Ok(HierTransStore {
+            rows: Rows::new(alloc, upto),
+        })
+    }
+}
+
+impl ProvStore for HierTransStore {
+    ghost use Rattle.cp_model.specs.declared.kind.Kind.TheVariants.{HT};
+
+    ghost kept_kind = { λ _. HT };
+
+    ghost last_tid = { λ s. s.upto };
+
+    ghost kept_rows = { λ s. s.list };
+
+    ghost faults = { λ _. 0 };
+
+    fn kind(&self) -> Kind {
+        Kind::HT
+    }
+
+    fn upto(&self) -> u64 {
+        self.rows.upto()
+    }
+
+    /// Costs the place's size, and for the answer and for each step from there to `t` that has a row at the place or above it,
+    /// but changed nothing at the place, a logarithm of the places and one of the steps there for each of its labels.
+    fn last_change(
+        &mut self,
+        alloc: Global,
+        loc: &Loc,
+        t: u64,
+    ) -> Result<Option<Change>, StoreFault> {
+        Ok(last_change(&self.rows, alloc, loc, t)?)
+    }
+
+    /// Costs a logarithm of the rows, and the answer's size.
+    fn rows_of(&mut self, alloc: Global, t: u64) -> Result<RecordList, StoreFault> {
+        Ok(self.rows.rows_of(alloc, t)?)
+    }
+
+    /// Costs a logarithm of all places for each row taken, and its size.
+    fn absorb(&mut self, alloc: Global, tids: u64, rows: &[Record]) -> Result<(), StoreFault> {
+        Ok(self.rows.keep(alloc, tids, rows)?)
+    }
+}

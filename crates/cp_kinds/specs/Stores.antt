@@ -1,0 +1,13 @@
+-- What a store of any kind keeps.
+use Rattle.cp_model.specs.declared.kind.Kind.{Kind}
+use Rattle.cp_rows.specs.Rows.{Rows}
+use Rattle.cp_store.specs.declared.store.ProvStore.{Ghosts}
+
+-- rows, and the kind that they are of
+pub record KindRows : Type 0 where
+  pub kind : Kind
+  pub rows : Rows
+
+-- its kind is the one that it began with, its rows are all in memory, and it has no disk that may fail
+abbrev pub of_kind : Ghosts KindRows
+of_kind = record { kept_kind = λ s. s.kind; last_tid = λ s. s.rows.upto; kept_rows = λ s. s.rows.list; faults = λ s. 0 }

@@ -1,0 +1,4 @@
+mod Expanding
+mod Finding
+mod Reducing
+mod Telling
