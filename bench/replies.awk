@@ -1,7 +1,8 @@
-# Turns the lines of drawn.awk into the replies that cpdb has to give: each node carries the Tid of its insertion along. With
-# kind=t a commit takes one Tid, else each operation does.
+# Turns the lines of drawn.awk into the replies that cpdb has to give: each node carries the Tid of its insertion along. In
+# the kinds t and ht a commit takes one Tid, else each operation does.
+BEGIN { whole = kind == "t" || kind == "ht" }
 function next_tid() {
-  return kind == "t" ? low + 1 : ++tid
+  return whole ? low + 1 : ++tid
 }
 $1 == "tree" {
   born["T/" $2] = next_tid()
@@ -11,7 +12,7 @@ $1 == "ins" { born["T/" $2] = next_tid() }
 $1 == "copy" { born["T/" $3] = born["T/" $2]; next_tid() }
 $1 == "del" { delete born["T/" $2]; next_tid() }
 $1 == "commit" {
-  if (kind == "t") tid = low + 1
+  if (whole) tid = low + 1
   print "committed " (tid == low + 1 ? tid : low + 1 ".." tid)
   low = tid
 }

@@ -1,12 +1,14 @@
 #!/usr/bin/env python3
-"""Draws sessions of the transactional kind, and works out what they reply.
+"""Draws sessions of one kind, and works out what they reply.
 
-    draw.py [COUNT]     writes COUNT cases (300 without a word) in the form of the data
+    draw.py KIND [COUNT]     writes COUNT cases (300 without a number) in the form of the data
 
-The replies come from a replay over trees whose places carry their whole past: no records, no overlay, no index. A
-transaction is one step: at its start each place carries itself, at its end a place has the effect that what it carries
-gives. The transactions move places out and back, copy over copies, delete copies, insert whole trees, and take much of
-what they do back. The draws are those of Python's `random` from the case's number.
+The replies come from a replay over trees whose places carry their whole past: no overlay, no index, and no records but
+those that are asked for. At the start of a step each place carries itself, at its end a place has the effect that what it
+carries gives, and the step's records follow from the effects of all places. In the kinds n and h each operation is a step,
+in t and ht each transaction. The transactions move places out and back, replace places and put back what was below them,
+copy over copies, delete copies, insert whole trees, and take much of what they do back. The draws are those of Python's
+`random` from the case's number, so that the scripts are the same in each kind.
 """
 import random
 import sys
@@ -20,41 +22,66 @@ def below(tree, place):
 
 
 class Session:
-    """The committed tree with the pasts of its places, the source, and the working tree of the open transaction."""
+    """The committed tree with the pasts of its places, the records of all steps, the source, and the open transaction."""
 
-    def __init__(self, tree, source):
+    def __init__(self, kind, tree, source):
+        self.kind = kind
         self.tree = {path: (content, []) for path, content in tree.items()}
         self.source = source
         self.now = 0
-        self.begin()
+        self.records = []
+        self.ops = []
+        self.work = carrying_themselves(self.tree)
 
-    def begin(self):
-        self.work = {path: (content, ("T",) + path) for path, (content, _) in self.tree.items()}
+    def apply(self, op):
+        self.ops.append(op)
+        op(self.work)
 
     def ins(self, path, label, literal):
-        for rest, content in literal.items():
-            self.work[path + (label,) + rest] = (content, None)
+        def op(work):
+            for rest, content in literal.items():
+                work[path + (label,) + rest] = (content, None)
+
+        self.apply(op)
 
     def delete(self, path, label):
-        for gone in below(self.work, path + (label,)):
-            del self.work[gone]
+        def op(work):
+            for gone in below(work, path + (label,)):
+                del work[gone]
+
+        self.apply(op)
 
     def copy(self, name, source, path):
-        if name == "T":
-            moved = {at[len(source) :]: self.work[at] for at in below(self.work, source)}
-        else:
-            moved = {
-                at[len(source) :]: (self.source[at], (name,) + at) for at in below(self.source, source)
-            }
-        for gone in below(self.work, path):
-            del self.work[gone]
-        for rest, what in moved.items():
-            self.work[path + rest] = what
+        def op(work):
+            if name == "T":
+                moved = {at[len(source) :]: work[at] for at in below(work, source)}
+            else:
+                moved = {
+                    at[len(source) :]: (self.source[at], (name,) + at) for at in below(self.source, source)
+                }
+            for gone in below(work, path):
+                del work[gone]
+            for rest, what in moved.items():
+                work[path + rest] = what
+
+        self.apply(op)
 
     def commit(self):
+        for ops in [[op] for op in self.ops] if self.kind in ("n", "h") else [self.ops]:
+            work = carrying_themselves(self.tree)
+            for op in ops:
+                op(work)
+            self.settle(work)
+        self.ops = []
+        self.work = carrying_themselves(self.tree)
+
+    def settle(self, work):
+        """One step has led from the tree to these places with what they carry."""
         self.now += 1
+        rows = full_rows(self.tree, work) if self.kind in ("n", "t") else reduced_rows(self.tree, work)
+        self.records += [(self.now,) + row for row in rows]
         after = {}
-        for path, (content, origin) in self.work.items():
+        for path, (content, origin) in work.items():
             if origin is None:
                 past = [("born", self.now)]
             elif origin[0] != "T":
@@ -65,7 +92,6 @@ class Session:
                 past = self.tree[path][1]
             after[path] = (content, past)
         self.tree = after
-        self.begin()
 
     def trace(self, path):
         segments, at, high = [], ("T",) + path, self.now
@@ -85,6 +111,68 @@ class Session:
 
     def hist(self, path):
         return [event[1] for event in self.tree[path][1] if event[0] == "copied"]
+
+
+def carrying_themselves(tree):
+    return {path: (content, ("T",) + path) for path, (content, _) in tree.items()}
+
+
+def effect(work, path):
+    """What has become of a place that is there: `same`, `new`, or the place that its data is from."""
+    origin = work[path][1]
+    if origin is None:
+        return "new"
+    return "same" if origin == ("T",) + path else origin
+
+
+def given(work, path):
+    """What the effect of the place above gives this one."""
+    if not path:
+        return "same"
+    above = effect(work, path[:-1])
+    return above if above in ("same", "new") else above + path[-1:]
+
+
+def lost(tree, work, path):
+    """The place was there and is gone, and what is left nearest above it is the same."""
+    if path in work or path not in tree:
+        return False
+    above = path
+    while above not in work:
+        above = above[:-1]
+    return effect(work, above) == "same"
+
+
+def row(path, what):
+    if what == "new":
+        return ("I", path)
+    return ("K", path) if what == "same" else ("C", path, what)
+
+
+def full_rows(tree, work):
+    rows = []
+    for path in sorted(set(tree) | set(work)):
+        if lost(tree, work, path):
+            rows.append(("D", path))
+        elif path in work and effect(work, path) != "same":
+            rows.append(row(path, effect(work, path)))
+    return rows
+
+
+def reduced_rows(tree, work):
+    rows = []
+    for path in sorted(set(tree) | set(work)):
+        if path in work:
+            if effect(work, path) != given(work, path):
+                rows.append(row(path, effect(work, path)))
+        elif lost(tree, work, path) and path[:-1] in work:
+            rows.append(("D", path))
+    return rows
+
+
+def shown_record(record):
+    words = [str(record[0]), record[1], spelled(("T",) + record[2])]
+    return " ".join(words + [spelled(record[3])] if len(record) > 3 else words)
 
 
 def spelled(place):
@@ -120,11 +208,11 @@ def drawn_tree(draw, depth, width, least=0):
 class Script:
     """The statements of one session, with the replies to them."""
 
-    def __init__(self, draw):
+    def __init__(self, draw, kind):
         self.draw = draw
         self.start = drawn_tree(draw, 3, 4, 2)
         source = drawn_tree(draw, 3, 4, 1)
-        self.session = Session(self.start, source)
+        self.session = Session(kind, self.start, source)
         self.statements = ['load S json "s.json"']
         self.replies = ["loaded S %d" % len(source)]
 
@@ -175,8 +263,31 @@ class Script:
             source, path = draw.choice(sorted(self.session.source)), self.target()
             if not self.too_deep(self.session.source, source, path) and len(self.session.work) < 60:
                 self.copy("S", source, path)
-        else:
+        elif kind < 0.95:
             self.out_and_back()
+        else:
+            self.out_and_below()
+
+    def out_and_below(self):
+        """A place is replaced, and some of what was below it comes back to where it was."""
+        draw = self.draw
+        places = [p for p in self.paths(True) if p and p[0] != "tmp" and any(q[:-1] == p for q in self.paths())]
+        if ("tmp",) in self.session.work or self.session.work[()][0] != "node" or not places:
+            return
+        place = draw.choice(places)
+        children = sorted({p[len(place)] for p in below(self.session.work, place) if p != place})
+        self.ins((), "tmp", {(): "node"})
+        self.copy("T", place, ("tmp",))
+        if draw.random() < 0.5:
+            self.copy("S", (), place)
+        else:
+            self.delete(place)
+            self.ins(place[:-1], place[-1], {(): "node"})
+        for label in draw.sample(children, min(len(children), draw.randint(1, 2))):
+            if place + (label,) not in self.session.work:
+                self.ins(place, label, {(): "null"})
+            self.copy("T", ("tmp", label), place + (label,))
+        self.delete(("tmp",))
 
     def out_and_back(self):
         """A place goes to a temporary one, something happens to it or to its place, and it comes back."""
@@ -209,8 +320,18 @@ class Script:
         if len(self.statements) == count:
             self.copy("T", (), ())
         self.statements.append("commit")
+        low = self.session.now + 1
         self.session.commit()
-        self.replies.append("committed %d" % self.session.now)
+        high = self.session.now
+        self.replies.append("committed %d" % low if low == high else "committed %d..%d" % (low, high))
+        for tid in range(low, high + 1):
+            self.ask_records(tid)
+
+    def ask_records(self, tid=None):
+        """The records of one step, or all."""
+        self.statements.append("records" if tid is None else "records %d" % tid)
+        records = [record for record in self.session.records if tid is None or record[0] == tid]
+        self.replies += [shown_record(record) for record in records] + ["records: %d" % len(records)]
 
     def ask(self, path):
         place = spelled(("T",) + path)
@@ -232,6 +353,8 @@ class Script:
                 self.ask(path)
         for path in sorted(self.session.tree):
             self.ask(path)
+        self.ask_records()
+        self.ask_records(self.session.now + 1)
         self.statements.append("show T")
         tree = {path: content for path, (content, _) in self.session.tree.items()}
         self.replies.append("show T: " + shown(tree))
@@ -246,16 +369,17 @@ def text(lines):
 
 
 def main():
-    count = int(sys.argv[1]) if len(sys.argv) > 1 else 300
-    print("# Drawn sessions of the transactional kind, as `model/draw.py` prints them.")
+    kind = sys.argv[1]
+    count = int(sys.argv[2]) if len(sys.argv) > 2 else 300
+    print("# Drawn sessions of the kind %s, as `model/draw.py %s` prints them." % (kind, " ".join(sys.argv[1:])))
     for number in range(1, count + 1):
-        script = Script(random.Random(number))
+        script = Script(random.Random(number), kind)
         script.play()
-        print("\ncase net effects %d" % number)
-        print("since 5")
+        print("\ncase drawn session %d in kind %s" % (number, kind))
+        print("since 6")
         print("file t.json -\n" + text([as_json(script.start)]))
         print("file s.json -\n" + text([as_json(script.session.source)]))
-        print("words scratch t t.json")
+        print("words scratch %s t.json" % kind)
         print("in\n" + text(line + ";" for line in script.statements))
         print("out\n" + text(script.replies))
         print("ends 0")
