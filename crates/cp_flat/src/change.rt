@@ -59,6 +59,6 @@ pub(crate) fn last_change(
     if !loc.db.is_target() {
         return Ok(None);
     }
-    let key = key_of(alloc, &loc.path)?;
+    let key = key_of(alloc, loc.path.labels())?;
     newest_change(rows, alloc, key.as_slice(), t)
 }

@@ -106,6 +106,7 @@ pub(crate) fn last_change(
     if !loc.db.is_target() {
         return Ok(None);
     }
-    let key = key_of(alloc, &loc.path)?;
-    newest_change(rows, alloc, key.as_slice(), loc.path.labels(), t)
+    let labels = loc.path.labels();
+    let key = key_of(alloc, labels)?;
+    newest_change(rows, alloc, key.as_slice(), labels, t)
 }

@@ -1,8 +1,8 @@
 ghost use Rattle.std.specs.Prelude.{◌≡◌, [], IfOk};
 
 use crate::change::last_change;
-use cp_model::{Kind, Record, RecordList};
-use cp_path::Loc;
+use cp_model::{Kind, Record, RecordList, TidList};
+use cp_path::{Label, Loc};
 use cp_rows::Rows;
 use cp_store::{Change, ProvStore, StoreFault};
 use std::alloc::{AllocError, Global};
@@ -53,6 +53,10 @@ impl ProvStore for HierTransStore {
         self.rows.upto()
     }
 
+    fn count(&self) -> u64 {
+        self.rows.len() as u64
+    }
+
     /// Costs the place's size, and for the answer and for each step from there to `t` that has a row at the place or above it,
     /// but changed nothing at the place, a logarithm of the places and one of the steps there for each of its labels.
     fn last_change(
@@ -62,6 +66,27 @@ impl ProvStore for HierTransStore {
         t: u64,
     ) -> Result<Option<Change>, StoreFault> {
         Ok(last_change(&self.rows, alloc, loc, t)?)
+    }
+
+    /// Costs the place's size, a logarithm of the places that lost a child and one of the place's losses, and the answer.
+    fn losses(
+        &mut self,
+        alloc: Global,
+        loc: &Loc,
+        low: u64,
+        high: u64,
+    ) -> Result<TidList, StoreFault> {
+        Ok(self.rows.losses(alloc, loc, low, high)?)
+    }
+
+    /// Costs the place's size and a logarithm of the places.
+    fn tells_below(
+        &mut self,
+        alloc: Global,
+        loc: &Loc,
+        label: Option<&Label>,
+    ) -> Result<bool, StoreFault> {
+        Ok(self.rows.tells_below(alloc, loc, label)?)
     }
 
     /// Costs a logarithm of the rows, and the answer's size.

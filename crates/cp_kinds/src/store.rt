@@ -2,8 +2,8 @@ ghost use Rattle.std.specs.Prelude.{◌≡◌, [], IfOk};
 
 use cp_flat::{NaiveStore, TransStore};
 use cp_hier::{HierStore, HierTransStore};
-use cp_model::{Kind, Record, RecordList};
-use cp_path::Loc;
+use cp_model::{Kind, Record, RecordList, TidList};
+use cp_path::{Label, Loc};
 use cp_store::{Change, ProvStore, StoreFault};
 use std::alloc::{AllocError, Global};
 use std::marker::Model;
@@ -76,6 +76,15 @@ impl ProvStore for KindStore {
         }
     }
 
+    fn count(&self) -> u64 {
+        match &self.store {
+            Variant::Naive(store) => store.count(),
+            Variant::Transactional(store) => store.count(),
+            Variant::Hierarchical(store) => store.count(),
+            Variant::HierarchicalTransactional(store) => store.count(),
+        }
+    }
+
     /// Costs what it costs in the store of the kind.
     fn last_change(
         &mut self,
@@ -88,6 +97,37 @@ impl ProvStore for KindStore {
             Variant::Transactional(store) => store.last_change(alloc, loc, t),
             Variant::Hierarchical(store) => store.last_change(alloc, loc, t),
             Variant::HierarchicalTransactional(store) => store.last_change(alloc, loc, t),
+        }
+    }
+
+    /// Costs the place's size, a logarithm of the places that lost a child and one of the place's losses, and the answer.
+    fn losses(
+        &mut self,
+        alloc: Global,
+        loc: &Loc,
+        low: u64,
+        high: u64,
+    ) -> Result<TidList, StoreFault> {
+        match &mut self.store {
+            Variant::Naive(store) => store.losses(alloc, loc, low, high),
+            Variant::Transactional(store) => store.losses(alloc, loc, low, high),
+            Variant::Hierarchical(store) => store.losses(alloc, loc, low, high),
+            Variant::HierarchicalTransactional(store) => store.losses(alloc, loc, low, high),
+        }
+    }
+
+    /// Costs the place's size and a logarithm of the places.
+    fn tells_below(
+        &mut self,
+        alloc: Global,
+        loc: &Loc,
+        label: Option<&Label>,
+    ) -> Result<bool, StoreFault> {
+        match &mut self.store {
+            Variant::Naive(store) => store.tells_below(alloc, loc, label),
+            Variant::Transactional(store) => store.tells_below(alloc, loc, label),
+            Variant::Hierarchical(store) => store.tells_below(alloc, loc, label),
+            Variant::HierarchicalTransactional(store) => store.tells_below(alloc, loc, label),
         }
     }
 

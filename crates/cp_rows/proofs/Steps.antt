@@ -14,7 +14,7 @@ use Rattle.cp_model.specs.declared.record.Record.{Record}
 use Rattle.cp_model.specs.declared.record.RowMark.{RowMark as Mark}
 use Rattle.cp_store.specs.Changes.{goes_before}
 use Rattle.cp_rows.specs.declared.index.Step.{Step}
-use Rattle.cp_rows.specs.Steps.{steps_in, row_number, mark_at, AreRising, IsNewest}
+use Rattle.cp_rows.specs.Steps.{steps_in, row_number, mark_at, RiseBy, AreRising, IsNewest}
 use Rattle.cp_rows.specs.Rows.{AreOrdered}
 use Rattle.cp_rows.proofs.Before.{same_place}
 
@@ -114,18 +114,19 @@ steps-rise p n (r ∷ rs) o =
       | false ↦ λ _. steps-rise p (n + 1) rs o.1
     ] refl
 
-later_at : (s : Step) (steps : List Step) (k : ℕ) (d : Step) → AllByRecursion (λ r. s.tid < r.tid) steps → k < length steps → s.tid < (get_or steps k d).tid
-later_at s [] k d h le = absurd (omega (arith, le))
-later_at s (x ∷ steps) zero d h le = h.0
-later_at s (x ∷ steps) (suc k) d h le = later_at s steps k d h.1 (omega (arith, le))
+module _ {X : Type 0} (n : X → ℕ) where
+  later_at : (x : X) (xs : List X) (k : ℕ) (d : X) → AllByRecursion (λ y. n x < n y) xs → k < length xs → n x < n (get_or xs k d)
+  later_at x [] k d h le = absurd (omega (arith, le))
+  later_at x (y ∷ xs) zero d h le = h.0
+  later_at x (y ∷ xs) (suc k) d h le = later_at x xs k d h.1 (omega (arith, le))
 
--- steps that rise don't fall
-pub rise-order : (steps : List Step) → AreRising steps → IsNonDecreasingBy (λ s. s.tid) steps
-rise-order [] h i j d le lt = absurd (omega (arith, lt))
-rise-order (x ∷ steps) h zero zero d le lt = omega arith
-rise-order (x ∷ steps) h zero (suc j) d le lt = let l = later_at x steps j d h.0 (omega (arith, lt)) in omega (arith, l)
-rise-order (x ∷ steps) h (suc i) zero d le lt = absurd (omega (arith, le))
-rise-order (x ∷ steps) h (suc i) (suc j) d le lt = rise-order steps h.1 i j d (omega (arith, le)) (omega (arith, lt))
+  -- numbers that rise don't fall
+  pub rise-order : (xs : List X) → RiseBy n xs → IsNonDecreasingBy n xs
+  rise-order [] h i j d le lt = absurd (omega (arith, lt))
+  rise-order (x ∷ xs) h zero zero d le lt = omega arith
+  rise-order (x ∷ xs) h zero (suc j) d le lt = let l = later_at x xs j d h.0 (omega (arith, lt)) in omega (arith, l)
+  rise-order (x ∷ xs) h (suc i) zero d le lt = absurd (omega (arith, le))
+  rise-order (x ∷ xs) h (suc i) (suc j) d le lt = rise-order xs h.1 i j d (omega (arith, le)) (omega (arith, lt))
 
 module _ (t : ℕ) where
   -- steps after t have no row up to t
@@ -174,7 +175,7 @@ module _ (t : ℕ) where
       let m : t < (get_or (s ∷ steps) (suc n + 1) e).tid = f e (omega (arith, l)) in
       let same : (get_or (s ∷ steps) (suc n + 1) e).tid ≡ (get_or steps (n + 1) e).tid = ap (λ i. (get_or (s ∷ steps) i e).tid) sum in
       omega (arith, m, same)) in
-      let l = later_at s steps n d h.0 (omega (arith, le)) in
+      let l = later_at (λ r. r.tid) s steps n d h.0 (omega (arith, le)) in
       (at, past_row s steps (get_or steps n d).tid l ∙ more.1, λ u a b. past_row s steps u (omega (arith, l, a)) ∙ more.2 u a b)
 
 -- the newest of steps that rise, by the number of those up to t

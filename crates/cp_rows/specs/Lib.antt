@@ -3,3 +3,4 @@ pub mod Index
 pub mod Blocks
 pub mod Rows
 pub mod Told
+pub mod Lost

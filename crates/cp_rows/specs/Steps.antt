@@ -24,10 +24,14 @@ abbrev pub mark_at : List Record → Option ℕ → Option Mark
 mark_at rs None = None
 mark_at rs (Some n) = option_map (λ r. mark_by r.op r.src) (slice_get rs n)
 
+-- the number of each is less than those of all that follow
+abbrev pub RiseBy : {X : Type 0} → (X → ℕ) → List X → Type 0
+RiseBy n [] = Unit {0}
+RiseBy n (x ∷ xs) = AllByRecursion (λ y. n x < n y) xs × RiseBy n xs
+
 -- each step is before those that follow
 abbrev pub AreRising : List Step → Type 0
-AreRising [] = Unit {0}
-AreRising (s ∷ steps) = AllByRecursion (λ r. s.tid < r.tid) steps × AreRising steps
+AreRising steps = RiseBy (λ s. s.tid) steps
 
 -- the step of the greatest Tid up to t
 unfoldable pub IsNewest : List Step → ℕ → Option Step → Type 0

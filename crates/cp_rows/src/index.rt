@@ -1,9 +1,8 @@
 //! The steps of each place.
-ghost use Rattle.std.specs.Prelude.{◌≡◌, ◌≤◌, ◌<◌, ◌++◌, ◌∷◌, ℕ, List, [], IfOk, OnOk, OnErr, if◌then◌else◌};
+ghost use Rattle.std.specs.Prelude.{◌≡◌, ◌≤◌, ◌<◌, List, OnOk, OnErr};
 ghost use Rattle.std.specs.List.{flat_map};
 ghost use Rattle.cp_path.specs.Encoding.{counted_bytes};
-ghost use Rattle.cp_path.specs.Text.{text_eq};
-ghost use Rattle.cp_rows.specs.Index.{steps_at};
+ghost use Rattle.cp_rows.specs.Index.{steps_at, has_front, StepNoted, NothingNoted};
 ghost use Rattle.cp_rows.specs.Steps.{AreRising, IsNewest};
 
 use crate::key::key_of;
@@ -28,10 +27,10 @@ pub(crate) fn note(
     place: &Path,
     step: Step,
 ) -> Result<(), AllocError>
-    ensures ok { OnOk result ((key : List ℕ) → steps_at index.new key ≡ (if text_eq key (flat_map counted_bytes place.now) then steps_at index.old key ++ step ∷ [] else steps_at index.old key)) }
-    ensures err { OnErr result ((key : List ℕ) → steps_at index.new key ≡ steps_at index.old key) }
+    ensures ok { OnOk result (StepNoted index.old index.new (flat_map counted_bytes place.now) step) }
+    ensures err { OnErr result (NothingNoted index.old index.new) }
 {
-    let key = key_of(alloc, place)?;
+    let key = key_of(alloc, place.labels())?;
     if let Some(steps) = index.get_mut(key.as_slice()) {
         steps.push(step)?;
         return Ok(());
@@ -62,4 +61,20 @@ pub(crate) fn newest(steps: &[Step], t: u64) -> Option<Step>
         return None;
     }
     Some(steps[count - 1])
+}
+
+/// Whether a key begins with this one and, where a longer one is asked for, goes on. Costs a logarithm of the places, and no
+/// memory.
+pub(crate) fn has_front(index: &Index, key: &Vec<u8>, longer: bool) -> bool
+    ensures { result ≡ has_front key.now.items longer index.now }
+{
+    for (other, _) in index.range(key..) {
+        if !other.as_slice().starts_with(key.as_slice()) {
+            return false;
+        }
+        if !longer || other.len() > key.len() {
+            return true;
+        }
+    }
+    false
 }

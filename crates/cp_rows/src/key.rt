@@ -1,9 +1,9 @@
 //! The bytes by which the places of rows are known.
-ghost use Rattle.std.specs.Prelude.{◌≡◌, ◌≤◌, length, IfOk};
+ghost use Rattle.std.specs.Prelude.{◌≡◌, ◌≤◌, ◌++◌, length, IfOk, OnOk};
 ghost use Rattle.std.specs.List.{flat_map};
 ghost use Rattle.cp_path.specs.Encoding.{counted_bytes};
 
-use cp_path::{Label, Path};
+use cp_path::Label;
 use std::alloc::{AllocError, Global};
 
 /// The bytes of some labels, each behind its length.
@@ -15,16 +15,24 @@ fn size_of(labels: &[Label]) -> usize {
     size
 }
 
-/// The key of a place: its labels, each behind its length. The key of a place above it is the front of its own, so that
+/// The key of a place, by its labels: each behind its length. The key of a place above it is the front of its own, so that
 /// one key serves for all of them. Costs the labels' bytes.
-pub fn key_of(alloc: Global, place: &Path) -> Result<Vec<u8>, AllocError>
-    ensures { IfOk result (λ key. key.items ≡ flat_map counted_bytes place.now) }
+pub fn key_of(alloc: Global, labels: &[Label]) -> Result<Vec<u8>, AllocError>
+    ensures { IfOk result (λ key. key.items ≡ flat_map counted_bytes labels.now) }
 {
-    let mut key = Vec::with_capacity(alloc, size_of(place.labels()))?;
-    for label in place.labels() {
-        let bytes = label.as_str().as_bytes();
-        key.push(bytes.len() as u8)?;
-        key.extend_from_slice(bytes)?;
+    let mut key = Vec::with_capacity(alloc, size_of(labels))?;
+    for label in labels {
+        push_label(&mut key, label)?;
     }
     Ok(key)
+}
+
+/// Goes one label further down. Costs its bytes.
+pub(crate) fn push_label(key: &mut Vec<u8>, label: &Label) -> Result<(), AllocError>
+    ensures { OnOk result (key.new.items ≡ key.old.items ++ counted_bytes label.now) }
+{
+    let bytes = label.as_str().as_bytes();
+    key.push(bytes.len() as u8)?;
+    key.extend_from_slice(bytes)?;
+    Ok(())
 }

@@ -5,6 +5,7 @@ mod blocks;
 mod index;
 mod key;
 mod limits;
+mod lost;
 mod rows;
 mod told;
 

@@ -7,19 +7,24 @@ ghost use Rattle.cp_model.specs.Place.{Path, in_target};
 ghost use Rattle.cp_model.specs.Records.{mark_by};
 ghost use Rattle.cp_model.specs.declared.record.Record.{Record};
 ghost use Rattle.cp_store.specs.Changes.{records_at, goes_before, is_source, AreNext};
+ghost use Rattle.cp_store.specs.Below.{losses_at, tells_below};
+ghost use Rattle.cp_rows.specs.Index.{StepNoted, NothingNoted};
+ghost use Rattle.cp_rows.specs.Lost.{loser, is_at_loser, LossNoted, NoLossNoted};
 ghost use Rattle.cp_rows.specs.Steps.{steps_in, IsNewest};
 ghost use Rattle.cp_rows.specs.Rows.{Rows, is_of, AreOrdered, IsKey, IsCountBefore};
 
 use crate::blocks::{block_of, make_room};
-use crate::index::{Index, Step, newest, note, steps_at};
-use cp_model::{Record, RecordList, RowMark};
-use cp_path::Path;
+use crate::index::{Index, Step, has_front, newest, note, steps_at};
+use crate::key::{key_of, push_label};
+use crate::lost::{Lost, between, forget_loss, lost_at, note_loss};
+use cp_model::{RecOp, Record, RecordList, RowMark, TidList};
+use cp_path::{Label, Loc, Path};
 use cp_record::PackedRecords;
 use std::alloc::{AllocError, Global};
 use std::collections::BTreeMap;
 use std::marker::Model;
 
-/// Rows in their order, kept once as bytes, and for each place its steps.
+/// Rows in their order, kept once as bytes, and for each place its steps, and those in which it lost a child.
 ///
 /// The flat stores ask for the newest step at a place itself. The hierarchical ones ask for it at the place and at each
 /// place above it, by the fronts of one key, and take the longest of those with a row of the newest step.
@@ -29,6 +34,7 @@ pub struct Rows {
     last: PackedRecords,
     count: usize,
     index: Index,
+    lost: Lost,
     upto: u64,
 }
 
@@ -41,7 +47,7 @@ impl Model for Rows {
 
     ghost view = { λ s. record { list = all_records s.full.items s.last; upto = s.upto } };
 
-    ghost invariant = { λ s. IsStored s.full.items s.last s.count s.upto s.index };
+    ghost invariant = { λ s. IsStored s.full.items s.last s.count s.upto s.index s.lost };
 }
 
 impl Rows {
@@ -55,6 +61,7 @@ impl Rows {
             last: PackedRecords::new(alloc),
             count: 0,
             index: BTreeMap::new(alloc),
+            lost: BTreeMap::new(alloc),
             upto,
         }
     }
@@ -93,6 +100,7 @@ impl Rows {
         let Some(count) = self.count.checked_add(1) else {
             return Err(AllocError);
         };
+        let loser = loser_of(alloc, row)?;
         make_room(&mut self.full, &mut self.last, self.count, alloc)?;
         let bytes = self.last.len();
         push(&mut self.last, alloc, row)?;
@@ -100,7 +108,8 @@ impl Rows {
             tid: row.tid,
             row: self.count,
         };
-        match note(&mut self.index, alloc, &row.loc.path, step) {
+        let place = &row.loc.path;
+        match note_both(&mut self.index, &mut self.lost, alloc, place, step, &loser) {
             Ok(()) => {
                 self.count = count;
                 Ok(())
@@ -119,6 +128,46 @@ impl Rows {
         ensures { (p : Path) → key.now ≡ flat_map counted_bytes p → IsNewest (steps_in p 0 self.now.list) t result }
     {
         newest(steps_at(&self.index, key), t)
+    }
+
+    /// The steps after `low` up to `high` in which a row says that a child of the place is gone, rising. Costs the place's
+    /// bytes, a logarithm of the places that lost one, one of the place's losses, and the answer.
+    pub fn losses(
+        &self,
+        alloc: Global,
+        loc: &Loc,
+        low: u64,
+        high: u64,
+    ) -> Result<TidList, AllocError>
+        ensures { IfOk result (λ v. v ≡ losses_at self.now.list low high loc.now) }
+    {
+        if !loc.db.is_target() || low >= high || self.lost.is_empty() {
+            let items = Vec::new(alloc);
+            return Ok(TidList { items });
+        }
+        let key = key_of(alloc, loc.path.labels())?;
+        let items = between(lost_at(&self.lost, key.as_slice()), low, high).to_vec(alloc)?;
+        Ok(TidList { items })
+    }
+
+    /// Whether some row is of a place below this one; where a label is given, of the place at it below this one, or of one below
+    /// that. Costs the place's bytes and a logarithm of the places.
+    pub fn tells_below(
+        &self,
+        alloc: Global,
+        loc: &Loc,
+        label: Option<&Label>,
+    ) -> Result<bool, AllocError>
+        ensures { IfOk result (λ b. b ≡ tells_below self.now.list (option_map (λ a. a.now) label.entry) loc.now) }
+    {
+        if !loc.db.is_target() {
+            return Ok(false);
+        }
+        let mut key = key_of(alloc, loc.path.labels())?;
+        if let Some(label) = label {
+            push_label(&mut key, label)?;
+        }
+        Ok(has_front(&self.index, &key, label.is_none()))
     }
 
     /// What the row of this number says of its place. Costs its source's size.
@@ -149,7 +198,7 @@ impl Rows {
     }
 
     /// How many rows there are.
-    fn len(&self) -> usize
+    pub fn len(&self) -> usize
         ensures len { result ≡ length self.now.list }
         ensures order { AreOrdered self.now.list }
     {
@@ -193,6 +242,48 @@ impl Rows {
             row += 1;
         }
         Ok(RecordList { items })
+    }
+}
+
+/// The key of the place that lost a child, where a row says that one is gone. Costs the place's bytes.
+fn loser_of(alloc: Global, row: &Record) -> Result<Option<Vec<u8>>, AllocError>
+    ensures { IfOk result (λ k. option_map (λ v. v.items) k ≡ option_map (flat_map counted_bytes) (loser row.now)) }
+{
+    if row.op != RecOp::D {
+        return Ok(None);
+    }
+    match row.loc.path.labels().split_last() {
+        Some((_, above)) => Ok(Some(key_of(alloc, above)?)),
+        None => Ok(None),
+    }
+}
+
+/// Notes a step of a place, and as one in which the loser lost a child, if there is one. After an error both are as they were.
+fn note_both(
+    index: &mut Index,
+    lost: &mut Lost,
+    alloc: Global,
+    place: &Path,
+    step: Step,
+    loser: &Option<Vec<u8>>,
+) -> Result<(), AllocError>
+    ensures steps { OnOk result (StepNoted index.old index.new (flat_map counted_bytes place.now) step) }
+    ensures losses { OnOk result (LossNoted lost.old lost.new (is_at_loser loser.now) step.tid) }
+    ensures same_steps { OnErr result (NothingNoted index.old index.new) }
+    ensures same_losses { OnErr result (NoLossNoted lost.old lost.new) }
+{
+    let Some(loser) = loser else {
+        return note(index, alloc, place, step);
+    };
+    let new = note_loss(lost, alloc, loser.as_slice(), step.tid)?;
+    match note(index, alloc, place, step) {
+        Ok(()) => Ok(()),
+        Err(fault) => {
+            if new {
+                forget_loss(lost, loser.as_slice());
+            }
+            Err(fault)
+        }
     }
 }
 

@@ -1,15 +1,17 @@
 //! The trait of the stores.
-ghost use Rattle.std.specs.Prelude.{◌≡◌, ◌+◌, ◌<◌, ◌^◌, ◌++◌, ℕ, List, IfOk, OnOk};
+ghost use Rattle.std.specs.Prelude.{◌≡◌, ◌+◌, ◌<◌, ◌^◌, ◌++◌, ℕ, List, length, IfOk, OnOk};
+ghost use Rattle.std.specs.Option.{option_map};
 ghost use Rattle.cp_outside.specs.Causes.{Accounts};
 ghost use Rattle.cp_model.specs.declared.kind.Kind.{Kind};
 ghost use Rattle.cp_model.specs.declared.record.Record.{Record};
 ghost use Rattle.cp_store.specs.Changes.{change_told, change_at, records_at, AreNext};
+ghost use Rattle.cp_store.specs.Below.{losses_at, tells_below};
 ghost use Rattle.cp_store.specs.Steps.{BlamesDisk, StaysThrough};
 
 use crate::change::Change;
 use crate::fault::StoreFault;
-use cp_model::{Kind, Record, RecordList};
-use cp_path::Loc;
+use cp_model::{Kind, Record, RecordList, TidList};
+use cp_path::{Label, Loc};
 use std::alloc::Global;
 
 /// The rows of all steps up to the last, in one of the four kinds.
@@ -33,6 +35,10 @@ pub trait ProvStore: Drop {
     fn upto(&self) -> u64
         ensures { result ≡ last_tid self.now };
 
+    /// How many rows there are.
+    fn count(&self) -> u64
+        ensures { result ≡ length (kept_rows self.now) };
+
     /// The last step up to `t` that changed the place, and what it did to it. A copy from a place
     /// over a limit of places counts as no change.
     fn last_change(
@@ -43,6 +49,31 @@ pub trait ProvStore: Drop {
     ) -> Result<Option<Change>, StoreFault>
         ensures found { IfOk result (λ c.
             change_told c ≡ change_at (kept_kind self.old) (kept_rows self.old) t loc.now) }
+        ensures asks { StaysThrough kept_kind last_tid kept_rows faults BlamesDisk
+            self.old self.new result };
+
+    /// The steps after `low` up to `high` of which a row says that a child of the place is gone, rising.
+    fn losses(
+        &mut self,
+        alloc: Global,
+        loc: &Loc,
+        low: u64,
+        high: u64,
+    ) -> Result<TidList, StoreFault>
+        ensures found { IfOk result (λ v. v ≡ losses_at (kept_rows self.old) low high loc.now) }
+        ensures asks { StaysThrough kept_kind last_tid kept_rows faults BlamesDisk
+            self.old self.new result };
+
+    /// Whether some row is of a place below this one. Where a label is given, only the place at it below this one counts, and
+    /// those below that.
+    fn tells_below(
+        &mut self,
+        alloc: Global,
+        loc: &Loc,
+        label: Option<&Label>,
+    ) -> Result<bool, StoreFault>
+        ensures found { IfOk result (λ b.
+            b ≡ tells_below (kept_rows self.old) (option_map (λ a. a.now) label.entry) loc.now) }
         ensures asks { StaysThrough kept_kind last_tid kept_rows faults BlamesDisk
             self.old self.new result };
 

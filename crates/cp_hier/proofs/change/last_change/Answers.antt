@@ -1,6 +1,4 @@
-use Rattle.std.proofs.Common.{sym, ap, ◌∙◌}
-use Rattle.std.specs.List.{flat_map}
-use Rattle.cp_path.specs.Encoding.{counted_bytes}
+use Rattle.std.proofs.Common.{sym, ◌∙◌}
 use Rattle.cp_model.specs.declared.kind.Kind.TheVariants.{H, HT}
 use Rattle.cp_hier.proofs.Found.{change-outside, found-hierarchical, found-transactional}
 use Rattle.cp_hier.proofs.change.last_change.Goals as goal
@@ -12,10 +10,10 @@ pub returns-then-not-is_target-clause-transactional : goal.returns-then-not-is_t
 returns-then-not-is_target-clause-transactional c = change-outside HT c.args.rows.now.list c.args.t c.args.loc.now (sym c.if-not-is_target.ensures)
 
 pub newest_change-requires-clause-key : goal.newest_change-requires-clause-key
-newest_change-requires-clause-key c = c.as_slice.ensures.value ∙ c.in_ok-key.ensures ∙ ap (flat_map counted_bytes) (sym c.labels.ensures.labels)
+newest_change-requires-clause-key c = c.as_slice.ensures.value ∙ c.in_ok-key.ensures
 
 pub returns-clause-hierarchical : goal.returns-clause-hierarchical
-returns-clause-hierarchical c = found-hierarchical c.args.rows.now.list c.args.t c.args.loc.now c.labels.result.now c.newest_change.result (sym c.if-not-is_target.ensures) c.labels.ensures.labels c.newest_change.ensures
+returns-clause-hierarchical c = found-hierarchical c.args.rows.now.list c.args.t c.args.loc.now c.labels-labels.result.now c.newest_change.result (sym c.if-not-is_target.ensures) c.labels-labels.ensures.labels c.newest_change.ensures
 
 pub returns-clause-transactional : goal.returns-clause-transactional
-returns-clause-transactional c = found-transactional c.args.rows.now.list c.args.t c.args.loc.now c.labels.result.now c.newest_change.result (sym c.if-not-is_target.ensures) c.labels.ensures.labels c.newest_change.ensures
+returns-clause-transactional c = found-transactional c.args.rows.now.list c.args.t c.args.loc.now c.labels-labels.result.now c.newest_change.result (sym c.if-not-is_target.ensures) c.labels-labels.ensures.labels c.newest_change.ensures

@@ -1,11 +1,9 @@
-use Rattle.std.proofs.Common.{ap, ◌∙◌}
-use Rattle.cp_rows.specs.Index.{steps_in_entry, steps_at}
+use Rattle.std.proofs.Common.{◌∙◌}
+use Rattle.cp_rows.proofs.Noted.{found-at}
 use Rattle.cp_rows.proofs.index.steps_at.Goals as goal
 
 pub returns-in-Some : goal.returns-in-Some
-unfolding steps_at
-returns-in-Some c = c.as_slice.ensures.value ∙ ap steps_in_entry c.in-Some.ensures.value
+returns-in-Some c = c.as_slice.ensures.value ∙ found-at c.args.index.now c.args.key.now _ c.in-Some.ensures.value
 
 pub returns-in-None : goal.returns-in-None
-unfolding steps_at
-returns-in-None c = ap steps_in_entry c.in-None.ensures.value
+returns-in-None c = found-at c.args.index.now c.args.key.now _ c.in-None.ensures.value

@@ -4,4 +4,4 @@ use Rattle.cp_path.specs.Encoding.{counted_bytes}
 use Rattle.cp_rows.proofs.key.key_of.Given as goal
 
 abbrev pub invariant-loop-label : goal.invariant-loop-label
-invariant-loop-label l = l.key.items ≡ flat_map counted_bytes (take l.label-index l.place)
+invariant-loop-label l = l.key.items ≡ flat_map counted_bytes (take l.label-index l.labels)

@@ -8,7 +8,7 @@ use Rattle.cp_rows.proofs.Keeping.{stored-later}
 use Rattle.cp_rows.proofs.rows.Rows.keep.Goals as goal
 
 pub invariant_of-self : goal.invariant_of-self
-invariant_of-self c = let s = c.self.inside in stored-later s.full.items s.last s.count s.upto c.args.tids s.index c.self.invariant
+invariant_of-self c = let s = c.self.inside in stored-later s.full.items s.last s.count s.upto c.args.tids s.index s.lost c.self.invariant
 
 pub keep_one-requires-clause-behind : goal.keep_one-requires-clause-behind
 keep_one-requires-clause-behind c =

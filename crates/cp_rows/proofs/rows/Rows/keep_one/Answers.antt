@@ -10,15 +10,15 @@ invariant_of-self-in-Ok c =
     let s = c.self.inside in
     let row = c.args.row.now in
     let count : s.count + 1 ≡ c.in-Some.count = omega (arith, c.in-Some.ensures) in
-    let stored = stored-more s.full.items s.last s.count s.upto s.index c.self.invariant c.make_room.new.full.items c.make_room.new.last c.make_room.ensures.same c.make_room.ensures.blocks row c.push.new.rows c.in_ok-push.ensures.ok
-    (record { tid = row.tid; row = s.count }) c.note.new.index c.in_ok-make_room.ensures.room
+    let stored = stored-more s.full.items s.last s.count s.upto s.index s.lost c.self.invariant c.make_room.new.full.items c.make_room.new.last c.make_room.ensures.same c.make_room.ensures.blocks row c.push.new.rows c.in_ok-push.ensures.ok
+    (record { tid = row.tid; row = s.count }) c.note_both.new.index c.note_both.new.lost c.in_ok-loser.loser c.in_ok-make_room.ensures.room
     (subst (λ v. row.tid ≤ v.upto) (sym c.self.view_is) c.requires.last)
     (subst (λ v. list_all (λ r. goes_before r row) v.list ≡ true) (sym c.self.view_is) c.requires.behind)
-    refl c.in-Ok.ensures.ok in
-    subst (λ n. IsStored c.make_room.new.full.items c.push.new.rows n s.upto c.note.new.index) count stored
+    refl c.in_ok-loser.ensures c.in-Ok.ensures.steps c.in-Ok.ensures.losses in
+    subst (λ n. IsStored c.make_room.new.full.items c.push.new.rows n s.upto c.note_both.new.index c.note_both.new.lost) count stored
 
 pub returns-in-Ok-clause-list : goal.returns-in-Ok-clause-list
 returns-in-Ok-clause-list c =
     let s = c.self.inside in
-    joined-row s.full.items s.last s.count s.upto s.index c.self.invariant c.make_room.new.full.items c.make_room.new.last c.make_room.ensures.same c.make_room.ensures.blocks c.args.row.now c.push.new.rows c.in_ok-push.ensures.ok
+    joined-row s.full.items s.last s.count s.upto s.index s.lost c.self.invariant c.make_room.new.full.items c.make_room.new.last c.make_room.ensures.same c.make_room.ensures.blocks c.args.row.now c.push.new.rows c.in_ok-push.ensures.ok
     ∙ ap (λ v. v.list ++ c.args.row.now ∷ []) c.self.view_is
