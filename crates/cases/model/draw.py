@@ -3,8 +3,8 @@
 
     draw.py KIND [COUNT]     writes COUNT cases (300 without a number) in the form of the data
 
-The replies come from a replay over trees whose places carry their whole past: no overlay, no index, and no records but
-those that are asked for. At the start of a step each place carries itself, at its end a place has the effect that what it
+The replies come from a replay over trees whose places carry their whole past, the children that they lost among it: no
+overlay, no index, and no records but those that are asked for. At the start of a step each place carries itself, at its end a place has the effect that what it
 carries gives, and the step's records follow from the effects of all places. In the kinds n and h each operation is a step,
 in t and ht each transaction. The transactions move places out and back, replace places and put back what was below them,
 copy over copies, delete copies, insert whole trees, and take much of what they do back. The draws are those of Python's
@@ -29,6 +29,7 @@ class Session:
         self.tree = {path: (content, []) for path, content in tree.items()}
         self.source = source
         self.now = 0
+        self.commits = 0
         self.records = []
         self.ops = []
         self.work = carrying_themselves(self.tree)
@@ -72,6 +73,7 @@ class Session:
             for op in ops:
                 op(work)
             self.settle(work)
+        self.commits += 1
         self.ops = []
         self.work = carrying_themselves(self.tree)
 
@@ -88,6 +90,8 @@ class Session:
                 past = [("copied", self.now, origin)]
             elif origin[1:] != path:
                 past = self.tree[origin[1:]][1] + [("copied", self.now, origin)]
+            elif loses_child(self.tree, work, path):
+                past = self.tree[path][1] + [("lost", self.now)]
             else:
                 past = self.tree[path][1]
             after[path] = (content, past)
@@ -95,7 +99,7 @@ class Session:
 
     def trace(self, path):
         segments, at, high = [], ("T",) + path, self.now
-        for event in reversed(self.tree[path][1]):
+        for event in reversed(brought(self.tree[path][1])):
             segments.append((at, event[1], high))
             if event[0] == "born":
                 return segments, "new"
@@ -111,6 +115,30 @@ class Session:
 
     def hist(self, path):
         return [event[1] for event in self.tree[path][1] if event[0] == "copied"]
+
+    def mod(self, path):
+        return sorted({event[1] for _, past in below(self.tree, path).values() for event in past})
+
+    def origin(self, path):
+        """Where the data came from at last."""
+        past = brought(self.tree[path][1])
+        if not past:
+            return "start"
+        what = "new" if past[-1][0] == "born" else spelled(past[-1][2])
+        return "%s at %d" % (what, past[-1][1])
+
+    def stats(self):
+        numbers = (self.kind, self.now, self.commits, len(self.records), len(self.tree))
+        return "kind %s, tid %d, transactions %d, records %d, nodes %d, sources 1" % numbers
+
+
+def brought(past):
+    """The events of a past that brought the data somewhere, without those that took a child from it."""
+    return [event for event in past if event[0] != "lost"]
+
+
+def loses_child(tree, work, path):
+    return any(at not in work for at in tree if len(at) == len(path) + 1 and at[:-1] == path)
 
 
 def carrying_themselves(tree):
@@ -208,8 +236,9 @@ def drawn_tree(draw, depth, width, least=0):
 class Script:
     """The statements of one session, with the replies to them."""
 
-    def __init__(self, draw, kind):
+    def __init__(self, draw, more, kind):
         self.draw = draw
+        self.more = more
         self.start = drawn_tree(draw, 3, 4, 2)
         source = drawn_tree(draw, 3, 4, 1)
         self.session = Session(kind, self.start, source)
@@ -339,11 +368,20 @@ class Script:
         self.statements.append("trace " + place)
         steps = ["%s@%d..%d" % (spelled(at), low, high) for at, low, high in segments]
         self.replies.append("trace %s: %s < %s" % (place, " < ".join(steps), end))
+        self.statements.append("from " + place)
+        self.replies.append("from %s: %s" % (place, self.session.origin(path)))
+        if self.more.random() < 0.5:
+            self.ask_mod(path)
         if self.draw.random() < 0.3:
             tid, tids = self.session.src(path), self.session.hist(path)
             self.statements += ["src " + place, "hist " + place]
             self.replies.append("src %s: %s" % (place, "none" if tid is None else tid))
             self.replies.append("hist %s: %s" % (place, " ".join(map(str, tids)) or "none"))
+
+    def ask_mod(self, path):
+        place, tids = spelled(("T",) + path), self.session.mod(path)
+        self.statements.append("mod " + place)
+        self.replies.append("mod %s: %s" % (place, " ".join(map(str, tids)) or "none"))
 
     def play(self):
         for _ in range(self.draw.randint(1, 4)):
@@ -353,8 +391,11 @@ class Script:
                 self.ask(path)
         for path in sorted(self.session.tree):
             self.ask(path)
+        self.ask_mod(())
         self.ask_records()
         self.ask_records(self.session.now + 1)
+        self.statements.append("stats")
+        self.replies.append("stats: " + self.session.stats())
         self.statements.append("show T")
         tree = {path: content for path, (content, _) in self.session.tree.items()}
         self.replies.append("show T: " + shown(tree))
@@ -373,10 +414,10 @@ def main():
     count = int(sys.argv[2]) if len(sys.argv) > 2 else 300
     print("# Drawn sessions of the kind %s, as `model/draw.py %s` prints them." % (kind, " ".join(sys.argv[1:])))
     for number in range(1, count + 1):
-        script = Script(random.Random(number), kind)
+        script = Script(random.Random(number), random.Random(number + 1000), kind)
         script.play()
         print("\ncase drawn session %d in kind %s" % (number, kind))
-        print("since 6")
+        print("since 7")
         print("file t.json -\n" + text([as_json(script.start)]))
         print("file s.json -\n" + text([as_json(script.session.source)]))
         print("words scratch %s t.json" % kind)

@@ -1,5 +1,5 @@
 -- What is shown, and what is answered.
-use Rattle.std.specs.Prelude.{ℕ, ◌≡◌, ◌+◌, Bool, true, false, List, map, refl, Result, Ok, Err, IfOk, if◌then◌else◌}
+use Rattle.std.specs.Prelude.{ℕ, ◌≡◌, ◌+◌, Bool, true, false, List, length, map, refl, Result, Ok, Err, IfOk, if◌then◌else◌}
 use Rattle.std.proofs.Common.{sym, ap, subst, ◌∙◌}
 use Rattle.std.specs.declared.option.Option.{Option}
 use Rattle.std.specs.declared.option.Option.TheVariants.{None, Some}
@@ -7,10 +7,12 @@ use Rattle.cp_path.specs.declared.loc.Loc.{Loc}
 use Rattle.cp_model.specs.Subtrees.{is_there, below}
 use Rattle.cp_model.specs.Tree.{Tree, Source}
 use Rattle.cp_model.specs.Step.{step}
-use Rattle.cp_model.specs.Past.{tree_of}
+use Rattle.cp_model.specs.Past.{Aged, tree_of}
+use Rattle.cp_model.specs.Keyed.{len}
 use Rattle.cp_model.specs.History.{State}
 use Rattle.cp_model.specs.declared.kind.Kind.{Kind}
-use Rattle.cp_model.specs.Answers.{answer_to}
+use Rattle.cp_model.specs.Answers.{answer_to, stats}
+use Rattle.cp_model.specs.declared.answer.Stats.{Stats}
 use Rattle.cp_model.specs.declared.answer.Answer.{Answer}
 use Rattle.cp_model.specs.declared.op.Op.{Op}
 use Rattle.cp_model.specs.declared.query.Query.{Query}
@@ -20,6 +22,7 @@ use Rattle.cp_reply.specs.declared.reply.Why.TheVariants as why
 use Rattle.cp_reply.specs.declared.reply.Reply.{Reply}
 use Rattle.cp_reply.specs.declared.reply.Reply.TheVariants as reply
 use Rattle.cp_session.specs.Session.{Session, OpenTransaction, closed, going, failed, says, turn_of, row_of, show_at, current_tree, outcome_tree, answer_or_refuse, no_place_of, replies, refuses}
+use Rattle.cp_engine.specs.Loaded.{sources_in}
 use Rattle.cp_engine.specs.Passed.{stage_after, AllAccepted}
 use Rattle.cp_engine.proofs.Linked.{accepted-step}
 use Rattle.cp_engine.specs.Transactions as txn
@@ -31,6 +34,7 @@ use Rattle.cp_outside.specs.FileReads.{FileTable}
 use Rattle.cp_database.specs.Texts.{setting}
 use Rattle.cp_database.specs.Databases.{Stands, Opens, Turned, shown_tree, shown_reply}
 use Rattle.cp_database.specs.declared.database.Database.{Database}
+use Rattle.cp_database.proofs.Counted.{len-mapped}
 use Rattle.cp_database.proofs.Standing.{turned-on}
 use Rattle.cp_store.specs.declared.store.ProvStore.{Ghosts}
 
@@ -110,6 +114,20 @@ pub told-shown : {R S P E : Type 0} (view : R → Tree) (source_view : S → Tre
 told-shown view source_view g d q u (Ok x) e h =
     λ files s z. subst (λ y. Turned view source_view g (turn_of (setting files) s (says (stmt.Show q))) d (Some y)) (sym h) (turned-shown view source_view g files d s z q u (e s z))
 told-shown view source_view g d q u (Err y) e h = tt
+
+-- ---- numbers
+
+module _ {R S P : Type 0} (view : R → Tree) (source_view : S → Tree) (g : Ghosts P) (d : Database R S P) (s : Session) (z : Stands view source_view g d s) where
+  -- what a database counts are the numbers of its state
+  pub stats-stand : (r : Stats) → r.kind ≡ g.kept_kind d.store → r.tid ≡ g.last_tid d.store → r.transactions ≡ d.commits → r.records ≡ length (g.kept_rows d.store) → r.nodes ≡ len (view d.tree) → r.sources ≡ length (sources_in source_view d.sources) → r ≡ stats z.state
+  stats-stand r kind tid commits rows nodes sources = λ i. record {
+    kind = (kind ∙ z.kind) i;
+    tid = (tid ∙ z.upto) i;
+    transactions = (commits ∙ z.commits) i;
+    records = (rows ∙ ap length z.rows) i;
+    nodes = (nodes ∙ ap len z.tree ∙ len-mapped (λ _ (x : Aged). x.content) z.state.tree) i;
+    sources = (sources ∙ ap length z.sources) i;
+  }
 
 -- ---- queries
 

@@ -1,11 +1,14 @@
 -- The end of a transaction.
 use Rattle.cp_model.specs.declared.limits.TheConstants.{SOURCES_MAX}
-use Rattle.std.specs.Prelude.{ℕ, List, ◌≡◌, ◌+◌, ◌-◌, ◌≤◌, ◌^◌, ◌++◌, length, fold, refl, Ok, Err}
+use Rattle.std.specs.Prelude.{ℕ, List, [], ◌∷◌, ◌≡◌, ◌+◌, ◌-◌, ◌≤◌, ◌^◌, ◌++◌, length, fold, refl, Ok, Err}
 use Rattle.std.proofs.Common.{sym, ap, subst, ◌∙◌, arith}
 use Rattle.std.specs.declared.option.Option.TheVariants.{None, Some}
 use Rattle.cp_model.specs.Tree.{Tree, Source}
 use Rattle.cp_model.specs.Past.{tree_of}
-use Rattle.cp_model.specs.History.{commit, State, CanCommit, CanFollow, then_entry, steps_of, after_step, after_commit, one_commit_more}
+use Rattle.cp_model.specs.Step.{Working, Outcome, done, refused, step}
+use Rattle.cp_model.specs.History.{commit, State, CanCommit, CanFollow, then_entry, steps_of, after_settling, after_outcome, after_step, after_commit, one_commit_more}
+use Rattle.cp_model.specs.declared.op.Op.{Op}
+use Rattle.cp_model.specs.declared.kind.Kind.TheVariants as kind
 use Rattle.cp_model.specs.declared.kind.Kind.{Kind}
 use Rattle.cp_model.proofs.Histories.{replay-snoc, legal-snoc}
 use Rattle.cp_model.specs.declared.refusal.Cause.{Cause}
@@ -30,6 +33,29 @@ use Rattle.cp_database.proofs.Standing.{IsSameStore, stands-with, turned-on}
 use Rattle.cp_store.specs.declared.store.ProvStore.{Ghosts}
 
 -- ---- commit
+
+-- the steps of a commit count no commit
+settled-commits : (s : State) (w : Working) → (after_settling s w).commits ≡ s.commits
+unfolding after_settling
+settled-commits s w = refl
+
+outcome-commits : (s : State) (o : Outcome) → (after_outcome s o).commits ≡ s.commits
+outcome-commits s (done k w) = settled-commits s w
+outcome-commits s (refused n r) = refl
+
+steps-commits : (s : State) (steps : List (List Op)) → (fold after_step s steps).commits ≡ s.commits
+unfolding after_step
+steps-commits s [] = refl
+steps-commits s (ops ∷ steps) = steps-commits (after_step s ops) steps ∙ outcome-commits s (step (tree_of s.tree) s.sources ops)
+
+-- and they are some where there is an operation
+some-steps : (k : Kind) (ops : List Op) → 1 ≤ length ops → 1 ≤ length (steps_of k ops)
+some-steps kind.N [] h = absurd (omega (arith, h))
+some-steps kind.N (op ∷ ops) h = omega arith
+some-steps kind.H [] h = absurd (omega (arith, h))
+some-steps kind.H (op ∷ ops) h = omega arith
+some-steps kind.T ops h = omega arith
+some-steps kind.HT ops h = omega arith
 
 module _ {R S P : Type 0} (view : R → Tree) (source_view : S → Tree) (g : Ghosts P) (files : FileTable) (d m : Database R S P) (x : Step R) (s : Session) (k : Makes view source_view g d x s) where
   abbrev before : State
@@ -73,9 +99,9 @@ module _ {R S P : Type 0} (view : R → Tree) (source_view : S → Tree) (g : Gh
   unfolding after_commit
   committed_state = refl
 
-  keeps : view m.tree ≡ view x.tree → m.sources ≡ d.sources → g.kept_kind m.store ≡ g.kept_kind d.store → g.kept_rows m.store ≡ g.kept_rows d.store ++ x.rows → g.last_tid m.store ≡ g.last_tid d.store + x.tids → m.transaction ≡ d.transaction → d.runs ≤ m.runs →
+  keeps : view m.tree ≡ view x.tree → m.sources ≡ d.sources → g.kept_kind m.store ≡ g.kept_kind d.store → g.kept_rows m.store ≡ g.kept_rows d.store ++ x.rows → g.last_tid m.store ≡ g.last_tid d.store + x.tids → m.commits ≡ d.commits + 1 → m.transaction ≡ d.transaction → d.runs ≤ m.runs →
       Stands view source_view g m (with_entry (after_moment s) (commit (stamp_of (setting files) s) k.ops))
-  keeps tree kept store list upto same more =
+  keeps tree kept store list upto counted same more =
       let bound = few-tids in
       let now = at_end.now in
       record {
@@ -88,6 +114,8 @@ module _ {R S P : Type 0} (view : R → Tree) (source_view : S → Tree) (g : Gh
         tree = tree ∙ sym at_end.tree;
         rows = list ∙ ap (λ rs. rs ++ x.rows) k.stands.rows ∙ sym at_end.rows;
         upto = upto ∙ ap (λ i. i + x.tids) k.stands.upto ∙ sym now;
+        commits = counted ∙ ap (λ n. n + 1) (k.stands.commits ∙ sym (steps-commits before (steps_of before.kind k.ops)));
+        tids = omega (arith, now, steps-commits before (steps_of before.kind k.ops), k.step.tids, some-steps before.kind k.ops k.step.some, k.stands.tids);
         opened = subst (λ y. Opens view y after.kind after.sources (tree_of after.tree) (after.now + 1) closed) (sym (same ∙ k.taken)) tt;
         few = omega (arith, now, bound, more);
       }
@@ -96,16 +124,16 @@ module _ {R S P : Type 0} (view : R → Tree) (source_view : S → Tree) (g : Gh
   high_is = ap (λ j. before.now + j) (sym k.step.tids) ∙ ap (λ i. i + x.tids) (sym k.stands.upto)
 
   -- the step is committed
-  pub turned-kept : (low high : ℕ) → view m.tree ≡ view x.tree → m.sources ≡ d.sources → g.kept_kind m.store ≡ g.kept_kind d.store → g.kept_rows m.store ≡ g.kept_rows d.store ++ x.rows → g.last_tid m.store ≡ g.last_tid d.store + x.tids → m.transaction ≡ d.transaction → d.runs ≤ m.runs → low ≡ g.last_tid d.store + 1 → high ≡ g.last_tid m.store →
+  pub turned-kept : (low high : ℕ) → view m.tree ≡ view x.tree → m.sources ≡ d.sources → g.kept_kind m.store ≡ g.kept_kind d.store → g.kept_rows m.store ≡ g.kept_rows d.store ++ x.rows → g.last_tid m.store ≡ g.last_tid d.store + x.tids → m.commits ≡ d.commits + 1 → m.transaction ≡ d.transaction → d.runs ≤ m.runs → low ≡ g.last_tid d.store + 1 → high ≡ g.last_tid m.store →
       Turned view source_view g (turn_of (setting files) s (says stmt.Commit)) m (Some (reply.Committed low high))
-  turned-kept low high tree kept store list upto same more l h =
+  turned-kept low high tree kept store list upto counted same more l h =
       turned-on view source_view g files (holding d k.transaction) m s k.stands stmt.Commit (Some (reply.Committed low high))
       (subst (λ o. Turned view source_view g (on_commit (setting files) s before o) m (Some (reply.Committed low high))) (sym k.opened) (
         ap (λ i. Some (reply.Committed i high)) (l ∙ ap (λ i. i + 1) k.stands.upto) ∙ ap (λ j. Some (reply.Committed (before.now + 1) j)) (h ∙ upto ∙ sym high_is),
-        keeps tree kept store list upto same more,
+        keeps tree kept store list upto counted same more,
       ))
 
-module _ {R S P : Type 0} (view : R → Tree) (source_view : S → Tree) (g : Ghosts P) (files : FileTable) (d m : Database R S P) (s : Session) (z : Stands view source_view g d s) (tree : view m.tree ≡ view d.tree) (kept : m.sources ≡ d.sources) (same : IsSameStore g d.store m.store) (none : m.transaction ≡ None) (runs : m.runs ≡ d.runs) where
+module _ {R S P : Type 0} (view : R → Tree) (source_view : S → Tree) (g : Ghosts P) (files : FileTable) (d m : Database R S P) (s : Session) (z : Stands view source_view g d s) (tree : view m.tree ≡ view d.tree) (kept : m.sources ≡ d.sources) (counted : m.commits ≡ d.commits) (same : IsSameStore g d.store m.store) (none : m.transaction ≡ None) (runs : m.runs ≡ d.runs) where
   abbrev from : Tree
   from = tree_of z.state.tree
 
@@ -119,7 +147,7 @@ module _ {R S P : Type 0} (view : R → Tree) (source_view : S → Tree) (g : Gh
   closes : Stands view source_view g m (with_opened s closed)
   closes =
       let few = z.few in
-      stands-with view source_view g d m s z closed tree kept same (subst (λ y. Opens view y z.state.kind loaded from first closed) (sym none) tt) (omega (arith, few, runs))
+      stands-with view source_view g d m s z closed tree kept counted same (subst (λ y. Opens view y z.state.kind loaded from first closed) (sym none) tt) (omega (arith, few, runs))
 
   nothing_open : (o : OpenTransaction) → Opens view None z.state.kind loaded from first o → Turned view source_view g (on_commit (setting files) s z.state o) m (Some (reply.Refused of.Commit why.NoOperation))
   nothing_open closed h = (refl, closes)

@@ -7,3 +7,4 @@ mod Blaming
 mod Fetched
 pub mod Readings
 pub mod ReadCounts
+mod Counted

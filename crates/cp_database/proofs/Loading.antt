@@ -96,9 +96,9 @@ module _ {R S P : Type 0} (view : R → Tree) (source_view : S → Tree) (g : Gh
 
   -- the tree is a source of the session's history
   pub stands-loaded : is_name name ≡ true → label_eq name target ≡ false → IsTree u → FitsUnder name u → is_some (source (sources_in source_view d.sources) name) ≡ false → length (sources_in source_view d.sources) < SOURCES_MAX → d.transaction ≡ None
-      → m.tree ≡ d.tree → sources_in source_view m.sources ≡ sources_in source_view d.sources ++ record { name = name; tree = u } ∷ [] → m.store ≡ d.store → m.transaction ≡ None → m.runs ≡ d.runs
+      → m.tree ≡ d.tree → sources_in source_view m.sources ≡ sources_in source_view d.sources ++ record { name = name; tree = u } ∷ [] → m.store ≡ d.store → m.commits ≡ d.commits → m.transaction ≡ None → m.runs ≡ d.runs
       → Stands view source_view g m (with_entry s (load name u))
-  stands-loaded named other tree fits new few shut same added store none runs =
+  stands-loaded named other tree fits new few shut same added store counted none runs =
       let can : CanLoad z.state name u = record {
         loadable = record { name = named; other = other; tree = tree; places = fits };
         fresh = ap (λ ss. is_some (source ss name)) (sym z.sources) ∙ new;
@@ -115,6 +115,8 @@ module _ {R S P : Type 0} (view : R → Tree) (source_view : S → Tree) (g : Gh
         tree = ap view same ∙ z.tree;
         rows = ap g.kept_rows store ∙ z.rows;
         upto = ap g.last_tid store ∙ z.upto;
+        commits = counted ∙ z.commits;
+        tids = z.tids;
         opened = subst (λ y. Opens view y z.state.kind (after_load z.state name u).sources (tree_of z.state.tree) (z.state.now + 1) s.opened) (sym none) (opened_on (after_load z.state name u).sources s.opened shut z.opened);
         few = subst (λ n. z.state.now + held_in s.opened ≤ n) (sym runs) z.few;
       }

@@ -74,7 +74,7 @@ module _ {R S P : Type 0} (view : R → Tree) (source_view : S → Tree) (g : Gh
   pub begins-opened : {E : Type 0} (r : Result (Txn R) E) → IfOk r (λ x. (ss : List Source) → AreSources ss → txn.Stands view x k ss (view d.tree) n (txn.going [])) → IfOk r (IsOpened view source_view g d)
   begins-opened r h = if-ok (λ x. (ss : List Source) → AreSources ss → txn.Stands view x k ss (view d.tree) n (txn.going [])) (IsOpened view source_view g d) begins r h
 
-module _ {R S P : Type 0} (view : R → Tree) (source_view : S → Tree) (g : Ghosts P) (d m : Database R S P) (s : Session) (z : Stands view source_view g d s) (x : Txn R) (tree : view m.tree ≡ view d.tree) (kept : m.sources ≡ d.sources) (same : IsSameStore g d.store m.store) (there : m.transaction ≡ Some x) where
+module _ {R S P : Type 0} (view : R → Tree) (source_view : S → Tree) (g : Ghosts P) (d m : Database R S P) (s : Session) (z : Stands view source_view g d s) (x : Txn R) (tree : view m.tree ≡ view d.tree) (kept : m.sources ≡ d.sources) (counted : m.commits ≡ d.commits) (same : IsSameStore g d.store m.store) (there : m.transaction ≡ Some x) where
   abbrev t : Tree
   t = tree_of z.state.tree
 
@@ -86,7 +86,7 @@ module _ {R S P : Type 0} (view : R → Tree) (source_view : S → Tree) (g : Gh
 
   -- the transaction is put back
   puts_back : (o : OpenTransaction) → Opens view (Some x) z.state.kind ss t n o → z.state.now + held_in o ≤ m.runs → Stands view source_view g m (with_opened s o)
-  puts_back o h few = stands-with view source_view g d m s z o tree kept same (subst (λ y. Opens view y z.state.kind ss t n o) (sym there) h) few
+  puts_back o h few = stands-with view source_view g d m s z o tree kept counted same (subst (λ y. Opens view y z.state.kind ss t n o) (sym there) h) few
 
   -- ---- texts that can't be read
 

@@ -39,9 +39,9 @@ module _ {R S P : Type 0} (view : R → Tree) (source_view : S → Tree) (g : Gh
   committed-sources = (legal-tree s.history z.state z.legal z.replayed).sources
 
   -- it stands for a session whose transaction alone has changed
-  pub stands-with : (o : OpenTransaction) → view m.tree ≡ view d.tree → m.sources ≡ d.sources → IsSameStore g d.store m.store → Opens view m.transaction z.state.kind z.state.sources (tree_of z.state.tree) (z.state.now + 1) o → z.state.now + held_in o ≤ m.runs →
+  pub stands-with : (o : OpenTransaction) → view m.tree ≡ view d.tree → m.sources ≡ d.sources → m.commits ≡ d.commits → IsSameStore g d.store m.store → Opens view m.transaction z.state.kind z.state.sources (tree_of z.state.tree) (z.state.now + 1) o → z.state.now + held_in o ≤ m.runs →
       Stands view source_view g m (with_opened s o)
-  stands-with o tree kept same h few = record {
+  stands-with o tree kept counted same h few = record {
     state = z.state;
     replayed = z.replayed;
     legal = z.legal;
@@ -51,14 +51,16 @@ module _ {R S P : Type 0} (view : R → Tree) (source_view : S → Tree) (g : Gh
     tree = tree ∙ z.tree;
     rows = same.rows ∙ z.rows;
     upto = same.last ∙ z.upto;
+    commits = counted ∙ z.commits;
+    tids = z.tids;
     opened = h;
     few = few;
   }
 
   -- it stands for the same session
-  pub stands-same : view m.tree ≡ view d.tree → m.sources ≡ d.sources → IsSameStore g d.store m.store → m.transaction ≡ d.transaction → m.runs ≡ d.runs → Stands view source_view g m s
-  stands-same tree kept same h runs =
-      stands-with s.opened tree kept same (subst (λ x. Opens view x z.state.kind z.state.sources (tree_of z.state.tree) (z.state.now + 1) s.opened) (sym h) z.opened) (subst (λ n. z.state.now + held_in s.opened ≤ n) (sym runs) z.few)
+  pub stands-same : view m.tree ≡ view d.tree → m.sources ≡ d.sources → m.commits ≡ d.commits → IsSameStore g d.store m.store → m.transaction ≡ d.transaction → m.runs ≡ d.runs → Stands view source_view g m s
+  stands-same tree kept counted same h runs =
+      stands-with s.opened tree kept counted same (subst (λ x. Opens view x z.state.kind z.state.sources (tree_of z.state.tree) (z.state.now + 1) s.opened) (sym h) z.opened) (subst (λ n. z.state.now + held_in s.opened ≤ n) (sym runs) z.few)
 
 module _ {R S P : Type 0} (view : R → Tree) (source_view : S → Tree) (g : Ghosts P) (files : FileTable) (d m : Database R S P) (s : Session) (z : Stands view source_view g d s) where
   -- a turn is the one on the state to which the history leads
@@ -66,9 +68,9 @@ module _ {R S P : Type 0} (view : R → Tree) (source_view : S → Tree) (g : Gh
   turned-on x r h = subst (λ o. Turned view source_view g (turn_by (setting files) s o x) m r) (sym z.replayed) h
 
 -- a tree without rows and sources stands for a session that begins on it
-pub stands-begun : {R S P : Type 0} (view : R → Tree) (source_view : S → Tree) (g : Ghosts P) (d : Database R S P) → IsTree (view d.tree) → sources_in source_view d.sources ≡ [] → g.kept_rows d.store ≡ [] → g.last_tid d.store ≡ 0 → d.transaction ≡ None → Stands view source_view g d (begun_session (g.kept_kind d.store) (view d.tree))
+pub stands-begun : {R S P : Type 0} (view : R → Tree) (source_view : S → Tree) (g : Ghosts P) (d : Database R S P) → IsTree (view d.tree) → sources_in source_view d.sources ≡ [] → g.kept_rows d.store ≡ [] → g.last_tid d.store ≡ 0 → d.commits ≡ 0 → d.transaction ≡ None → Stands view source_view g d (begun_session (g.kept_kind d.store) (view d.tree))
 unfolding replay start_state
-stands-begun view source_view g d h none_loaded list upto none = record {
+stands-begun view source_view g d h none_loaded list upto counted none = record {
   state = start_state (g.kept_kind d.store) (view d.tree);
   replayed = refl;
   legal = (h, tt);
@@ -78,6 +80,8 @@ stands-begun view source_view g d h none_loaded list upto none = record {
   tree = sym (tree_of-aged (view d.tree));
   rows = list;
   upto = upto;
+  commits = counted;
+  tids = omega arith;
   opened = subst (λ y. Opens view y (g.kept_kind d.store) [] (tree_of (start_state (g.kept_kind d.store) (view d.tree)).tree) 1 closed) (sym none) tt;
   few = omega arith;
 }

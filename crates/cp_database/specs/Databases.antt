@@ -40,8 +40,8 @@ Opens view (Some x) k ss t n closed = ⊥
 Opens view (Some x) k ss t n (going ops) = txn.Stands view x k ss t n (txn.going ops) × (1 ≤ length ops)
 Opens view (Some x) k ss t n (failed i c) = txn.Stands view x k ss t n (txn.failed i c)
 
--- the tree, the sources and the store are those to which the session's history leads, and the transaction is the session's;
--- no more Tids were given than statements were run
+-- the tree, the sources and the store are those to which the session's history leads, and the transaction is the session's; the
+-- commits are counted, each gave a Tid at least, and no more Tids were given than statements were run
 pub record Stands {R S P : Type 0} (view : R → Tree) (source_view : S → Tree) (g : Ghosts P) (d : Database R S P) (s : Session) : Type 0 where
   pub state : State
   pub replayed : replay s.history ≡ Some state
@@ -52,6 +52,8 @@ pub record Stands {R S P : Type 0} (view : R → Tree) (source_view : S → Tree
   pub tree : view d.tree ≡ tree_of state.tree
   pub rows : g.kept_rows d.store ≡ state.rows
   pub upto : g.last_tid d.store ≡ state.now
+  pub commits : d.commits ≡ state.commits
+  pub tids : state.commits ≤ state.now
   pub opened : Opens view d.transaction state.kind state.sources (tree_of state.tree) (state.now + 1) s.opened
   pub few : state.now + held_in s.opened ≤ d.runs
 

@@ -1,37 +1,21 @@
 -- What a text says, and what a session is run with.
-use Rattle.std.specs.Prelude.{ℕ, ◌≡◌, List, [], Bool, true, Result, Ok, Err, length, if◌then◌else◌}
+use Rattle.std.specs.Prelude.{ℕ, ◌≡◌, List, [], true, Result, Ok, Err, length}
 use Rattle.cp_model.specs.Tree.{Tree}
 use Rattle.cp_model.specs.declared.kind.Kind.{Kind}
-use Rattle.cp_lang.specs.Lexer.{tokens_of, first_offset}
 use Rattle.cp_lang.specs.Grammar.{bytes_reading}
 use Rattle.cp_lang.specs.declared.syntax_tree.Stmt.{Stmt}
-use Rattle.cp_lang.specs.declared.syntax_tree.Stmt.TheVariants as stmt
 use Rattle.cp_lang.specs.declared.syntax_tree.StmtFault.{StmtFault}
 use Rattle.cp_lang.specs.declared.syntax_tree.StmtFault.TheVariants as fault
 use Rattle.cp_lang.specs.Written.{IsWrittenStmt}
-use Rattle.cp_query.specs.Answered.{is_answered}
 use Rattle.cp_reply.specs.declared.reply.Why.{Why}
 use Rattle.cp_reply.specs.declared.reply.Why.TheVariants as why
 use Rattle.cp_session.specs.Session.{TextReading, says, unread, Setting, Session, fresh}
 use Rattle.cp_outside.specs.FileReads.{FileTable}
 use Rattle.cp_database.specs.Fetching.{fetch}
 
--- the statements that are run: operations, commit, abort, load, show and the queries that are answered
-abbrev pub is_run : Stmt → Bool
-is_run (stmt.Op op) = true
-is_run stmt.Commit = true
-is_run stmt.Abort = true
-is_run (stmt.Load l) = true
-is_run (stmt.Ask q) = is_answered q
-is_run (stmt.Show q) = true
-
--- a statement of another kind is refused at its first token
-abbrev pub if_run : List ℕ → Stmt → TextReading
-if_run text s = if is_run s then says s else unread (why.Syntax (first_offset (length text) (tokens_of text)))
-
 -- a statement, or why the text is none
 abbrev pub read_as : List ℕ → Result Stmt StmtFault → TextReading
-read_as text (Ok s) = if_run text s
+read_as text (Ok s) = says s
 read_as text (Err (fault.Syntax at)) = unread (why.Syntax at)
 read_as text (Err (fault.Place at e)) = unread (why.Place at e)
 read_as text (Err fault.Memory) = unread (why.Syntax (length text))
@@ -50,7 +34,7 @@ setting files = record { read = reading; fetch = fetch files; fits = λ history 
 abbrev pub begun_session : Kind → Tree → Session
 begun_session k t = fresh k t []
 
--- What the code made of a text: a statement that is run, or why it is refused.
+-- What the code made of a text: a statement, or why it is refused.
 abbrev pub SaysAs : List ℕ → Result Stmt Why → Type 0
-SaysAs text (Ok s) = (reading text ≡ says s) × (is_run s ≡ true) × IsWrittenStmt s
+SaysAs text (Ok s) = (reading text ≡ says s) × IsWrittenStmt s
 SaysAs text (Err w) = reading text ≡ unread w

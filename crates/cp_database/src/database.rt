@@ -1,8 +1,8 @@
-ghost use Rattle.std.specs.Prelude.{◌≡◌, ◌+◌, ◌<◌, ◌≤◌, [], true, IfOk, OnOk};
+ghost use Rattle.std.specs.Prelude.{◌≡◌, ◌+◌, ◌<◌, ◌≤◌, [], IfOk, OnOk};
 ghost use Rattle.cp_outside.specs.Causes.{Accounts};
 ghost use Rattle.cp_outside.specs.FileReads.{FileTable};
 ghost use Rattle.cp_session.specs.Session.{Session, says, turn_of};
-ghost use Rattle.cp_database.specs.Texts.{setting, begun_session, is_run};
+ghost use Rattle.cp_database.specs.Texts.{setting, begun_session};
 ghost use Rattle.cp_database.specs.Loads.{statement_reads};
 ghost use Rattle.cp_database.specs.Files.{known_files, IsTable, Reads, UsesFiles};
 ghost use Rattle.cp_database.specs.Faults.{IsFileFault, IsDiskFault};
@@ -34,6 +34,8 @@ pub struct Database<R: TreeRep, S: TreeRep, P: ProvStore> {
     sources: Sources<S>,
     store: P,
     transaction: Option<Txn<R>>,
+    /// How many transactions were committed.
+    commits: u64,
     /// How many operations were run; no Tid is greater.
     runs: u64,
 }
@@ -51,11 +53,12 @@ impl<R: TreeRep, S: TreeRep, P: ProvStore> Database<R, S, P> {
             sources: Sources::new(alloc),
             store,
             transaction: None,
+            commits: 0,
             runs: 0,
         }
     }
 
-    /// Runs a statement of a kind that is run. What stands after an error isn't said.
+    /// Runs a statement. What stands after an error isn't said.
     fn run<F: Files>(
         &mut self,
         alloc: Global,
@@ -64,7 +67,6 @@ impl<R: TreeRep, S: TreeRep, P: ProvStore> Database<R, S, P> {
     ) -> Result<Option<Reply>, DatabaseFault>
         requires stands { IsSession R.contents S.contents P.ProvStore self.old }
         requires room { self.old.runs < RUNS_MAX }
-        requires built { is_run statement ≡ true }
         requires written { IsWrittenStmt statement }
         ensures turned { IfOk result (λ r. (t : FileTable) → IsTable t (known_files F.Files files.old) (known_files F.Files files.new) → (s : Session) → Stands R.contents S.contents P.ProvStore self.old s
             → Turned R.contents S.contents P.ProvStore (turn_of (setting t) s (says statement)) self.new r) }

@@ -5,12 +5,14 @@ use Rattle.std.specs.declared.option.Option.{Option}
 use Rattle.std.specs.declared.option.Option.TheVariants.{None, Some}
 use Rattle.cp_path.specs.declared.loc.Loc.{Loc}
 use Rattle.cp_model.specs.declared.answer.Trace.{Trace}
+use Rattle.cp_model.specs.declared.answer.FromAnswer.{FromAnswer}
+use Rattle.cp_model.specs.declared.answer.FromAnswer.TheVariants as origin
 use Rattle.cp_model.specs.declared.answer.TraceEnd.TheVariants as end
 use Rattle.cp_model.specs.Place.{in_target}
 use Rattle.cp_model.specs.declared.effect.Effect.TheVariants.{Same as same, New as made, From as from}
 use Rattle.cp_model.specs.Rows.{Reading, left, gone}
 use Rattle.cp_model.specs.Leaps.{Readings, last}
-use Rattle.cp_model.specs.Answers.{trace_from_events, src_of, copy_tid}
+use Rattle.cp_model.specs.Answers.{trace_from_events, src_of, copy_tid, newest}
 use Rattle.cp_model.specs.Records.{reads}
 use Rattle.cp_store.specs.declared.store.ProvStore.{Ghosts}
 use Rattle.cp_query.specs.Following.{back}
@@ -27,20 +29,20 @@ readings_in g store = reads (g.kept_kind store) (g.kept_rows store)
 abbrev pub came_with : ℕ → Loc → Came
 came_with u q = if in_target q then Back (record { at = q; high = u - 1 }) else End (end.Source q)
 
--- a leg from the version low on, with where the data came from to it
-abbrev pub leg_of : Walk → ℕ → Came → Leg
-leg_of w low c = record { segment = record { loc = w.at; low = low; high = w.high }; came = c }
+-- a leg from the version low on, with the step of the newest change, and where the data came from to it
+abbrev pub leg_of : Walk → ℕ → ℕ → Came → Leg
+leg_of w low since c = record { segment = record { loc = w.at; low = low; high = w.high }; since = since; came = c }
 
 -- the leg that begins with what step u tells
 abbrev pub leg_with : Walk → ℕ → Reading → Leg
-leg_with w u (left same) = leg_of w 0 (End end.Start)
-leg_with w u (left made) = leg_of w u (End end.New)
-leg_with w u (left (from q)) = leg_of w u (came_with u q)
-leg_with w u gone = leg_of w 0 (End end.Start)
+leg_with w u (left same) = leg_of w 0 u (End end.Start)
+leg_with w u (left made) = leg_of w u u (End end.New)
+leg_with w u (left (from q)) = leg_of w u u (came_with u q)
+leg_with w u gone = leg_of w 0 u (End end.Start)
 
 -- the leg that the newest change begins
 abbrev pub leg_by : Walk → Option (ℕ × Reading) → Leg
-leg_by w None = leg_of w 0 (End end.Start)
+leg_by w None = leg_of w 0 0 (End end.Start)
 leg_by w (Some c) = leg_with w c.0 c.1
 
 -- the leg at the place of a walk
@@ -61,6 +63,20 @@ copied_by u (End end.New) = None
 copied_by u (End end.Start) = None
 copied_by u (End (end.Source q)) = Some u
 
+-- the Tid with which a leg begins, if it is that of an insertion or a copy
+abbrev pub brought_by : ℕ → Came → Option ℕ
+brought_by u (Back w) = Some u
+brought_by u (End end.New) = Some u
+brought_by u (End end.Start) = None
+brought_by u (End (end.Source q)) = Some u
+
+-- where the data of a leg came from in the step u with which it begins
+abbrev pub origin_by : ℕ → Came → FromAnswer
+origin_by u (Back w) = origin.At w.at u
+origin_by u (End end.New) = origin.New u
+origin_by u (End end.Start) = origin.Start
+origin_by u (End (end.Source q)) = origin.At q u
+
 -- the trace, the insertion and the copies, newest first, that following the changes gives
 abbrev pub trace_from : Readings → Walk → Trace
 trace_from E w = trace_from_events w.at.path w.high (back E w.high w.at.path)
@@ -70,3 +86,7 @@ src_from E w = src_of (reverse (back E w.high w.at.path))
 
 abbrev pub hist_from : Readings → Walk → List ℕ
 hist_from E w = filter_map copy_tid (back E w.high w.at.path)
+
+-- where the data came from at last, by the newest change
+abbrev pub from_here : Readings → Walk → FromAnswer
+from_here E w = newest (back E w.high w.at.path)

@@ -1,5 +1,5 @@
-pub mod Answered
 pub mod Asked
+pub mod Events
 pub mod Faults
 pub mod Following
 pub mod Laws

@@ -1,15 +1,17 @@
 //! The walk from the newest change of a place back to where its data came from.
-ghost use Rattle.std.specs.Prelude.{◌≡◌, ◌<◌, true, reverse, IfSome, IfOk};
+ghost use Rattle.std.specs.Prelude.{◌≡◌, ◌<◌, ◌||◌, ◌++◌, ℕ, true, reverse, IfSome, IfOk, OnOk};
 ghost use Rattle.cp_model.specs.Place.{in_target};
-ghost use Rattle.cp_query.specs.Legs.{came_with, inserted_by, copied_by, leg_of, leg_by, leg, readings_in, trace_from, src_from, hist_from};
+ghost use Rattle.cp_query.specs.Legs.{came_with, inserted_by, copied_by, brought_by, origin_by, leg_of, leg_by, leg, readings_in, trace_from, src_from, hist_from, from_here};
+ghost use Rattle.cp_query.specs.Events.{is_tid, leg_tids, losses_in, places_from, source_at, tids_back};
 ghost use Rattle.cp_store.specs.Changes.{change_told};
 ghost use Rattle.cp_store.specs.Calls.{Asks};
 ghost use Rattle.cp_store.specs.Steps.{BlamesDisk};
 
-use cp_model::{Segment, SegmentList, TidList, Trace, TraceEnd};
+use crate::tids::{Tids, note_tid, note_tids};
+use cp_model::{FromAnswer, Segment, SegmentList, TidList, Trace, TraceEnd};
 use cp_path::Loc;
 use cp_store::{Change, ProvStore, StoreFault, What};
-use std::alloc::Global;
+use std::alloc::{AllocError, Global};
 
 /// A place of T at which data stood, and the last version in which it is known to have stood there.
 #[derive(Drop)]
@@ -25,10 +27,12 @@ pub(crate) enum Came {
     End(TraceEnd),
 }
 
-/// The versions in which data stood at one place, and where it came from to that place.
+/// The versions in which data stood at one place, and where it came from to that place. The newest change of the place is of
+/// step `since`, which is 0 where it has none.
 #[derive(Drop)]
 pub(crate) struct Leg {
     pub segment: Segment,
+    pub since: u64,
     pub came: Came,
 }
 
@@ -52,6 +56,51 @@ impl Came {
             Came::End(TraceEnd::New | TraceEnd::Start) => None,
         }
     }
+
+    /// The step `low` with which the leg begins, if it inserted or copied the data.
+    fn step(&self, low: u64) -> Option<u64>
+        ensures { result ≡ brought_by low self.now }
+    {
+        match self {
+            Came::Back(_) | Came::End(TraceEnd::New | TraceEnd::Source(_)) => Some(low),
+            Came::End(TraceEnd::Start) => None,
+        }
+    }
+
+    /// Where the data came from in the step `low` with which the leg begins.
+    fn origin(self, low: u64) -> FromAnswer
+        ensures { result ≡ origin_by low self }
+    {
+        match self {
+            Came::Back(walk) => FromAnswer::At(walk.at, low),
+            Came::End(TraceEnd::New) => FromAnswer::New(low),
+            Came::End(TraceEnd::Start) => FromAnswer::Start,
+            Came::End(TraceEnd::Source(place)) => FromAnswer::At(place, low),
+        }
+    }
+}
+
+impl Leg {
+    /// Notes the steps that changed the data here: the one that brought it, and those in which it lost a child. Costs a look-up
+    /// of losses.
+    fn note_steps<P: ProvStore>(
+        &self,
+        alloc: Global,
+        store: &mut P,
+        found: &mut Tids,
+    ) -> Result<(), StoreFault>
+        ensures found { OnOk result ((t : ℕ) → is_tid t found.new.keys
+            ≡ (is_tid t found.old.keys || is_tid t (leg_tids (P.kept_rows store.old) self.now))) }
+        ensures asks { Asks P.ProvStore BlamesDisk store.old store.new result }
+    {
+        if let Some(tid) = self.came.step(self.segment.low) {
+            note_tid(found, tid)?;
+        }
+        let Segment { loc, high, .. } = &self.segment;
+        let losses = store.losses(alloc, loc, self.since, *high)?;
+        note_tids(found, losses.items.as_slice())?;
+        Ok(())
+    }
 }
 
 /// Where the data came from that step `tid` copied from a place.
@@ -69,14 +118,28 @@ fn came_with(tid: u64, q: Loc) -> Came
     }
 }
 
+/// Adds the place of the source at which a walk ends, if it does.
+fn add_source(places: &mut Vec<Loc>, end: TraceEnd) -> Result<(), AllocError>
+    ensures { OnOk result (places.new.items ≡ places.old.items ++ source_at end) }
+{
+    if let TraceEnd::Source(place) = end {
+        places.push(place)?;
+    }
+    Ok(())
+}
+
 impl Walk {
     /// The leg here from the version `low` on.
-    fn leg_of(self, low: u64, came: Came) -> Leg
-        ensures { result ≡ leg_of self low came }
+    fn leg_of(self, low: u64, since: u64, came: Came) -> Leg
+        ensures { result ≡ leg_of self low since came }
     {
         let Walk { at: loc, high } = self;
         let segment = Segment { loc, low, high };
-        Leg { segment, came }
+        Leg {
+            segment,
+            since,
+            came,
+        }
     }
 
     /// The leg that the newest change of this place begins. Data that no step brought was there from the start.
@@ -85,12 +148,12 @@ impl Walk {
         ensures { result ≡ leg_by self (change_told change) }
     {
         let Some(Change { tid, what }) = change else {
-            return self.leg_of(0, Came::End(TraceEnd::Start));
+            return self.leg_of(0, 0, Came::End(TraceEnd::Start));
         };
         match what {
-            What::New => self.leg_of(tid, Came::End(TraceEnd::New)),
-            What::From(q) => self.leg_of(tid, came_with(tid, q)),
-            What::Gone => self.leg_of(0, Came::End(TraceEnd::Start)),
+            What::New => self.leg_of(tid, tid, Came::End(TraceEnd::New)),
+            What::From(q) => self.leg_of(tid, tid, came_with(tid, q)),
+            What::Gone => self.leg_of(0, tid, Came::End(TraceEnd::Start)),
         }
     }
 
@@ -113,7 +176,7 @@ impl Walk {
         let mut walk = self;
         let mut segments = Vec::new(alloc);
         loop {
-            let Leg { segment, came } = walk.leg(alloc, store)?;
+            let Leg { segment, came, .. } = walk.leg(alloc, store)?;
             segments.push(segment)?;
             match came {
                 Came::Back(next) => walk = next,
@@ -133,7 +196,7 @@ impl Walk {
     {
         let mut walk = self;
         loop {
-            let Leg { segment, came } = walk.leg(alloc, store)?;
+            let Leg { segment, came, .. } = walk.leg(alloc, store)?;
             let inserted = came.insertion(segment.low);
             match came {
                 Came::Back(next) => walk = next,
@@ -151,7 +214,7 @@ impl Walk {
         let mut walk = self;
         let mut tids = Vec::new(alloc);
         loop {
-            let Leg { segment, came } = walk.leg(alloc, store)?;
+            let Leg { segment, came, .. } = walk.leg(alloc, store)?;
             if let Some(tid) = came.copy(segment.low) {
                 tids.push(tid)?;
             }
@@ -171,5 +234,47 @@ impl Walk {
         let mut tids = self.copies(alloc, store)?;
         tids.reverse();
         Ok(TidList { items: tids })
+    }
+
+    /// Where the data came from at last. Costs one look-up.
+    pub fn from<P: ProvStore>(self, alloc: Global, store: &mut P) -> Result<FromAnswer, StoreFault>
+        requires { in_target self.at ≡ true }
+        ensures answer { IfOk result (λ a. a ≡ from_here (readings_in P.ProvStore store.old) self) }
+        ensures asks { Asks P.ProvStore BlamesDisk store.old store.new result }
+    {
+        let Leg { segment, came, .. } = self.leg(alloc, store)?;
+        Ok(came.origin(segment.low))
+    }
+
+    /// Notes the steps of all events from here back, and lists the places at which the data stood, newest first; the last may be
+    /// that of a source. Costs two look-ups for each place passed.
+    pub fn note_past<P: ProvStore>(
+        self,
+        alloc: Global,
+        store: &mut P,
+        found: &mut Tids,
+    ) -> Result<Vec<Loc>, StoreFault>
+        requires { in_target self.at ≡ true }
+        ensures places { IfOk result (λ v. v.items ≡ places_from (readings_in P.ProvStore store.old) self) }
+        ensures found { OnOk result ((t : ℕ) → is_tid t found.new.keys
+            ≡ (is_tid t found.old.keys || is_tid t (tids_back (readings_in P.ProvStore store.old) (losses_in P.ProvStore store.old)
+            self.high self.at.path))) }
+        ensures asks { Asks P.ProvStore BlamesDisk store.old store.new result }
+    {
+        let mut walk = self;
+        let mut places = Vec::new(alloc);
+        loop {
+            let leg = walk.leg(alloc, store)?;
+            leg.note_steps(alloc, store, found)?;
+            let Leg { segment, came, .. } = leg;
+            places.push(segment.loc)?;
+            match came {
+                Came::Back(next) => walk = next,
+                Came::End(end) => {
+                    add_source(&mut places, end)?;
+                    return Ok(places);
+                }
+            }
+        }
     }
 }

@@ -1,18 +1,18 @@
-ghost use Rattle.std.specs.Prelude.{◌≡◌, true, IfOk, IsErrOf};
+ghost use Rattle.std.specs.Prelude.{◌≡◌, IfOk, IsErrOf};
 ghost use Rattle.std.specs.declared.option.Option.TheVariants.{Some};
 ghost use Rattle.cp_outside.specs.Causes.{Accounts};
 ghost use Rattle.cp_outside.specs.FileReads.{FileTable};
-ghost use Rattle.cp_query.specs.Answered.{is_answered};
+ghost use Rattle.cp_model.specs.Answers.{stats};
 ghost use Rattle.cp_store.specs.Steps.{BlamesDisk};
 ghost use Rattle.cp_store.specs.declared.fault.StoreFault.TheVariants.{Disk};
 ghost use Rattle.cp_session.specs.Session.{Session, says, turn_of, no_place_of};
 ghost use Rattle.cp_database.specs.Texts.{setting};
-ghost use Rattle.cp_database.specs.Databases.{Stands, Turned, disk_faults};
+ghost use Rattle.cp_database.specs.Databases.{Stands, IsSession, Turned, disk_faults};
 
 use crate::database::Database;
 use crate::database::refusal::refused;
 use cp_lang::Stmt;
-use cp_model::Query;
+use cp_model::{Query, Stats};
 use cp_query::{QueryFault, answer};
 use cp_reply::{Of, Reply, Why};
 use cp_store::{ProvStore, StoreFault};
@@ -47,15 +47,31 @@ fn unanswered(fault: QueryFault, query: Query) -> Result<Reply, StoreFault>
 }
 
 impl<R: TreeRep, S: TreeRep, P: ProvStore> Database<R, S, P> {
+    /// The numbers of the committed state.
+    fn stats(&self) -> Stats
+        requires stands { IsSession R.contents S.contents P.ProvStore self.now }
+        ensures { (s : Session) → (z : Stands R.contents S.contents P.ProvStore self.now s) → result ≡ stats z.state }
+    {
+        Stats {
+            kind: self.store.kind(),
+            tid: self.store.upto(),
+            transactions: self.commits,
+            records: self.store.count(),
+            nodes: self.tree.count(),
+            sources: self.sources.len() as u32,
+        }
+    }
+
     /// Answers a query on the committed state. Costs as the query.
     pub(super) fn ask(&mut self, alloc: Global, query: Query) -> Result<Reply, StoreFault>
-        requires built { is_answered query ≡ true }
+        requires stands { IsSession R.contents S.contents P.ProvStore self.old }
         ensures turned { IfOk result (λ r. (t : FileTable) (s : Session) → Stands R.contents S.contents P.ProvStore self.old s
             → Turned R.contents S.contents P.ProvStore (turn_of (setting t) s (says (Stmt.Ask query))) self.new (Some r)) }
         ensures runs { self.new.runs ≡ self.old.runs }
         ensures disk { Accounts BlamesDisk (disk_faults P.ProvStore self.old) (disk_faults P.ProvStore self.new) result }
     {
-        match answer(alloc, &mut self.store, &self.tree, &query) {
+        let numbers = self.stats();
+        match answer(alloc, &mut self.store, &self.tree, numbers, &query) {
             Ok(answer) => Ok(Reply::Answered { query, answer }),
             Err(fault) => unanswered(fault, query),
         }

@@ -29,6 +29,7 @@ impl<R: TreeRep, S: TreeRep, P: ProvStore> Database<R, S, P> {
         let low = self.store.upto() + 1;
         self.store.absorb(alloc, step.tids, &step.rows.items)?;
         self.tree = step.tree;
+        self.commits += 1;
         Ok(Reply::Committed {
             low,
             high: self.store.upto(),

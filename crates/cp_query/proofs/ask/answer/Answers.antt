@@ -1,5 +1,5 @@
 use Rattle.std.proofs.Common.{ap, subst, sym, refl, Ok}
-use Rattle.cp_model.specs.Answers.{answer_to, src, hist, trace, records}
+use Rattle.cp_model.specs.Answers.{answer_to, src, hist, mod_tids, trace, from, records, stats}
 use Rattle.cp_model.specs.declared.answer.Answer.TheVariants as answer
 use Rattle.cp_model.specs.declared.query.Query.TheVariants as query
 use Rattle.cp_query.specs.Asked.{AnswersTo}
@@ -8,7 +8,7 @@ use Rattle.cp_query.proofs.ask.answer.Goals as goal
 
 pub returns-in_ok-src-in-Src-clause-answer : goal.returns-in_ok-src-in-Src-clause-answer
 unfolding answer_to
-returns-in_ok-src-in-Src-clause-answer g c = λ s h.
+returns-in_ok-src-in-Src-clause-answer g c = λ s h n.
     let x = c.in_ok-src-in-Src.field-0 in
     let place = c.in-Src.place in
     subst (λ q. AnswersTo s q (Ok (answer.Src x))) (sym c.in-Src.is)
@@ -16,14 +16,14 @@ returns-in_ok-src-in-Src-clause-answer g c = λ s h.
 
 pub returns-in_err-src-in-Src-clause-answer : goal.returns-in_err-src-in-Src-clause-answer
 unfolding answer_to
-returns-in_err-src-in-Src-clause-answer g c = λ s h.
+returns-in_err-src-in-Src-clause-answer g c = λ s h n.
     let place = c.in-Src.place in
     subst (λ q. AnswersTo s q c.from_residual.result) (sym c.in-Src.is)
     (faults-at h (query.Src place) place (answer.Src (src s.tree place.path)) refl c.in_err-src-in-Src.field-0.0 c.from_residual.result c.in_err-src-in-Src.ensures.place c.from_residual.ensures.1)
 
 pub returns-in_ok-hist-in-Hist-clause-answer : goal.returns-in_ok-hist-in-Hist-clause-answer
 unfolding answer_to
-returns-in_ok-hist-in-Hist-clause-answer g c = λ s h.
+returns-in_ok-hist-in-Hist-clause-answer g c = λ s h n.
     let x = c.in_ok-hist-in-Hist.field-0 in
     let place = c.in-Hist.place in
     subst (λ q. AnswersTo s q (Ok (answer.Tids x))) (sym c.in-Hist.is)
@@ -31,14 +31,14 @@ returns-in_ok-hist-in-Hist-clause-answer g c = λ s h.
 
 pub returns-in_err-hist-in-Hist-clause-answer : goal.returns-in_err-hist-in-Hist-clause-answer
 unfolding answer_to
-returns-in_err-hist-in-Hist-clause-answer g c = λ s h.
+returns-in_err-hist-in-Hist-clause-answer g c = λ s h n.
     let place = c.in-Hist.place in
     subst (λ q. AnswersTo s q c.from_residual-in_err-hist-in-Hist.result) (sym c.in-Hist.is)
     (faults-at h (query.Hist place) place (answer.Tids (hist s.tree place.path)) refl c.in_err-hist-in-Hist.field-0.0 c.from_residual-in_err-hist-in-Hist.result c.in_err-hist-in-Hist.ensures.place c.from_residual-in_err-hist-in-Hist.ensures.1)
 
 pub returns-in_ok-trace-in-Trace-clause-answer : goal.returns-in_ok-trace-in-Trace-clause-answer
 unfolding answer_to
-returns-in_ok-trace-in-Trace-clause-answer g c = λ s h.
+returns-in_ok-trace-in-Trace-clause-answer g c = λ s h n.
     let x = c.in_ok-trace-in-Trace.field-0 in
     let place = c.in-Trace.place in
     subst (λ q. AnswersTo s q (Ok (answer.Trace x))) (sym c.in-Trace.is)
@@ -46,14 +46,14 @@ returns-in_ok-trace-in-Trace-clause-answer g c = λ s h.
 
 pub returns-in_err-trace-in-Trace-clause-answer : goal.returns-in_err-trace-in-Trace-clause-answer
 unfolding answer_to
-returns-in_err-trace-in-Trace-clause-answer g c = λ s h.
+returns-in_err-trace-in-Trace-clause-answer g c = λ s h n.
     let place = c.in-Trace.place in
     subst (λ q. AnswersTo s q c.from_residual-in_err-trace-in-Trace.result) (sym c.in-Trace.is)
     (faults-at h (query.Trace place) place (answer.Trace (trace s.now s.tree place.path)) refl c.in_err-trace-in-Trace.field-0.0 c.from_residual-in_err-trace-in-Trace.result c.in_err-trace-in-Trace.ensures.place c.from_residual-in_err-trace-in-Trace.ensures.1)
 
 pub returns-in_ok-records-in-Records-clause-answer : goal.returns-in_ok-records-in-Records-clause-answer
 unfolding answer_to
-returns-in_ok-records-in-Records-clause-answer g c = λ s h.
+returns-in_ok-records-in-Records-clause-answer g c = λ s h n.
     let x = c.in_ok-records-in-Records.field-0 in
     let t = c.in-Records.tid in
     subst (λ q. AnswersTo s q (Ok (answer.Records x))) (sym c.in-Records.is)
@@ -61,7 +61,43 @@ returns-in_ok-records-in-Records-clause-answer g c = λ s h.
 
 pub returns-in_err-records-in-Records-clause-answer : goal.returns-in_err-records-in-Records-clause-answer
 unfolding answer_to
-returns-in_err-records-in-Records-clause-answer g c = λ s h.
+returns-in_err-records-in-Records-clause-answer g c = λ s h n.
     let t = c.in-Records.tid in
     subst (λ q. AnswersTo s q c.from_residual-in_err-records-in-Records.result) (sym c.in-Records.is)
     (faults-always s (query.Records t) (answer.Records (records s t)) refl c.in_err-records-in-Records.field-0.0 c.from_residual-in_err-records-in-Records.result c.from_residual-in_err-records-in-Records.ensures.1)
+
+pub returns-in_ok-modified-in-Mod-clause-answer : goal.returns-in_ok-modified-in-Mod-clause-answer
+unfolding answer_to
+returns-in_ok-modified-in-Mod-clause-answer g c = λ s h n.
+    let x = c.in_ok-modified-in-Mod.field-0 in
+    let place = c.in-Mod.place in
+    subst (λ q. AnswersTo s q (Ok (answer.Tids x))) (sym c.in-Mod.is)
+    (answers-at h (query.Mod place) place (answer.Tids (mod_tids s.tree place.path)) refl x (answer.Tids x) c.in_ok-modified-in-Mod.ensures.place (ap (λ y. answer.Tids y) (c.in_ok-modified-in-Mod.ensures.answer s h)))
+
+pub returns-in_err-modified-in-Mod-clause-answer : goal.returns-in_err-modified-in-Mod-clause-answer
+unfolding answer_to
+returns-in_err-modified-in-Mod-clause-answer g c = λ s h n.
+    let place = c.in-Mod.place in
+    subst (λ q. AnswersTo s q c.from_residual-in_err-modified-in-Mod.result) (sym c.in-Mod.is)
+    (faults-at h (query.Mod place) place (answer.Tids (mod_tids s.tree place.path)) refl c.in_err-modified-in-Mod.field-0.0 c.from_residual-in_err-modified-in-Mod.result c.in_err-modified-in-Mod.ensures.place c.from_residual-in_err-modified-in-Mod.ensures.1)
+
+pub returns-in_ok-from-in-From-clause-answer : goal.returns-in_ok-from-in-From-clause-answer
+unfolding answer_to
+returns-in_ok-from-in-From-clause-answer g c = λ s h n.
+    let x = c.in_ok-from-in-From.field-0 in
+    let place = c.in-From.place in
+    subst (λ q. AnswersTo s q (Ok (answer.From x))) (sym c.in-From.is)
+    (answers-at h (query.From place) place (answer.From (from s.tree place.path)) refl x (answer.From x) c.in_ok-from-in-From.ensures.place (ap (λ y. answer.From y) (c.in_ok-from-in-From.ensures.answer s h)))
+
+pub returns-in_err-from-in-From-clause-answer : goal.returns-in_err-from-in-From-clause-answer
+unfolding answer_to
+returns-in_err-from-in-From-clause-answer g c = λ s h n.
+    let place = c.in-From.place in
+    subst (λ q. AnswersTo s q c.from_residual-in_err-from-in-From.result) (sym c.in-From.is)
+    (faults-at h (query.From place) place (answer.From (from s.tree place.path)) refl c.in_err-from-in-From.field-0.0 c.from_residual-in_err-from-in-From.result c.in_err-from-in-From.ensures.place c.from_residual-in_err-from-in-From.ensures.1)
+
+pub returns-in-Stats-clause-answer : goal.returns-in-Stats-clause-answer
+unfolding answer_to
+returns-in-Stats-clause-answer g c = λ s h n.
+    subst (λ q. AnswersTo s q (Ok (answer.Stats c.args.numbers))) (sym c.in-Stats.is)
+    (answers-always s query.Stats (answer.Stats (stats s)) refl (answer.Stats c.args.numbers) (ap (λ y. answer.Stats y) n))

@@ -16,7 +16,7 @@ no_files = λ _. None
 
 pub returns-in_default-clause-turned : goal.returns-in_default-clause-turned
 returns-in_default-clause-turned g c = λ files s z.
-    rw (c.refused_commit.ensures) (turned-nothing g.R.TreeRep.contents g.S.TreeRep.contents g.P.ProvStore files c.args.self.now _ s z refl refl (same-store g.P.ProvStore _ _ refl) c.take.ensures.after refl (sym c.take.ensures.value ∙ c.in_default.is))
+    rw (c.refused_commit.ensures) (turned-nothing g.R.TreeRep.contents g.S.TreeRep.contents g.P.ProvStore files c.args.self.now _ s z refl refl refl (same-store g.P.ProvStore _ _ refl) c.take.ensures.after refl (sym c.take.ensures.value ∙ c.in_default.is))
 
 pub keep-requires-clause-makes : goal.keep-requires-clause-makes
 keep-requires-clause-makes g c = (
@@ -30,7 +30,7 @@ unreachable-requires g c =
     let ss = z.state.sources in
     let from = tree_of z.state.tree in
     let first = z.state.now + 1 in
-    not-empty g.R.TreeRep.contents g.S.TreeRep.contents g.P.ProvStore no_files c.args.self.now _ c.requires.stands.0 c.requires.stands.1 refl refl (same-store g.P.ProvStore _ _ refl) c.take.ensures.after refl c.in-Some.transaction (sym c.take.ensures.value ∙ c.in-Some.is)
+    not-empty g.R.TreeRep.contents g.S.TreeRep.contents g.P.ProvStore no_files c.args.self.now _ c.requires.stands.0 c.requires.stands.1 refl refl refl (same-store g.P.ProvStore _ _ refl) c.take.ensures.after refl c.in-Some.transaction (sym c.take.ensures.value ∙ c.in-Some.is)
     (λ p h. subst (λ e. Finishes g.R.TreeRep.contents z.state.kind ss from first p 18446744073709551615 (Err e)) c.in-Err-Empty.field-0-is (c.in-Err-Empty.ensures z.state.kind ss from first p h))
 
 pub unreachable-requires-in-Err-TooLarge : goal.unreachable-requires-in-Err-TooLarge
@@ -39,7 +39,7 @@ unreachable-requires-in-Err-TooLarge g c =
     let ss = z.state.sources in
     let from = tree_of z.state.tree in
     let first = z.state.now + 1 in
-    not-large g.R.TreeRep.contents g.S.TreeRep.contents g.P.ProvStore no_files c.args.self.now _ c.requires.stands.0 c.requires.stands.1 refl refl (same-store g.P.ProvStore _ _ refl) c.take.ensures.after refl c.in-Some.transaction (sym c.take.ensures.value ∙ c.in-Some.is)
+    not-large g.R.TreeRep.contents g.S.TreeRep.contents g.P.ProvStore no_files c.args.self.now _ c.requires.stands.0 c.requires.stands.1 refl refl refl (same-store g.P.ProvStore _ _ refl) c.take.ensures.after refl c.in-Some.transaction (sym c.take.ensures.value ∙ c.in-Some.is)
     (λ p h. subst (λ e. Finishes g.R.TreeRep.contents z.state.kind ss from first p 18446744073709551615 (Err e)) c.in-Err-TooLarge.field-0-is (c.in-Err-TooLarge.ensures z.state.kind ss from first p h))
 
 pub returns-in-Ok-clause-turned : goal.returns-in-Ok-clause-turned
@@ -55,5 +55,5 @@ returns-in-Err-Failed-clause-turned g c = λ files s z.
     let from = tree_of z.state.tree in
     let first = z.state.now + 1 in
     rw (c.refused_commit-in-Err-Failed.ensures, c.in-Err-Failed.number-is)
-    (turned-unfinished g.R.TreeRep.contents g.S.TreeRep.contents g.P.ProvStore files c.args.self.now _ s z refl refl (same-store g.P.ProvStore _ _ refl) c.take.ensures.after refl c.in-Some.transaction (sym c.take.ensures.value ∙ c.in-Some.is) c.in-Err-Failed.number _
+    (turned-unfinished g.R.TreeRep.contents g.S.TreeRep.contents g.P.ProvStore files c.args.self.now _ s z refl refl refl (same-store g.P.ProvStore _ _ refl) c.take.ensures.after refl c.in-Some.transaction (sym c.take.ensures.value ∙ c.in-Some.is) c.in-Err-Failed.number _
     (λ p h. subst (λ e. Finishes g.R.TreeRep.contents z.state.kind ss from first p 18446744073709551615 (Err e)) c.in-Err-Failed.field-0-is (c.in-Err-Failed.ensures z.state.kind ss from first p h)))

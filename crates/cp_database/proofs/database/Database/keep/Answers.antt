@@ -21,4 +21,4 @@ pub returns-clause-turned : goal.returns-clause-turned
 returns-clause-turned g c = λ files s k.
     let d = c.args.self.now in
     turned-kept g.R.TreeRep.contents g.S.TreeRep.contents g.P.ProvStore files d _ _ s (subst (λ (x : Step _). Makes g.R.TreeRep.contents g.S.TreeRep.contents g.P.ProvStore d x s) (sym c.step.view_is) k) _ _ refl refl
-    c.in_ok-absorb.ensures.kind (c.in_ok-absorb.ensures.rows ∙ ap (λ rs. g.P.ProvStore.kept_rows d.store ++ rs) c.deref.ensures.value) c.in_ok-absorb.ensures.last refl (omega arith) (ap (λ n. n + 1) c.upto-low.ensures) c.upto.ensures
+    c.in_ok-absorb.ensures.kind (c.in_ok-absorb.ensures.rows ∙ ap (λ rs. g.P.ProvStore.kept_rows d.store ++ rs) c.deref.ensures.value) c.in_ok-absorb.ensures.last refl refl (omega arith) (ap (λ n. n + 1) c.upto-low.ensures) c.upto.ensures
