@@ -8,7 +8,7 @@ use Rattle.cp_path.specs.Place.{Label, Path, over_limit, size}
 use Rattle.cp_path.specs.declared.limits.TheConstants.{LABELS_MAX, LOC_MAX, NAME_MAX}
 use Rattle.cp_path.specs.declared.loc.Loc.{Loc}
 use Rattle.cp_record.specs.Kept.{IsLabel}
-use Rattle.cp_format.specs.declared.fault.RecordFault.{RecordFault}
+use Rattle.cp_format.specs.declared.fault.FormatFault.{FormatFault}
 use Rattle.cp_format.specs.Faults.{FaultAt}
 use Rattle.cp_format.specs.Formats.{Format, ReadsAt, FailsAt}
 use Rattle.cp_format.specs.Parts.{count_format, text_format, name_text_format, label_format, labels_size, labels_format, path_format, name_format, place_format}
@@ -31,7 +31,7 @@ alike_label most = record {
 pub plain_label : (most : ℕ) → IsPlain (label_format most)
 plain_label most = plain_alike (both (count_format 0 most) text_format) (label_format most) (λ z. z.1) (alike_label most) (plain_both (count_format 0 most) text_format (plain_count 0 most) (λ n f. plain_text n))
 
-has_label : (most : ℕ) → HasSome (label_format most)
+pub has_label : (most : ℕ) → HasSome (label_format most)
 has_label most = has_alike (both (count_format 0 most) text_format) (label_format most) (λ z. z.1) (alike_label most) (has_both (count_format 0 most) text_format (has_count 0 most (omega arith) (omega arith)) (λ n f. has_text n))
 
 pub size_cons : (a : Label) (p : Path) → labels_size (a ∷ p) ≡ (length a + 1) + labels_size p
@@ -86,7 +86,7 @@ module _ (bytes : List ℕ) (at count room k : ℕ) (path : Path) (next left : �
   others = omega (arith, lt)
 
   -- a fault in the next label is one of all
-  pub label_fault : (e : RecordFault) → FaultAt (label_format (left - (count - k))) bytes next e → FaultAt (labels_format count room) bytes at e
+  pub label_fault : (e : FormatFault) → FaultAt (label_format (left - (count - k))) bytes next e → FaultAt (labels_format count room) bytes at e
   label_fault e f =
       fault_by (label_format (left - (count - k))) (labels_format count room) bytes next at
       (λ n g. next_fails HaveRoom next_label room_after labels_format labels_counted bytes at count room k path next left s lt n (subst (λ m. FailsAt (label_format (left - m)) bytes next n) (sym others) g)) e f

@@ -60,15 +60,15 @@ AreBytes bytes = (i : ℕ) → get_or bytes i 0 < 256
 bytes_after : (x : ℕ) (bytes : List ℕ) → AreBytes (x ∷ bytes) → AreBytes bytes
 bytes_after x bytes h i = h (suc i)
 
-bytes_cons : (x : ℕ) (bytes : List ℕ) → x < 256 → AreBytes bytes → AreBytes (x ∷ bytes)
+pub bytes_cons : (x : ℕ) (bytes : List ℕ) → x < 256 → AreBytes bytes → AreBytes (x ∷ bytes)
 bytes_cons x bytes h k zero = h
 bytes_cons x bytes h k (suc i) = k i
 
-bytes_append : (xs ys : List ℕ) → AreBytes xs → AreBytes ys → AreBytes (xs ++ ys)
+pub bytes_append : (xs ys : List ℕ) → AreBytes xs → AreBytes ys → AreBytes (xs ++ ys)
 bytes_append [] ys h k = k
 bytes_append (x ∷ xs) ys h k = bytes_cons x (xs ++ ys) (h 0) (bytes_append xs ys (bytes_after x xs h) k)
 
-bytes_drop : (n : ℕ) (bytes : List ℕ) → AreBytes bytes → AreBytes (drop n bytes)
+pub bytes_drop : (n : ℕ) (bytes : List ℕ) → AreBytes bytes → AreBytes (drop n bytes)
 bytes_drop zero bytes h = h
 bytes_drop (suc n) [] h = h
 bytes_drop (suc n) (x ∷ bytes) h = bytes_drop n bytes (bytes_after x bytes h)
@@ -90,7 +90,7 @@ bytes_zeros : (n : ℕ) → AreBytes (zeros n)
 bytes_zeros zero = λ i. omega arith
 bytes_zeros (suc n) = bytes_cons 0 (zeros n) (omega arith) (bytes_zeros n)
 
-number_fits : (bytes : List ℕ) → AreBytes bytes → from_be_bytes w64 bytes < 2 ^ 64
+pub number_fits : (bytes : List ℕ) → AreBytes bytes → from_be_bytes w64 bytes < 2 ^ 64
 number_fits bytes h = omega (arith, h 0, h 1, h 2, h 3, h 4, h 5, h 6, h 7)
 
 pub plain_number : IsPlain number_format

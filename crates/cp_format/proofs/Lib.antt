@@ -9,3 +9,8 @@ pub mod Names
 pub mod Labels
 pub mod Records
 pub mod Growing
+pub mod Forms
+pub mod HighNumbers
+pub mod LongTexts
+pub mod Contents
+pub mod Operations

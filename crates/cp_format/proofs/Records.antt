@@ -9,7 +9,7 @@ use Rattle.cp_model.specs.declared.record.RecOp.{RecOp}
 use Rattle.cp_model.specs.declared.record.RecOp.TheVariants as op
 use Rattle.cp_record.specs.Bytes.{source_bytes, record_bytes}
 use Rattle.cp_record.specs.Kept.{IsPlace, IsSourceOf, is_copy}
-use Rattle.cp_format.specs.declared.fault.RecordFault.{RecordFault}
+use Rattle.cp_format.specs.declared.fault.FormatFault.{FormatFault}
 use Rattle.cp_format.specs.Faults.{FaultAt}
 use Rattle.cp_format.specs.Formats.{Format, ReadsAt}
 use Rattle.cp_format.specs.Parts.{number_format, letter_format, path_format, place_format, source_format, record_format}
@@ -31,7 +31,7 @@ alike_copy = record {
     place_of None some p l = absurd (cc)
     place_of (Some q) some p l = (q, (p, l), refl)
 
-pub copy_fault : (o : RecOp) (bytes : List ℕ) (at : ℕ) (e : RecordFault) → o ≡ op.C → FaultAt place_format bytes at e → FaultAt (source_format o) bytes at e
+pub copy_fault : (o : RecOp) (bytes : List ℕ) (at : ℕ) (e : FormatFault) → o ≡ op.C → FaultAt place_format bytes at e → FaultAt (source_format o) bytes at e
 copy_fault o bytes at e same f = subst (λ p. FaultAt (source_format p) bytes at e) (sym same) (fault_alike place_format (source_format op.C) (λ q. Some q) alike_copy bytes at e f)
 
 no_source : (o : RecOp) (s : Option Loc) → is_copy o ≡ false → IsSourceOf o s → s ≡ None
@@ -116,32 +116,32 @@ pub has_record : HasSome record_format
 has_record = has_alike parts_format record_format record_of alike_record (has_both number_format behind_number has_number (λ t f. has_behind_number t))
 
 module _ (bytes : List ℕ) (at : ℕ) where
-  record_fault : (e : RecordFault) → FaultAt parts_format bytes at e → FaultAt record_format bytes at e
+  record_fault : (e : FormatFault) → FaultAt parts_format bytes at e → FaultAt record_format bytes at e
   record_fault e f = fault_alike parts_format record_format record_of alike_record bytes at e f
 
   -- a fault in the number is one of the record
-  pub tid_fault : (e : RecordFault) → FaultAt number_format bytes at e → FaultAt record_format bytes at e
+  pub tid_fault : (e : FormatFault) → FaultAt number_format bytes at e → FaultAt record_format bytes at e
   tid_fault e f = record_fault e (fault_first number_format behind_number bytes at (λ t h. has_behind_number t) e f)
 
   module _ (t after : ℕ) (r : ReadsAt number_format bytes at t after) where
-    number_fault : (e : RecordFault) → FaultAt (behind_number t) bytes after e → FaultAt record_format bytes at e
+    number_fault : (e : FormatFault) → FaultAt (behind_number t) bytes after e → FaultAt record_format bytes at e
     number_fault e f = record_fault e (fault_second number_format behind_number bytes at plain_number after t r e f)
 
     -- a fault in the letter is one of the record
-    pub op_fault : (e : RecordFault) → FaultAt letter_format bytes after e → FaultAt record_format bytes at e
+    pub op_fault : (e : FormatFault) → FaultAt letter_format bytes after e → FaultAt record_format bytes at e
     op_fault e f = number_fault e (fault_first letter_format behind_letter bytes after (λ o h. has_behind_letter o) e f)
 
     module _ (o : RecOp) (behind : ℕ) (s : ReadsAt letter_format bytes after o behind) where
-      letter_fault : (e : RecordFault) → FaultAt (behind_letter o) bytes behind e → FaultAt record_format bytes at e
+      letter_fault : (e : FormatFault) → FaultAt (behind_letter o) bytes behind e → FaultAt record_format bytes at e
       letter_fault e f = number_fault e (fault_second letter_format behind_letter bytes after plain_letter behind o s e f)
 
       -- a fault in the path is one of the record
-      pub path_fault : (e : RecordFault) → FaultAt (path_format (LOC_MAX - 1)) bytes behind e → FaultAt record_format bytes at e
+      pub path_fault : (e : FormatFault) → FaultAt (path_format (LOC_MAX - 1)) bytes behind e → FaultAt record_format bytes at e
       path_fault e f = letter_fault e (fault_first (path_format (LOC_MAX - 1)) (behind_path o) bytes behind (λ p h. has_source o) e f)
 
       module _ (p : Path) (below : ℕ) (u : ReadsAt (path_format (LOC_MAX - 1)) bytes behind p below) where
         -- a fault in the source is one of the record
-        pub source_fault : (e : RecordFault) → FaultAt (source_format o) bytes below e → FaultAt record_format bytes at e
+        pub source_fault : (e : FormatFault) → FaultAt (source_format o) bytes below e → FaultAt record_format bytes at e
         source_fault e f = letter_fault e (fault_second (path_format (LOC_MAX - 1)) (behind_path o) bytes behind (plain_path (LOC_MAX - 1) (omega arith)) below p u e f)
 
         -- the parts are read, and so is the record

@@ -35,3 +35,7 @@ pub record ReadsAt {X : Type 0} (F : Format X) (bytes : List ℕ) (at : ℕ) (x 
 pub record FailsAt {X : Type 0} (F : Format X) (bytes : List ℕ) (at n : ℕ) : Type 0 where
   pub past : at ≤ n
   pub stops : Stops F (drop at bytes) (n - at)
+
+-- no spelling begins another, and each is that of one value
+abbrev pub IsExact : {X : Type 0} → Format X → Type 0
+IsExact {X} F = (x y : X) (xs ys : List ℕ) → F.fit x → F.fit y → F.bytes x ++ xs ≡ F.bytes y ++ ys → (x ≡ y) × (xs ≡ ys)

@@ -5,7 +5,7 @@ ghost use Rattle.cp_format.specs.Faults.{FaultAt};
 ghost use Rattle.cp_format.specs.Formats.{ReadsAt};
 ghost use Rattle.cp_format.specs.Parts.{fits_name, name_format, name_text_format};
 
-use crate::fault::RecordFault;
+use crate::fault::FormatFault;
 use crate::number::count_at;
 use cp_path::{NAME_MAX, Name, PathFault};
 use std::alloc::{AllocError, Global};
@@ -49,7 +49,7 @@ fn name_bytes(bytes: &[u8], count: usize) -> usize
 }
 
 /// The text of a name in the next `count` bytes. Costs them.
-fn name_text_at(bytes: &[u8], at: usize, count: usize) -> Result<&str, RecordFault>
+fn name_text_at(bytes: &[u8], at: usize, count: usize) -> Result<&str, FormatFault>
     requires at { at ≤ length bytes.now }
     requires some { 1 ≤ count }
     requires few { count ≤ NAME_MAX }
@@ -59,7 +59,7 @@ fn name_text_at(bytes: &[u8], at: usize, count: usize) -> Result<&str, RecordFau
     let rest = &bytes[at..];
     let good = name_bytes(rest, count);
     if good < count {
-        return Err(RecordFault::BadRecord(at + good));
+        return Err(FormatFault::BadByte(at + good));
     }
     match std::str::from_utf8(&rest[..count]) {
         Ok(text) => Ok(text),
@@ -80,7 +80,7 @@ fn name_of(alloc: Global, text: &str) -> Result<Name, AllocError>
 }
 
 /// The name in the next bytes. Costs them.
-pub(crate) fn name_at(alloc: Global, bytes: &[u8], at: usize) -> Result<(Name, usize), RecordFault>
+pub(crate) fn name_at(alloc: Global, bytes: &[u8], at: usize) -> Result<(Name, usize), FormatFault>
     requires { at ≤ length bytes.now }
     ensures read { IfOk result (λ x. ReadsAt name_format bytes.now at x.0 x.1) }
     ensures fault { IfErr result (FaultAt name_format bytes.now at) }

@@ -4,36 +4,36 @@ ghost use Rattle.cp_format.specs.Faults.{FaultAt};
 ghost use Rattle.cp_format.specs.Formats.{ReadsAt};
 ghost use Rattle.cp_format.specs.Parts.{count_format, letter_format, number_format};
 
-use crate::fault::RecordFault;
+use crate::fault::FormatFault;
 use cp_model::RecOp;
 
 /// The number in the next eight bytes.
-pub(crate) fn number_at(bytes: &[u8], at: usize) -> Result<(u64, usize), RecordFault>
+pub(crate) fn number_at(bytes: &[u8], at: usize) -> Result<(u64, usize), FormatFault>
     requires { at ≤ length bytes.now }
     ensures read { IfOk result (λ x. ReadsAt number_format bytes.now at x.0 x.1) }
     ensures fault { IfErr result (FaultAt number_format bytes.now at) }
 {
     match bytes[at..].split_first_chunk::<8>() {
         Some((first, _)) => Ok((u64::from_be_bytes(*first), at + 8)),
-        None => Err(RecordFault::BadRecord(bytes.len())),
+        None => Err(FormatFault::BadByte(bytes.len())),
     }
 }
 
 /// The operation of the next byte.
-pub(crate) fn letter_at(bytes: &[u8], at: usize) -> Result<(RecOp, usize), RecordFault>
+pub(crate) fn letter_at(bytes: &[u8], at: usize) -> Result<(RecOp, usize), FormatFault>
     requires { at ≤ length bytes.now }
     ensures read { IfOk result (λ x. ReadsAt letter_format bytes.now at x.0 x.1) }
     ensures fault { IfErr result (FaultAt letter_format bytes.now at) }
 {
     if at == bytes.len() {
-        return Err(RecordFault::BadRecord(at));
+        return Err(FormatFault::BadByte(at));
     }
     match bytes[at] {
         b'I' => Ok((RecOp::I, at + 1)),
         b'C' => Ok((RecOp::C, at + 1)),
         b'D' => Ok((RecOp::D, at + 1)),
         b'K' => Ok((RecOp::K, at + 1)),
-        _ => Err(RecordFault::BadRecord(at)),
+        _ => Err(FormatFault::BadByte(at)),
     }
 }
 
@@ -43,7 +43,7 @@ pub(crate) fn count_at(
     at: usize,
     least: usize,
     most: usize,
-) -> Result<(usize, usize), RecordFault>
+) -> Result<(usize, usize), FormatFault>
     requires at { at ≤ length bytes.now }
     requires some { least ≤ most }
     requires byte { least < 256 }
@@ -51,11 +51,11 @@ pub(crate) fn count_at(
     ensures fault { IfErr result (FaultAt (count_format least most) bytes.now at) }
 {
     if at == bytes.len() {
-        return Err(RecordFault::BadRecord(at));
+        return Err(FormatFault::BadByte(at));
     }
     let count = bytes[at] as usize;
     if count < least || count > most {
-        return Err(RecordFault::BadRecord(at));
+        return Err(FormatFault::BadByte(at));
     }
     Ok((count, at + 1))
 }

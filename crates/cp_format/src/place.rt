@@ -4,7 +4,7 @@ ghost use Rattle.cp_format.specs.Faults.{FaultAt};
 ghost use Rattle.cp_format.specs.Formats.{ReadsAt};
 ghost use Rattle.cp_format.specs.Parts.{label_format, labels_format, path_format, place_format};
 
-use crate::fault::RecordFault;
+use crate::fault::FormatFault;
 use crate::name::name_at;
 use crate::number::count_at;
 use crate::text::text_at;
@@ -12,12 +12,12 @@ use cp_path::{LABELS_MAX, LOC_MAX, Label, Loc, Path, PathFault};
 use std::alloc::{AllocError, Global};
 
 /// The label in the next bytes, of `most` bytes at most. Costs its bytes.
-fn label_at(
+pub(crate) fn label_at(
     alloc: Global,
     bytes: &[u8],
     at: usize,
     most: usize,
-) -> Result<(Label, usize), RecordFault>
+) -> Result<(Label, usize), FormatFault>
     requires { at ≤ length bytes.now }
     ensures read { IfOk result (λ x. ReadsAt (label_format most) bytes.now at x.0 x.1) }
     ensures fault { IfErr result (FaultAt (label_format most) bytes.now at) }
@@ -47,7 +47,7 @@ fn labels_at(
     at: usize,
     count: usize,
     room: usize,
-) -> Result<(Path, usize), RecordFault>
+) -> Result<(Path, usize), FormatFault>
     requires at { at ≤ length bytes.now }
     requires few { count ≤ LABELS_MAX }
     requires room { count ≤ room }
@@ -72,7 +72,7 @@ pub(crate) fn path_at(
     bytes: &[u8],
     at: usize,
     room: usize,
-) -> Result<(Path, usize), RecordFault>
+) -> Result<(Path, usize), FormatFault>
     requires at { at ≤ length bytes.now }
     requires room { LABELS_MAX ≤ room }
     ensures read { IfOk result (λ x. ReadsAt (path_format room) bytes.now at x.0 x.1) }
@@ -83,7 +83,7 @@ pub(crate) fn path_at(
 }
 
 /// The place in the next bytes. Costs them.
-pub(crate) fn place_at(alloc: Global, bytes: &[u8], at: usize) -> Result<(Loc, usize), RecordFault>
+pub(crate) fn place_at(alloc: Global, bytes: &[u8], at: usize) -> Result<(Loc, usize), FormatFault>
     requires { at ≤ length bytes.now }
     ensures read { IfOk result (λ x. ReadsAt place_format bytes.now at x.0 x.1) }
     ensures fault { IfErr result (FaultAt place_format bytes.now at) }

@@ -1,12 +1,12 @@
 ghost use Rattle.std.specs.Prelude.{◌≡◌, ◌≤◌, ◌-◌, ℕ, length, drop, IfErr, IfOk};
 ghost use Rattle.std.specs.declared.result.Result.TheVariants.{Err};
-ghost use Rattle.cp_format.specs.declared.fault.RecordFault.TheVariants.{BadRecord};
+ghost use Rattle.cp_format.specs.declared.fault.FormatFault.TheVariants.{BadByte};
 ghost use Rattle.cp_format.specs.Faults.{FaultAt};
 ghost use Rattle.cp_format.specs.Formats.{ReadsAt};
 ghost use Rattle.cp_format.specs.Parts.{record_format, source_format};
 ghost use Rattle.cp_format.specs.Spelled.{Spells, StopsAt};
 
-use crate::fault::RecordFault;
+use crate::fault::FormatFault;
 use crate::number::{letter_at, number_at};
 use crate::place::{path_at, place_at};
 use cp_model::{RecOp, Record};
@@ -19,7 +19,7 @@ fn source_at(
     op: RecOp,
     bytes: &[u8],
     at: usize,
-) -> Result<(Option<Loc>, usize), RecordFault>
+) -> Result<(Option<Loc>, usize), FormatFault>
     requires { at ≤ length bytes.now }
     ensures read { IfOk result (λ x. ReadsAt (source_format op) bytes.now at x.0 x.1) }
     ensures fault { IfErr result (FaultAt (source_format op) bytes.now at) }
@@ -34,7 +34,7 @@ fn source_at(
 }
 
 /// The record in the next bytes. The name of T, which isn't spelled, takes 1 of the place's size. Costs its bytes.
-fn record_at(alloc: Global, bytes: &[u8], at: usize) -> Result<(Record, usize), RecordFault>
+fn record_at(alloc: Global, bytes: &[u8], at: usize) -> Result<(Record, usize), FormatFault>
     requires { at ≤ length bytes.now }
     ensures read { IfOk result (λ x. ReadsAt record_format bytes.now at x.0 x.1) }
     ensures fault { IfErr result (FaultAt record_format bytes.now at) }
@@ -49,10 +49,10 @@ fn record_at(alloc: Global, bytes: &[u8], at: usize) -> Result<(Record, usize), 
 }
 
 /// The record whose bytes begin at the offset `at`, and the offset after them. Costs its bytes.
-pub fn take(alloc: Global, bytes: &[u8], at: usize) -> Result<(Record, usize), RecordFault>
+pub fn take(alloc: Global, bytes: &[u8], at: usize) -> Result<(Record, usize), FormatFault>
     requires { at ≤ length bytes.now }
     ensures record { IfOk result (λ x. (at ≤ x.1) × Spells (drop at bytes.now) x.0 (x.1 - at)) }
-    ensures bad { (n : ℕ) → result ≡ Err (BadRecord n) → (at ≤ n) × StopsAt (drop at bytes.now) (n - at) }
+    ensures bad { (n : ℕ) → result ≡ Err (BadByte n) → (at ≤ n) × StopsAt (drop at bytes.now) (n - at) }
 {
     record_at(alloc, bytes, at)
 }

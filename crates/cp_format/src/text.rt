@@ -5,7 +5,7 @@ ghost use Rattle.cp_format.specs.Formats.{Reads, ReadsAt, Stops};
 ghost use Rattle.cp_format.specs.Chars.{Follows, HasNoChar, IsSecond, char_format, width};
 ghost use Rattle.cp_format.specs.Parts.{text_format};
 
-use crate::fault::RecordFault;
+use crate::fault::FormatFault;
 
 /// How many bytes a character has that begins with this byte, or 0 where none does.
 fn width(first: u8) -> usize
@@ -81,13 +81,13 @@ fn text_in(bytes: &[u8], count: usize) -> Result<&str, usize>
 }
 
 /// The text that the next `count` bytes are. Costs them.
-pub(crate) fn text_at(bytes: &[u8], at: usize, count: usize) -> Result<&str, RecordFault>
+pub(crate) fn text_at(bytes: &[u8], at: usize, count: usize) -> Result<&str, FormatFault>
     requires { at ≤ length bytes.now }
     ensures read { IfOk result (λ a. ReadsAt (text_format count) bytes.now at a.now (at + count)) }
     ensures fault { IfErr result (FaultAt (text_format count) bytes.now at) }
 {
     match text_in(&bytes[at..], count) {
         Ok(text) => Ok(text),
-        Err(good) => Err(RecordFault::BadRecord(at + good)),
+        Err(good) => Err(FormatFault::BadByte(at + good)),
     }
 }

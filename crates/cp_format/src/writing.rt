@@ -24,7 +24,7 @@ fn letter(op: RecOp) -> u8
 }
 
 /// Writes bytes behind their number.
-fn put_counted(bytes: &[u8], out: &mut Vec<u8>) -> Result<(), AllocError>
+pub(crate) fn put_counted(bytes: &[u8], out: &mut Vec<u8>) -> Result<(), AllocError>
     requires { length bytes.now ≤ LABEL_MAX }
     ensures ok { OnOk result (out.new.items ≡ out.old.items ++ counted_bytes bytes.now) }
     ensures err { Grew out.old.items out.new.items }
@@ -46,7 +46,7 @@ fn put_labels(labels: &[Label], out: &mut Vec<u8>) -> Result<(), AllocError>
 }
 
 /// Writes the labels behind their number.
-fn put_path(path: &Path, out: &mut Vec<u8>) -> Result<(), AllocError>
+pub(crate) fn put_path(path: &Path, out: &mut Vec<u8>) -> Result<(), AllocError>
     ensures ok { OnOk result (out.new.items ≡ out.old.items ++ path_bytes path.now) }
     ensures err { Grew out.old.items out.new.items }
 {
@@ -56,7 +56,7 @@ fn put_path(path: &Path, out: &mut Vec<u8>) -> Result<(), AllocError>
 }
 
 /// Writes the name and the path.
-fn put_place(place: &Loc, out: &mut Vec<u8>) -> Result<(), AllocError>
+pub(crate) fn put_place(place: &Loc, out: &mut Vec<u8>) -> Result<(), AllocError>
     ensures ok { OnOk result (out.new.items ≡ out.old.items ++ place_bytes place.now) }
     ensures err { Grew out.old.items out.new.items }
 {

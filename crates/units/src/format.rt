@@ -1,7 +1,11 @@
 ghost use Rattle.std.specs.Prelude.{◌<◌};
 
-use cp_format::{RecOp, Record, RecordFault, put, take};
-use cp_path::{Label, Loc, Name, Path, PathFault};
+use cp_format::{
+    Content, FormatFault, Op, RecOp, Record, put, put_content, put_short, take, take_content,
+    take_short,
+};
+use cp_model::{LitList, Literal};
+use cp_path::{Label, Loc, Name, Path, PathFault, Text, Value, Whole};
 use std::alloc::{AllocError, Global};
 use std::test::Fail;
 
@@ -16,7 +20,7 @@ fn place_of(alloc: Global, name: &str, label: &str) -> Result<Loc, PathFault> {
 /// Where the bytes stop spelling a record.
 fn stop_of(alloc: Global, bytes: &[u8]) -> Option<usize> {
     match take(alloc, bytes, 0) {
-        Err(RecordFault::BadRecord(at)) => Some(at),
+        Err(FormatFault::BadByte(at)) => Some(at),
         _ => None,
     }
 }
@@ -153,5 +157,194 @@ fn the_front_of_a_record_is_too_short(rt: HostRuntime) -> Result<(), Fail> {
     for count in 0..12 {
         assert_eq!(rt; stop_of(rt.alloc(), &RECORD[..count]), Some(count));
     }
+    Ok(())
+}
+
+/// Where the bytes stop spelling an operation.
+fn op_stop(alloc: Global, bytes: &[u8]) -> Option<usize> {
+    match take_short(alloc, bytes, 0) {
+        Err(FormatFault::BadByte(at)) => Some(at),
+        _ => None,
+    }
+}
+
+/// Where the bytes stop spelling a content.
+fn content_stop(alloc: Global, bytes: &[u8]) -> Option<usize> {
+    match take_content(alloc, bytes, 0) {
+        Err(FormatFault::BadByte(at)) => Some(at),
+        _ => None,
+    }
+}
+
+/// The insertion `ins {a : -2} into T/<e with acute>`.
+const INSERTION: [u8; 16] = *b"\x01\x01\x02\xc3\xa9\x01a\x05\xff\xff\xff\xff\xff\xff\xff\xfe";
+
+/// Whether the tree is the leaf of this number.
+fn is_number(tree: &Literal, number: i128) -> bool {
+    match tree {
+        Literal::Leaf(Value::Whole(whole)) => whole.get() == number,
+        _ => false,
+    }
+}
+
+/// Whether the operation inserts this number.
+fn is_insertion(op: &Op, place: &Loc, name: &str, number: i128) -> bool {
+    match op {
+        Op::Ins { into, label, tree } => {
+            into == place && label.as_str() == name && is_number(tree, number)
+        }
+        _ => false,
+    }
+}
+
+#[test]
+fn an_insertion_is_read(rt: HostRuntime) -> Result<(), Fail> {
+    let alloc = rt.alloc();
+    let place = place_of(alloc, "T", "\u{e9}")?;
+    match take_short(alloc, &INSERTION[..], 0) {
+        Ok((op, next)) => {
+            assert!(rt; next == 16);
+            assert!(rt; is_insertion(&op, &place, "a", -2));
+        }
+        Err(_) => assert!(rt; false),
+    }
+    Ok(())
+}
+
+#[test]
+fn the_front_of_an_insertion_is_too_short(rt: HostRuntime) -> Result<(), Fail> {
+    for count in 0..16 {
+        assert_eq!(rt; op_stop(rt.alloc(), &INSERTION[..count]), Some(count));
+    }
+    Ok(())
+}
+
+/// Whether the operation deletes at this place.
+fn is_deletion(op: &Op, place: &Loc, name: &str) -> bool {
+    match op {
+        Op::Del { label, from } => from == place && label.as_str() == name,
+        _ => false,
+    }
+}
+
+/// Whether the operation copies between these places.
+fn is_copy(op: &Op, origin: &Loc, place: &Loc) -> bool {
+    match op {
+        Op::Copy { from, into } => from == origin && into == place,
+        _ => false,
+    }
+}
+
+#[test]
+fn a_deletion_is_read(rt: HostRuntime) -> Result<(), Fail> {
+    let alloc = rt.alloc();
+    let place = place_of(alloc, "T", "b")?;
+    match take_short(alloc, b"\x02\x01\x01b\x01a", 0) {
+        Ok((op, next)) => {
+            assert!(rt; next == 6);
+            assert!(rt; is_deletion(&op, &place, "a"));
+        }
+        Err(_) => assert!(rt; false),
+    }
+    Ok(())
+}
+
+#[test]
+fn a_copy_is_read(rt: HostRuntime) -> Result<(), Fail> {
+    let alloc = rt.alloc();
+    let origin = place_of(alloc, "S1", "a")?;
+    let root = Loc::target(alloc)?;
+    match take_short(alloc, b"\x03\x02S1\x01\x01a\0", 0) {
+        Ok((op, next)) => {
+            assert!(rt; next == 8);
+            assert!(rt; is_copy(&op, &origin, &root));
+        }
+        Err(_) => assert!(rt; false),
+    }
+    Ok(())
+}
+
+/// Writes the insertion of an empty node below the root.
+fn put_insertion(alloc: Global, out: &mut Vec<u8>) -> Result<(), PathFault> {
+    let into = Loc::target(alloc)?;
+    let label = Label::new(alloc, "a")?;
+    let tree = Literal::Node(LitList {
+        items: Vec::new(alloc),
+    });
+    put_short(&Op::Ins { into, label, tree }, out)?;
+    Ok(())
+}
+
+/// Writes a deletion below the root.
+fn put_deletion(alloc: Global, out: &mut Vec<u8>) -> Result<(), PathFault> {
+    let from = Loc::target(alloc)?;
+    let label = Label::new(alloc, "bc")?;
+    put_short(&Op::Del { label, from }, out)?;
+    Ok(())
+}
+
+/// Writes a copy to the root.
+fn put_copy(alloc: Global, out: &mut Vec<u8>) -> Result<(), PathFault> {
+    let from = place_of(alloc, "S1", "a")?;
+    let into = Loc::target(alloc)?;
+    put_short(&Op::Copy { from, into }, out)?;
+    Ok(())
+}
+
+#[test]
+fn operations_are_written_one_after_another(rt: HostRuntime) -> Result<(), Fail> {
+    let alloc = rt.alloc();
+    let mut out = Vec::new(alloc);
+    put_insertion(alloc, &mut out)?;
+    put_deletion(alloc, &mut out)?;
+    put_copy(alloc, &mut out)?;
+    let wanted = b"\x01\0\x01a\0\x02\0\x02bc\x03\x02S1\x01\x01a\0";
+    assert!(rt; out.as_slice() == &wanted[..]);
+    Ok(())
+}
+
+#[test]
+fn contents_are_written_one_after_another(rt: HostRuntime) -> Result<(), Fail> {
+    let alloc = rt.alloc();
+    let mut out = Vec::new(alloc);
+    put_content(&Content::Node, &mut out)?;
+    put_content(&Content::Leaf(Value::Null), &mut out)?;
+    put_content(&Content::Leaf(Value::False), &mut out)?;
+    put_content(&Content::Leaf(Value::True), &mut out)?;
+    put_content(&Content::Leaf(Value::Whole(Whole::from(258))), &mut out)?;
+    let text = Text::copy_of(alloc, "")?;
+    put_content(&Content::Leaf(Value::Text(text)), &mut out)?;
+    let wanted = b"\0\x01\x02\x03\x04\0\0\0\0\0\0\x01\x02\x06\0\0\0\0";
+    assert!(rt; out.as_slice() == &wanted[..]);
+    Ok(())
+}
+
+#[test]
+fn a_wrong_byte_of_an_operation_is_found(rt: HostRuntime) -> Result<(), Fail> {
+    let alloc = rt.alloc();
+    // no such form, and that of a tree with children
+    assert!(rt; op_stop(alloc, b"\0\0\x01a\0") == Some(0));
+    assert!(rt; op_stop(alloc, b"\x04\0\x01a\0\0\0\0\x01\0\x01") == Some(0));
+    // a place with too many labels, an origin without a name, a content of no form
+    assert!(rt; op_stop(alloc, b"\x02\x41") == Some(1));
+    assert!(rt; op_stop(alloc, b"\x03\0") == Some(1));
+    assert!(rt; op_stop(alloc, b"\x01\0\0\x07") == Some(3));
+    Ok(())
+}
+
+#[test]
+fn a_wrong_byte_of_a_content_is_found(rt: HostRuntime) -> Result<(), Fail> {
+    let alloc = rt.alloc();
+    // a number below zero has its highest bit set
+    assert!(rt; content_stop(alloc, b"\x05\x7f\xff\xff\xff\xff\xff\xff\xff") == Some(1));
+    assert!(rt; content_stop(alloc, b"\x05\x80\0\0\0\0\0\0\0") == None);
+    // the longest text has 1,048,576 bytes
+    assert!(rt; content_stop(alloc, b"\x06\x01") == Some(1));
+    assert!(rt; content_stop(alloc, b"\x06\0\x11") == Some(2));
+    assert!(rt; content_stop(alloc, b"\x06\0\x10\x01") == Some(3));
+    assert!(rt; content_stop(alloc, b"\x06\0\x10\0\x01") == Some(4));
+    assert!(rt; content_stop(alloc, b"\x06\0\x10\0\0") == Some(5));
+    // a text is UTF-8
+    assert!(rt; content_stop(alloc, b"\x06\0\0\0\x02\xc3(") == Some(6));
     Ok(())
 }

@@ -3,9 +3,13 @@
 #![tactic(auto)]
 
 #[cfg(test)]
+mod disk;
+#[cfg(test)]
 mod format;
 #[cfg(test)]
 mod host;
+#[cfg(test)]
+mod journal;
 #[cfg(test)]
 mod outside;
 #[cfg(test)]

@@ -1,0 +1,7 @@
+use Rattle.std.proofs.Common.{refl}
+use Rattle.cp_disk.proofs.Counting.{counted_failure}
+use Rattle.cp_disk.proofs.memory_disk.MemDiskDisk.cut.Goals as goal
+
+pub returns-then-fails_now-clause-cause : goal.returns-then-fails_now-clause-cause
+returns-then-fails_now-clause-cause c =
+    rw (← c.self.view_is) (counted_failure _ _ c.fails_now.ensures.later (c.fails_now.ensures.fault c.if-fails_now.true) refl)

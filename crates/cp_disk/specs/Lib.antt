@@ -1,0 +1,9 @@
+pub mod Calls
+pub mod Counts
+pub mod Crashes
+pub mod Edits
+pub mod ImageLaws
+pub mod Images
+pub mod MemoryDisks
+pub mod Views
+pub mod Writes

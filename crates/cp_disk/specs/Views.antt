@@ -1,0 +1,50 @@
+-- What contracts see of a disk: its content, and the files that a crash may leave, now and since an earlier moment.
+use Rattle.std.specs.Prelude.{ℕ, ◌≡◌, ◌≤◌, ◌⊎◌, List}
+
+-- A disk as contracts see it.
+pub record View : Type 1 where
+  -- The bytes that reads give.
+  pub content : List ℕ
+  -- The files that a crash may leave now.
+  pub images : List ℕ → Type 0
+  -- The files that a crash may have left at some moment since that one.
+  pub since : ℕ → List ℕ → Type 0
+  -- What the disk's own clock shows, which goes on with its calls.
+  pub moment : ℕ
+
+-- This content is the one file that a crash may leave.
+abbrev pub Only : List ℕ → (List ℕ → Type 0) → Type 0
+Only content images = (c : List ℕ) → images c → c ≡ content
+
+-- The content is this, and a crash leaves nothing else.
+pub record IsDurable (bytes : List ℕ) (v : View) : Type 0 where
+  pub content : v.content ≡ bytes
+  pub only : Only bytes v.images
+
+-- Nothing is forgotten: what a crash since an earlier moment may have left, it may have left still.
+abbrev pub Remembers : View → View → Type 0
+Remembers v w = (t : ℕ) (c : List ℕ) → t ≤ v.moment → v.since t c → w.since t c
+
+-- The content is the same, and a crash leaves nothing that it couldn't leave before.
+pub record Rests (v w : View) : Type 0 where
+  pub content : w.content ≡ v.content
+  pub images : (c : List ℕ) → w.images c → v.images c
+  pub later : v.moment ≤ w.moment
+  pub since : (t : ℕ) (c : List ℕ) → t ≤ v.moment → w.since t c → v.since t c
+  pub keeps : Remembers v w
+
+-- This file is an image of v after this step.
+abbrev pub IsAfter : (List ℕ → List ℕ → Type 0) → View → List ℕ → Type 0
+IsAfter Step v c = (d : List ℕ) × v.images d × Step d c
+
+-- From v to w, each file that a crash leaves is an image of v after this step.
+pub record Steps (Step : List ℕ → List ℕ → Type 0) (v w : View) : Type 0 where
+  pub later : v.moment ≤ w.moment
+  pub since : (t : ℕ) (c : List ℕ) → t ≤ v.moment → w.since t c → v.since t c ⊎ IsAfter Step v c
+  pub now : (c : List ℕ) → w.images c → IsAfter Step v c
+
+-- From v to w, each file that a crash leaves has this property.
+pub record Keeps (Property : List ℕ → Type 0) (v w : View) : Type 0 where
+  pub later : v.moment ≤ w.moment
+  pub since : (t : ℕ) (c : List ℕ) → t ≤ v.moment → w.since t c → v.since t c ⊎ Property c
+  pub now : (c : List ℕ) → w.images c → Property c

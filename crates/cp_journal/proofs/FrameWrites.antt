@@ -1,0 +1,32 @@
+-- The two writes of a frame, one behind the other.
+use Rattle.std.proofs.Common.{◌≡◌, ◌≤◌, ◌+◌, inl, ℕ, List, [], ◌∷◌, length, ◌∙◌, ap, subst, arith}
+use Rattle.cp_disk.specs.Views.{View, Only, Steps, Keeps}
+use Rattle.cp_disk.specs.Writes.{Torn, with_bytes}
+use Rattle.cp_disk.proofs.Composing.{keeps_none, keeps_steps}
+use Rattle.cp_journal.specs.Frames.{Frame, after_gate, spelled}
+use Rattle.cp_journal.specs.Holding.{IsLawful, IsAtRest, IsAdded, IsBeforeOrAfter}
+use Rattle.cp_journal.proofs.Adding.{now_before, torn_behind, staged, torn_gate, is_added, length-staged}
+
+pub before_writes : (e : ℕ) (v : View) (f : Frame) (rest : IsAtRest e v) → Keeps (IsBeforeOrAfter e v.content f) v v
+before_writes e v f rest = keeps_none (IsBeforeOrAfter e v.content f) v (λ c im. inl (now_before e v rest c (rest.settled c im)))
+
+module _ (e : ℕ) (v : View) (f : Frame) (ok : IsLawful f) (rest : IsAtRest e v) where
+  abbrev P : List ℕ → Type 0
+  P = IsBeforeOrAfter e v.content f
+
+  pub after_first : (w : View) (n : ℕ) → Steps (Torn (e + 1) n) v w → Keeps P v w
+  after_first w n steps = keeps_steps P (Torn (e + 1) n) v v w (before_writes e v f rest) steps (λ d c im torn. inl (now_before e v rest c (torn_behind e v rest n d c im torn)))
+
+  module _ (w x : View) (bytes : List ℕ) (is : bytes ≡ after_gate f) (n : ℕ) (steps : Steps (Torn (e + 1) n) v w) (content : w.content ≡ with_bytes v.content (e + 1) bytes) (only : Only w.content w.images) where
+    is_staged : w.content ≡ staged e v f ok rest
+    is_staged = content ∙ ap (λ (l : List ℕ). with_bytes v.content (e + 1) l) is
+
+    pub room_at_gate : e ≤ length w.content
+    room_at_gate = let long = length-staged e v f ok rest in let same = ap length is_staged in omega (arith, long, same)
+
+    pub after_second : Steps (Torn e 1) w x → Keeps P v x
+    after_second more = keeps_steps P (Torn e 1) v w x (after_first w n steps) more
+        (λ d c im torn. torn_gate e v f ok rest c (subst (λ (l : List ℕ). Torn e 1 l c) (only d im ∙ is_staged) torn))
+
+    pub at_ok : (to : ℕ) → to ≡ e + length (spelled f) → x.content ≡ with_bytes w.content e (1 ∷ []) → Only x.content x.images → IsAdded e f v.content to x
+    at_ok to size made only_x = is_added e v f ok rest x to size (made ∙ ap (λ (l : List ℕ). with_bytes l e (1 ∷ [])) is_staged) only_x

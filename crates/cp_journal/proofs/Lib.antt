@@ -1,0 +1,9 @@
+mod Adding
+pub mod Bodies
+mod FrameWrites
+mod Looks
+mod NewStores
+mod Places
+pub mod Standing
+mod Stretch
+pub mod Walks

@@ -1,0 +1,136 @@
+-- What a crash leaves while a store is made.
+use Rattle.std.proofs.Common.{◌≡◌, ◌≤◌, ◌+◌, ◌⊎◌, inl, inr, ⊎_elim, ℕ, true, List, [], ◌∷◌, ◌++◌, length, take, drop, get_or, refl, sym, ◌∙◌, ap, subst, arith, append_assoc, append-nil, length-append, length-take, length-drop, Result}
+use Rattle.std.proofs.lemmas.List.{take_at, drop_at, drop_more, drop-take, drop-append-le, get_or_at}
+use Rattle.std.proofs.lemmas.Bool.{cases_eq}
+use Rattle.cp_disk.specs.Calls.{Wrote}
+use Rattle.cp_disk.specs.Views.{View, Only, Rests, Steps, Keeps}
+use Rattle.cp_disk.specs.Writes.{Torn, CutShort, with_bytes}
+use Rattle.cp_disk.specs.declared.disk.DiskFault.{DiskFault}
+use Rattle.cp_disk.proofs.Composing.{keeps_none, keeps_steps, keeps_rests, keeps_wider, keeps_then}
+use Rattle.cp_journal.specs.Frames.{Frame, spelled, onto, ended, frames_of}
+use Rattle.cp_journal.proofs.Walks.{frames_of-closed, frames_of-whole}
+use Rattle.cp_journal.specs.Holding.{IsLawful, Stands, Holds}
+use Rattle.cp_journal.specs.Journals.{JournalState, Describes}
+use Rattle.cp_journal.proofs.Places.{place}
+use Rattle.cp_journal.proofs.Standing.{describes}
+use Rattle.cp_journal.specs.NewStores.{header, header_rest, new_file, IsVacant, StaysVacant, IsOldOrVacant, IsOldOrVacantOrNew}
+use Rattle.cp_journal.proofs.Adding.{found, shorter_front, front_gate}
+
+pub vacant_front : (start : ℕ) (c0 c : List ℕ) → StaysVacant start c0 → take start c ≡ take start c0 → IsVacant c
+vacant_front start c0 c (inl one) same =
+    let first : take (0 + 1) c ≡ take (0 + 1) c0 = shorter_front 1 start c c0 (omega (arith, one.0)) same in
+    inr (inl (front_gate 0 c c0 first ∙ one.2))
+vacant_front start c0 c (inr six) same =
+    let all : take (1 + 5) c ≡ take (1 + 5) c0 = shorter_front 6 start c c0 (omega (arith, six.0)) same in
+    let first : take (0 + 1) c ≡ take (0 + 1) c0 = shorter_front 1 6 c c0 (omega arith) all in
+    let rest : take 5 (drop 1 c) ≡ take 5 (drop 1 c0) = sym (drop-take 1 5 c) ∙ ap (drop 1) all ∙ drop-take 1 5 c0 in
+    inr (inr ((λ is. six.2 (sym (front_gate 0 c c0 first) ∙ is)), rest ∙ six.3))
+
+-- all of a new file after its header gate
+abbrev file_rest : Frame → List ℕ
+file_rest f = header_rest ++ spelled f ++ 0 ∷ []
+
+module _ (start : ℕ) (v : View) (opening : StaysVacant start v.content) (only : Only v.content v.images) where
+  abbrev P : List ℕ → Type 0
+  P c = take start c ≡ take start v.content
+
+  after_write : (w : View) (bs : List ℕ) (result : Result (Unit {0}) DiskFault) → Wrote start bs result v w → Keeps P v w
+  after_write w bs result wrote =
+      keeps_steps P (Torn start (length bs)) v v w (keeps_none P v (λ c im. ap (take start) (only c im))) wrote.steps
+      (λ d c im torn. torn.before ∙ ap (take start) (only d im))
+
+  after_trim : (w x : View) (bs : List ℕ) (result : Result (Unit {0}) DiskFault) (len : ℕ) → start ≤ len → Wrote start bs result v w → Steps (CutShort len) w x → Keeps P v x
+  after_trim w x bs result len le wrote cut =
+      let so_far = after_write w bs result wrote in
+      keeps_steps P (CutShort len) v w x so_far cut (λ d c im short. shorter_front start len c d le short.front ∙ so_far.now d im)
+
+  pub trim_crash : (w x : View) (bs : List ℕ) (result : Result (Unit {0}) DiskFault) (len : ℕ) → start ≤ len → Wrote start bs result v w → Steps (CutShort len) w x → Keeps IsVacant v x
+  trim_crash w x bs result len le wrote cut = keeps_wider P IsVacant v x (after_trim w x bs result len le wrote cut) (λ c same. vacant_front start v.content c opening same)
+
+  pub sync_crash : (w x y : View) (bs : List ℕ) (result : Result (Unit {0}) DiskFault) (len : ℕ) → start ≤ len → Wrote start bs result v w → Steps (CutShort len) w x → Rests x y → Keeps IsVacant v y
+  sync_crash w x y bs result len le wrote cut rests = keeps_rests IsVacant v x y (trim_crash w x bs result len le wrote cut) rests
+
+pub opening_size : (start : ℕ) (c : List ℕ) → StaysVacant start c → start ≤ length c
+opening_size start c (inl one) = omega (arith, one.0, one.1)
+opening_size start c (inr six) = omega (arith, six.0, six.1)
+
+pub filled : (start len : ℕ) (old bs bytes w x y : List ℕ) → start ≤ length old → len ≡ length bytes → start ≤ len → bs ≡ drop start bytes → w ≡ with_bytes old start bs → x ≡ take len w → y ≡ x → y ≡ take start old ++ drop start bytes
+filled start len old bs bytes w x y le is le2 same wrote cut kept =
+    let front = take start old in
+    let n : length front ≡ start = omega (arith, length-take start old) in
+    let m : length (front ++ bs) ≡ len = omega (arith, length-append front bs, ap length same, length-drop start bytes, n) in
+    kept ∙ cut ∙ ap (take len) (wrote ∙ sym (append_assoc front bs (drop (start + length bs) old))) ∙ take_at (front ++ bs) (drop (start + length bs) old) len m ∙ ap (λ (l : List ℕ). front ++ l) same
+
+-- behind the header gate all stands as it is to be
+pub staged_rest : (start : ℕ) (c x : List ℕ) (f : Frame) → StaysVacant start c → x ≡ take start c ++ drop start (1 ∷ file_rest f) → drop 1 x ≡ file_rest f
+staged_rest start c x f (inl one) is =
+    let whole : x ≡ take 1 c ++ file_rest f = is ∙ ap (λ (k : ℕ). take k c ++ drop k (1 ∷ file_rest f)) one.0 in
+    let n : length (take 1 c) ≡ 1 = omega (arith, length-take 1 c, one.1) in
+    ap (drop 1) whole ∙ drop_at (take 1 c) (file_rest f) 1 n
+staged_rest start c x f (inr six) is =
+    let whole : x ≡ take 6 c ++ drop 5 (file_rest f) = is ∙ ap (λ (k : ℕ). take k c ++ drop k (1 ∷ file_rest f)) six.0 in
+    let n : 1 ≤ length (take 6 c) = omega (arith, length-take 6 c, six.1) in
+    ap (drop 1) whole ∙ drop-append-le 1 (take 6 c) (drop 5 (file_rest f)) n ∙ ap (λ (l : List ℕ). l ++ drop 5 (file_rest f)) (drop-take 1 5 c ∙ six.3)
+
+module _ (f : Frame) (ok : IsLawful f) where
+  pub file_is : 1 ∷ file_rest f ≡ header ++ (spelled f ++ 0 ∷ [])
+  file_is = append_assoc header (spelled f) (0 ∷ [])
+
+  stands_file : (c : List ℕ) → c ≡ 1 ∷ file_rest f → Stands header (f ∷ []) c
+  stands_file c is =
+      let whole : c ≡ header ++ (spelled f ++ 0 ∷ []) = is ∙ file_is in
+      let behind : drop (length header) c ≡ spelled f ++ 0 ∷ [] = ap (drop (length header)) whole ∙ drop_at header (spelled f ++ 0 ∷ []) (length header) refl in
+      let walk : frames_of (drop (length header) c) ≡ onto f (ended true) = ap frames_of behind ∙ frames_of-whole f (0 ∷ []) ok ∙ ap (onto f) (frames_of-closed 0 [] (λ z. absurd (omega (arith, z)))) in
+      record {
+        front = ap (take (length header)) whole ∙ take_at header (spelled f ++ 0 ∷ []) (length header) refl;
+        frames = found walk;
+      }
+
+  -- a crash while the header gate is opened leaves the store, or a vacant file
+  opened_crash : (x c : List ℕ) → 1 ≤ length x → drop 1 x ≡ file_rest f → Torn 0 1 x c → IsVacant c ⊎ Stands header (f ∷ []) c
+  opened_crash x c long rest torn =
+      let behind : drop 1 c ≡ file_rest f = torn.after ∙ rest in
+      let whole : c ≡ get_or c 0 0 ∷ file_rest f = drop_more c 0 0 (omega (arith, torn.no_shorter)) ∙ ap (λ (l : List ℕ). get_or c 0 0 ∷ l) behind in
+      ⊎_elim (λ one. inr (stands_file c (whole ∙ ap (λ (g : ℕ). g ∷ file_rest f) one))) (λ ne. inl (inr (inr (ne, ap (take 5) behind)))) (cases_eq (get_or c 0 0) 1)
+
+  header_long : length header ≡ 192
+  header_long = refl
+
+  module _ (v w x y : View) (start : ℕ) (opening : StaysVacant start w.content) (only_x : Only x.content x.images) (bytes : List ℕ) (full : bytes ≡ 1 ∷ file_rest f) (made_x : x.content ≡ take start w.content ++ drop start bytes) where
+    is : x.content ≡ take start w.content ++ drop start (1 ∷ file_rest f)
+    is = made_x ∙ ap (λ (l : List ℕ). take start w.content ++ drop start l) full
+
+    rest_x : drop 1 x.content ≡ file_rest f
+    rest_x = staged_rest start w.content x.content f opening is
+
+    long_x : 1 ≤ length x.content
+    long_x = omega (arith, ap length rest_x, length-drop 1 x.content, length-append (header_rest ++ spelled f) (0 ∷ []))
+
+    pub making_crash : Keeps (IsOldOrVacant v) v w → Keeps IsVacant w x → Steps (Torn 0 1) x y → Keeps (IsOldOrVacantOrNew v f) v y
+    making_crash first second third =
+        let a = keeps_wider (IsOldOrVacant v) (IsOldOrVacantOrNew v f) v w first (λ c h. ⊎_elim (λ o. inl o) (λ n. inr (inl n)) h) in
+        let b = keeps_then (IsOldOrVacantOrNew v f) IsVacant v w x a second (λ c h. inr (inl h)) in
+        keeps_steps (IsOldOrVacantOrNew v f) (Torn 0 1) v x y b third (λ d c im torn. inr (opened_crash x.content c long_x rest_x (subst (λ (l : List ℕ). Torn 0 1 l c) (only_x d im) torn)))
+
+    pub made_file : y.content ≡ with_bytes x.content 0 (1 ∷ []) → y.content ≡ new_file f
+    made_file made = made ∙ ap (λ (l : List ℕ). 1 ∷ l) rest_x
+
+    making_holds : (next : ℕ) → next ≡ 192 + length (spelled f) → y.content ≡ with_bytes x.content 0 (1 ∷ []) → Only y.content y.images → Holds header (f ∷ []) next y
+    making_holds next size made only =
+        let front = header ++ spelled f in
+        let whole : y.content ≡ front ++ 0 ∷ [] = made ∙ ap (λ (l : List ℕ). 1 ∷ l) rest_x in
+        let len : length front ≡ next = omega (arith, size, length-append header (spelled f), header_long) in
+        let gate : get_or y.content next 0 ≡ 0 = ap (λ (l : List ℕ). get_or l next 0) whole ∙ get_or_at front 0 [] 0 next len in
+        record {
+          lawful = (ok, tt);
+          size = omega (arith, size, header_long, length-append (spelled f) []);
+          front = ap (take next) whole ∙ take_at front (0 ∷ []) next len ∙ ap (λ (l : List ℕ). header ++ l) (sym (append-nil (spelled f)));
+          at_rest = record {
+            inside = omega (arith, ap length whole, length-append front (0 ∷ []), len);
+            closed = λ one. let no : 0 ≡ 1 = sym gate ∙ one in absurd (omega (arith, no));
+            settled = λ c im. ap (take (next + 1)) (only c im);
+          };
+        }
+
+    pub making_describes : (j : JournalState) → j.next ≡ 192 + length (spelled f) → j.frames ≡ place 192 f.tag (length f.body) ∷ [] → y.content ≡ with_bytes x.content 0 (1 ∷ []) → Only y.content y.images → Describes header (f ∷ []) j y
+    making_describes j size listed made only = describes header (f ∷ []) j y (making_holds j.next size made only) listed

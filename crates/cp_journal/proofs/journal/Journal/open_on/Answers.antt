@@ -1,0 +1,18 @@
+use Rattle.std.proofs.Common.{arith, refl}
+use Rattle.cp_journal.proofs.Stretch.{opened, opened_describes, opened_past, clean_is}
+use Rattle.cp_journal.proofs.journal.Journal.open_on.Goals as goal
+
+pub returns-then-at-size-clause-walked : goal.returns-then-at-size-clause-walked
+returns-then-at-size-clause-walked g c = λ known.
+    let size = (c.in_ok-size.ensures.sized known).size in
+    opened_past c.args.at _ _ (omega (arith, size, c.if-at-size.true)) c.new.ensures.items refl
+
+pub returns-clause-walked : goal.returns-clause-walked
+returns-clause-walked g c = λ known.
+    let w = c.in_ok-walked.ensures.walked known in
+    opened c.args.at w.found.0 _ _ _ _ _ (c.in_ok-size.ensures.sized known).rests (c.walk_frames.ensures.rests known) w.found.1 w.end w.found.2 c.kept_gate.ensures
+
+pub returns-clause-described : goal.returns-clause-described
+returns-clause-described g c = λ known only none.
+    let w = c.in_ok-walked.ensures.walked known in
+    opened_describes c.args.at w.found.0 _ _ _ _ _ (c.in_ok-size.ensures.sized known).rests (c.walk_frames.ensures.rests known) w.found.1 w.end w.found.2 (clean_is _ _ _ c.kept_gate.ensures none) only

@@ -1,0 +1,27 @@
+use Rattle.std.proofs.Common.{rules, arith, List, ℕ, sym, ◌≡◌, ◌∙◌, ap, ◌+◌, ◌++◌, take, drop, length}
+use Rattle.std.proofs.Math.Seq.{take-add}
+use Rattle.std.proofs.lemmas.List.{drop-drop, take_at}
+use Rattle.cp_disk.proofs.Composing.{rests_then}
+use Rattle.cp_journal.proofs.reading.read_range.Goals as goal
+
+piece_read : (at done n : ℕ) (content here old x rest new : List ℕ) → old ≡ take done (drop at content) → here ≡ content → length x ≡ n → x ≡ take (length x) (drop (at + done) here) → new ≡ old ++ take n (x ++ rest) → new ≡ take (done + n) (drop at content)
+piece_read at done n content here old x rest new was same long read made =
+    let piece : x ≡ take n (drop done (drop at content)) =
+    read ∙ ap (λ (k : ℕ). take k (drop (at + done) here)) long ∙ ap (λ (l : List ℕ). take n (drop (at + done) l)) same ∙ ap (take n) (sym (drop-drop done at content)) in
+    made ∙ ap (λ (l : List ℕ). old ++ l) (take_at x rest n long ∙ piece) ∙ ap (λ (l : List ℕ). l ++ take n (drop done (drop at content))) was ∙ sym (take-add done n (drop at content))
+
+pub loop-done-preserved : goal.loop-done-preserved
+loop-done-preserved g c =
+    let count = c.min-count.ensures in
+    let one = c.in_ok-read.ensures.reads in
+    let t = c.loop-done-test.true in
+    let full = c.loop-done.invariant.full t in
+    let long : length c.read.new.into ≡ c.min-count.result = search rules in
+    record {
+      within = omega arith;
+      rests = λ known. rests_then _ _ _ (c.loop-done.invariant.rests known) (c.in_ok-read.ensures.filled known).rests;
+      bytes = λ known. piece_read c.args.at c.loop-done.done c.min-count.result _ _ c.loop-done.into.items _ _ _ (c.loop-done.invariant.bytes known) (c.loop-done.invariant.rests known).content long (c.in_ok-read.ensures.filled known).bytes c.in_ok-extend_from_slice.ensures.items;
+      faults = search rules;
+      full = λ more. omega (arith, one, full, more);
+      reads = omega (arith, one, full);
+    }

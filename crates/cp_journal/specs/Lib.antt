@@ -1,0 +1,6 @@
+pub mod Frames
+pub mod Headers
+pub mod Holding
+pub mod Journals
+pub mod NewStores
+pub mod Walks

@@ -1,0 +1,299 @@
+//! Frames in a file, one right after the other.
+ghost use Rattle.std.specs.Prelude.{◌≡◌, ◌≤◌, ◌<◌, ◌⊎◌, ◌↔◌, ◌+◌, ◌-◌, ◌*◌, ◌++◌, [], ◌∷◌, take, drop, List, ℕ, false, IsTrue, IsErrOf, None, Some, length, IfOk, OnOk, IfErr, OnErr};
+ghost use Rattle.std.specs.List.{slice_get};
+ghost use Rattle.cp_outside.specs.Causes.{Accounts, Rose};
+ghost use Rattle.cp_disk.specs.Views.{Only, IsDurable, Rests, Keeps};
+ghost use Rattle.cp_journal.specs.Frames.{Frame, entry, frames_of};
+ghost use Rattle.cp_journal.specs.Holding.{IsAtRest, IsAdded, IsBeforeOrAfter, IsLawful, Holds, StandsWithOrWithout};
+ghost use Rattle.cp_journal.specs.Journals.{Lists, entry_body, HasWalked, Describes, IsDiskFault};
+ghost use Rattle.cp_journal.specs.Headers.{HasHeader, header_in};
+ghost use Rattle.cp_journal.specs.NewStores.{IsVacant, header, new_file, IsOldOrVacantOrNew};
+ghost use Rattle.cp_journal.specs.declared.frame.FrameAt.{FrameAt as frame_at};
+
+use crate::calls::put;
+use crate::fault::JournalFault;
+use crate::frame::{ENTRY, FrameAt, bytes_after_gate};
+use crate::header::{Header, read_header};
+use crate::limits::{BODY_MAX, FRAME_HEAD, HEADER_SIZE};
+use crate::new_store::{file_bytes, fill, is_vacant, settle};
+use crate::reading::read_range;
+use crate::walk::{kept_gate, walk_frames};
+use cp_disk::{DISK_MAX, Disk, READ_MAX};
+use std::alloc::Global;
+use std::marker::Model;
+
+/// Where the frames of a file stand. It keeps numbers alone: each call takes the disk on which the journal was made.
+///
+/// A journal whose call answered `Disk` or `Memory` while it wrote is spent, and is for nothing but `spent`.
+#[derive(Drop)]
+pub struct Journal {
+    frames: Vec<FrameAt>,
+    next: u64,
+    broken: Option<u64>,
+    spent: bool,
+}
+
+impl Model for Journal {
+    ghost use Rattle.std.specs.Prelude.{◌≤◌};
+    ghost use Rattle.cp_disk.specs.declared.limits.TheConstants.{DISK_MAX};
+    ghost use Rattle.cp_journal.specs.Journals.{JournalState, AreInRange};
+
+    ghost Value = { JournalState };
+
+    ghost view = { λ s. record { frames = s.frames.items; next = s.next; broken = s.broken; spent = s.spent } };
+
+    ghost invariant = { λ s. (s.next ≤ DISK_MAX) × AreInRange s.frames.items };
+}
+
+impl Journal {
+    /// Whether the file is vacant, so that a store may be made in it: it has one byte at most, or its first byte is 00, or that
+    /// isn't 01 and `CPDB` and the format's number 01 come next. Makes one read at most.
+    pub fn vacant<D: Disk>(disk: &mut D) -> Result<bool, JournalFault>
+        ensures vacant { IsTrue D.is_known → IfOk result (λ b. IsTrue b ↔ IsVacant (D.view disk.old).content) }
+        ensures rests { IsTrue D.is_known → Rests (D.view disk.old) (D.view disk.new) }
+        ensures kinds { OnErr result (IsErrOf result JournalFault.Disk ⊎ IsErrOf result JournalFault.Memory) }
+        ensures cause { Accounts IsDiskFault (D.counts disk.old).faults (D.counts disk.new).faults result }
+    {
+        Ok(is_vacant(disk)?)
+    }
+
+    /// Makes a store in a vacant file, whose first frame is an entry with this body. It is on the disk then. Takes its memory
+    /// before the first call of the disk, which is a sync.
+    ///
+    /// Until that sync a crash leaves what it could leave before; after it, a vacant file or the store.
+    pub fn create<D: Disk>(
+        alloc: Global,
+        disk: &mut D,
+        body: &[u8],
+    ) -> Result<Journal, JournalFault>
+        requires short { length body.now ≤ BODY_MAX }
+        requires vacant { IsTrue D.is_known → IsVacant (D.view disk.old).content }
+        ensures described { IsTrue D.is_known
+            → IfOk result (λ j. Describes header (entry body.now ∷ []) j (D.view disk.new)) }
+        ensures durable { IsTrue D.is_known → OnOk result (IsDurable (new_file (entry body.now)) (D.view disk.new)) }
+        ensures crash { IsTrue D.is_known
+            → Keeps (IsOldOrVacantOrNew (D.view disk.old) (entry body.now)) (D.view disk.old) (D.view disk.new) }
+        ensures next { IfOk result (λ j. j.next ≡ HEADER_SIZE + FRAME_HEAD + length body.now) }
+        ensures usable { IfOk result (λ j. (j.broken ≡ None) × (j.spent ≡ false)) }
+        ensures kinds { OnErr result (IsErrOf result JournalFault.Disk ⊎ IsErrOf result JournalFault.Memory) }
+        ensures cause { Accounts IsDiskFault (D.counts disk.old).faults (D.counts disk.new).faults result }
+        ensures memory { IsErrOf result JournalFault.Memory
+            → (disk.new ≡ disk.old) ⊎ Rose (D.counts disk.old).wants (D.counts disk.new).wants }
+    {
+        let len = body.len() as u64;
+        let bytes = file_bytes(alloc, body)?;
+        let mut frames = Vec::new(alloc);
+        frames.push(FrameAt {
+            at: HEADER_SIZE as u64,
+            tag: ENTRY,
+            len,
+        })?;
+        let settled = settle(disk)?;
+        fill(disk, settled.start, settled.size, &bytes)?;
+        put(disk, 0, &[1])?;
+        Ok(Journal {
+            frames,
+            next: HEADER_SIZE as u64 + FRAME_HEAD + len,
+            broken: None,
+            spent: false,
+        })
+    }
+
+    /// The header of a store. Begins with a sync, and makes one read of the first [`HEADER_SIZE`] bytes at most. Answers
+    /// `NoStore(0)` where these aren't the header of a store: the gate is closed, other bytes than `CPDB` and the format's number
+    /// come after it, the bytes from 7 to 63 aren't zero, an open slot doesn't end with zeros, two open slots have the same
+    /// number, or there are fewer bytes.
+    pub fn header<D: Disk>(disk: &mut D) -> Result<Header, JournalFault>
+        ensures header { IsTrue D.is_known → IfOk result (λ h. HasHeader (D.view disk.old).content
+            × (h ≡ header_in (take HEADER_SIZE (D.view disk.old).content))) }
+        ensures no_store { IsTrue D.is_known
+            → IsErrOf result (JournalFault.NoStore 0) → HasHeader (D.view disk.old).content → ⊥ }
+        ensures kinds { IfErr result
+            (λ e. (e ≡ JournalFault.Disk) ⊎ ((e ≡ JournalFault.Memory) ⊎ (e ≡ JournalFault.NoStore 0))) }
+        ensures durable { IsTrue D.is_known → OnOk result (Only (D.view disk.new).content (D.view disk.new).images) }
+        ensures rests { IsTrue D.is_known → Rests (D.view disk.old) (D.view disk.new) }
+        ensures cause { Accounts IsDiskFault (D.counts disk.old).faults (D.counts disk.new).faults result }
+        ensures reads { (D.counts disk.new).reads ≤ (D.counts disk.old).reads + 1 }
+    {
+        read_header(disk)
+    }
+
+    /// Walks the frames from an offset on, up to a closed gate or to the first frame that is cut short, has another tag, or is
+    /// an entry over the limit. It keeps the frames before. It writes nothing, and makes two reads for each frame and for the
+    /// gate after them.
+    pub fn open_on<D: Disk>(alloc: Global, disk: &mut D, at: u64) -> Result<Journal, JournalFault>
+        ensures walked { IsTrue D.is_known → IfOk result (λ j.
+            HasWalked at (frames_of (drop at (D.view disk.old).content)) j (D.view disk.old).content) }
+        ensures rests { IsTrue D.is_known → Rests (D.view disk.old) (D.view disk.new) }
+
+        // Where nothing is pending, and the walk ended at a closed gate, frames may be added.
+        ensures described { IsTrue D.is_known → Only (D.view disk.old).content (D.view disk.old).images
+            → IfOk result (λ j. j.broken ≡ None → Describes (take at (D.view disk.old).content)
+            (frames_of (drop at (D.view disk.old).content)).frames j (D.view disk.new)) }
+        ensures usable { IfOk result (λ j. j.spent ≡ false) }
+        ensures kinds { OnErr result (IsErrOf result JournalFault.Disk ⊎ IsErrOf result JournalFault.Memory) }
+        ensures cause { Accounts IsDiskFault (D.counts disk.old).faults (D.counts disk.new).faults result }
+        ensures reads { IfOk result (λ j. (D.counts disk.new).reads ≤ (D.counts disk.old).reads + 2 * length j.frames + 2) }
+    {
+        let size = disk.size()?;
+        if at > size {
+            return Ok(Journal {
+                frames: Vec::new(alloc),
+                next: size,
+                broken: Some(at),
+                spent: false,
+            });
+        }
+        let walked = walk_frames(alloc, disk, size, at)?;
+        Ok(Journal {
+            frames: walked.frames,
+            next: walked.next,
+            broken: kept_gate(walked.clean, walked.next),
+            spent: false,
+        })
+    }
+
+    /// Makes `into` the body of the frame of this number, from 0 on, if it is an entry, and empties it for a checkpoint; says
+    /// where the frame stands. Makes one read for each [`cp_disk::READ_MAX`] bytes of an entry. After an error what `into` holds
+    /// is not said.
+    pub fn read<D: Disk>(
+        &self,
+        disk: &mut D,
+        n: usize,
+        into: &mut Vec<u8>,
+    ) -> Result<FrameAt, JournalFault>
+        requires within { n < length self.now.frames }
+        requires listed { IsTrue D.is_known
+            → (from : ℕ) × (fs : List Frame) × Lists from fs self.now (D.view disk.old).content }
+        ensures at { IfOk result (λ f. slice_get self.now.frames n ≡ Some f) }
+        ensures body { IsTrue D.is_known → (from : ℕ) (fs : List Frame) (f : Frame)
+            → Lists from fs self.now (D.view disk.old).content → slice_get fs n ≡ Some f
+            → OnOk result (into.new.items ≡ entry_body f) }
+        ensures rests { IsTrue D.is_known → Rests (D.view disk.old) (D.view disk.new) }
+        ensures kinds { OnErr result (IsErrOf result JournalFault.Disk ⊎ IsErrOf result JournalFault.Memory) }
+        ensures cause { Accounts IsDiskFault (D.counts disk.old).faults (D.counts disk.new).faults result }
+        ensures reads { (f : frame_at) → slice_get self.now.frames n ≡ Some f → READ_MAX * (D.counts disk.new).reads
+            ≤ READ_MAX * (D.counts disk.old).reads + f.len + (READ_MAX - 1) }
+    {
+        let frame = self.frames[n];
+        if frame.tag != ENTRY {
+            into.clear();
+            return Ok(frame);
+        }
+        read_range(disk, frame.at + FRAME_HEAD, frame.len, into)?;
+        Ok(frame)
+    }
+
+    /// The number of frames.
+    pub fn len(&self) -> usize
+        ensures { result ≡ length self.now.frames }
+    {
+        self.frames.len()
+    }
+
+    /// The offset of the closed gate after the frames. Where no frame stands whole at an open gate there, it is not said.
+    pub fn next(&self) -> u64
+        ensures { result ≡ self.now.next }
+    {
+        self.next
+    }
+
+    /// The offset of the gate at which the walk of [`Journal::open_on`] ended, if that wasn't closed.
+    pub fn broken(&self) -> Option<u64>
+        ensures { result ≡ self.now.broken }
+    {
+        self.broken
+    }
+
+    /// Whether a call that writes has answered `Disk` or `Memory`.
+    pub fn spent(&self) -> bool
+        ensures { result ≡ self.now.spent }
+    {
+        self.spent
+    }
+
+    /// Adds an entry with this body, and answers its offset. It is on the disk then. Takes its memory before it writes.
+    ///
+    /// A crash at any moment leaves the frames before, or those and the new one. `TooLarge` changes nothing.
+    pub fn append<D: Disk>(
+        &mut self,
+        alloc: Global,
+        disk: &mut D,
+        body: &[u8],
+    ) -> Result<u64, JournalFault>
+        requires whole { self.old.broken ≡ None }
+        requires usable { self.old.spent ≡ false }
+        requires rest { IsTrue D.is_known → IsAtRest self.old.next (D.view disk.old) }
+        ensures at { IfOk result (λ at. at ≡ self.old.next) }
+        ensures added { IsTrue D.is_known
+            → OnOk result (IsAdded self.old.next (entry body.now) (D.view disk.old).content self.new.next (D.view disk.new)) }
+        ensures frames { OnOk result (self.new.frames ≡
+            self.old.frames ++ record { at = self.old.next; tag = ENTRY; len = length body.now } ∷ []) }
+        ensures next { OnOk result (self.new.next ≡ self.old.next + length body.now + FRAME_HEAD) }
+        ensures crash { IsTrue D.is_known → Keeps (IsBeforeOrAfter self.old.next (D.view disk.old).content (entry body.now))
+            (D.view disk.old) (D.view disk.new) }
+
+        // The same of the whole file, where it holds frames up to the closed gate.
+        ensures described { IsTrue D.is_known → (head : List ℕ) (fs : List Frame) → Describes head fs self.old (D.view disk.old)
+            → OnOk result (Describes head (fs ++ entry body.now ∷ []) self.new (D.view disk.new)) }
+        ensures stands { IsTrue D.is_known → (head : List ℕ) (fs : List Frame) → Holds head fs self.old.next (D.view disk.old)
+            → Keeps (StandsWithOrWithout head fs (entry body.now)) (D.view disk.old) (D.view disk.new) }
+        ensures too_large { IsErrOf result JournalFault.TooLarge
+            ↔ ((BODY_MAX < length body.now) ⊎ (DISK_MAX < self.old.next + length body.now + FRAME_HEAD + 1)) }
+        ensures unchanged { IsErrOf result JournalFault.TooLarge → (self.new ≡ self.old) × (disk.new ≡ disk.old) }
+        ensures spent { IsTrue self.new.spent ↔ (IsErrOf result JournalFault.Disk ⊎ IsErrOf result JournalFault.Memory) }
+        ensures broken { self.new.broken ≡ self.old.broken }
+        ensures cause { Accounts IsDiskFault (D.counts disk.old).faults (D.counts disk.new).faults result }
+        ensures memory { IsErrOf result JournalFault.Memory
+            → (disk.new ≡ disk.old) ⊎ Rose (D.counts disk.old).wants (D.counts disk.new).wants }
+        ensures reads { (D.counts disk.new).reads ≡ (D.counts disk.old).reads }
+    {
+        if body.len() > BODY_MAX || self.next + body.len() as u64 + FRAME_HEAD + 1 > DISK_MAX {
+            return Err(JournalFault::TooLarge);
+        }
+        match self.write_frame(alloc, disk, ENTRY, body) {
+            Ok(at) => Ok(at),
+            Err(fault) => {
+                self.spent = true;
+                Err(fault)
+            }
+        }
+    }
+
+    // Takes its memory, writes the frame after its closed gate, and opens the gate.
+    fn write_frame<D: Disk>(
+        &mut self,
+        alloc: Global,
+        disk: &mut D,
+        tag: u8,
+        body: &[u8],
+    ) -> Result<u64, JournalFault>
+        requires lawful { IsLawful (record { tag = tag; body = body.now }) }
+        requires room { self.old.next + length body.now + FRAME_HEAD + 1 ≤ DISK_MAX }
+        requires rest { IsTrue D.is_known → IsAtRest self.old.next (D.view disk.old) }
+        ensures at { IfOk result (λ at. at ≡ self.old.next) }
+        ensures added { IsTrue D.is_known → OnOk result (IsAdded self.old.next (record { tag = tag; body = body.now })
+            (D.view disk.old).content self.new.next (D.view disk.new)) }
+        ensures frames { OnOk result (self.new.frames ≡
+            self.old.frames ++ record { at = self.old.next; tag = tag; len = length body.now } ∷ []) }
+        ensures next { OnOk result (self.new.next ≡ self.old.next + length body.now + FRAME_HEAD) }
+        ensures crash { IsTrue D.is_known → Keeps (IsBeforeOrAfter self.old.next (D.view disk.old).content
+            (record { tag = tag; body = body.now })) (D.view disk.old) (D.view disk.new) }
+        ensures kinds { OnErr result (IsErrOf result JournalFault.Disk ⊎ IsErrOf result JournalFault.Memory) }
+        ensures spent { self.new.spent ≡ self.old.spent }
+        ensures broken { self.new.broken ≡ self.old.broken }
+        ensures cause { Accounts IsDiskFault (D.counts disk.old).faults (D.counts disk.new).faults result }
+        ensures memory { IsErrOf result JournalFault.Memory
+            → (disk.new ≡ disk.old) ⊎ Rose (D.counts disk.old).wants (D.counts disk.new).wants }
+        ensures reads { (D.counts disk.new).reads ≡ (D.counts disk.old).reads }
+    {
+        let at = self.next;
+        let len = body.len() as u64;
+        let bytes = bytes_after_gate(alloc, tag, body)?;
+        self.frames.push(FrameAt { at, tag, len })?;
+        put(disk, at + 1, &bytes)?;
+        put(disk, at, &[1])?;
+        self.next = at + len + FRAME_HEAD;
+        Ok(at)
+    }
+}

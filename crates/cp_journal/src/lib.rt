@@ -1,0 +1,33 @@
+//! The file of a store: a header, and frames after it, one right after the other.
+//!
+//! | Offset | Bytes |
+//! |---|---|
+//! | 0 | the gate of the header: 01 is open, every other byte is closed |
+//! | 1 to 5 | `CPDB` and 01 |
+//! | 6 | the gate of the version: 01 is version 2, every other byte version 1 |
+//! | 7 to 63 | zero |
+//! | 64 to 127, 128 to 191 | two slots: a gate, the number, the offset of a checkpoint, 47 zeros; after a closed gate any bytes |
+//! | 192 | the first frame |
+//!
+//! A frame is a gate, a tag (45 for an entry, 50 for a checkpoint), the length of its body, and the body. The first gate that
+//! isn't open ends the frames, and whatever comes after it is ignored. Numbers take eight bytes, the greatest byte first.
+//!
+//! A frame is written after its closed gate, with the closed gate of the next one, and synced; then its gate is opened, and
+//! synced. So a crash leaves the frames before, or those and the new one.
+#![tactic(auto)]
+
+mod calls;
+mod fault;
+mod frame;
+mod header;
+mod journal;
+mod limits;
+mod new_store;
+mod reading;
+mod walk;
+
+pub use fault::JournalFault;
+pub use frame::{CHECKPOINT, ENTRY, FrameAt};
+pub use header::{Header, Slot};
+pub use journal::Journal;
+pub use limits::{BODY_MAX, FRAME_HEAD, HEADER_SIZE};

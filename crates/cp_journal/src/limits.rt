@@ -1,0 +1,8 @@
+/// The most bytes of the body of an entry.
+pub const BODY_MAX: usize = 67_108_864;
+
+/// The bytes before the first frame.
+pub const HEADER_SIZE: usize = 192;
+
+/// The bytes of a frame before its body: the gate, the tag and the length.
+pub const FRAME_HEAD: u64 = 10;

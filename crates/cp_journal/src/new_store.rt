@@ -1,0 +1,125 @@
+//! A new store in a file that is vacant.
+ghost use Rattle.std.specs.Prelude.{◌≡◌, ◌≤◌, ◌<◌, ◌⊎◌, ◌↔◌, ◌+◌, ◌++◌, [], ◌∷◌, List, ℕ, IsTrue, IsErrOf, length, take, drop, get_or, IfOk, OnOk};
+ghost use Rattle.cp_disk.specs.Counts.{Counted};
+ghost use Rattle.cp_disk.specs.Views.{Only, Rests, Steps, Keeps};
+ghost use Rattle.cp_disk.specs.Writes.{CutShort};
+ghost use Rattle.cp_journal.specs.Frames.{entry};
+ghost use Rattle.cp_journal.specs.NewStores.{HasNoStore, IsVacant, StaysVacant, IsOldOrVacant, new_file};
+
+use crate::calls::put;
+use crate::frame::{ENTRY, bytes_after_gate};
+use cp_disk::{DISK_MAX, Disk, DiskFault};
+use std::alloc::{AllocError, Global};
+
+// Whether a file with these first bytes is vacant.
+fn has_no_store(front: &[u8; 6]) -> bool
+    ensures { IsTrue result ↔ HasNoStore front.now }
+{
+    front[0] == 0 || front[0] != 1 && &front[1..] == b"CPDB\x01".as_slice()
+}
+
+// Whether the file is vacant. Makes one read at most.
+pub(crate) fn is_vacant<D: Disk>(disk: &mut D) -> Result<bool, DiskFault>
+    ensures vacant { IsTrue D.is_known → IfOk result (λ b. IsTrue b ↔ IsVacant (D.view disk.old).content) }
+    ensures rests { IsTrue D.is_known → Rests (D.view disk.old) (D.view disk.new) }
+    ensures cause { Counted (D.counts disk.old) (D.counts disk.new) result }
+{
+    let size = disk.size()?;
+    if size <= 1 {
+        return Ok(true);
+    }
+    if size < 6 {
+        let mut first = [0u8; 1];
+        disk.read(0, &mut first)?;
+        return Ok(first[0] == 0);
+    }
+    let mut front = [0u8; 6];
+    disk.read(0, &mut front)?;
+    Ok(has_no_store(&front))
+}
+
+// A vacant file that is on the disk: how many of its first bytes have to stay, and its size.
+#[derive(Clone, Copy, Drop)]
+pub(crate) struct Settled {
+    pub(crate) start: u64,
+    pub(crate) size: u64,
+}
+
+// How many of the first bytes of a vacant file keep it vacant, where this is its gate.
+fn start_of(gate: u8) -> u64
+    ensures range { (1 ≤ result) × (result ≤ 6) }
+    ensures zero { gate ≡ 0 → result ≡ 1 }
+    ensures other { (gate ≡ 0 → ⊥) → result ≡ 6 }
+{
+    if gate == 0 { 1 } else { 6 }
+}
+
+// Waits until the file is on the disk, and gives one without a second byte its closed gate.
+pub(crate) fn settle<D: Disk>(disk: &mut D) -> Result<Settled, DiskFault>
+    requires { IsTrue D.is_known → IsVacant (D.view disk.old).content }
+    ensures range { IfOk result (λ o. (1 ≤ o.start) × (o.start ≤ 6) × (o.size ≤ DISK_MAX)) }
+    ensures vacant { IsTrue D.is_known → IfOk result (λ o. StaysVacant o.start (D.view disk.new).content
+        × (o.size ≡ length (D.view disk.new).content) × Only (D.view disk.new).content (D.view disk.new).images) }
+    ensures crash { IsTrue D.is_known → Keeps (IsOldOrVacant (D.view disk.old)) (D.view disk.old) (D.view disk.new) }
+    ensures cause { Counted (D.counts disk.old) (D.counts disk.new) result }
+{
+    disk.sync()?;
+    let size = disk.size()?;
+    if size <= 1 {
+        put(disk, 0, &[0])?;
+        return Ok(Settled { start: 1, size: 1 });
+    }
+    let mut first = [0u8; 1];
+    disk.read(0, &mut first)?;
+    let start = start_of(first[0]);
+    Ok(Settled { start, size })
+}
+
+// Cuts the file where it is longer.
+fn trim<D: Disk>(disk: &mut D, size: u64, len: u64) -> Result<(), DiskFault>
+    requires { IsTrue D.is_known → size ≡ length (D.view disk.old).content }
+    ensures content { IsTrue D.is_known → OnOk result ((D.view disk.new).content ≡ take len (D.view disk.old).content) }
+    ensures crash { IsTrue D.is_known → Steps (CutShort len) (D.view disk.old) (D.view disk.new) }
+    ensures cause { Counted (D.counts disk.old) (D.counts disk.new) result }
+{
+    if size > len {
+        return disk.cut(len);
+    }
+    Ok(())
+}
+
+// Writes all bytes but the first `start`, cuts the file after them, and waits until it is on the disk.
+pub(crate) fn fill<D: Disk>(
+    disk: &mut D,
+    start: u64,
+    size: u64,
+    bytes: &[u8],
+) -> Result<(), DiskFault>
+    requires room { length bytes.now ≤ DISK_MAX }
+    requires range { (start ≤ length bytes.now) × (size ≤ DISK_MAX) }
+    requires vacant { IsTrue D.is_known → StaysVacant start (D.view disk.old).content
+        × (size ≡ length (D.view disk.old).content) × Only (D.view disk.old).content (D.view disk.old).images }
+    ensures content { IsTrue D.is_known
+        → OnOk result ((D.view disk.new).content ≡ take start (D.view disk.old).content ++ drop start bytes.now) }
+    ensures durable { IsTrue D.is_known → OnOk result (Only (D.view disk.new).content (D.view disk.new).images) }
+    ensures crash { IsTrue D.is_known → Keeps IsVacant (D.view disk.old) (D.view disk.new) }
+    ensures cause { Counted (D.counts disk.old) (D.counts disk.new) result }
+{
+    let len = bytes.len() as u64;
+    disk.write_at(start, &bytes[start as usize..])?;
+    trim(disk, size.max(len), len)?;
+    disk.sync()?;
+    Ok(())
+}
+
+// All bytes of a new store: the header, the first frame and the closed gate after it.
+pub(crate) fn file_bytes(alloc: Global, body: &[u8]) -> Result<Vec<u8>, AllocError>
+    ensures { IfOk result (λ v. v.items ≡ new_file (entry body.now)) }
+{
+    let mut bytes = Vec::new(alloc);
+    bytes.extend_from_slice(b"\x01CPDB\x01\x01")?;
+    bytes.extend_from_slice(&[0; 185])?;
+    bytes.push(1)?;
+    bytes.extend_from_slice(&bytes_after_gate(alloc, ENTRY, body)?)?;
+    Ok(bytes)
+}

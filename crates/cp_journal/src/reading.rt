@@ -1,0 +1,35 @@
+//! A range of a file, read in pieces.
+ghost use Rattle.std.specs.Prelude.{◌≡◌, ◌≤◌, ◌<◌, ◌⊎◌, ◌+◌, ◌-◌, ◌*◌, IsTrue, IsErrOf, length, take, drop, OnOk, OnErr};
+ghost use Rattle.cp_outside.specs.Causes.{Accounts};
+ghost use Rattle.cp_disk.specs.Views.{Rests};
+ghost use Rattle.cp_journal.specs.Journals.{IsDiskFault};
+
+use crate::fault::JournalFault;
+use cp_disk::{DISK_MAX, Disk, READ_MAX};
+
+// Makes `into` these bytes, with a read for each piece. After an error what it holds is not said.
+pub(crate) fn read_range<D: Disk>(
+    disk: &mut D,
+    at: u64,
+    len: u64,
+    into: &mut Vec<u8>,
+) -> Result<(), JournalFault>
+    requires most { at + len ≤ DISK_MAX }
+    requires within { IsTrue D.is_known → at + len ≤ length (D.view disk.old).content }
+    ensures bytes { IsTrue D.is_known → OnOk result (into.new.items ≡ take len (drop at (D.view disk.old).content)) }
+    ensures rests { IsTrue D.is_known → Rests (D.view disk.old) (D.view disk.new) }
+    ensures kinds { OnErr result (IsErrOf result JournalFault.Disk ⊎ IsErrOf result JournalFault.Memory) }
+    ensures cause { Accounts IsDiskFault (D.counts disk.old).faults (D.counts disk.new).faults result }
+    ensures reads { READ_MAX * (D.counts disk.new).reads ≤ READ_MAX * (D.counts disk.old).reads + len + (READ_MAX - 1) }
+{
+    into.clear();
+    let mut page = [0u8; READ_MAX];
+    let mut done = 0;
+    while done < len {
+        let count = (len - done).min(READ_MAX as u64) as usize;
+        disk.read(at + done, &mut page[..count])?;
+        into.extend_from_slice(&page[..count])?;
+        done += count as u64;
+    }
+    Ok(())
+}
