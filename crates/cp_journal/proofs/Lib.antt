@@ -6,4 +6,5 @@ mod NewStores
 mod Places
 pub mod Standing
 mod Stretch
+pub mod Upgrading
 pub mod Walks

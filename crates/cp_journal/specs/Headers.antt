@@ -6,7 +6,7 @@ use Rattle.std.proofs.Math.ListN.{replicate}
 use Rattle.cp_journal.specs.NewStores.{magic}
 use Rattle.cp_journal.specs.declared.header.Header.{Header}
 use Rattle.cp_journal.specs.declared.header.Slot.{Slot}
-use Rattle.cp_journal.specs.declared.limits.TheConstants.{HEADER_SIZE}
+use Rattle.cp_journal.specs.declared.limits.TheConstants.{HEADER_SIZE, VERSION_AT}
 
 -- What stands after the gate of a slot: its number and the offset of a checkpoint.
 abbrev pub numbers_in : List ℕ → Slot
@@ -20,10 +20,10 @@ slot_in bytes = if get_or bytes 0 0 == 1 then Some (numbers_in bytes) else None
 abbrev pub IsSlot : List ℕ → Type 0
 IsSlot bytes = get_or bytes 0 0 ≡ 1 → take 47 (drop 17 bytes) ≡ replicate 47 0
 
--- What a header says: its version, which is 2 where the byte at offset 6 is 01 and else 1, and its two slots.
+-- What a header says: its version, which is 2 where its gate is open and else 1, and its two slots.
 abbrev pub header_in : List ℕ → Header
 header_in bytes = record {
-  version = if get_or bytes 6 0 == 1 then 2 else 1;
+  version = if get_or bytes VERSION_AT 0 == 1 then 2 else 1;
   first = slot_in (take 64 (drop 64 bytes));
   second = slot_in (take 64 (drop 128 bytes));
 }

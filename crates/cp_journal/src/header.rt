@@ -7,7 +7,7 @@ ghost use Rattle.cp_journal.specs.Headers.{slot_in as slot_of, header_in, IsSlot
 ghost use Rattle.cp_journal.specs.Journals.{IsDiskFault};
 
 use crate::fault::JournalFault;
-use crate::limits::HEADER_SIZE;
+use crate::limits::{HEADER_SIZE, VERSION_AT};
 use cp_disk::Disk;
 
 /// An open slot: its number, and the offset of the gate of a checkpoint.
@@ -100,7 +100,7 @@ fn parse(bytes: &[u8; HEADER_SIZE]) -> Option<Header>
         return None;
     }
     let header = Header {
-        version: version_of(bytes[6]),
+        version: version_of(bytes[VERSION_AT]),
         first: slot_in(&bytes[64..128]),
         second: slot_in(&bytes[128..192]),
     };

@@ -2,19 +2,21 @@
 ghost use Rattle.std.specs.Prelude.{◌≡◌, ◌≤◌, ◌<◌, ◌⊎◌, ◌↔◌, ◌+◌, ◌-◌, ◌*◌, ◌++◌, [], ◌∷◌, take, drop, List, ℕ, false, IsTrue, IsErrOf, None, Some, length, IfOk, OnOk, IfErr, OnErr};
 ghost use Rattle.std.specs.List.{slice_get};
 ghost use Rattle.cp_outside.specs.Causes.{Accounts, Rose};
-ghost use Rattle.cp_disk.specs.Views.{Only, IsDurable, Rests, Keeps};
+ghost use Rattle.cp_disk.specs.Views.{Only, IsDurable, Rests, Steps, Keeps};
 ghost use Rattle.cp_journal.specs.Frames.{Frame, entry, frames_of};
-ghost use Rattle.cp_journal.specs.Holding.{IsAtRest, IsAdded, IsBeforeOrAfter, IsLawful, Holds, StandsWithOrWithout};
+ghost use Rattle.cp_journal.specs.Holding.{HasFrames, IsAtRest, IsAdded, IsBeforeOrAfter, IsLawful, Holds, StandsWithOrWithout};
 ghost use Rattle.cp_journal.specs.Journals.{Lists, entry_body, HasWalked, Describes, IsDiskFault};
 ghost use Rattle.cp_journal.specs.Headers.{HasHeader, header_in};
 ghost use Rattle.cp_journal.specs.NewStores.{IsVacant, header, new_file, IsOldOrVacantOrNew};
+ghost use Rattle.cp_journal.specs.Upgrading.{upgraded, HasOtherVersion, SaysHeader, with_version, SaysInAVersion, StandsInAVersion};
 ghost use Rattle.cp_journal.specs.declared.frame.FrameAt.{FrameAt as frame_at};
+ghost use Rattle.cp_journal.specs.declared.header.Header.{Header as header_state};
 
 use crate::calls::put;
 use crate::fault::JournalFault;
 use crate::frame::{ENTRY, FrameAt, bytes_after_gate};
 use crate::header::{Header, read_header};
-use crate::limits::{BODY_MAX, FRAME_HEAD, HEADER_SIZE};
+use crate::limits::{BODY_MAX, FRAME_HEAD, HEADER_SIZE, VERSION_AT};
 use crate::new_store::{file_bytes, fill, is_vacant, settle};
 use crate::reading::read_range;
 use crate::walk::{kept_gate, walk_frames};
@@ -256,6 +258,56 @@ impl Journal {
             Err(fault) => {
                 self.spent = true;
                 Err(fault)
+            }
+        }
+    }
+
+    /// Makes the file one of version 2, which it may be already: writes the gate of its version, and syncs. It is on the disk
+    /// then. Takes no memory of its own.
+    ///
+    /// A crash at any moment leaves the file of version 1 or of version 2, with the slots and the frames that it had.
+    pub fn upgrade<D: Disk>(&mut self, disk: &mut D) -> Result<(), JournalFault>
+        requires whole { self.old.broken ≡ None }
+        requires usable { self.old.spent ≡ false }
+        requires rest { IsTrue D.is_known → IsAtRest self.old.next (D.view disk.old) }
+        requires header { IsTrue D.is_known → HEADER_SIZE ≤ self.old.next }
+        ensures content { IsTrue D.is_known
+            → OnOk result (IsDurable (upgraded (D.view disk.old).content) (D.view disk.new)) }
+        ensures at_rest { IsTrue D.is_known → OnOk result (IsAtRest self.new.next (D.view disk.new)) }
+        ensures crash { IsTrue D.is_known → Steps HasOtherVersion (D.view disk.old) (D.view disk.new) }
+
+        // The frames that each image has stay, and the header says the same, but for the version, which is 2 at the end.
+        ensures frames { IsTrue D.is_known → (from : ℕ) (fs : List Frame) → VERSION_AT < from
+            → ((c : List ℕ) → (D.view disk.old).images c → HasFrames from fs c)
+            → Keeps (HasFrames from fs) (D.view disk.old) (D.view disk.new) }
+        ensures slots { IsTrue D.is_known → (h : header_state) → SaysHeader h (D.view disk.old).content
+            → Keeps (SaysInAVersion h) (D.view disk.old) (D.view disk.new) }
+        ensures version { IsTrue D.is_known → (h : header_state) → SaysHeader h (D.view disk.old).content
+            → OnOk result (SaysHeader (with_version 2 h) (D.view disk.new).content) }
+
+        // The same of the whole file, where it holds frames up to the closed gate.
+        ensures described { IsTrue D.is_known → (head : List ℕ) (fs : List Frame) → VERSION_AT < length head
+            → Describes head fs self.old (D.view disk.old)
+            → OnOk result (Describes (upgraded head) fs self.new (D.view disk.new)) }
+        ensures holds { IsTrue D.is_known → (head : List ℕ) (fs : List Frame) → VERSION_AT < length head
+            → Holds head fs self.old.next (D.view disk.old)
+            → OnOk result (Holds (upgraded head) fs self.new.next (D.view disk.new)) }
+        ensures stands { IsTrue D.is_known → (head : List ℕ) (fs : List Frame) → VERSION_AT < length head
+            → Holds head fs self.old.next (D.view disk.old)
+            → Keeps (StandsInAVersion head fs) (D.view disk.old) (D.view disk.new) }
+        ensures kinds { OnErr result (IsErrOf result JournalFault.Disk ⊎ IsErrOf result JournalFault.Memory) }
+        ensures spent { IsTrue self.new.spent ↔ (IsErrOf result JournalFault.Disk ⊎ IsErrOf result JournalFault.Memory) }
+        ensures same { (self.new.frames ≡ self.old.frames) × (self.new.next ≡ self.old.next)
+            × (self.new.broken ≡ self.old.broken) }
+        ensures cause { Accounts IsDiskFault (D.counts disk.old).faults (D.counts disk.new).faults result }
+        ensures memory { IsErrOf result JournalFault.Memory → Rose (D.counts disk.old).wants (D.counts disk.new).wants }
+        ensures reads { (D.counts disk.new).reads ≡ (D.counts disk.old).reads }
+    {
+        match put(disk, VERSION_AT as u64, &[1]) {
+            Ok(()) => Ok(()),
+            Err(fault) => {
+                self.spent = true;
+                Err(fault.into())
             }
         }
     }

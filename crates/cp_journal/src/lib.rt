@@ -14,6 +14,9 @@
 //!
 //! A frame is written after its closed gate, with the closed gate of the next one, and synced; then its gate is opened, and
 //! synced. So a crash leaves the frames before, or those and the new one.
+//!
+//! A file of version 1 is made one of version 2 by a write of byte 6 alone and a sync: a crash in between leaves it of the one
+//! version or of the other, and changes nothing else of it.
 #![tactic(auto)]
 
 mod calls;
@@ -30,4 +33,4 @@ pub use fault::JournalFault;
 pub use frame::{CHECKPOINT, ENTRY, FrameAt};
 pub use header::{Header, Slot};
 pub use journal::Journal;
-pub use limits::{BODY_MAX, FRAME_HEAD, HEADER_SIZE};
+pub use limits::{BODY_MAX, FRAME_HEAD, HEADER_SIZE, VERSION_AT};

@@ -1,6 +1,9 @@
 /// The most bytes of the body of an entry.
 pub const BODY_MAX: usize = 67_108_864;
 
+/// The offset of the gate of the version, in the header.
+pub const VERSION_AT: usize = 6;
+
 /// The bytes before the first frame.
 pub const HEADER_SIZE: usize = 192;
 
