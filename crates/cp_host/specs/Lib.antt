@@ -1,1 +1,2 @@
 pub mod Adapters
+pub mod Disks

@@ -1,13 +1,17 @@
-//! The real outside: standard input and output, and the files of the operating system.
+//! The real outside: standard input and output, the files of the operating system, and one of them
+//! as a disk.
 //!
 //! Each adapter keeps a count of its failures, and tells of the bytes what the reader or the writer
-//! inside it tells. What the operating system does is trusted.
+//! inside it tells; of files nothing is told. What the operating system does is trusted.
 #![tactic(auto)]
 
+mod disk;
 mod files;
 mod input;
+mod named_file;
 mod output;
 
+pub use disk::FileDisk;
 pub use files::HostFiles;
 pub use input::StdinSource;
 pub use output::StdoutSink;
