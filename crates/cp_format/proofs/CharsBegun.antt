@@ -73,22 +73,22 @@ third : Follows 128
 third = (omega arith, omega arith)
 
 goes_one : (x room : ℕ) → Kind x → width x ≤ room → Goes (char_format room) (x ∷ [])
-goes_one x room (inl h) le = record { first = x ∷ []; fit = (h, omega (arith, le, width_1 x h)); rest = []; is = refl }
-goes_one x room (inr (inl h)) le = record { first = x ∷ second_byte_min x ∷ []; fit = ((h.0, h.1, least_second x), omega (arith, le, width_2 x h.0 h.1)); rest = second_byte_min x ∷ []; is = refl }
-goes_one x room (inr (inr (inl h))) le = record { first = x ∷ second_byte_min x ∷ 128 ∷ []; fit = ((h.0, h.1, least_second x, third), omega (arith, le, width_3 x h.0 h.1)); rest = second_byte_min x ∷ 128 ∷ []; is = refl }
-goes_one x room (inr (inr (inr h))) le = record { first = x ∷ second_byte_min x ∷ 128 ∷ 128 ∷ []; fit = ((h.0, h.1, least_second x, third, third), omega (arith, le, width_4 x h.0 h.1)); rest = second_byte_min x ∷ 128 ∷ 128 ∷ []; is = refl }
+goes_one x room (inl h) le = record { first = x ∷ []; fit = (h, omega (arith, le, width_1 x h)); checked = tt; rest = []; is = refl }
+goes_one x room (inr (inl h)) le = record { first = x ∷ second_byte_min x ∷ []; fit = ((h.0, h.1, least_second x), omega (arith, le, width_2 x h.0 h.1)); checked = tt; rest = second_byte_min x ∷ []; is = refl }
+goes_one x room (inr (inr (inl h))) le = record { first = x ∷ second_byte_min x ∷ 128 ∷ []; fit = ((h.0, h.1, least_second x, third), omega (arith, le, width_3 x h.0 h.1)); checked = tt; rest = second_byte_min x ∷ 128 ∷ []; is = refl }
+goes_one x room (inr (inr (inr h))) le = record { first = x ∷ second_byte_min x ∷ 128 ∷ 128 ∷ []; fit = ((h.0, h.1, least_second x, third, third), omega (arith, le, width_4 x h.0 h.1)); checked = tt; rest = second_byte_min x ∷ 128 ∷ 128 ∷ []; is = refl }
 
 goes_two : (x y room : ℕ) (bytes : List ℕ) → Kind x → width x ≤ room → IsSecond x y → HasNoChar room (x ∷ y ∷ bytes) → Goes (char_format room) (x ∷ y ∷ [])
-goes_two x y room bytes (inl h) le s free = absurd (free (x ∷ []) (y ∷ bytes) (record { fit = (h, omega (arith, le, width_1 x h)); is = refl }))
-goes_two x y room bytes (inr (inl h)) le s free = record { first = x ∷ y ∷ []; fit = ((h.0, h.1, s), omega (arith, le, width_2 x h.0 h.1)); rest = []; is = refl }
-goes_two x y room bytes (inr (inr (inl h))) le s free = record { first = x ∷ y ∷ 128 ∷ []; fit = ((h.0, h.1, s, third), omega (arith, le, width_3 x h.0 h.1)); rest = 128 ∷ []; is = refl }
-goes_two x y room bytes (inr (inr (inr h))) le s free = record { first = x ∷ y ∷ 128 ∷ 128 ∷ []; fit = ((h.0, h.1, s, third, third), omega (arith, le, width_4 x h.0 h.1)); rest = 128 ∷ 128 ∷ []; is = refl }
+goes_two x y room bytes (inl h) le s free = absurd (free (x ∷ []) (y ∷ bytes) (record { fit = (h, omega (arith, le, width_1 x h)); checked = tt; is = refl }))
+goes_two x y room bytes (inr (inl h)) le s free = record { first = x ∷ y ∷ []; fit = ((h.0, h.1, s), omega (arith, le, width_2 x h.0 h.1)); checked = tt; rest = []; is = refl }
+goes_two x y room bytes (inr (inr (inl h))) le s free = record { first = x ∷ y ∷ 128 ∷ []; fit = ((h.0, h.1, s, third), omega (arith, le, width_3 x h.0 h.1)); checked = tt; rest = 128 ∷ []; is = refl }
+goes_two x y room bytes (inr (inr (inr h))) le s free = record { first = x ∷ y ∷ 128 ∷ 128 ∷ []; fit = ((h.0, h.1, s, third, third), omega (arith, le, width_4 x h.0 h.1)); checked = tt; rest = 128 ∷ 128 ∷ []; is = refl }
 
 goes_three : (x y z room : ℕ) (bytes : List ℕ) → Kind x → width x ≤ room → IsSecond x y → Follows z → HasNoChar room (x ∷ y ∷ z ∷ bytes) → Goes (char_format room) (x ∷ y ∷ z ∷ [])
-goes_three x y z room bytes (inl h) le s f free = absurd (free (x ∷ []) (y ∷ z ∷ bytes) (record { fit = (h, omega (arith, le, width_1 x h)); is = refl }))
-goes_three x y z room bytes (inr (inl h)) le s f free = absurd (free (x ∷ y ∷ []) (z ∷ bytes) (record { fit = ((h.0, h.1, s), omega (arith, le, width_2 x h.0 h.1)); is = refl }))
-goes_three x y z room bytes (inr (inr (inl h))) le s f free = record { first = x ∷ y ∷ z ∷ []; fit = ((h.0, h.1, s, f), omega (arith, le, width_3 x h.0 h.1)); rest = []; is = refl }
-goes_three x y z room bytes (inr (inr (inr h))) le s f free = record { first = x ∷ y ∷ z ∷ 128 ∷ []; fit = ((h.0, h.1, s, f, third), omega (arith, le, width_4 x h.0 h.1)); rest = 128 ∷ []; is = refl }
+goes_three x y z room bytes (inl h) le s f free = absurd (free (x ∷ []) (y ∷ z ∷ bytes) (record { fit = (h, omega (arith, le, width_1 x h)); checked = tt; is = refl }))
+goes_three x y z room bytes (inr (inl h)) le s f free = absurd (free (x ∷ y ∷ []) (z ∷ bytes) (record { fit = ((h.0, h.1, s), omega (arith, le, width_2 x h.0 h.1)); checked = tt; is = refl }))
+goes_three x y z room bytes (inr (inr (inl h))) le s f free = record { first = x ∷ y ∷ z ∷ []; fit = ((h.0, h.1, s, f), omega (arith, le, width_3 x h.0 h.1)); checked = tt; rest = []; is = refl }
+goes_three x y z room bytes (inr (inr (inr h))) le s f free = record { first = x ∷ y ∷ z ∷ 128 ∷ []; fit = ((h.0, h.1, s, f, third), omega (arith, le, width_4 x h.0 h.1)); checked = tt; rest = 128 ∷ []; is = refl }
 
 -- ---- where the bytes stop
 
@@ -96,13 +96,13 @@ goes_three x y z room bytes (inr (inr (inr h))) le s f free = record { first = x
 pub stops_0 : (room : ℕ) (bytes : List ℕ) → 0 < room → HasNoChar room bytes → (0 < width (get_or bytes 0 0) → width (get_or bytes 0 0) ≤ room → ⊥) → Stops (char_format room) bytes 0
 stops_0 room [] some free bad = record {
   within = omega arith;
-  begins = record { first = 97 ∷ []; fit = (omega arith, some); rest = 97 ∷ []; is = refl };
+  begins = record { first = 97 ∷ []; fit = (omega arith, some); checked = tt; rest = 97 ∷ []; is = refl };
   stops = λ lt z. absurd (omega (arith, lt));
   none = free;
 }
 stops_0 room (x ∷ bytes) some free bad = record {
   within = omega arith;
-  begins = record { first = 97 ∷ []; fit = (omega arith, some); rest = 97 ∷ []; is = refl };
+  begins = record { first = 97 ∷ []; fit = (omega arith, some); checked = tt; rest = 97 ∷ []; is = refl };
   stops = λ lt z. let w = char_width x z.rest (subst IsChar z.is z.fit.0) in let size : length z.first ≡ length (x ∷ z.rest) = ap length z.is in bad (omega (arith, w)) (omega (arith, w, size, z.fit.1));
   none = free;
 }
@@ -142,6 +142,6 @@ stops_3 room (x ∷ y ∷ z ∷ w ∷ bytes) there free some le s f = record {
   stops = λ lt g.
       let none = char_whole x y z w g.rest (subst IsChar g.is g.fit.0) in
       let all : g.first ≡ x ∷ y ∷ z ∷ w ∷ [] = g.is ∙ ap (λ (l : List ℕ). x ∷ y ∷ z ∷ w ∷ l) none in
-      free (x ∷ y ∷ z ∷ w ∷ []) bytes (record { fit = (subst IsChar all g.fit.0, subst (λ (l : List ℕ). length l ≤ room) all g.fit.1); is = refl });
+      free (x ∷ y ∷ z ∷ w ∷ []) bytes (record { fit = (subst IsChar all g.fit.0, subst (λ (l : List ℕ). length l ≤ room) all g.fit.1); checked = tt; is = refl });
   none = free;
 }

@@ -1,17 +1,19 @@
 -- So many elements one after another, each in a format that depends on what those before it left.
 use Rattle.std.proofs.Common.{◌≡◌, ℕ, zero, suc, ◌+◌, ◌-◌, ◌<◌, ◌≤◌, List, [], ◌∷◌, ◌++◌, refl, sym, ap, ◌∙◌, subst, append_assoc, append-nil, length, length-append, drop, arith}
 use Rattle.std.specs.List.{flat_map, AllByRecursion}
-use Rattle.cp_format.specs.Formats.{Format, ReadsAt, FailsAt}
-use Rattle.cp_format.proofs.Formats.{HasSome, IsPlain, Alike, both, has_both, has_alike, plain_both, plain_alike, reads_both_at, reads_alike_at, fails_first, fails_second, fails_alike}
+use Rattle.cp_format.specs.Formats.{AllHold, Check, Format, ReadsAt, FailsAt, moved}
+use Rattle.cp_format.proofs.Checks.{IsJudged}
+use Rattle.cp_format.proofs.Formats.{HasSome, IsPlain, Alike, both, has_both, has_alike, judged_alike, judged_both, plain_both, plain_alike, reads_both_at, reads_alike_at, fails_first, fails_second, fails_alike}
 
 -- in a state that allows n elements, a list of so many is the next element, with n others to come, and the others in the state after it
 pub record IsCounted {S X : Type 0} (allows : ℕ → S → Type 0) (item : ℕ → S → Format X) (after : S → X → S) (list : ℕ → S → Format (List X)) : Type 0 where
-  pub none : (s : S) → (list 0 s).fit [] × ((list 0 s).bytes [] ≡ [])
+  pub none : (s : S) → (list 0 s).fit [] × ((list 0 s).bytes [] ≡ []) × ((list 0 s).checks [] ≡ [])
   pub only : (s : S) (l : List X) → (list 0 s).fit l → l ≡ []
   pub more : (n : ℕ) (s : S) → allows (suc n) s → Alike (both (item n s) (λ x. list n (after s x))) (list (suc n) s) (λ z. z.0 ∷ z.1)
   pub keeps : (n : ℕ) (s : S) (x : X) → allows (suc n) s → (item n s).fit x → allows n (after s x)
   pub some : (n : ℕ) (s : S) → allows (suc n) s → HasSome (item n s)
   pub plain : (n : ℕ) (s : S) → allows (suc n) s → IsPlain (item n s)
+  pub judged : (n : ℕ) (s : S) → allows (suc n) s → IsJudged (item n s)
 
 module _ {S X : Type 0} (allows : ℕ → S → Type 0) (item : ℕ → S → Format X) (after : S → X → S) (list : ℕ → S → Format (List X)) (c : IsCounted allows item after list) where
   pub has_counted : (n : ℕ) (s : S) → allows n s → HasSome (list n s)
@@ -34,6 +36,16 @@ module _ {S X : Type 0} (allows : ℕ → S → Type 0) (item : ℕ → S → Fo
   plain_counted (suc n) s h =
       plain_alike (both (item n s) (λ x. list n (after s x))) (list (suc n) s) (λ z. z.0 ∷ z.1) (c.more n s h)
       (plain_both (item n s) (λ x. list n (after s x)) (c.plain n s h) (λ x f. plain_counted n (after s x) (c.keeps n s x h f)))
+
+  judged_none : (s : S) → IsJudged (list 0 s)
+  judged_none s l f h = subst AllHold (sym (ap (list 0 s).checks (c.only s l f) ∙ (c.none s).2)) tt
+
+  -- the checks of all elements are judged within their spelling
+  pub judged_counted : (n : ℕ) (s : S) → allows n s → IsJudged (list n s)
+  judged_counted zero s h = judged_none s
+  judged_counted (suc n) s h =
+      judged_alike (both (item n s) (λ x. list n (after s x))) (list (suc n) s) (λ z. z.0 ∷ z.1) (c.more n s h)
+      (judged_both (item n s) (λ x. list n (after s x)) (c.judged n s h) (λ x f. judged_counted n (after s x) (c.keeps n s x h f)))
 
 -- the first k of count elements are read, which left the state, and what comes of the others comes of all
 pub record SoFar {S X : Type 0} (allows : ℕ → S → Type 0) (list : ℕ → S → Format (List X)) (bytes : List ℕ) (at count : ℕ) (begun : S) (k : ℕ) (now : List X) (next : ℕ) (left : S) : Type 0 where
@@ -63,7 +75,7 @@ module _ {S X : Type 0} (allows : ℕ → S → Type 0) (item : ℕ → S → Fo
         let none : 0 ≡ count - k = omega (arith, le) in
         let empty = c.none left in
         let size : length ((list 0 left).bytes []) ≡ 0 = ap length empty.1 in
-        let r : ReadsAt (list 0 left) bytes next [] next = record { reads = record { fit = empty.0; is = ap (λ l. l ++ drop next bytes) (sym empty.1) }; count = omega (arith, size); within = s.there } in
+        let r : ReadsAt (list 0 left) bytes next [] next = record { reads = record { fit = empty.0; checked = subst AllHold (sym empty.2) tt; is = ap (λ l. l ++ drop next bytes) (sym empty.1) }; count = omega (arith, size); within = s.there } in
         subst (λ l. ReadsAt (list count begun) bytes at l next) (append-nil now) (s.reads [] next (subst (λ n. ReadsAt (list n left) bytes next [] next) none r))
 
     module _ (lt : k < count) where
@@ -79,7 +91,7 @@ module _ {S X : Type 0} (allows : ℕ → S → Type 0) (item : ℕ → S → Fo
       -- where the next element fails, all do
       pub next_fails : (n : ℕ) → FailsAt (item others left) bytes next n → FailsAt (list count begun) bytes at n
       next_fails n f =
-          let first = fails_first (item others left) (λ x. list others (after left x)) bytes next (λ x h. has_counted allows item after list c others (after left x) (c.keeps others left x allowed_more h)) n f in
+          let first = fails_first (item others left) (λ x. list others (after left x)) bytes next (c.judged others left allowed_more) (λ x h. has_counted allows item after list c others (after left x) (c.keeps others left x allowed_more h)) n f in
           let all = fails_alike (both (item others left) (λ x. list others (after left x))) (list (suc others) left) (λ z. z.0 ∷ z.1) (c.more others left allowed_more) bytes next n first in
           s.fails n (subst (λ m. FailsAt (list m left) bytes next n) one_more all)
 
@@ -106,11 +118,16 @@ module _ {S X : Type 0} (allows : ℕ → S → Type 0) (item : ℕ → S → Fo
 
 -- ---- so many elements of one format
 
+-- the checks of elements one after another
+abbrev pub list_checks : {X : Type 0} → Format X → List X → List Check
+list_checks F [] = []
+list_checks F (x ∷ l) = F.checks x ++ moved (length (F.bytes x)) (list_checks F l)
+
 -- so many elements, one after another
 abbrev pub list_format : {X : Type 0} → Format X → ℕ → Format (List X)
-list_format F n = record { fit = λ l. AllByRecursion F.fit l × (length l ≡ n); bytes = λ l. flat_map F.bytes l }
+list_format F n = record { fit = λ l. AllByRecursion F.fit l × (length l ≡ n); bytes = λ l. flat_map F.bytes l; checks = λ l. list_checks F l }
 
-module _ {X : Type 0} (F : Format X) (h : HasSome F) (p : IsPlain F) where
+module _ {X : Type 0} (F : Format X) (h : HasSome F) (p : IsPlain F) (j : IsJudged F) where
   no_element : (l : List X) → length l ≡ 0 → l ≡ []
   no_element [] e = refl
   no_element (x ∷ l) e = absurd (omega (arith, e))
@@ -122,10 +139,11 @@ module _ {X : Type 0} (F : Format X) (h : HasSome F) (p : IsPlain F) where
   -- any number of elements is allowed, and each is in the same format
   pub list_counted : IsCounted {S = Unit {0}} (λ n s. Unit {0}) (λ n s. F) (λ s x. s) (λ n s. list_format F n)
   list_counted = record {
-    none = λ s. ((tt, refl), refl);
+    none = λ s. ((tt, refl), refl, refl);
     only = λ s l f. no_element l f.1;
-    more = λ n s a. record { there = λ z f. (((f.0, f.1.0), ap suc f.1.1), refl); back = λ l f. list_parts n l f.0 f.1 };
+    more = λ n s a. record { there = λ z f. (((f.0, f.1.0), ap suc f.1.1), refl, refl); back = λ l f. list_parts n l f.0 f.1 };
     keeps = λ n s x a f. tt;
     some = λ n s a. h;
     plain = λ n s a. p;
+    judged = λ n s a. j;
   }

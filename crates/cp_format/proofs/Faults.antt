@@ -5,6 +5,7 @@ use Rattle.cp_format.specs.declared.fault.FormatFault.{FormatFault}
 use Rattle.cp_format.specs.declared.fault.FormatFault.TheVariants.{BadByte, Memory}
 use Rattle.cp_format.specs.Formats.{Format, ReadsAt, FailsAt}
 use Rattle.cp_format.specs.Faults.{FaultAt}
+use Rattle.cp_format.proofs.Checks.{IsJudged}
 use Rattle.cp_format.proofs.Formats.{HasSome, IsPlain, Alike, both, fails_alike, fails_first, fails_second}
 
 -- what fails where another does has its faults
@@ -17,8 +18,8 @@ pub fault_alike : {X Y : Type 0} (F : Format X) (G : Format Y) (to : X → Y) �
 fault_alike F G to a bytes at e f = fault_by F G bytes at at (λ n g. fails_alike F G to a bytes at n g) e f
 
 -- a fault of the first is one of both
-pub fault_first : {X Y : Type 0} (F : Format X) (G : X → Format Y) (bytes : List ℕ) (at : ℕ) → ((x : X) → F.fit x → HasSome (G x)) → (e : FormatFault) → FaultAt F bytes at e → FaultAt (both F G) bytes at e
-fault_first F G bytes at k e f = fault_by F (both F G) bytes at at (λ n g. fails_first F G bytes at k n g) e f
+pub fault_first : {X Y : Type 0} (F : Format X) (G : X → Format Y) (bytes : List ℕ) (at : ℕ) → IsJudged F → ((x : X) → F.fit x → HasSome (G x)) → (e : FormatFault) → FaultAt F bytes at e → FaultAt (both F G) bytes at e
+fault_first F G bytes at j k e f = fault_by F (both F G) bytes at at (λ n g. fails_first F G bytes at j k n g) e f
 
 -- where the first is read, a fault of the second is one of both
 pub fault_second : {X Y : Type 0} (F : Format X) (G : X → Format Y) (bytes : List ℕ) (at : ℕ) → IsPlain F → (mid : ℕ) (x : X) → ReadsAt F bytes at x mid → (e : FormatFault) → FaultAt (G x) bytes mid e → FaultAt (both F G) bytes at e

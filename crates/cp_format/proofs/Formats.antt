@@ -1,8 +1,9 @@
 -- Formats one after another: where the first is read and the second stops, both stop.
-use Rattle.std.proofs.Common.{◌≡◌, ℕ, ◌+◌, ◌-◌, ◌<◌, List, [], ◌∷◌, ◌++◌, ◌⊎◌, inl, inr, refl, sym, ap, ◌∙◌, subst, append_assoc, length, length-append, take, drop, arith}
+use Rattle.std.proofs.Common.{◌≡◌, ℕ, ◌+◌, ◌-◌, ◌<◌, ◌≤◌, List, [], ◌∷◌, ◌++◌, ◌⊎◌, inl, inr, refl, sym, ap, ◌∙◌, subst, append_assoc, length, length-append, take, drop, arith}
 use Rattle.std.proofs.lemmas.List.{take_at, drop_at, take-append-drop}
 use Rattle.std.proofs.Math.Seq.{take-append-add}
-use Rattle.cp_format.specs.Formats.{Format, Reads, Goes, Stops, ReadsAt, FailsAt}
+use Rattle.cp_format.specs.Formats.{AllHold, Format, Reads, Goes, HoldWithin, Stops, ReadsAt, FailsAt, moved}
+use Rattle.cp_format.proofs.Checks.{IsJudged, all_both, all_first, all_moved, all_second, all_within, before_moved, fewer, moved_within, part_all, part_within, within_both, within_first, within_second}
 
 -- some value has a spelling
 pub record HasSome {X : Type 0} (F : Format X) : Type 0 where
@@ -15,11 +16,11 @@ IsPlain {X} F = (x y : X) (xs ys : List ℕ) → F.fit x → F.fit y → F.bytes
 
 -- one format, and then another that depends on the value that the first one spells
 abbrev pub both : {X Y : Type 0} → Format X → (X → Format Y) → Format (X × Y)
-both F G = record { fit = λ z. F.fit z.0 × (G z.0).fit z.1; bytes = λ z. F.bytes z.0 ++ (G z.0).bytes z.1 }
+both F G = record { fit = λ z. F.fit z.0 × (G z.0).fit z.1; bytes = λ z. F.bytes z.0 ++ (G z.0).bytes z.1; checks = λ z. F.checks z.0 ++ moved (length (F.bytes z.0)) ((G z.0).checks z.1) }
 
--- what has a spelling in the one has the same in the other
+-- what is fit in the one is fit in the other, with the same spelling and the same checks
 pub record Alike {X Y : Type 0} (F : Format X) (G : Format Y) (to : X → Y) : Type 0 where
-  pub there : (x : X) → F.fit x → G.fit (to x) × (G.bytes (to x) ≡ F.bytes x)
+  pub there : (x : X) → F.fit x → G.fit (to x) × (G.bytes (to x) ≡ F.bytes x) × (G.checks (to x) ≡ F.checks x)
   pub back : (y : Y) → G.fit y → (x : X) × F.fit x × (to x ≡ y)
 
 -- ---- fronts of one list
@@ -48,12 +49,22 @@ two_fronts (x ∷ a) (y ∷ b) xs ys e =
 pub reads_both : {X Y : Type 0} (F : Format X) (G : X → Format Y) (bytes mid rest : List ℕ) (x : X) (y : Y) → Reads F bytes x mid → Reads (G x) mid y rest → Reads (both F G) bytes (x, y) rest
 reads_both F G bytes mid rest x y r s = record {
   fit = (r.fit, s.fit);
+  checked = all_both (F.checks x) (moved (length (F.bytes x)) ((G x).checks y)) r.checked (all_moved (length (F.bytes x)) ((G x).checks y) s.checked);
   is = r.is ∙ ap (λ l. F.bytes x ++ l) s.is ∙ sym (append_assoc (F.bytes x) ((G x).bytes y) rest);
 }
 
 module _ {X Y : Type 0} (F : Format X) (G : X → Format Y) where
   pub has_both : HasSome F → ((x : X) → F.fit x → HasSome (G x)) → HasSome (both F G)
   has_both h k = record { first = (h.first, (k h.first h.fit).first); fit = (h.fit, (k h.first h.fit).fit) }
+
+  -- where the checks of each are judged within its spelling, so are those of both
+  pub judged_both : IsJudged F → ((x : X) → F.fit x → IsJudged (G x)) → IsJudged (both F G)
+  judged_both j k z f h =
+      let len = length (F.bytes z.0) in
+      let more : length (F.bytes z.0 ++ (G z.0).bytes z.1) ≡ len + length ((G z.0).bytes z.1) = length-append (F.bytes z.0) ((G z.0).bytes z.1) in
+      let first : HoldWithin len (F.checks z.0) = fewer len (length (F.bytes z.0 ++ (G z.0).bytes z.1)) (F.checks z.0) (omega (arith, more)) (within_first (length (F.bytes z.0 ++ (G z.0).bytes z.1)) (F.checks z.0) (moved len ((G z.0).checks z.1)) h) in
+      let second : HoldWithin (len + length ((G z.0).bytes z.1)) (moved len ((G z.0).checks z.1)) = subst (λ n. HoldWithin n (moved len ((G z.0).checks z.1))) more (within_second (length (F.bytes z.0 ++ (G z.0).bytes z.1)) (F.checks z.0) (moved len ((G z.0).checks z.1)) h) in
+      all_both (F.checks z.0) (moved len ((G z.0).checks z.1)) (j z.0 f.0 first) (all_moved len ((G z.0).checks z.1) (k z.0 f.0 z.1 f.1 (part_within len (length ((G z.0).bytes z.1)) ((G z.0).checks z.1) second)))
 
   same_second : (x x' : X) (y y' : Y) (xs ys : List ℕ) → IsPlain (G x) → (G x).fit y → (G x').fit y' → x ≡ x' → (G x).bytes y ++ xs ≡ (G x').bytes y' ++ ys → (◌≡◌ {A = X × Y} (x, y) (x', y')) × (xs ≡ ys)
   same_second x x' y y' xs ys p f f' e same =
@@ -68,25 +79,29 @@ module _ {X Y : Type 0} (F : Format X) (G : X → Format Y) where
       same_second x.0 y.0 x.1 y.1 xs ys (q x.0 f.0) f.1 g.1 first.0 first.1
 
   module _ (bytes : List ℕ) (n : ℕ) where
-    goes_first : (z : Goes (both F G) (take (n + 1) bytes)) → Stops F bytes n → n < length bytes → ⊥
-    goes_first z s lt =
+    goes_first : IsJudged F → (z : Goes (both F G) (take (n + 1) bytes)) → Stops F bytes n → n < length bytes → ⊥
+    goes_first j z s lt =
         let x = z.first.0 in
+        let now : HoldWithin (length (take (n + 1) bytes)) (F.checks x) = within_first (length (take (n + 1) bytes)) (F.checks x) (moved (length (F.bytes x)) ((G x).checks z.first.1)) z.checked in
         let all : F.bytes x ++ (G x).bytes z.first.1 ≡ take (n + 1) bytes ++ z.rest = z.is in
         elim (two_fronts (F.bytes x) (take (n + 1) bytes) ((G x).bytes z.first.1) z.rest all) [
-          | inl l ↦ s.none x (l.more ++ drop (n + 1) bytes) (record { fit = z.fit.0; is = sym (take-append-drop (n + 1) bytes) ∙ ap (λ b. b ++ drop (n + 1) bytes) l.is ∙ append_assoc (F.bytes x) l.more (drop (n + 1) bytes) })
-          | inr l ↦ s.stops lt (record { first = x; fit = z.fit.0; rest = l.more; is = l.is })
+          | inl l ↦ s.none x (l.more ++ drop (n + 1) bytes) (record { fit = z.fit.0; checked = j x z.fit.0 (fewer (length (F.bytes x)) (length (take (n + 1) bytes)) (F.checks x) (omega (arith, ap length l.is, length-append (F.bytes x) l.more)) now); is = sym (take-append-drop (n + 1) bytes) ∙ ap (λ b. b ++ drop (n + 1) bytes) l.is ∙ append_assoc (F.bytes x) l.more (drop (n + 1) bytes) })
+          | inr l ↦ s.stops lt (record { first = x; fit = z.fit.0; checked = now; rest = l.more; is = l.is })
         ]
 
-    -- where the first stops, both stop, if each value of the first can be followed
-    pub stops_first : ((x : X) → F.fit x → HasSome (G x)) → Stops F bytes n → Stops (both F G) bytes n
-    stops_first k s =
+    -- where the first stops, both stop, if its checks are judged within it and each of its values can be followed
+    pub stops_first : IsJudged F → ((x : X) → F.fit x → HasSome (G x)) → Stops F bytes n → Stops (both F G) bytes n
+    stops_first j k s =
         let b = s.begins in
         let h = k b.first b.fit in
+        let len = length (F.bytes b.first) in
+        let long : length (take n bytes) ≤ len = omega (arith, ap length b.is, length-append (take n bytes) b.rest) in
+        let later : HoldWithin (length (take n bytes)) (moved len ((G b.first).checks h.first)) = fewer (length (take n bytes)) len (moved len ((G b.first).checks h.first)) long (before_moved len ((G b.first).checks h.first)) in
         record {
           within = s.within;
-          begins = record { first = (b.first, h.first); fit = (b.fit, h.fit); rest = b.rest ++ (G b.first).bytes h.first; is = ap (λ l. l ++ (G b.first).bytes h.first) b.is ∙ append_assoc (take n bytes) b.rest ((G b.first).bytes h.first) };
-          stops = λ lt z. goes_first z s lt;
-          none = λ z rest r. s.none z.0 ((G z.0).bytes z.1 ++ rest) (record { fit = r.fit.0; is = r.is ∙ append_assoc (F.bytes z.0) ((G z.0).bytes z.1) rest });
+          begins = record { first = (b.first, h.first); fit = (b.fit, h.fit); checked = within_both (length (take n bytes)) (F.checks b.first) (moved len ((G b.first).checks h.first)) b.checked later; rest = b.rest ++ (G b.first).bytes h.first; is = ap (λ l. l ++ (G b.first).bytes h.first) b.is ∙ append_assoc (take n bytes) b.rest ((G b.first).bytes h.first) };
+          stops = λ lt z. goes_first j z s lt;
+          none = λ z rest r. s.none z.0 ((G z.0).bytes z.1 ++ rest) (record { fit = r.fit.0; checked = all_first (F.checks z.0) (moved (length (F.bytes z.0)) ((G z.0).checks z.1)) r.checked; is = r.is ∙ append_assoc (F.bytes z.0) ((G z.0).bytes z.1) rest });
         }
 
   module _ (p : IsPlain F) (bytes mid : List ℕ) (x : X) (r : Reads F bytes x mid) where
@@ -97,19 +112,31 @@ module _ {X Y : Type 0} (F : Format X) (G : X → Format Y) where
         let y = z.first.1 in
         let all : F.bytes x' ++ (G x').bytes y ≡ F.bytes x ++ (front ++ z.rest) = z.is ∙ append_assoc (F.bytes x) front z.rest in
         let first = p x' x ((G x').bytes y) (front ++ z.rest) z.fit.0 r.fit all in
-        subst (λ w. Goes (G w) front) first.0 (record { first = y; fit = z.fit.1; rest = z.rest; is = first.1 })
+        let len = length (F.bytes x') in
+        let long : length (F.bytes x ++ front) ≡ len + length front = length-append (F.bytes x) front ∙ ap (λ w. length (F.bytes w) + length front) (sym first.0) in
+        let now : HoldWithin (len + length front) (moved len ((G x').checks y)) = subst (λ n. HoldWithin n (moved len ((G x').checks y))) long (within_second (length (F.bytes x ++ front)) (F.checks x') (moved len ((G x').checks y)) z.checked) in
+        subst (λ w. Goes (G w) front) first.0 (record { first = y; fit = z.fit.1; checked = part_within len (length front) ((G x').checks y) now; rest = z.rest; is = first.1 })
 
     reads_second : (z : X × Y) (rest : List ℕ) → Reads (both F G) bytes z rest → Reads (G x) mid z.1 rest
     reads_second z rest s =
         let all : F.bytes z.0 ++ ((G z.0).bytes z.1 ++ rest) ≡ F.bytes x ++ mid = sym (append_assoc (F.bytes z.0) ((G z.0).bytes z.1) rest) ∙ sym s.is ∙ r.is in
         let first = p z.0 x ((G z.0).bytes z.1 ++ rest) mid s.fit.0 r.fit all in
-        subst (λ w. Reads (G w) mid z.1 rest) first.0 (record { fit = s.fit.1; is = sym first.1 })
+        let second = all_second (F.checks z.0) (moved (length (F.bytes z.0)) ((G z.0).checks z.1)) s.checked in
+        subst (λ w. Reads (G w) mid z.1 rest) first.0 (record { fit = s.fit.1; checked = part_all (length (F.bytes z.0)) ((G z.0).checks z.1) second; is = sym first.1 })
 
     front : (n : ℕ) → take (length (F.bytes x) + n) bytes ≡ F.bytes x ++ take n mid
     front n = ap (take (length (F.bytes x) + n)) r.is ∙ take-append-add (F.bytes x) mid n
 
     size : length bytes ≡ length (F.bytes x) + length mid
     size = ap length r.is ∙ length-append (F.bytes x) mid
+
+    hold_second : (n : ℕ) (y : Y) → HoldWithin (length (take n mid)) ((G x).checks y) → HoldWithin (length (take (length (F.bytes x) + n) bytes)) (F.checks x ++ moved (length (F.bytes x)) ((G x).checks y))
+    hold_second n y h =
+        let len = length (F.bytes x) in
+        let all = length (take (len + n) bytes) in
+        let long : all ≡ len + length (take n mid) = ap length (front n) ∙ length-append (F.bytes x) (take n mid) in
+        within_both all (F.checks x) (moved len ((G x).checks y)) (all_within all (F.checks x) r.checked)
+        (subst (λ k. HoldWithin k (moved len ((G x).checks y))) (sym long) (moved_within len (length (take n mid)) ((G x).checks y) h))
 
     -- where the first is read and the second stops, both stop
     pub stops_second : (n : ℕ) → Stops (G x) mid n → Stops (both F G) bytes (length (F.bytes x) + n)
@@ -119,7 +146,7 @@ module _ {X Y : Type 0} (F : Format X) (G : X → Format Y) where
         let more : len + n + 1 ≡ len + (n + 1) = omega arith in
         record {
           within = omega (arith, size, s.within);
-          begins = record { first = (x, b.first); fit = (r.fit, b.fit); rest = b.rest; is = ap (λ l. F.bytes x ++ l) b.is ∙ sym (append_assoc (F.bytes x) (take n mid) b.rest) ∙ ap (λ l. l ++ b.rest) (sym (front n)) };
+          begins = record { first = (x, b.first); fit = (r.fit, b.fit); checked = hold_second n b.first b.checked; rest = b.rest; is = ap (λ l. F.bytes x ++ l) b.is ∙ sym (append_assoc (F.bytes x) (take n mid) b.rest) ∙ ap (λ l. l ++ b.rest) (sym (front n)) };
           stops = λ lt z. s.stops (omega (arith, size, lt)) (goes_second (take (n + 1) mid) (subst (λ l. Goes (both F G) l) (ap (λ k. take k bytes) more ∙ front (n + 1)) z));
           none = λ z rest t. s.none z.1 rest (reads_second z rest t);
         }
@@ -128,13 +155,16 @@ module _ {X Y : Type 0} (F : Format X) (G : X → Format Y) where
 
 module _ {X Y : Type 0} (F : Format X) (G : Format Y) (to : X → Y) (a : Alike F G to) where
   goes_there : (bytes : List ℕ) → Goes F bytes → Goes G bytes
-  goes_there bytes g = let t = a.there g.first g.fit in record { first = to g.first; fit = t.0; rest = g.rest; is = t.1 ∙ g.is }
+  goes_there bytes g = let t = a.there g.first g.fit in record { first = to g.first; fit = t.0; checked = subst (λ cs. HoldWithin (length bytes) cs) (sym t.2) g.checked; rest = g.rest; is = t.1 ∙ g.is }
 
   same_bytes : (y : Y) (f : G.fit y) → F.bytes (a.back y f).0 ≡ G.bytes y
   same_bytes y f = let t = a.back y f in sym (a.there t.0 t.1).1 ∙ ap G.bytes t.2
 
+  same_checks : (y : Y) (f : G.fit y) → F.checks (a.back y f).0 ≡ G.checks y
+  same_checks y f = let t = a.back y f in sym (a.there t.0 t.1).2 ∙ ap G.checks t.2
+
   goes_back : (bytes : List ℕ) → Goes G bytes → Goes F bytes
-  goes_back bytes g = let t = a.back g.first g.fit in record { first = t.0; fit = t.1; rest = g.rest; is = same_bytes g.first g.fit ∙ g.is }
+  goes_back bytes g = let t = a.back g.first g.fit in record { first = t.0; fit = t.1; checked = subst (λ cs. HoldWithin (length bytes) cs) (sym (same_checks g.first g.fit)) g.checked; rest = g.rest; is = same_bytes g.first g.fit ∙ g.is }
 
   -- where the one stops, the other does
   pub stops_alike : (bytes : List ℕ) (n : ℕ) → Stops F bytes n → Stops G bytes n
@@ -142,11 +172,18 @@ module _ {X Y : Type 0} (F : Format X) (G : Format Y) (to : X → Y) (a : Alike 
     within = s.within;
     begins = goes_there (take n bytes) s.begins;
     stops = λ lt z. s.stops lt (goes_back (take (n + 1) bytes) z);
-    none = λ y rest r. let t = a.back y r.fit in s.none t.0 rest (record { fit = t.1; is = r.is ∙ ap (λ l. l ++ rest) (sym (same_bytes y r.fit)) });
+    none = λ y rest r. let t = a.back y r.fit in s.none t.0 rest (record { fit = t.1; checked = subst AllHold (sym (same_checks y r.fit)) r.checked; is = r.is ∙ ap (λ l. l ++ rest) (sym (same_bytes y r.fit)) });
   }
 
   pub has_alike : HasSome F → HasSome G
   has_alike h = record { first = to h.first; fit = (a.there h.first h.fit).0 }
+
+  -- where the checks of the one are judged within its spelling, so are those of the other
+  pub judged_alike : IsJudged F → IsJudged G
+  judged_alike j y f h =
+      let t = a.back y f in
+      let now : HoldWithin (length (F.bytes t.0)) (F.checks t.0) = subst (λ n. HoldWithin n (F.checks t.0)) (ap length (sym (same_bytes y f))) (subst (λ cs. HoldWithin (length (G.bytes y)) cs) (sym (same_checks y f)) h) in
+      subst AllHold (same_checks y f) (j t.0 t.1 now)
 
   pub plain_alike : IsPlain F → IsPlain G
   plain_alike p y z xs ys f g e =
@@ -159,7 +196,7 @@ module _ {X Y : Type 0} (F : Format X) (G : Format Y) (to : X → Y) (a : Alike 
   reads_alike_at bytes at x next r =
       let t = a.there x r.reads.fit in
       record {
-        reads = record { fit = t.0; is = r.reads.is ∙ ap (λ l. l ++ drop next bytes) (sym t.1) };
+        reads = record { fit = t.0; checked = subst AllHold (sym t.2) r.reads.checked; is = r.reads.is ∙ ap (λ l. l ++ drop next bytes) (sym t.1) };
         count = r.count ∙ ap (λ l. at + length l) (sym t.1);
         within = r.within;
       }
@@ -178,8 +215,8 @@ module _ {X Y : Type 0} (F : Format X) (G : X → Format Y) (bytes : List ℕ) (
   }
 
   -- where the first fails, both do
-  pub fails_first : ((x : X) → F.fit x → HasSome (G x)) → (n : ℕ) → FailsAt F bytes at n → FailsAt (both F G) bytes at n
-  fails_first k n f = record { past = f.past; stops = stops_first F G (drop at bytes) (n - at) k f.stops }
+  pub fails_first : IsJudged F → ((x : X) → F.fit x → HasSome (G x)) → (n : ℕ) → FailsAt F bytes at n → FailsAt (both F G) bytes at n
+  fails_first j k n f = record { past = f.past; stops = stops_first F G (drop at bytes) (n - at) j k f.stops }
 
   -- where the first is read and the second fails, both do
   pub fails_second : IsPlain F → (mid : ℕ) (x : X) → ReadsAt F bytes at x mid → (n : ℕ) → FailsAt (G x) bytes mid n → FailsAt (both F G) bytes at n

@@ -56,6 +56,7 @@ high_short bytes h less high =
       begins = record {
         first = from_be_bytes w64 all;
         fit = (number_high all front, number_fits all are);
+        checked = tt;
         rest = fill;
         is = be_bytes_8 all (from_be_bytes w64 all) eight are refl ∙ ap (λ l. l ++ fill) (sym (take_all (length bytes) bytes (omega arith)));
       };
@@ -67,7 +68,7 @@ high_low : (bytes : List ℕ) → 0 < length bytes → get_or bytes 0 0 < 128 �
 high_low [] some low = absurd (omega arith)
 high_low (y ∷ bytes) some low = record {
   within = omega arith;
-  begins = record { first = has_high.first; fit = has_high.fit; rest = to_be_bytes w64 has_high.first; is = refl };
+  begins = record { first = has_high.first; fit = has_high.fit; checked = tt; rest = to_be_bytes w64 has_high.first; is = refl };
   stops = λ lt z. let first : 128 ≤ y = head_high z.first y z.rest z.fit.0 z.fit.1 z.is in absurd (omega (arith, first, low));
   none = λ x rest r.
       let head : y ≡ get_or (to_be_bytes w64 x) 0 0 = ap (λ l. get_or l 0 0) r.is in
@@ -103,7 +104,7 @@ high_reads bytes at n first h le high long e f =
     let head : get_or first 0 0 ≡ get_or (drop at bytes) 0 0 = ap (λ l. get_or l 0 0) e ∙ get_or-take 8 (drop at bytes) 0 0 (omega arith) in
     let big : 2 ^ 63 ≤ from_be_bytes w64 first = number_high first (omega (arith, front, head, head_at bytes at)) in
     record {
-      reads = record { fit = (omega (arith, big, f), r.reads.fit); is = r.reads.is };
+      reads = record { fit = (omega (arith, big, f), r.reads.fit); checked = tt; is = r.reads.is };
       count = r.count;
       within = r.within;
     }

@@ -24,7 +24,7 @@ use Rattle.cp_format.proofs.Names.{name_parts, name_utf8, has_name_text, plain_n
 -- a label is its length and its text
 pub alike_label : (most : ℕ) → Alike (both (count_format 0 most) text_format) (label_format most) (λ z. z.1)
 alike_label most = record {
-  there = λ z f. ((record { text = f.1.0; short = omega (arith, f.0.2, f.1.1) }, omega (arith, f.0.1, f.1.1)), ap (λ n. n ∷ z.1) f.1.1);
+  there = λ z f. ((record { text = f.1.0; short = omega (arith, f.0.2, f.1.1) }, omega (arith, f.0.1, f.1.1)), ap (λ n. n ∷ z.1) f.1.1, refl);
   back = λ a f. ((length a, a), ((omega arith, f.1, omega (arith, f.0.short)), (f.0.text, refl)), refl);
 }
 
@@ -65,15 +65,16 @@ label_parts n room (a ∷ p) all count fits = ((a, p), ((all.0, omega (arith, fi
 -- labels are one after another in the room that is left
 pub labels_counted : IsCounted HaveRoom next_label room_after labels_format
 labels_counted = record {
-  none = λ room. ((tt, refl, omega arith), refl);
+  none = λ room. ((tt, refl, omega arith), refl, refl);
   only = λ room p f. no_others p f.1;
   more = λ n room h. record {
-    there = λ z f. (((f.0.0, f.1.0), ap suc f.1.1, omega (arith, h, f.0.1, f.1.2, size_cons z.0 z.1)), refl);
+    there = λ z f. (((f.0.0, f.1.0), ap suc f.1.1, omega (arith, h, f.0.1, f.1.2, size_cons z.0 z.1)), refl, refl);
     back = λ p f. label_parts n room p f.0 f.1 f.2;
   };
   keeps = λ n room a h f. omega (arith, h, f.1);
   some = λ n room h. has_label (room - suc n);
   plain = λ n room h. plain_label (room - suc n);
+  judged = λ n room h x f g. tt;
 }
 
 pub has_labels : (count room : ℕ) → count ≤ room → HasSome (labels_format count room)
@@ -101,7 +102,7 @@ module _ (bytes : List ℕ) (at count room k : ℕ) (path : Path) (next left : �
 -- a path is the number of its labels and these
 pub alike_path : (room : ℕ) → Alike (both (count_format 0 LABELS_MAX) (λ n. labels_format n room)) (path_format room) (λ z. z.1)
 alike_path room = record {
-  there = λ z f. ((record { labels = f.1.0; few = omega (arith, f.0.1, f.1.1) }, f.1.2), ap (λ n. n ∷ flat_map counted_bytes z.1) f.1.1);
+  there = λ z f. ((record { labels = f.1.0; few = omega (arith, f.0.1, f.1.1) }, f.1.2), ap (λ n. n ∷ flat_map counted_bytes z.1) f.1.1, refl);
   back = λ p f. ((length p, p), ((omega arith, f.0.few, omega (arith, f.0.few)), (f.0.labels, refl, f.1)), refl);
 }
 
@@ -118,7 +119,7 @@ has_path room = record { first = []; fit = (record { labels = tt; few = omega ar
 -- a name is its length and its bytes
 pub alike_name : Alike (both (count_format 1 NAME_MAX) name_text_format) name_format (λ z. z.1)
 alike_name = record {
-  there = λ z f. (record { text = name_utf8 z.1 f.1.0; name = f.1.0 }, ap (λ n. n ∷ z.1) f.1.1);
+  there = λ z f. (record { text = name_utf8 z.1 f.1.0; name = f.1.0 }, ap (λ n. n ∷ z.1) f.1.1, refl);
   back = λ a f. let p = name_parts a f.name in ((length a, a), ((p.some, p.few, omega (arith, p.few)), (f.name, refl)), refl);
 }
 
@@ -140,7 +141,7 @@ pub alike_place : Alike (both name_format (λ a. path_format (LOC_MAX - length a
 alike_place = record {
   there = λ z f.
       let p = name_parts z.0 f.0.name in
-      ((record { name = f.0; path = f.1.0 }, is_within (record { db = z.0; path = z.1 }) f.1.0.few (omega (arith, f.1.1, p.few))), refl);
+      ((record { name = f.0; path = f.1.0 }, is_within (record { db = z.0; path = z.1 }) f.1.0.few (omega (arith, f.1.1, p.few))), refl, refl);
   back = λ q f. let w = within_limits q f.1 in ((q.db, q.path), (f.0.name, (f.0.path, omega (arith, w.1))), refl);
 }
 

@@ -6,8 +6,9 @@ use Rattle.std.specs.Int.{to_be_bytes, from_be_bytes, w64}
 use Rattle.cp_model.specs.declared.record.RecOp.{RecOp}
 use Rattle.cp_model.specs.declared.record.RecOp.TheVariants as op
 use Rattle.cp_record.specs.Bytes.{letter}
-use Rattle.cp_format.specs.Formats.{Format, Stops, ReadsAt, FailsAt}
+use Rattle.cp_format.specs.Formats.{AllHold, Format, Stops, ReadsAt, FailsAt}
 use Rattle.cp_format.specs.Parts.{number_format, letter_format, count_format}
+use Rattle.cp_format.proofs.Checks.{none_within}
 use Rattle.cp_format.proofs.Formats.{HasSome, IsPlain, plain_fixed}
 
 -- ---- one byte
@@ -16,13 +17,13 @@ use Rattle.cp_format.proofs.Formats.{HasSome, IsPlain, plain_fixed}
 pub stops_byte : {X : Type 0} (F : Format X) (bytes : List ℕ) → HasSome F → ((x : X) → F.fit x → (b : ℕ) × (F.bytes x ≡ b ∷ [])) → ((x : X) → 0 < length bytes → F.fit x → F.bytes x ≡ get_or bytes 0 0 ∷ [] → ⊥) → Stops F bytes 0
 stops_byte F [] some one bad = record {
   within = omega arith;
-  begins = record { first = some.first; fit = some.fit; rest = F.bytes some.first; is = refl };
+  begins = record { first = some.first; fit = some.fit; checked = none_within (F.checks some.first); rest = F.bytes some.first; is = refl };
   stops = λ lt z. absurd (omega (arith, lt));
   none = λ x rest r. let b = one x r.fit in let long : 0 ≡ suc (length rest) = ap length r.is ∙ ap (λ l. length (l ++ rest)) b.1 in absurd (omega (arith, long));
 }
 stops_byte F (y ∷ bytes) some one bad = record {
   within = omega arith;
-  begins = record { first = some.first; fit = some.fit; rest = F.bytes some.first; is = refl };
+  begins = record { first = some.first; fit = some.fit; checked = none_within (F.checks some.first); rest = F.bytes some.first; is = refl };
   stops = λ lt z.
       let b = one z.first z.fit in
       let all : b.0 ∷ [] ≡ y ∷ z.rest = sym b.1 ∙ z.is in
@@ -36,9 +37,9 @@ stops_byte F (y ∷ bytes) some one bad = record {
 }
 
 -- the byte at the offset spells x
-pub reads_byte : {X : Type 0} (F : Format X) (bytes : List ℕ) (at : ℕ) (x : X) → at < length bytes → F.fit x → F.bytes x ≡ get_or bytes at 0 ∷ [] → ReadsAt F bytes at x (at + 1)
-reads_byte F bytes at x lt f e = record {
-  reads = record { fit = f; is = drop_more bytes at 0 lt ∙ ap (λ l. l ++ drop (at + 1) bytes) (sym e) };
+pub reads_byte : {X : Type 0} (F : Format X) (bytes : List ℕ) (at : ℕ) (x : X) → at < length bytes → F.fit x → AllHold (F.checks x) → F.bytes x ≡ get_or bytes at 0 ∷ [] → ReadsAt F bytes at x (at + 1)
+reads_byte F bytes at x lt f c e = record {
+  reads = record { fit = f; checked = c; is = drop_more bytes at 0 lt ∙ ap (λ l. l ++ drop (at + 1) bytes) (sym e) };
   count = ap (λ l. at + length l) (sym e);
   within = omega (arith, lt);
 }
@@ -108,6 +109,7 @@ number_reads bytes at n first h le long e f =
     record {
       reads = record {
         fit = subst (λ m. m < 2 ^ 64) (sym f) (number_fits first are);
+        checked = tt;
         is = sym (take-append-drop 8 (drop at bytes)) ∙ (λ i. sym spelled i ++ drop-drop 8 at bytes i);
       };
       count = refl;
@@ -125,6 +127,7 @@ number_stops bytes h less =
       begins = record {
         first = from_be_bytes w64 all;
         fit = number_fits all are;
+        checked = tt;
         rest = fill;
         is = be_bytes_8 all (from_be_bytes w64 all) eight are refl ∙ ap (λ l. l ++ fill) (sym (take_all (length bytes) bytes (omega arith)));
       };
@@ -178,7 +181,7 @@ letter_fails bytes at le bad =
     (λ x lt f e. let h = bad lt in let same : letter x ≡ get_or bytes at 0 = cc in no_letter x (get_or bytes at 0) h.0 h.1 h.2 h.3 same)
 
 pub letter_reads : (bytes : List ℕ) (at : ℕ) (x : RecOp) → at < length bytes → get_or bytes at 0 ≡ letter x → ReadsAt letter_format bytes at x (at + 1)
-letter_reads bytes at x lt e = reads_byte letter_format bytes at x lt tt (ap (λ n. n ∷ []) (sym e))
+letter_reads bytes at x lt e = reads_byte letter_format bytes at x lt tt tt (ap (λ n. n ∷ []) (sym e))
 
 -- ---- counts
 
@@ -195,4 +198,4 @@ count_fails least most bytes at some byte le bad =
     (λ x lt f e. let same : x ≡ get_or bytes at 0 = cc in bad lt (omega (arith, same, f.0)) (omega (arith, same, f.1)))
 
 pub count_reads : (least most : ℕ) (bytes : List ℕ) (at n : ℕ) → at < length bytes → get_or bytes at 0 < 256 → n ≡ get_or bytes at 0 → least ≤ n → n ≤ most → ReadsAt (count_format least most) bytes at n (at + 1)
-count_reads least most bytes at n lt byte e low high = reads_byte (count_format least most) bytes at n lt (low, high, omega (arith, byte, e)) (ap (λ m. m ∷ []) e)
+count_reads least most bytes at n lt byte e low high = reads_byte (count_format least most) bytes at n lt (low, high, omega (arith, byte, e)) tt (ap (λ m. m ∷ []) e)

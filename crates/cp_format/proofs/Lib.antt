@@ -1,4 +1,6 @@
+pub mod Checks
 pub mod Formats
+pub mod Checked
 pub mod Counted
 pub mod Faults
 pub mod Leaves
@@ -10,6 +12,7 @@ pub mod Labels
 pub mod Records
 pub mod Growing
 pub mod Forms
+pub mod Numbers
 pub mod HighNumbers
 pub mod LongTexts
 pub mod Contents

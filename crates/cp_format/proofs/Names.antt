@@ -103,7 +103,7 @@ module _ (n k : ℕ) (bytes : List ℕ) (some : 1 ≤ n) (few : n ≤ NAME_MAX) 
   pub name_text_stops : (k < length bytes → fits_name k (get_or bytes k 0) ≡ false) → Stops (name_text_format n) bytes k
   name_text_stops bad = record {
     within = there;
-    begins = record { first = filled; fit = (name_of filled (omega (arith, long, some)) (omega (arith, long, few)) filled_fits, long); rest = replicate (n - k) 97; is = refl };
+    begins = record { first = filled; fit = (name_of filled (omega (arith, long, some)) (omega (arith, long, few)) filled_fits, long); checked = tt; rest = replicate (n - k) 97; is = refl };
     stops = λ lt z. wrong z.first z.fit.0 z.fit.1 (bad lt) (ap (λ l. get_or l k 0) z.is ∙ get_or_append_left (take (k + 1) bytes) z.rest 0 k (omega (arith, length-take-le (k + 1) bytes (omega (arith, lt)))) ∙ get_or-take (k + 1) bytes k 0 (omega arith));
     none = λ w rest r.
         let size : length bytes ≡ length w + length rest = ap length r.is ∙ length-append w rest in
@@ -156,6 +156,7 @@ module _ (bytes : List ℕ) (at n good : ℕ) (le : at ≤ length bytes) (some :
           record {
             reads = record {
               fit = (ap is_name e ∙ is_one, size);
+              checked = tt;
               is = sym (take-append-drop n (drop at bytes)) ∙ ap (λ l. l ++ drop n (drop at bytes)) (ap (take n) (sym all_rest) ∙ sym e) ∙ ap (λ l. a ++ l) (drop-drop n at bytes);
             };
             count = ap (λ m. at + m) (sym size);

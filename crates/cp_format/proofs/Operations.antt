@@ -4,7 +4,7 @@ use Rattle.std.proofs.lemmas.List.Sums.{sum_by-cons}
 use Rattle.std.specs.List.{flat_map}
 use Rattle.cp_path.specs.Encoding.{counted_bytes, path_bytes}
 use Rattle.cp_path.specs.Place.{Label, Path, at_target, over_limit, target}
-use Rattle.cp_path.specs.declared.limits.TheConstants.{LABEL_MAX, LOC_MAX}
+use Rattle.cp_path.specs.declared.limits.TheConstants.{LABEL_MAX, LOC_MAX, TEXT_MAX}
 use Rattle.cp_path.specs.declared.loc.Loc.{Loc}
 use Rattle.cp_path.specs.declared.value.Value.TheVariants.{Null, False, True, Whole, Text}
 use Rattle.cp_model.specs.declared.row.Content.{Content}
@@ -17,10 +17,10 @@ use Rattle.cp_record.specs.Bytes.{content_length, inserted_length, op_length, pa
 use Rattle.cp_format.specs.declared.fault.FormatFault.{FormatFault}
 use Rattle.cp_format.specs.Contents.{IsContent, content_bytes, content_format}
 use Rattle.cp_format.specs.Faults.{FaultAt}
-use Rattle.cp_format.specs.Formats.{Format, ReadsAt}
+use Rattle.cp_format.specs.Formats.{Format, ReadsAt, unchecked}
 use Rattle.cp_format.specs.Operations.{IsShort, IsSpelledOp, alone, op_behind, op_bytes, op_form, op_format, op_rest, root_content, target_format}
 use Rattle.cp_format.specs.Parts.{count_format, label_format, path_format, place_format}
-use Rattle.cp_format.proofs.Contents.{has_content, plain_content}
+use Rattle.cp_format.proofs.Contents.{has_content, plain_content, within_text_max}
 use Rattle.cp_format.proofs.Faults.{fault_alike, fault_first, fault_second}
 use Rattle.cp_format.proofs.Formats.{HasSome, IsPlain, Alike, both, has_both, has_alike, plain_alike, plain_both, reads_alike_at}
 use Rattle.cp_format.proofs.Forms.{alike_forms}
@@ -32,7 +32,7 @@ use Rattle.cp_format.proofs.Leaves.{plain_count}
 -- a place of T is its path
 pub alike_target : Alike (path_format (LOC_MAX - 1)) target_format at_target
 alike_target = record {
-  there = λ p f. (record { place = refl; path = f.0; within = is_within (at_target p) f.0.few (omega (arith, f.1)) }, refl);
+  there = λ p f. (record { place = refl; path = f.0; within = is_within (at_target p) f.0.few (omega (arith, f.1)) }, refl, refl);
   back = λ q f.
       let loc = within_limits (at_target q.path) (subst (λ x. over_limit x ≡ false) f.place f.within) in
       (q.path, (f.path, omega (arith, loc.1)), sym f.place);
@@ -61,7 +61,7 @@ root_alone Node = refl
 root_alone (Leaf v) = refl
 
 abbrev pub behind_label : Label → Format Content
-behind_label a = content_format
+behind_label a = content_format TEXT_MAX
 
 abbrev pub behind_into : Loc → Format (Label × Content)
 behind_into p = both (label_format LABEL_MAX) behind_label
@@ -74,20 +74,20 @@ pub alike_ins : Alike (both target_format behind_into) (op_behind 1) ins_of
 alike_ins = record {
   there = λ z f.
       let root = root_alone z.1.1 in
-      (((f.0, f.1.0.0, ap alone (sym root), subst IsContent (sym root) f.1.1), refl), ap (λ c. path_bytes z.0.path ++ (counted_bytes z.1.0 ++ content_bytes c)) root);
+      (((f.0, f.1.0.0, ap alone (sym root), subst IsContent (sym root) f.1.1.0), refl), ap (λ c. path_bytes z.0.path ++ (counted_bytes z.1.0 ++ content_bytes c)) root, refl);
   back = λ o f. ins_parts o f.0 f.1;
 }
   where
     ins_parts : (o : Op) → IsSpelledOp o → op_form o ≡ 1 → (z : Loc × (Label × Content)) × (both target_format behind_into).fit z × (ins_of z ≡ o)
-    ins_parts (Ins p a l) f e = ((p, (a, root_content l)), (f.0, ((f.1, f.1.short), f.3)), ap (λ (t : Literal). Ins p a t) (sym f.2))
+    ins_parts (Ins p a l) f e = ((p, (a, root_content l)), (f.0, ((f.1, f.1.short), (f.3, within_text_max (root_content l) f.3))), ap (λ (t : Literal). Ins p a t) (sym f.2))
     ins_parts (Del a p) f e = absurd (omega (arith, e))
     ins_parts (Copy q p) f e = absurd (omega (arith, e))
 
 has_into : (p : Loc) → HasSome (behind_into p)
-has_into p = has_both (label_format LABEL_MAX) behind_label (has_label LABEL_MAX) (λ a f. has_content)
+has_into p = has_both (label_format LABEL_MAX) behind_label (has_label LABEL_MAX) (λ a f. has_content TEXT_MAX)
 
 plain_into : (p : Loc) → IsPlain (behind_into p)
-plain_into p = plain_both (label_format LABEL_MAX) behind_label (plain_label LABEL_MAX) (λ a f. plain_content)
+plain_into p = plain_both (label_format LABEL_MAX) behind_label (plain_label LABEL_MAX) (λ a f. plain_content TEXT_MAX)
 
 module _ (bytes : List ℕ) (at : ℕ) where
   ins_fault : (e : FormatFault) → FaultAt (both target_format behind_into) bytes at e → FaultAt (op_behind 1) bytes at e
@@ -95,7 +95,7 @@ module _ (bytes : List ℕ) (at : ℕ) where
 
   -- a fault in the place is one of the insertion
   pub ins_into_fault : (e : FormatFault) → FaultAt target_format bytes at e → FaultAt (op_behind 1) bytes at e
-  ins_into_fault e f = ins_fault e (fault_first target_format behind_into bytes at (λ p h. has_into p) e f)
+  ins_into_fault e f = ins_fault e (fault_first target_format behind_into bytes at (λ x g h. tt) (λ p h. has_into p) e f)
 
   module _ (p : Loc) (mid : ℕ) (r : ReadsAt target_format bytes at p mid) where
     into_fault : (e : FormatFault) → FaultAt (behind_into p) bytes mid e → FaultAt (op_behind 1) bytes at e
@@ -103,10 +103,10 @@ module _ (bytes : List ℕ) (at : ℕ) where
 
     -- a fault in the label is one of the insertion
     pub ins_label_fault : (e : FormatFault) → FaultAt (label_format LABEL_MAX) bytes mid e → FaultAt (op_behind 1) bytes at e
-    ins_label_fault e f = into_fault e (fault_first (label_format LABEL_MAX) behind_label bytes mid (λ a h. has_content) e f)
+    ins_label_fault e f = into_fault e (fault_first (label_format LABEL_MAX) behind_label bytes mid (λ x g h. tt) (λ a h. has_content TEXT_MAX) e f)
 
     -- a fault in the content is one of the insertion
-    pub ins_content_fault : (a : Label) (behind : ℕ) → ReadsAt (label_format LABEL_MAX) bytes mid a behind → (e : FormatFault) → FaultAt content_format bytes behind e → FaultAt (op_behind 1) bytes at e
+    pub ins_content_fault : (a : Label) (behind : ℕ) → ReadsAt (label_format LABEL_MAX) bytes mid a behind → (e : FormatFault) → FaultAt (content_format TEXT_MAX) bytes behind e → FaultAt (op_behind 1) bytes at e
     ins_content_fault a behind s e f = into_fault e (fault_second (label_format LABEL_MAX) behind_label bytes mid (plain_label LABEL_MAX) behind a s e f)
 
 -- ---- deletions
@@ -120,7 +120,7 @@ del_of z = Del z.1 z.0
 -- a deletion is its place and its label
 pub alike_del : Alike (both target_format behind_from) (op_behind 2) del_of
 alike_del = record {
-  there = λ z f. (((f.0, f.1.0), refl), refl);
+  there = λ z f. (((f.0, f.1.0), refl), refl, refl);
   back = λ o f. del_parts o f.0 f.1;
 }
   where
@@ -133,7 +133,7 @@ alike_del = record {
 pub del_from_fault : (bytes : List ℕ) (at : ℕ) (e : FormatFault) → FaultAt target_format bytes at e → FaultAt (op_behind 2) bytes at e
 del_from_fault bytes at e f =
     fault_alike (both target_format behind_from) (op_behind 2) del_of alike_del bytes at e
-    (fault_first target_format behind_from bytes at (λ p h. has_label LABEL_MAX) e f)
+    (fault_first target_format behind_from bytes at (λ x g h. tt) (λ p h. has_label LABEL_MAX) e f)
 
 -- a fault in the label is one of the deletion
 pub del_label_fault : (bytes : List ℕ) (at : ℕ) (p : Loc) (mid : ℕ) → ReadsAt target_format bytes at p mid → (e : FormatFault) → FaultAt (label_format LABEL_MAX) bytes mid e → FaultAt (op_behind 2) bytes at e
@@ -152,7 +152,7 @@ copy_of z = Copy z.0 z.1
 -- a copy is its two places
 pub alike_copy : Alike (both place_format behind_origin) (op_behind 3) copy_of
 alike_copy = record {
-  there = λ z f. (((f.0.0, f.0.1, f.1), refl), refl);
+  there = λ z f. (((f.0.0, f.0.1, f.1), refl), refl, refl);
   back = λ o f. copy_parts o f.0 f.1;
 }
   where
@@ -165,7 +165,7 @@ alike_copy = record {
 pub copy_from_fault : (bytes : List ℕ) (at : ℕ) (e : FormatFault) → FaultAt place_format bytes at e → FaultAt (op_behind 3) bytes at e
 copy_from_fault bytes at e f =
     fault_alike (both place_format behind_origin) (op_behind 3) copy_of alike_copy bytes at e
-    (fault_first place_format behind_origin bytes at (λ q h. has_target) e f)
+    (fault_first place_format behind_origin bytes at (λ x g h. tt) (λ q h. has_target) e f)
 
 -- a fault in the destination is one of the copy
 pub copy_into_fault : (bytes : List ℕ) (at : ℕ) (q : Loc) (mid : ℕ) → ReadsAt place_format bytes at q mid → (e : FormatFault) → FaultAt target_format bytes mid e → FaultAt (op_behind 3) bytes at e
@@ -196,23 +196,11 @@ form_within (Copy q p) = (omega arith, omega arith, omega arith)
 
 -- an operation is its form and what follows it
 pub alike_op : Alike (both (count_format 1 3) op_behind) op_format (λ z. z.1)
-alike_op = alike_forms IsSpelledOp op_form op_rest 1 3 form_within
+alike_op = alike_forms IsSpelledOp op_form op_rest unchecked 1 3 form_within
 
 -- no operation's spelling begins another's
 pub plain_op : IsPlain op_format
 plain_op = plain_alike (both (count_format 1 3) op_behind) op_format (λ z. z.1) alike_op (plain_both (count_format 1 3) op_behind (plain_count 1 3) (λ k f. plain_op_behind k f.0 f.1))
-
--- a fault in the form is one of the operation
-pub op_form_fault : (bytes : List ℕ) (at : ℕ) (e : FormatFault) → FaultAt (count_format 1 3) bytes at e → FaultAt op_format bytes at e
-op_form_fault bytes at e f =
-    fault_alike (both (count_format 1 3) op_behind) op_format (λ z. z.1) alike_op bytes at e
-    (fault_first (count_format 1 3) op_behind bytes at (λ k h. has_op_behind k h.0 h.1) e f)
-
--- a fault in what follows the form is one of the operation
-pub op_behind_fault : (bytes : List ℕ) (at k mid : ℕ) → ReadsAt (count_format 1 3) bytes at k mid → (e : FormatFault) → FaultAt (op_behind k) bytes mid e → FaultAt op_format bytes at e
-op_behind_fault bytes at k mid r e f =
-    fault_alike (both (count_format 1 3) op_behind) op_format (λ z. z.1) alike_op bytes at e
-    (fault_second (count_format 1 3) op_behind bytes at (plain_count 1 3) mid k r e f)
 
 -- ---- lengths
 

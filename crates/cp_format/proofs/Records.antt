@@ -23,7 +23,7 @@ use Rattle.cp_format.proofs.Labels.{has_path, plain_path, has_place, plain_place
 -- the source of a copy is a place
 alike_copy : Alike place_format (source_format op.C) (λ q. Some q)
 alike_copy = record {
-  there = λ q f. ((record { copied = refl; place = f.0 }, f.1), refl);
+  there = λ q f. ((record { copied = refl; place = f.0 }, f.1), refl, refl);
   back = λ s f. place_of s f.0.copied f.0.place f.1;
 }
   where
@@ -95,6 +95,7 @@ alike_record = record {
           source = f.1.1.1.1;
         },
         refl,
+        refl,
       );
   back = λ r f.
       let loc = within_limits (at_target r.loc.path) (subst (λ q. over_limit q ≡ false) f.packable.place f.place) in
@@ -121,7 +122,7 @@ module _ (bytes : List ℕ) (at : ℕ) where
 
   -- a fault in the number is one of the record
   pub tid_fault : (e : FormatFault) → FaultAt number_format bytes at e → FaultAt record_format bytes at e
-  tid_fault e f = record_fault e (fault_first number_format behind_number bytes at (λ t h. has_behind_number t) e f)
+  tid_fault e f = record_fault e (fault_first number_format behind_number bytes at (λ x g h. tt) (λ t h. has_behind_number t) e f)
 
   module _ (t after : ℕ) (r : ReadsAt number_format bytes at t after) where
     number_fault : (e : FormatFault) → FaultAt (behind_number t) bytes after e → FaultAt record_format bytes at e
@@ -129,7 +130,7 @@ module _ (bytes : List ℕ) (at : ℕ) where
 
     -- a fault in the letter is one of the record
     pub op_fault : (e : FormatFault) → FaultAt letter_format bytes after e → FaultAt record_format bytes at e
-    op_fault e f = number_fault e (fault_first letter_format behind_letter bytes after (λ o h. has_behind_letter o) e f)
+    op_fault e f = number_fault e (fault_first letter_format behind_letter bytes after (λ x g h. tt) (λ o h. has_behind_letter o) e f)
 
     module _ (o : RecOp) (behind : ℕ) (s : ReadsAt letter_format bytes after o behind) where
       letter_fault : (e : FormatFault) → FaultAt (behind_letter o) bytes behind e → FaultAt record_format bytes at e
@@ -137,7 +138,7 @@ module _ (bytes : List ℕ) (at : ℕ) where
 
       -- a fault in the path is one of the record
       pub path_fault : (e : FormatFault) → FaultAt (path_format (LOC_MAX - 1)) bytes behind e → FaultAt record_format bytes at e
-      path_fault e f = letter_fault e (fault_first (path_format (LOC_MAX - 1)) (behind_path o) bytes behind (λ p h. has_source o) e f)
+      path_fault e f = letter_fault e (fault_first (path_format (LOC_MAX - 1)) (behind_path o) bytes behind (λ x g h. tt) (λ p h. has_source o) e f)
 
       module _ (p : Path) (below : ℕ) (u : ReadsAt (path_format (LOC_MAX - 1)) bytes behind p below) where
         -- a fault in the source is one of the record

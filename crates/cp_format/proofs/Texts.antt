@@ -36,7 +36,7 @@ text_short n bytes u less =
     let size : length (bytes ++ filler (n - length bytes)) ≡ n = omega (arith, less, length-append bytes (filler (n - length bytes)), length-filler (n - length bytes)) in
     record {
       within = omega arith;
-      begins = record { first = bytes ++ filler (n - length bytes); fit = (IsUtf8-append bytes (filler (n - length bytes)) u (utf8_filler (n - length bytes)), size); rest = filler (n - length bytes); is = ap (λ l. l ++ filler (n - length bytes)) (sym (take_all (length bytes) bytes (omega arith))) };
+      begins = record { first = bytes ++ filler (n - length bytes); fit = (IsUtf8-append bytes (filler (n - length bytes)) u (utf8_filler (n - length bytes)), size); checked = tt; rest = filler (n - length bytes); is = ap (λ l. l ++ filler (n - length bytes)) (sym (take_all (length bytes) bytes (omega arith))) };
       stops = λ lt z. absurd (omega (arith, lt));
       none = λ a rest r. let all : length bytes ≡ length a + length rest = ap length r.is ∙ length-append a rest in absurd (omega (arith, all, less, r.fit.1));
     }
@@ -57,8 +57,8 @@ module _ (n : ℕ) (bytes rest : List ℕ) (u : IsUtf8 bytes) (less : length byt
       let c = next.0 in
       let same : c.char ++ c.rest ≡ front ++ z.rest = sym {b = c.char ++ c.rest} c.is in
       elim (two_fronts c.char front c.rest z.rest same) [
-        | inl l ↦ inr (c.char, l.more, record { fit = (c.is_char, next.1); is = l.is })
-        | inr l ↦ inl (record { first = c.char; fit = (c.is_char, next.1); rest = l.more; is = l.is })
+        | inl l ↦ inr (c.char, l.more, record { fit = (c.is_char, next.1); checked = tt; is = l.is })
+        | inr l ↦ inl (record { first = c.char; fit = (c.is_char, next.1); checked = tt; rest = l.more; is = l.is })
       ]
 
   taken : (k : ℕ) → take (length bytes + k) (bytes ++ rest) ≡ bytes ++ take k rest
@@ -73,6 +73,7 @@ module _ (n : ℕ) (bytes rest : List ℕ) (u : IsUtf8 bytes) (less : length byt
         record {
           first = bytes ++ (b.first ++ fill);
           fit = (IsUtf8-append bytes (b.first ++ fill) u (IsUtf8-append b.first fill (utf8_char b.first b.fit.0) (utf8_filler (n - length bytes - length b.first))), size);
+          checked = tt;
           rest = b.rest ++ fill;
           is = ap (λ l. bytes ++ (l ++ fill)) b.is ∙ ap (λ l. bytes ++ l) (append_assoc (take k rest) b.rest fill) ∙ sym (append_assoc bytes (take k rest) (b.rest ++ fill)) ∙ ap (λ l. l ++ (b.rest ++ fill)) (sym (taken k));
         }
@@ -83,7 +84,7 @@ module _ (n : ℕ) (bytes rest : List ℕ) (u : IsUtf8 bytes) (less : length byt
         let front : take (length bytes + k + 1) (bytes ++ rest) ≡ bytes ++ take (k + 1) rest = ap (λ m. take m (bytes ++ rest)) more ∙ taken (k + 1) in
         elim (char_there (take (k + 1) rest) (subst (λ l. Goes (text_format n) l) front z)) [
           | inl g ↦ s.stops lt g
-          | inr r ↦ s.none r.0 (r.1 ++ drop (k + 1) rest) (record { fit = r.2.fit; is = sym (take-append-drop (k + 1) rest) ∙ ap (λ l. l ++ drop (k + 1) rest) r.2.is ∙ append_assoc r.0 r.1 (drop (k + 1) rest) })
+          | inr r ↦ s.none r.0 (r.1 ++ drop (k + 1) rest) (record { fit = r.2.fit; checked = tt; is = sym (take-append-drop (k + 1) rest) ∙ ap (λ l. l ++ drop (k + 1) rest) r.2.is ∙ append_assoc r.0 r.1 (drop (k + 1) rest) })
         ]
 
     text_none : (a more : List ℕ) → Reads (text_format n) (bytes ++ rest) a more → ⊥
@@ -92,7 +93,7 @@ module _ (n : ℕ) (bytes rest : List ℕ) (u : IsUtf8 bytes) (less : length byt
           | inl l ↦
               let next = next_char l.more (subst IsUtf8 l.is r.fit.0) (sym (ap length l.is) ∙ r.fit.1) in
               let c = next.0 in
-              s.none c.char (c.rest ++ more) (record { fit = (c.is_char, next.1); is = l.left ∙ ap (λ t. t ++ more) c.is ∙ append_assoc c.char c.rest more })
+              s.none c.char (c.rest ++ more) (record { fit = (c.is_char, next.1); checked = tt; is = l.left ∙ ap (λ t. t ++ more) c.is ∙ append_assoc c.char c.rest more })
           | inr l ↦ let size : length bytes ≡ length a + length l.more = ap length l.is ∙ length-append a l.more in absurd (omega (arith, size, less, r.fit.1))
         ]
 
@@ -123,12 +124,12 @@ text_within n k bytes s =
             let long : n ≡ length (take (k + 1) bytes) + length z.rest = sym z.fit.1 ∙ ap length z.is ∙ length-append (take (k + 1) bytes) z.rest in
             absurd (omega (arith, l, lt, long, length-take (k + 1) bytes))
       ];
-      none = λ a rest r. s.none a [] (record { fit = r.fit; is = ap (take n) r.is ∙ take_at a rest n r.fit.1 ∙ sym (append-nil a) });
+      none = λ a rest r. s.none a [] (record { fit = r.fit; checked = tt; is = ap (take n) r.is ∙ take_at a rest n r.fit.1 ∙ sym (append-nil a) });
     }
 
 -- a text of the first n bytes is one of all
 pub text_read : (n : ℕ) (bytes a : List ℕ) → a ≡ take n bytes → IsUtf8 a → length a ≡ n → Reads (text_format n) bytes a (drop n bytes)
-text_read n bytes a e u size = record { fit = (u, size); is = sym (take-append-drop n bytes) ∙ ap (λ l. l ++ drop n bytes) (sym e) }
+text_read n bytes a e u size = record { fit = (u, size); checked = tt; is = sym (take-append-drop n bytes) ∙ ap (λ l. l ++ drop n bytes) (sym e) }
 
 module _ (n m : ℕ) (bytes : List ℕ) (least : m ≡ min n (length bytes)) where
   there : take m bytes ≡ take n bytes

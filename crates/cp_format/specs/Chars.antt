@@ -1,7 +1,7 @@
 -- The bytes of one character in UTF-8.
 use Rattle.std.specs.Prelude.{ℕ, ◌≤◌, ◌<◌, cond, nat_lt, List, [], ◌∷◌, length}
 use Rattle.std.specs.Str.Lossy.{second_byte_min, second_byte_max}
-use Rattle.cp_format.specs.Formats.{Format, Reads}
+use Rattle.cp_format.specs.Formats.{Format, Reads, unchecked}
 
 -- a byte behind the first one
 abbrev pub Follows : ℕ → Type 0
@@ -22,7 +22,7 @@ IsChar (x ∷ y ∷ z ∷ w ∷ v ∷ bytes) = ⊥
 
 -- one character, of so many bytes at most
 abbrev pub char_format : ℕ → Format (List ℕ)
-char_format room = record { fit = λ w. IsChar w × (length w ≤ room); bytes = λ w. w }
+char_format room = record { fit = λ w. IsChar w × (length w ≤ room); bytes = λ w. w; checks = unchecked }
 
 -- how many bytes a character has that begins with this byte, or 0 where none does
 abbrev pub width : ℕ → ℕ

@@ -1,12 +1,13 @@
 -- Contents as bytes: a number for the form, and what follows it in that form.
-use Rattle.std.specs.Prelude.{ℕ, suc, ℤ, pos, negsuc, ◌≡◌, ◌≤◌, ◌<◌, ◌-◌, ◌/◌, ◌^◌, List, [], ◌∷◌, ◌++◌, length, IsUtf8, if◌then◌else◌, nat_lt, ⊤}
+use Rattle.std.specs.Prelude.{ℕ, suc, ℤ, pos, negsuc, ◌≡◌, ◌≤◌, ◌<◌, ◌-◌, ◌^◌, List, [], ◌∷◌, ◌++◌, length, IsUtf8, ⊤}
 use Rattle.std.specs.Int.{to_be_bytes, w32, w64}
 use Rattle.cp_path.specs.Whole.{IsWhole}
 use Rattle.cp_path.specs.declared.limits.TheConstants.{TEXT_MAX}
 use Rattle.cp_path.specs.declared.value.Value.TheVariants.{Null, False, True, Whole, Text}
+use Rattle.cp_model.specs.Tree.{text_bytes}
 use Rattle.cp_model.specs.declared.row.Content.{Content}
 use Rattle.cp_model.specs.declared.row.Content.TheVariants.{Node, Leaf}
-use Rattle.cp_format.specs.Formats.{Format}
+use Rattle.cp_format.specs.Formats.{Format, unchecked}
 
 -- the number of a content's form
 abbrev pub content_form : Content → ℕ
@@ -60,24 +61,20 @@ IsContent (Leaf (Text a)) = IsUtf8 a × (length a ≤ TEXT_MAX)
 
 -- a number whose highest bit of 64 is set
 abbrev pub high_format : Format ℕ
-high_format = record { fit = λ n. (2 ^ 63 ≤ n) × (n < 2 ^ 64); bytes = λ n. to_be_bytes w64 n }
+high_format = record { fit = λ n. (2 ^ 63 ≤ n) × (n < 2 ^ 64); bytes = λ n. to_be_bytes w64 n; checks = unchecked }
 
--- the length of a text in four bytes, the highest first
-abbrev pub length_format : Format ℕ
-length_format = record { fit = λ n. n ≤ TEXT_MAX; bytes = λ n. to_be_bytes w32 n }
+-- a text of so many bytes at most, behind its length
+abbrev pub long_text_format : ℕ → Format (List ℕ)
+long_text_format room = record { fit = λ a. (IsUtf8 a × (length a ≤ TEXT_MAX)) × (length a ≤ room); bytes = λ a. long_text_bytes a; checks = unchecked }
 
--- the most that the last two bytes of a text's length may be, where this is the second one
-abbrev pub low_most : ℕ → ℕ
-low_most high = if nat_lt high (TEXT_MAX / 65536) then 255 else 0
+-- a content whose text, if it is one, has so many bytes at most
+abbrev pub FitsIn : ℕ → Content → Type 0
+FitsIn room c = IsContent c × (text_bytes c ≤ room)
 
--- a text behind its length
-abbrev pub long_text_format : Format (List ℕ)
-long_text_format = record { fit = λ a. IsUtf8 a × (length a ≤ TEXT_MAX); bytes = λ a. long_text_bytes a }
+-- what follows this number of a form in a content whose text has so many bytes at most
+abbrev pub content_behind : ℕ → ℕ → Format Content
+content_behind room k = record { fit = λ c. FitsIn room c × (content_form c ≡ k); bytes = λ c. content_rest c; checks = unchecked }
 
--- what follows this number of a form in a content
-abbrev pub content_behind : ℕ → Format Content
-content_behind k = record { fit = λ c. IsContent c × (content_form c ≡ k); bytes = λ c. content_rest c }
-
--- a content
-abbrev pub content_format : Format Content
-content_format = record { fit = λ c. IsContent c; bytes = λ c. content_bytes c }
+-- a content whose text, if it is one, has so many bytes at most
+abbrev pub content_format : ℕ → Format Content
+content_format room = record { fit = λ c. FitsIn room c; bytes = λ c. content_bytes c; checks = unchecked }

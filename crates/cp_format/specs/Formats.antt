@@ -1,20 +1,45 @@
 -- Formats: which values have a spelling as bytes, and the first byte with which no spelling goes on.
-use Rattle.std.specs.Prelude.{ℕ, ◌≡◌, ◌≤◌, ◌<◌, ◌+◌, ◌-◌, ◌++◌, List, length, take, drop}
+use Rattle.std.specs.Prelude.{ℕ, ◌≡◌, ◌≤◌, ◌<◌, ◌+◌, ◌-◌, Bool, true, List, [], ◌++◌, length, map, take, drop}
+use Rattle.std.specs.List.{AllByRecursion}
 
--- which values have a spelling, and what it is
+-- what else is asked of a value, judged as soon as the byte at this offset of its spelling is there
+pub record Check : Type 0 where
+  pub last : ℕ
+  pub holds : Bool
+
+-- nothing else is asked
+abbrev pub unchecked : {X : Type 0} → X → List Check
+unchecked x = []
+
+-- the checks of a part that stands after so many bytes of the whole
+abbrev pub moved : ℕ → List Check → List Check
+moved n cs = map (λ c. record { last = n + c.last; holds = c.holds }) cs
+
+-- all checks hold
+abbrev pub AllHold : List Check → Type 0
+AllHold cs = AllByRecursion (λ c. c.holds ≡ true) cs
+
+-- the checks that are judged within the first n bytes hold
+abbrev pub HoldWithin : ℕ → List Check → Type 0
+HoldWithin n cs = AllByRecursion (λ c. c.last < n → c.holds ≡ true) cs
+
+-- which values are fit, how each is spelled, and what else is asked of it: it has a spelling where all that holds
 pub record Format (X : Type 0) : Type 1 where
   pub fit : X → Type 0
   pub bytes : X → List ℕ
+  pub checks : X → List Check
 
 -- the bytes are the spelling of x, and then the rest
 pub record Reads {X : Type 0} (F : Format X) (bytes : List ℕ) (x : X) (rest : List ℕ) : Type 0 where
   pub fit : F.fit x
+  pub checked : AllHold (F.checks x)
   pub is : bytes ≡ F.bytes x ++ rest
 
--- some spelling begins with the bytes
+-- some spelling begins with the bytes, as far as they tell
 pub record Goes {X : Type 0} (F : Format X) (bytes : List ℕ) : Type 0 where
   pub first : X
   pub fit : F.fit first
+  pub checked : HoldWithin (length bytes) (F.checks first)
   pub rest : List ℕ
   pub is : F.bytes first ≡ bytes ++ rest
 

@@ -11,7 +11,7 @@ use Rattle.cp_model.specs.declared.op.Op.{Op}
 use Rattle.cp_model.specs.declared.op.Op.TheVariants.{Ins, Del, Copy}
 use Rattle.cp_record.specs.Kept.{IsLabel, IsPath, IsPlace}
 use Rattle.cp_format.specs.Contents.{IsContent, HasShortText, content_bytes}
-use Rattle.cp_format.specs.Formats.{Format}
+use Rattle.cp_format.specs.Formats.{Format, unchecked}
 
 -- what stands at the root of a tree
 abbrev pub root_content : Literal → Content
@@ -71,12 +71,12 @@ IsSpelledOp (Copy q p) = IsPlace q × (over_limit q ≡ false) × IsTarget p
 
 -- a place of T, whose name isn't spelled
 abbrev pub target_format : Format Loc
-target_format = record { fit = λ p. IsTarget p; bytes = λ p. path_bytes p.path }
+target_format = record { fit = λ p. IsTarget p; bytes = λ p. path_bytes p.path; checks = unchecked }
 
 -- what follows this number of a form in a short operation
 abbrev pub op_behind : ℕ → Format Op
-op_behind k = record { fit = λ o. IsSpelledOp o × (op_form o ≡ k); bytes = λ o. op_rest o }
+op_behind k = record { fit = λ o. IsSpelledOp o × (op_form o ≡ k); bytes = λ o. op_rest o; checks = unchecked }
 
 -- a short operation
 abbrev pub op_format : Format Op
-op_format = record { fit = λ o. IsSpelledOp o; bytes = λ o. op_bytes o }
+op_format = record { fit = λ o. IsSpelledOp o; bytes = λ o. op_bytes o; checks = unchecked }

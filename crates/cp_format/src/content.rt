@@ -1,15 +1,15 @@
 //! Contents, in bytes that may be anything.
-ghost use Rattle.std.specs.Prelude.{◌≡◌, ◌≤◌, ◌<◌, ◌+◌, ◌-◌, ◌^◌, ◌++◌, suc, negsuc, length, IfErr, IfOk, OnErr, OnOk};
+ghost use Rattle.std.specs.Prelude.{◌≡◌, ◌≤◌, ◌<◌, ◌+◌, ◌-◌, ◌^◌, ◌++◌, [], ◌∷◌, suc, negsuc, length, IfErr, IfOk, OnOk};
 ghost use Rattle.cp_path.specs.Whole.{IsWhole};
 ghost use Rattle.cp_path.specs.declared.value.Value.TheVariants as leaf;
 ghost use Rattle.cp_model.specs.declared.row.Content.TheVariants as content;
 ghost use Rattle.cp_record.specs.Packed.{Grew};
-ghost use Rattle.cp_format.specs.Contents.{content_behind, content_bytes, content_form, content_format, content_rest, high_format, HasShortText, length_format, long_text_bytes, long_text_format, low_most, whole_bits};
+ghost use Rattle.cp_format.specs.Contents.{content_behind, content_bytes, content_format, high_format, HasShortText, IsContent, long_text_format, whole_bits};
 ghost use Rattle.cp_format.specs.Faults.{FaultAt};
 ghost use Rattle.cp_format.specs.Formats.{ReadsAt};
 
 use crate::fault::FormatFault;
-use crate::number::{count_at, number_at};
+use crate::number::{bounded_at, count_at, number_at};
 use crate::text::text_at;
 use cp_model::Content;
 use cp_path::{TEXT_MAX, Text, Value, Whole};
@@ -30,34 +30,18 @@ fn high_at(bytes: &[u8], at: usize) -> Result<(u64, usize), FormatFault>
     }
 }
 
-/// The length of a text in the next four bytes. Those of the longest begin with 0 and end with two zeros.
-fn length_at(bytes: &[u8], at: usize) -> Result<(usize, usize), FormatFault>
+/// The text in the next bytes, of `room` bytes at most, behind its length. Costs its bytes.
+fn long_text_at(
+    alloc: Global,
+    bytes: &[u8],
+    at: usize,
+    room: usize,
+) -> Result<(Text, usize), FormatFault>
     requires { at ≤ length bytes.now }
-    ensures read { IfOk result (λ x. ReadsAt length_format bytes.now at x.0 x.1) }
-    ensures fault { IfErr result (FaultAt length_format bytes.now at) }
+    ensures read { IfOk result (λ x. ReadsAt (long_text_format room) bytes.now at x.0 x.1) }
+    ensures fault { IfErr result (FaultAt (long_text_format room) bytes.now at) }
 {
-    let (_, at) = count_at(bytes, at, 0, 0)?;
-    let (high, at) = count_at(bytes, at, 0, TEXT_MAX / 65536)?;
-    let most = low_most(high);
-    let (middle, at) = count_at(bytes, at, 0, most)?;
-    let (low, at) = count_at(bytes, at, 0, most)?;
-    Ok((high * 65536 + middle * 256 + low, at))
-}
-
-/// The most that the last two bytes of a text's length may be, where this is the second one.
-fn low_most(high: usize) -> usize
-    ensures { result ≡ low_most high }
-{
-    if high < TEXT_MAX / 65536 { 255 } else { 0 }
-}
-
-/// The text in the next bytes, behind its length. Costs its bytes.
-fn long_text_at(alloc: Global, bytes: &[u8], at: usize) -> Result<(Text, usize), FormatFault>
-    requires { at ≤ length bytes.now }
-    ensures read { IfOk result (λ x. ReadsAt long_text_format bytes.now at x.0 x.1) }
-    ensures fault { IfErr result (FaultAt long_text_format bytes.now at) }
-{
-    let (count, at) = length_at(bytes, at)?;
+    let (count, at) = bounded_at(bytes, at, 0, room.min(TEXT_MAX))?;
     let text = text_at(bytes, at, count)?;
     let text = Text::copy_of(alloc, text)?;
     Ok((text, at + count))
@@ -80,11 +64,12 @@ fn content_behind(
     form: usize,
     bytes: &[u8],
     at: usize,
+    room: usize,
 ) -> Result<(Content, usize), FormatFault>
     requires at { at ≤ length bytes.now }
     requires form { form ≤ 6 }
-    ensures read { IfOk result (λ x. ReadsAt (content_behind form) bytes.now at x.0 x.1) }
-    ensures fault { IfErr result (FaultAt (content_behind form) bytes.now at) }
+    ensures read { IfOk result (λ x. ReadsAt (content_behind room form) bytes.now at x.0 x.1) }
+    ensures fault { IfErr result (FaultAt (content_behind room form) bytes.now at) }
 {
     match form {
         0 => Ok((Content::Node, at)),
@@ -100,20 +85,26 @@ fn content_behind(
             Ok((negative(bits), at))
         }
         _ => {
-            let (text, at) = long_text_at(alloc, bytes, at)?;
+            let (text, at) = long_text_at(alloc, bytes, at, room)?;
             Ok((Content::Leaf(Value::Text(text)), at))
         }
     }
 }
 
-/// The content whose bytes begin at the offset `at`, and the offset after them. Costs its bytes.
-pub fn take_content(alloc: Global, bytes: &[u8], at: usize) -> Result<(Content, usize), FormatFault>
+/// The content whose bytes begin at the offset `at`, and the offset after them. A text has at most `room` bytes, and at
+/// most `TEXT_MAX`. Costs its bytes.
+pub fn take_content(
+    alloc: Global,
+    bytes: &[u8],
+    at: usize,
+    room: usize,
+) -> Result<(Content, usize), FormatFault>
     requires { at ≤ length bytes.now }
-    ensures read { IfOk result (λ x. ReadsAt content_format bytes.now at x.0 x.1) }
-    ensures fault { IfErr result (FaultAt content_format bytes.now at) }
+    ensures read { IfOk result (λ x. ReadsAt (content_format room) bytes.now at x.0 x.1) }
+    ensures fault { IfErr result (FaultAt (content_format room) bytes.now at) }
 {
     let (form, at) = count_at(bytes, at, 0, 6)?;
-    content_behind(alloc, form, bytes, at)
+    content_behind(alloc, form, bytes, at, room)
 }
 
 /// A whole number's 64 bits, in two's complement where it is below zero.
@@ -128,44 +119,40 @@ fn whole_bits(number: i128) -> u64
     }
 }
 
-/// The number of the form of a leaf's content.
-fn leaf_form(value: &Value) -> u8
-    ensures { result ≡ content_form (content.Leaf value.now) }
-{
-    match value {
-        Value::Null => 1,
-        Value::False => 2,
-        Value::True => 3,
-        Value::Whole(number) => { if number.get() < 0 { 5 } else { 4 } }
-        Value::Text(_) => 6,
-    }
-}
-
-/// Writes a text behind its length.
-fn put_text(text: &str, out: &mut Vec<u8>) -> Result<(), AllocError>
-    requires { length text.now ≤ TEXT_MAX }
-    ensures ok { OnOk result (out.new.items ≡ out.old.items ++ long_text_bytes text.now) }
+/// Writes the number of a form that has nothing behind it.
+fn put_form(form: u8, out: &mut Vec<u8>) -> Result<(), AllocError>
+    ensures ok { OnOk result (out.new.items ≡ out.old.items ++ (form ∷ [])) }
     ensures err { Grew out.old.items out.new.items }
 {
+    out.push(form)?;
+    Ok(())
+}
+
+/// Writes the content of a whole number.
+fn put_whole(number: i128, out: &mut Vec<u8>) -> Result<(), AllocError>
+    requires { IsWhole number }
+    ensures ok { OnOk result
+        (out.new.items ≡ out.old.items ++ content_bytes (content.Leaf (leaf.Whole number))) }
+    ensures err { Grew out.old.items out.new.items }
+{
+    out.push(if number < 0 { 5 } else { 4 })?;
+    out.extend_from_slice(&whole_bits(number).to_be_bytes())
+}
+
+/// Writes the content of a text.
+fn put_text(text: &str, out: &mut Vec<u8>) -> Result<(), AllocError>
+    requires { length text.now ≤ TEXT_MAX }
+    ensures ok { OnOk result
+        (out.new.items ≡ out.old.items ++ content_bytes (content.Leaf (leaf.Text text.now))) }
+    ensures err { Grew out.old.items out.new.items }
+{
+    out.push(6)?;
     out.extend_from_slice(&(text.len() as u32).to_be_bytes())?;
     out.extend_from_slice(text.as_bytes())
 }
 
-/// Writes what follows the number of the form of a leaf's content.
-fn put_value(value: &Value, out: &mut Vec<u8>) -> Result<(), AllocError>
-    requires { HasShortText (content.Leaf value.now) }
-    ensures ok { OnOk result (out.new.items ≡ out.old.items ++ content_rest (content.Leaf value.now)) }
-    ensures err { Grew out.old.items out.new.items }
-{
-    match value {
-        Value::Whole(number) => out.extend_from_slice(&whole_bits(number.get()).to_be_bytes()),
-        Value::Text(text) => put_text(text.as_str(), out),
-        _ => Ok(()),
-    }
-}
-
-/// Writes the content of a node.
-pub(crate) fn put_node(out: &mut Vec<u8>) -> Result<(), AllocError>
+/// Appends the content of a node. After an error `out` begins with what it held.
+pub fn put_node(out: &mut Vec<u8>) -> Result<(), AllocError>
     ensures ok { OnOk result (out.new.items ≡ out.old.items ++ content_bytes content.Node) }
     ensures err { Grew out.old.items out.new.items }
 {
@@ -173,24 +160,19 @@ pub(crate) fn put_node(out: &mut Vec<u8>) -> Result<(), AllocError>
     Ok(())
 }
 
-/// Writes the content of a leaf.
-pub(crate) fn put_leaf(value: &Value, out: &mut Vec<u8>) -> Result<(), AllocError>
+/// Appends the content of a leaf. Costs its bytes. After an error `out` begins with what it held.
+pub fn put_leaf(value: &Value, out: &mut Vec<u8>) -> Result<(), AllocError>
     requires { HasShortText (content.Leaf value.now) }
-    ensures ok { OnOk result (out.new.items ≡ out.old.items ++ content_bytes (content.Leaf value.now)) }
+    ensures ok { OnOk result
+        (out.new.items ≡ out.old.items ++ content_bytes (content.Leaf value.now)) }
     ensures err { Grew out.old.items out.new.items }
+    ensures spelled { IsContent (content.Leaf value.now) }
 {
-    out.push(leaf_form(value))?;
-    put_value(value, out)
-}
-
-/// Appends the bytes of a content. Costs them. After an error `out` begins with what it held.
-pub fn put_content(content: &Content, out: &mut Vec<u8>) -> Result<(), AllocError>
-    requires { HasShortText content.now }
-    ensures ok { OnOk result (out.new.items ≡ out.old.items ++ content_bytes content.now) }
-    ensures err { OnErr result (Grew out.old.items out.new.items) }
-{
-    match content {
-        Content::Node => put_node(out),
-        Content::Leaf(value) => put_leaf(value, out),
+    match value {
+        Value::Null => put_form(1, out),
+        Value::False => put_form(2, out),
+        Value::True => put_form(3, out),
+        Value::Whole(number) => put_whole(number.get(), out),
+        Value::Text(text) => put_text(text.as_str(), out),
     }
 }

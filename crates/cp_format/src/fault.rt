@@ -21,3 +21,14 @@ impl From<AllocError> for FormatFault {
         FormatFault::Memory
     }
 }
+
+impl<T: Drop> From<AllocFailed<T>> for FormatFault {
+    ghost use Rattle.std.specs.Prelude.{◌≡◌};
+    ghost use Rattle.cp_format.specs.declared.fault.FormatFault.TheVariants.{Memory};
+
+    ghost from_gives = { λ _ e. e ≡ Memory };
+
+    fn from(_refused: AllocFailed<T>) -> FormatFault {
+        FormatFault::Memory
+    }
+}

@@ -79,8 +79,9 @@ fn name_of(alloc: Global, text: &str) -> Result<Name, AllocError>
     }
 }
 
-/// The name in the next bytes. Costs them.
-pub(crate) fn name_at(alloc: Global, bytes: &[u8], at: usize) -> Result<(Name, usize), FormatFault>
+/// The name in the next bytes, behind its length in one byte, and the offset after it. The fault is the first byte with
+/// which no name goes on, or want of memory. Costs its bytes.
+pub fn name_at(alloc: Global, bytes: &[u8], at: usize) -> Result<(Name, usize), FormatFault>
     requires { at ≤ length bytes.now }
     ensures read { IfOk result (λ x. ReadsAt name_format bytes.now at x.0 x.1) }
     ensures fault { IfErr result (FaultAt name_format bytes.now at) }

@@ -1,4 +1,5 @@
-//! Operations that insert no tree with children, in bytes that may be anything.
+//! Operations that insert no tree with children: as bytes, and what follows the number of their form in bytes that may be
+//! anything.
 ghost use Rattle.std.specs.Prelude.{◌≡◌, ◌≤◌, ◌<◌, ◌++◌, length, true, IfErr, IfOk, OnErr, OnOk};
 ghost use Rattle.cp_path.specs.Place.{in_target};
 ghost use Rattle.cp_model.specs.declared.op.Op.TheVariants.{Copy, Del, Ins};
@@ -6,19 +7,19 @@ ghost use Rattle.cp_record.specs.Packed.{Grew};
 ghost use Rattle.cp_format.specs.Contents.{content_bytes, HasShortText};
 ghost use Rattle.cp_format.specs.Faults.{FaultAt};
 ghost use Rattle.cp_format.specs.Formats.{ReadsAt};
-ghost use Rattle.cp_format.specs.Operations.{IsShort, InsertsShortText, alone, destination, op_behind, op_bytes, op_format, root_content, target_format};
+ghost use Rattle.cp_format.specs.Operations.{IsShort, InsertsShortText, alone, destination, op_behind, op_bytes, root_content, target_format};
 
 use crate::content::{put_leaf, put_node, take_content};
 use crate::fault::FormatFault;
-use crate::number::count_at;
 use crate::place::{label_at, path_at, place_at};
 use crate::writing::{put_counted, put_path, put_place};
 use cp_model::{Content, LitList, Literal, Op};
-use cp_path::{LABEL_MAX, LOC_MAX, Label, Loc, Name};
+use cp_path::{LABEL_MAX, LOC_MAX, Label, Loc, Name, TEXT_MAX};
 use std::alloc::{AllocError, Global};
 
-/// The place of T whose path is in the next bytes. Its name takes 1 of the place's size. Costs its bytes.
-fn target_at(alloc: Global, bytes: &[u8], at: usize) -> Result<(Loc, usize), FormatFault>
+/// The place of T whose path is in the next bytes, and the offset after it. Its name, which isn't spelled, takes 1 of the
+/// place's size. The fault is the first byte with which no such path goes on, or want of memory. Costs its bytes.
+pub fn target_at(alloc: Global, bytes: &[u8], at: usize) -> Result<(Loc, usize), FormatFault>
     requires { at ≤ length bytes.now }
     ensures read { IfOk result (λ x. ReadsAt target_format bytes.now at x.0 x.1) }
     ensures fault { IfErr result (FaultAt target_format bytes.now at) }
@@ -48,7 +49,7 @@ fn ins_at(alloc: Global, bytes: &[u8], at: usize) -> Result<(Op, usize), FormatF
 {
     let (into, at) = target_at(alloc, bytes, at)?;
     let (label, at) = label_at(alloc, bytes, at, LABEL_MAX)?;
-    let (content, at) = take_content(alloc, bytes, at)?;
+    let (content, at) = take_content(alloc, bytes, at, TEXT_MAX)?;
     let tree = alone(alloc, content);
     Ok((Op::Ins { into, label, tree }, at))
 }
@@ -75,8 +76,10 @@ fn copy_at(alloc: Global, bytes: &[u8], at: usize) -> Result<(Op, usize), Format
     Ok((Op::Copy { from, into }, at))
 }
 
-/// What follows the number of a form in a short operation. Costs its bytes.
-fn op_behind(
+/// What follows the number of a form, 1 to 3, in a short operation: an insertion of a leaf or of a node without children,
+/// a deletion, a copy. Returns the operation and the offset after it. The fault is the first byte with which none of this
+/// form goes on, or want of memory. Costs its bytes.
+pub fn short_behind(
     alloc: Global,
     form: usize,
     bytes: &[u8],
@@ -93,17 +96,6 @@ fn op_behind(
         2 => del_at(alloc, bytes, at),
         _ => copy_at(alloc, bytes, at),
     }
-}
-
-/// The operation whose bytes begin at the offset `at`, and the offset after them: a deletion, a copy, or an insertion
-/// of a leaf or of a node without children. Costs its bytes.
-pub fn take_short(alloc: Global, bytes: &[u8], at: usize) -> Result<(Op, usize), FormatFault>
-    requires { at ≤ length bytes.now }
-    ensures read { IfOk result (λ x. ReadsAt op_format bytes.now at x.0 x.1) }
-    ensures fault { IfErr result (FaultAt op_format bytes.now at) }
-{
-    let (form, at) = count_at(bytes, at, 1, 3)?;
-    op_behind(alloc, form, bytes, at)
 }
 
 /// Writes the content at the root of a tree without children.

@@ -11,8 +11,9 @@ use crate::text::text_at;
 use cp_path::{LABELS_MAX, LOC_MAX, Label, Loc, Path, PathFault};
 use std::alloc::{AllocError, Global};
 
-/// The label in the next bytes, of `most` bytes at most. Costs its bytes.
-pub(crate) fn label_at(
+/// The label in the next bytes, of `most` bytes at most, behind its length in one byte, and the offset after it. The
+/// fault is the first byte with which no such label goes on, or want of memory. Costs its bytes.
+pub fn label_at(
     alloc: Global,
     bytes: &[u8],
     at: usize,

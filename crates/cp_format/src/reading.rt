@@ -33,8 +33,9 @@ fn source_at(
     }
 }
 
-/// The record in the next bytes. The name of T, which isn't spelled, takes 1 of the place's size. Costs its bytes.
-fn record_at(alloc: Global, bytes: &[u8], at: usize) -> Result<(Record, usize), FormatFault>
+/// The record in the next bytes, and the offset after it. The name of T, which isn't spelled, takes 1 of the place's size.
+/// The fault is the first byte with which no record goes on, or want of memory. Costs its bytes.
+pub fn record_at(alloc: Global, bytes: &[u8], at: usize) -> Result<(Record, usize), FormatFault>
     requires { at ≤ length bytes.now }
     ensures read { IfOk result (λ x. ReadsAt record_format bytes.now at x.0 x.1) }
     ensures fault { IfErr result (FaultAt record_format bytes.now at) }

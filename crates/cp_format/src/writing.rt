@@ -23,8 +23,8 @@ fn letter(op: RecOp) -> u8
     }
 }
 
-/// Writes bytes behind their number.
-pub(crate) fn put_counted(bytes: &[u8], out: &mut Vec<u8>) -> Result<(), AllocError>
+/// Appends bytes behind their number. Costs them. After an error `out` begins with what it held.
+pub fn put_counted(bytes: &[u8], out: &mut Vec<u8>) -> Result<(), AllocError>
     requires { length bytes.now ≤ LABEL_MAX }
     ensures ok { OnOk result (out.new.items ≡ out.old.items ++ counted_bytes bytes.now) }
     ensures err { Grew out.old.items out.new.items }
@@ -45,8 +45,8 @@ fn put_labels(labels: &[Label], out: &mut Vec<u8>) -> Result<(), AllocError>
     Ok(())
 }
 
-/// Writes the labels behind their number.
-pub(crate) fn put_path(path: &Path, out: &mut Vec<u8>) -> Result<(), AllocError>
+/// Appends the labels of a path behind their number. Costs their bytes. After an error `out` begins with what it held.
+pub fn put_path(path: &Path, out: &mut Vec<u8>) -> Result<(), AllocError>
     ensures ok { OnOk result (out.new.items ≡ out.old.items ++ path_bytes path.now) }
     ensures err { Grew out.old.items out.new.items }
 {

@@ -14,7 +14,7 @@ returns-in_err-count-clause-fault c =
     let e = c.in_err-count.field-0.0 in
     passed_on (FaultAt name_format bytes c.args.at) c.from_residual.result e c.from_residual.ensures
     (fault_alike (both (count_format 1 NAME_MAX) name_text_format) name_format (λ z. z.1) alike_name bytes c.args.at e
-    (fault_first (count_format 1 NAME_MAX) name_text_format bytes c.args.at (λ n f. has_name_text n f.0 f.1) e c.in_err-count.ensures.fault))
+    (fault_first (count_format 1 NAME_MAX) name_text_format bytes c.args.at (λ x g h. tt) (λ n f. has_name_text n f.0 f.1) e c.in_err-count.ensures.fault))
 
 pub returns-in_err-text-clause-fault : goal.returns-in_err-text-clause-fault
 returns-in_err-text-clause-fault c =

@@ -14,7 +14,7 @@ returns-in_err-count-clause-fault c =
     let e = c.in_err-count.field-0.0 in
     passed_on (FaultAt (label_format most) bytes c.args.at) c.from_residual.result e c.from_residual.ensures
     (fault_alike (both (count_format 0 most) text_format) (label_format most) (λ z. z.1) (alike_label most) bytes c.args.at e
-    (fault_first (count_format 0 most) text_format bytes c.args.at (λ n f. has_text n) e c.in_err-count.ensures.fault))
+    (fault_first (count_format 0 most) text_format bytes c.args.at (λ x g h. tt) (λ n f. has_text n) e c.in_err-count.ensures.fault))
 
 pub returns-in_err-text-clause-fault : goal.returns-in_err-text-clause-fault
 returns-in_err-text-clause-fault c =

@@ -14,4 +14,4 @@ returns-in_err-count-clause-fault c =
     let e = c.in_err-count.field-0.0 in
     passed_on (FaultAt (path_format room) bytes c.args.at) c.from_residual.result e c.from_residual.ensures
     (fault_alike (both (count_format 0 LABELS_MAX) (λ n. labels_format n room)) (path_format room) (λ z. z.1) (alike_path room) bytes c.args.at e
-    (fault_first (count_format 0 LABELS_MAX) (λ n. labels_format n room) bytes c.args.at (λ n f. has_labels n room (omega (arith, f.1, c.requires.room))) e c.in_err-count.ensures.fault))
+    (fault_first (count_format 0 LABELS_MAX) (λ n. labels_format n room) bytes c.args.at (λ x g h. tt) (λ n f. has_labels n room (omega (arith, f.1, c.requires.room))) e c.in_err-count.ensures.fault))

@@ -13,7 +13,7 @@ returns-in_err-db-clause-fault c =
     let e = c.in_err-db.field-0.0 in
     passed_on (FaultAt place_format bytes c.args.at) c.from_residual.result e c.from_residual.ensures
     (fault_alike (both name_format (λ a. path_format (LOC_MAX - length a))) place_format (λ z. record { db = z.0; path = z.1 }) alike_place bytes c.args.at e
-    (fault_first name_format (λ a. path_format (LOC_MAX - length a)) bytes c.args.at (λ a f. has_path (LOC_MAX - length a)) e c.in_err-db.ensures.fault))
+    (fault_first name_format (λ a. path_format (LOC_MAX - length a)) bytes c.args.at (λ x g h. tt) (λ a f. has_path (LOC_MAX - length a)) e c.in_err-db.ensures.fault))
 
 pub returns-in_err-path-clause-fault : goal.returns-in_err-path-clause-fault
 returns-in_err-path-clause-fault c =

@@ -1,0 +1,17 @@
+use Rattle.std.proofs.Common.{refl, sym, ◌∙◌}
+use Rattle.cp_format.proofs.Growing.{after_success}
+use Rattle.cp_format.specs.Operations.{IsShort}
+use Rattle.cp_frame.specs.Operations.{short}
+use Rattle.cp_frame.proofs.PutOps.{bare_short, other_short}
+use Rattle.cp_frame.proofs.operation.put_op.Goals.{in_default-via-in-Ins+else-is_branch, in_default-via-in_default}
+use Rattle.cp_frame.proofs.operation.put_op.Goals as goal
+
+pub returns-in_default-clause-ok : goal.returns-in_default-clause-ok
+returns-in_default-clause-ok c =
+    let form : IsShort c.args.op.now =
+    elim c.in_default.branch [
+      | in_default-via-in-Ins+else-is_branch w ↦ bare_short c.args.op.now w.in-Ins.into w.in-Ins.label w.in-Ins.tree w.in-Ins.is (sym w.is_branch.ensures ∙ w.if-is_branch.false)
+      | in_default-via-in_default w ↦ other_short c.args.op.now w.in_default.not-Ins
+    ]
+    in
+    after_success c.put_short.result (λ e. record { written = short c.args.op.now; is = refl; formed = form; bytes = e }) c.put_short.ensures.ok

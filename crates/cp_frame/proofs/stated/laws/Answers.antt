@@ -1,0 +1,24 @@
+use Rattle.cp_frame.proofs.EntryForms.{plain_entry}
+use Rattle.cp_frame.proofs.LegalTrees.{legal_spelled, written_legal}
+use Rattle.cp_frame.proofs.Lengths.{batch_counted}
+use Rattle.cp_frame.proofs.SameRows.{rows_tell}
+use Rattle.cp_frame.proofs.TreeFormats.{plain_tree}
+use Rattle.cp_frame.proofs.stated.laws.Goals as goal
+
+pub returns-clause-trees : goal.returns-clause-trees
+returns-clause-trees c = plain_tree
+
+pub returns-clause-one : goal.returns-clause-one
+returns-clause-one c = rows_tell
+
+pub returns-clause-legal : goal.returns-clause-legal
+returns-clause-legal c = written_legal
+
+pub returns-clause-spelled : goal.returns-clause-spelled
+returns-clause-spelled c = legal_spelled
+
+pub returns-clause-entries : goal.returns-clause-entries
+returns-clause-entries c = plain_entry
+
+pub returns-clause-counted : goal.returns-clause-counted
+returns-clause-counted c = batch_counted

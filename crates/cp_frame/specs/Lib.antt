@@ -1,0 +1,9 @@
+pub mod Trees
+pub mod Rooms
+pub mod Reading
+pub mod Operations
+pub mod OpReading
+pub mod Entries
+pub mod EntryReading
+pub mod Faults
+pub mod Laws

@@ -1,0 +1,101 @@
+//! Plays tables of rows of provenance: what the stores tell of them, and what is made of the rows of a step.
+//!
+//! The words are those of every program that plays cases: the stage up to which they hold, and files.
+//! A part makes a call, and `out` with a text below it is what the call has to give. Rows stand one a
+//! line, as `row` says:
+//!
+//! | Part | What it gives |
+//! |---|---|
+//! | `store STORE UPTO TIDS`, rows and questions | what a store tells that keeps the rows, as `store` says |
+//! | `reduce PLACE` and rows | the reduced rows of an operation that wrote the place |
+//! | `expand`, two lines of JSON and rows | the full rows of a step, from the trees before and after it |
+//! | `effects`, a line of JSON, rows and places | what the step has done to each place, where the tree is the one after it |
+//! | `packed COUNT` and rows | the rows that come back, where the last labels of each place, so many, stand below the others |
+//! | `length` and a statement | the bytes of its operation in a commit's entry |
+#![tactic(auto)]
+
+mod fault;
+mod length;
+mod next;
+mod packed;
+mod question;
+mod row;
+mod step;
+mod store;
+
+use crate::fault::Fault;
+use cp_cases::{Player, Step, compare, number_of, play_files};
+use std::alloc::{AllocError, Global};
+use std::io;
+use std::process::ExitCode;
+
+/// Makes calls, and keeps what the last one gave.
+#[derive(Drop)]
+struct Caller {
+    output: String,
+}
+
+/// Adds what the call of this keyword gives, and says whether there is such a call. After an error the lines before it are
+/// there.
+fn add_answer(alloc: Global, step: &Step, lines: &mut String) -> Result<bool, Fault> {
+    let text = std::str::from_utf8(&step.text).unwrap_or("");
+    let words = step.rest.as_str();
+    match step.key.as_str() {
+        "store" => store::add_answers(alloc, words, text, lines)?,
+        "reduce" => step::add_reduced(alloc, words, text, lines)?,
+        "expand" => step::add_expanded(alloc, text, lines)?,
+        "effects" => step::add_effects(alloc, text, lines)?,
+        "packed" => packed::add_packed(alloc, number_of(words) as usize, text, lines)?,
+        "length" => length::add_length(alloc, text, lines)?,
+        _ => return Ok(false),
+    }
+    Ok(true)
+}
+
+/// The lines that the call of this keyword gives, at the end of which stands what is wrong with the part, if anything is;
+/// `None` where there is no such call.
+fn answer(alloc: Global, step: &Step) -> Result<Option<String>, AllocError> {
+    let mut lines = String::new(alloc);
+    match add_answer(alloc, step, &mut lines) {
+        Ok(true) => Ok(Some(lines)),
+        Ok(false) => Ok(None),
+        Err(Fault::Memory) => Err(AllocError),
+        Err(fault) => {
+            let fault = fault.to_string(alloc)?;
+            row::add_line(&mut lines, fault.as_str())?;
+            Ok(Some(lines))
+        }
+    }
+}
+
+impl Player for Caller {
+    fn can_take(&self, _key: &str) -> bool {
+        true
+    }
+
+    fn begin(&mut self, alloc: Global, _real: bool) {
+        self.output = String::new(alloc);
+    }
+
+    fn take(&mut self, alloc: Global, step: &Step) -> Result<Option<String>, AllocError> {
+        if step.key.as_str() == "out" {
+            return compare(alloc, self.output.as_str().as_bytes(), step.text.as_slice());
+        }
+        let Some(output) = answer(alloc, step)? else {
+            return Ok(Some("unknown part".to_string(alloc)?));
+        };
+        self.output = output;
+        Ok(None)
+    }
+
+    fn end(&mut self, _alloc: Global) -> Result<(), AllocError> {
+        Ok(())
+    }
+}
+
+fn main(rt: HostRuntime) -> io::Result<ExitCode> {
+    let mut caller = Caller {
+        output: String::new(rt.alloc()),
+    };
+    play_files(&rt, &mut caller)
+}
