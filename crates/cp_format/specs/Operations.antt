@@ -41,6 +41,12 @@ InsertsShortText (Ins p a l) = HasShortText (root_content l)
 InsertsShortText (Del a p) = ⊤
 InsertsShortText (Copy q p) = ⊤
 
+-- its labels, its names and its content can be spelled, whatever the size of its places
+abbrev pub HasSpelledParts : Op → Type 0
+HasSpelledParts (Ins p a l) = IsPath p.path × IsLabel a × IsContent (root_content l)
+HasSpelledParts (Del a p) = IsPath p.path × IsLabel a
+HasSpelledParts (Copy q p) = IsPlace q × IsPath p.path
+
 -- the number of an operation's form
 abbrev pub op_form : Op → ℕ
 op_form (Ins p a l) = 1

@@ -4,10 +4,10 @@ ghost use Rattle.std.specs.Prelude.{◌≡◌, ◌≤◌, ◌<◌, ◌++◌, len
 ghost use Rattle.cp_path.specs.Place.{in_target};
 ghost use Rattle.cp_model.specs.declared.op.Op.TheVariants.{Copy, Del, Ins};
 ghost use Rattle.cp_record.specs.Packed.{Grew};
-ghost use Rattle.cp_format.specs.Contents.{content_bytes, HasShortText};
+ghost use Rattle.cp_format.specs.Contents.{content_bytes, HasShortText, IsContent};
 ghost use Rattle.cp_format.specs.Faults.{FaultAt};
 ghost use Rattle.cp_format.specs.Formats.{ReadsAt};
-ghost use Rattle.cp_format.specs.Operations.{IsShort, InsertsShortText, alone, destination, op_behind, op_bytes, root_content, target_format};
+ghost use Rattle.cp_format.specs.Operations.{IsShort, InsertsShortText, HasSpelledParts, alone, destination, op_behind, op_bytes, root_content, target_format};
 
 use crate::content::{put_leaf, put_node, take_content};
 use crate::fault::FormatFault;
@@ -103,6 +103,7 @@ fn put_root(tree: &Literal, out: &mut Vec<u8>) -> Result<(), AllocError>
     requires { HasShortText (root_content tree.now) }
     ensures ok { OnOk result (out.new.items ≡ out.old.items ++ content_bytes (root_content tree.now)) }
     ensures err { Grew out.old.items out.new.items }
+    ensures content { IsContent (root_content tree.now) }
 {
     match tree {
         Literal::Node(_) => put_node(out),
@@ -114,6 +115,7 @@ fn put_root(tree: &Literal, out: &mut Vec<u8>) -> Result<(), AllocError>
 fn put_ins(into: &Loc, label: &Label, tree: &Literal, out: &mut Vec<u8>) -> Result<(), AllocError>
     requires { HasShortText (root_content tree.now) }
     ensures ok { OnOk result (out.new.items ≡ out.old.items ++ op_bytes (Ins into.now label.now tree.now)) }
+    ensures parts { OnOk result (HasSpelledParts (Ins into.now label.now tree.now)) }
     ensures err { Grew out.old.items out.new.items }
 {
     out.push(1)?;
@@ -125,6 +127,7 @@ fn put_ins(into: &Loc, label: &Label, tree: &Literal, out: &mut Vec<u8>) -> Resu
 /// Writes a deletion.
 fn put_del(label: &Label, from: &Loc, out: &mut Vec<u8>) -> Result<(), AllocError>
     ensures ok { OnOk result (out.new.items ≡ out.old.items ++ op_bytes (Del label.now from.now)) }
+    ensures parts { OnOk result (HasSpelledParts (Del label.now from.now)) }
     ensures err { Grew out.old.items out.new.items }
 {
     out.push(2)?;
@@ -135,6 +138,7 @@ fn put_del(label: &Label, from: &Loc, out: &mut Vec<u8>) -> Result<(), AllocErro
 /// Writes a copy.
 fn put_copy(from: &Loc, into: &Loc, out: &mut Vec<u8>) -> Result<(), AllocError>
     ensures ok { OnOk result (out.new.items ≡ out.old.items ++ op_bytes (Copy from.now into.now)) }
+    ensures parts { OnOk result (HasSpelledParts (Copy from.now into.now)) }
     ensures err { Grew out.old.items out.new.items }
 {
     out.push(3)?;
@@ -149,6 +153,7 @@ pub fn put_short(op: &Op, out: &mut Vec<u8>) -> Result<(), AllocError>
     requires short { IsShort op.now }
     requires text { InsertsShortText op.now }
     ensures ok { OnOk result (out.new.items ≡ out.old.items ++ op_bytes op.now) }
+    ensures parts { OnOk result (HasSpelledParts op.now) }
     ensures err { OnErr result (Grew out.old.items out.new.items) }
 {
     match op {

@@ -9,6 +9,7 @@ use Rattle.cp_path.specs.declared.value.Value.{Value}
 use Rattle.cp_path.specs.declared.value.Value.TheVariants.{Null, False, True, Whole, Text}
 use Rattle.cp_model.specs.Literals.{rows_under}
 use Rattle.cp_model.specs.Place.{Label, Path}
+use Rattle.cp_model.specs.Tree.{last_bytes, text_bytes, weight_of}
 use Rattle.cp_model.specs.declared.literal.Literal.TheVariants as literal
 use Rattle.cp_model.specs.declared.op.Op.{Op}
 use Rattle.cp_model.specs.declared.op.Op.TheVariants.{Ins, Del, Copy}
@@ -20,6 +21,7 @@ use Rattle.cp_format.specs.Contents.{content_bytes}
 use Rattle.cp_format.specs.Operations.{IsShort, IsSpelledOp}
 use Rattle.cp_format.proofs.Operations.{op_counted}
 use Rattle.cp_frame.specs.Entries.{Batch, IsBatch, batch_bytes, counted_records, ops_bytes}
+use Rattle.cp_frame.specs.Laws.{TreesAreLight, TreesAreMeasured}
 use Rattle.cp_frame.specs.Operations.{IsAllowed, IsFit, WrittenOp, op_of, planted, planted_front, short, written_bytes}
 use Rattle.cp_frame.specs.Trees.{Children, Written, child, children_bytes, leaf, no_more, node, number_of, rows_below, rows_of, tree_bytes}
 use Rattle.cp_frame.proofs.Rows.{children_below, enough_rows}
@@ -65,6 +67,35 @@ mutual
   children_counted no_more = refl
   children_counted (child a t cs) =
       omega (arith, tree_counted t, children_counted cs, tree_under a t, length-append (counted_bytes a) (tree_bytes t ++ children_bytes cs), length-append (tree_bytes t) (children_bytes cs), sum_by-append row_length (rows_under a (rows_of t)) (rows_below cs))
+
+pub trees_measured : TreesAreMeasured
+trees_measured t h = tree_counted t
+
+-- ---- no more bytes than weight
+
+-- a place has no more bytes than it weighs
+row_light : (p : Path) (c : Content) → row_length (p, c) ≤ weight_of (p, c)
+row_light p c = omega (arith, label_light p, content_light c)
+  where
+    label_light : (p : Path) → edge_length p ≤ 1 + last_bytes p
+    label_light [] = omega arith
+    label_light (a ∷ q) = omega arith
+
+    content_light : (c : Content) → branch_length c ≤ 9 + text_bytes c
+    content_light Node = omega arith
+    content_light (Leaf Null) = omega arith
+    content_light (Leaf False) = omega arith
+    content_light (Leaf True) = omega arith
+    content_light (Leaf (Whole n)) = omega arith
+    content_light (Leaf (Text a)) = omega arith
+
+-- rows have no more bytes than they weigh
+rows_light : (rows : List (Path × Content)) → tree_length rows ≤ sum_by weight_of rows
+rows_light [] = omega arith
+rows_light (e ∷ es) = omega (arith, row_light e.0 e.1, rows_light es, sum_by-cons row_length e es, sum_by-cons weight_of e es)
+
+pub trees_light : TreesAreLight
+trees_light t h = omega (arith, tree_counted t, rows_light (rows_of t))
 
 -- ---- operations
 

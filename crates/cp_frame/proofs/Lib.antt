@@ -15,4 +15,7 @@ pub mod Batches
 pub mod EntryForms
 pub mod PutEntries
 pub mod Lengths
-pub mod Writable
+pub mod FoundRows
+pub mod Sources
+pub mod SoundEntries
+pub mod SpelledEntries

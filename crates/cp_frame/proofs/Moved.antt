@@ -1,5 +1,5 @@
 -- Checks of a part of a part, and results that pass on what holds of them.
-use Rattle.std.proofs.Common.{◌≡◌, ℕ, ◌+◌, List, [], ◌∷◌, ◌++◌, refl, Result, Ok, Err, IfOk, arith}
+use Rattle.std.proofs.Common.{◌≡◌, ℕ, ◌+◌, List, [], ◌∷◌, ◌++◌, refl, Result, Ok, Err, IfOk, OnOk, OnErr, arith}
 use Rattle.cp_format.specs.Formats.{Check, moved}
 
 -- a part of a part stands after the bytes before both
@@ -21,3 +21,13 @@ moved_both a (c ∷ cs) ds =
 pub passed_ok : {T E : Type 0} {P Q : T → Type 0} (result : Result T E) → ((x : T) → P x → Q x) → IfOk result P → IfOk result Q
 passed_ok (Ok x) f h = f x h
 passed_ok (Err e) f h = tt
+
+-- two facts that hold after success make another hold after success
+pub after_both : {T E P Q R : Type 0} (result : Result T E) → (P → Q → R) → OnOk result P → OnOk result Q → OnOk result R
+after_both (Ok x) f p q = f p q
+after_both (Err e) f p q = tt
+
+-- what holds holds after an error
+pub on_error : {T E P : Type 0} (result : Result T E) → P → OnErr result P
+on_error (Ok x) p = tt
+on_error (Err e) p = p

@@ -1,5 +1,5 @@
 -- Operations that are written.
-use Rattle.std.proofs.Common.{◌≡◌, ◌≤◌, ◌==◌, ℕ, suc, true, false, not, List, [], ◌∷◌, ◌++◌, Result, Ok, Err, OnOk, OnErr, refl, sym, ap, ◌∙◌, subst, append_assoc, append-nil, length, map, take, get_or, ◌<◌, ◌+◌, arith}
+use Rattle.std.proofs.Common.{◌≡◌, ◌≤◌, ◌==◌, ℕ, zero, suc, true, false, not, List, [], ◌∷◌, ◌++◌, Result, Ok, Err, OnOk, OnErr, refl, sym, ap, ◌∙◌, subst, append_assoc, append-nil, length, map, take, get_or, ◌<◌, ◌+◌, arith}
 use Rattle.std.proofs.lemmas.Bool.Decides.{nat_tests}
 use Rattle.std.proofs.lemmas.Grind.{flat_map-append}
 use Rattle.std.proofs.lemmas.List.{map-append, take_more}
@@ -16,12 +16,15 @@ use Rattle.cp_model.specs.declared.op.Op.{Op}
 use Rattle.cp_model.specs.declared.op.Op.TheVariants.{Ins, Del, Copy}
 use Rattle.cp_model.specs.declared.row.Content.{Content}
 use Rattle.cp_model.specs.declared.row.Content.TheVariants.{Leaf, Node}
+use Rattle.cp_record.specs.Kept.{IsLabel, IsPath}
 use Rattle.cp_record.specs.Packed.{Grew}
-use Rattle.cp_format.specs.Operations.{IsShort}
+use Rattle.cp_format.specs.Operations.{HasSpelledParts, IsShort, op_bytes}
 use Rattle.cp_format.proofs.Growing.{grew_then}
-use Rattle.cp_frame.specs.OpReading.{has_children}
-use Rattle.cp_frame.specs.Operations.{HasPutOp, IsWellFormed, WrittenOp, op_of, planted, written_bytes}
+use Rattle.cp_frame.specs.OpReading.{HasFewPlaces, HasShortTexts, has_children}
+use Rattle.cp_frame.specs.Operations.{HasPutOp, IsWellFormed, WrittenOp, op_of, planted, short, written_bytes}
+use Rattle.cp_frame.specs.Sound.{IsSoundOp}
 use Rattle.cp_frame.specs.Trees.{Children, HasParts, HasPutTree, Written, child, leaf, no_more, node, number_of, rows_below, rows_of, tree_bytes}
+use Rattle.cp_frame.proofs.FoundRows.{sound_writable}
 
 -- ---- nodes with children
 
@@ -51,6 +54,11 @@ other_short (Ins p a l) never = absurd (never p a l refl)
 other_short (Del a p) never = tt
 other_short (Copy q p) never = tt
 
+-- a short operation was written
+pub short_put : {T E : Type 0} (o : Op) (old new : List ℕ) (result : Result T E) → IsShort o → OnOk result (new ≡ old ++ op_bytes o) → OnOk result (HasSpelledParts o) → OnOk result (HasPutOp o old new)
+short_put o old new (Ok x) s e parts = record { written = short o; is = refl; formed = (s, parts); bytes = e }
+short_put o old new (Err x) s e parts = tt
+
 -- ---- insertions of trees
 
 planted_bytes : (old path label tree a b c new : List ℕ) → a ≡ old ++ 4 ∷ [] → b ≡ a ++ path → c ≡ b ++ label → new ≡ c ++ tree → new ≡ old ++ (4 ∷ ((path ++ label) ++ tree))
@@ -62,25 +70,25 @@ some_child no_more h = absurd (cc)
 some_child (child a t cs) h = omega arith
 
 put_node_op : (p : Loc) (l : Label) (rows : List (Path × Content)) (old a b c new : List ℕ) (t : Written) →
-    a ≡ old ++ 4 ∷ [] → b ≡ a ++ path_bytes p.path → c ≡ b ++ counted_bytes l → has_children (literal.Node rows) ≡ true → HasParts t → rows_of t ≡ ([], Node) ∷ rows → new ≡ c ++ tree_bytes t → HasPutOp (Ins p l (literal.Node rows)) old new
-put_node_op p l rows old a b c new (leaf v) e f g some parts same h =
+    a ≡ old ++ 4 ∷ [] → b ≡ a ++ path_bytes p.path → c ≡ b ++ counted_bytes l → has_children (literal.Node rows) ≡ true → HasParts t → IsPath p.path → IsLabel l → rows_of t ≡ ([], Node) ∷ rows → new ≡ c ++ tree_bytes t → HasPutOp (Ins p l (literal.Node rows)) old new
+put_node_op p l rows old a b c new (leaf v) e f g some parts path label same h =
     let root : ◌≡◌ {A = Path × Content} ([], Leaf v) ([], Node) = cc in
     let both : ◌≡◌ {A = Content} (Leaf v) Node = ap (λ e. e.1) root in
     absurd (cc)
-put_node_op p l rows old a b c new (node cs) e f g some parts same h =
+put_node_op p l rows old a b c new (node cs) e f g some parts path label same h =
     let below : rows_below cs ≡ rows = cc in
     record {
       written = planted p l cs;
       is = ap (λ (x : List (Path × Content)). Ins p l (literal.Node x)) below;
-      formed = (some_child cs (ap (λ (x : List (Path × Content)). has_children (literal.Node x)) below ∙ some), parts);
+      formed = (some_child cs (ap (λ (x : List (Path × Content)). has_children (literal.Node x)) below ∙ some), parts, path, label);
       bytes = planted_bytes old (path_bytes p.path) (counted_bytes l) (tree_bytes (node cs)) a b c new e f g h;
     }
 
 -- the form, the place, the label and a node with children are an operation
 pub planted_put : (p : Loc) (l : Label) (t : Literal) (old a b c new : List ℕ) → has_children t ≡ true →
-    a ≡ old ++ 4 ∷ [] → b ≡ a ++ path_bytes p.path → c ≡ b ++ counted_bytes l → HasPutTree t c new → HasPutOp (Ins p l t) old new
-planted_put p l (literal.Leaf v) old a b c new some e f g h = absurd (cc)
-planted_put p l (literal.Node rows) old a b c new some e f g h = put_node_op p l rows old a b c new h.tree e f g some h.parts h.rows h.bytes
+    a ≡ old ++ 4 ∷ [] → b ≡ a ++ path_bytes p.path → c ≡ b ++ counted_bytes l → IsPath p.path → IsLabel l → HasPutTree t c new → HasPutOp (Ins p l t) old new
+planted_put p l (literal.Leaf v) old a b c new some e f g path label h = absurd (cc)
+planted_put p l (literal.Node rows) old a b c new some e f g path label h = put_node_op p l rows old a b c new h.tree e f g some h.parts path label h.rows h.bytes
 
 -- a tree that was written, or of which a front was
 tree_grew : {T E : Type 0} (t : Literal) (mid new : List ℕ) (result : Result T E) → OnOk result (HasPutTree t mid new) → OnErr result (Grew mid new) → Grew mid new
@@ -121,3 +129,19 @@ one_op_put os old k mid new o lt at s h =
       formed = all_append IsWellFormed s.written (h.written ∷ []) s.formed (h.formed, tt);
       bytes = more_bytes old (to_be_bytes w32 (length os)) fronts (written_bytes h.written) mid new s.bytes h.bytes ∙ ap (λ l. old ++ (to_be_bytes w32 (length os) ++ l)) (sym all);
     }
+
+-- ---- what operations have to be
+
+op_writable : (o : Op) → IsSoundOp true o → HasShortTexts o × HasFewPlaces o
+op_writable (Ins p a l) h = sound_writable l h.1
+op_writable (Del a p) h = (tt, tt)
+op_writable (Copy q p) h = (tt, tt)
+
+op_at : (os : List Op) (k : ℕ) (d : Op) → AllByRecursion (IsSoundOp true) os → k < length os → IsSoundOp true (get_or os k d)
+op_at [] k d h lt = absurd (omega (arith, lt))
+op_at (o ∷ os) zero d h lt = h.0
+op_at (o ∷ os) (suc k) d h lt = op_at os k d h.1 (omega (arith, lt))
+
+-- each of these operations has short texts and few places
+pub op_at_writable : (os : List Op) (k : ℕ) (o : Op) → AllByRecursion (IsSoundOp true) os → k < length os → o ≡ get_or os k o → HasShortTexts o × HasFewPlaces o
+op_at_writable os k o h lt at = op_writable o (subst (IsSoundOp true) (sym at) (op_at os k o h lt))

@@ -13,7 +13,7 @@ use Rattle.cp_model.specs.declared.record.Record.{Record}
 use Rattle.cp_model.specs.declared.stamp.Stamp.{Stamp}
 use Rattle.cp_model.specs.Literals.{literal_rows}
 use Rattle.cp_record.specs.Bytes.{record_bytes}
-use Rattle.cp_record.specs.Kept.{IsLabel, IsName}
+use Rattle.cp_record.specs.Kept.{IsLabel, IsName, IsPackable}
 use Rattle.cp_store.specs.Changes.{goes_before}
 use Rattle.cp_format.specs.Formats.{Check, Format, moved}
 use Rattle.cp_format.specs.Spelled.{IsSpelled}
@@ -146,12 +146,16 @@ pub record IsBatchOf (b : Batch) (os : List Op) (rs : List Record) : Type 0 wher
   pub ops : map op_of b.ops ≡ os
   pub records : b.records ≡ rs
 
--- its tree has its parts, or its operations are well formed
+-- the operations are well formed, and the records can be kept as bytes
+abbrev pub IsWellFormedBatch : Batch → Type 0
+IsWellFormedBatch b = AllByRecursion IsWellFormed b.ops × AllByRecursion IsPackable b.records
+
+-- its name, its stamp and its tree have their parts, or its operations and its records do
 abbrev pub IsWellFormedEntry : WrittenEntry → Type 0
 IsWellFormedEntry (start k t) = HasParts t
-IsWellFormedEntry (load n t) = HasParts t
-IsWellFormedEntry (commit b) = AllByRecursion IsWellFormed b.ops
-IsWellFormedEntry (stamped s b) = AllByRecursion IsWellFormed b.ops
+IsWellFormedEntry (load n t) = IsName n × HasParts t
+IsWellFormedEntry (commit b) = IsWellFormedBatch b
+IsWellFormedEntry (stamped s b) = IsStamp s × IsWellFormedBatch b
 
 -- the entry is written so
 abbrev pub IsEntry : Entry → WrittenEntry → Type 0
@@ -160,3 +164,10 @@ IsEntry (entry.Load n l) (load m t) = (m ≡ n) × (rows_of t ≡ literal_rows l
 IsEntry (entry.Commit os rs) (commit b) = IsBatchOf b os rs
 IsEntry (entry.Stamped s os rs) (stamped r b) = (r ≡ s) × IsBatchOf b os rs
 IsEntry _ _ = ⊥
+
+-- the records that are written with an entry: those of a commit
+abbrev pub entry_records : Entry → List Record
+entry_records (entry.Start k l) = []
+entry_records (entry.Load n l) = []
+entry_records (entry.Commit os rs) = rs
+entry_records (entry.Stamped s os rs) = rs

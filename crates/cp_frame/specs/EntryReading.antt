@@ -1,27 +1,17 @@
 -- What the reading and the writing of entries rest on.
-use Rattle.std.specs.Prelude.{ℕ, ◌-◌, ◌^◌, ◌≡◌, ◌≤◌, ◌<◌, Bool, true, List, [], ◌∷◌, length, is_some, ⊤}
+use Rattle.std.specs.Prelude.{ℕ, ◌-◌, ◌^◌, ◌≡◌, ◌<◌, Bool, List, [], ◌∷◌, length, ⊤}
 use Rattle.std.specs.List.{AllByRecursion}
 use Rattle.std.specs.declared.option.Option.{Option}
 use Rattle.std.specs.declared.option.Option.TheVariants.{None}
-use Rattle.cp_path.specs.Place.{in_target}
-use Rattle.cp_model.specs.Literals.{literal_rows}
-use Rattle.cp_model.specs.Tree.{text_bytes}
 use Rattle.cp_model.specs.declared.kind.Kind.{Kind}
-use Rattle.cp_model.specs.declared.limits.TheConstants.{NODES_MAX, OPS_MAX}
-use Rattle.cp_model.specs.declared.literal.Literal.{Literal}
 use Rattle.cp_model.specs.declared.op.Op.{Op}
 use Rattle.cp_model.specs.declared.record.Record.{Record}
 use Rattle.cp_model.specs.declared.stamp.Stamp.{Stamp}
-use Rattle.cp_path.specs.declared.limits.TheConstants.{TEXT_MAX}
 use Rattle.cp_record.specs.Bytes.{record_bytes}
-use Rattle.cp_record.specs.Kept.{is_copy}
 use Rattle.cp_format.specs.Formats.{Format, ReadsAt, moved, unchecked}
-use Rattle.cp_format.specs.Operations.{destination}
 use Rattle.cp_format.specs.Spelled.{IsSpelled}
 use Rattle.cp_frame.specs.Entries.{Batch, IsBatchOf, IsEntry, WrittenEntry, IsFitEntry, IsStamp, batch_format, counted_records, entry_form, entry_rest, follows, kind_number, record_checks, rest_checks, stamp_bytes}
-use Rattle.cp_frame.specs.OpReading.{HasShortTexts, HasFewPlaces}
 use Rattle.cp_frame.specs.declared.entry.Entry.{Entry}
-use Rattle.cp_frame.specs.declared.entry.Entry.TheVariants as entry
 
 -- the byte of a kind
 abbrev pub kind_format : Format Kind
@@ -62,26 +52,3 @@ pub record HasReadEntry (form : ℕ) (bytes : List ℕ) (at : ℕ) (e : Entry) (
   pub written : WrittenEntry
   pub reads : ReadsAt (entry_behind form) bytes at written next
   pub is : IsEntry e written
-
--- records of T, each with a source exactly where it is a copy
-abbrev pub AreWritable : List Record → Type 0
-AreWritable rs = AllByRecursion (λ r. (in_target r.loc ≡ true) × (is_some r.src ≡ is_copy r.op)) rs
-
--- a tree whose texts are no longer than a text may be, and that has no more places than a tree may have
-abbrev pub IsWritableTree : Literal → Type 0
-IsWritableTree l = AllByRecursion (λ e. text_bytes e.1 ≤ TEXT_MAX) (literal_rows l) × (length (literal_rows l) ≤ NODES_MAX)
-
--- operations that change T, with texts and trees within those limits
-abbrev pub AreWritableOps : List Op → Type 0
-AreWritableOps os = AllByRecursion (λ o. (in_target (destination o) ≡ true) × HasShortTexts o × HasFewPlaces o) os
-
--- operations, no more than a commit may have, and records whose number has four bytes
-abbrev pub IsWritableBatch : List Op → List Record → Type 0
-IsWritableBatch os rs = AreWritableOps os × (length os ≤ OPS_MAX) × AreWritable rs × (length rs < 2 ^ 32)
-
--- the entry has bytes
-abbrev pub IsWritableEntry : Entry → Type 0
-IsWritableEntry (entry.Start k l) = IsWritableTree l
-IsWritableEntry (entry.Load n l) = IsWritableTree l
-IsWritableEntry (entry.Commit os rs) = IsWritableBatch os rs
-IsWritableEntry (entry.Stamped s os rs) = IsWritableBatch os rs

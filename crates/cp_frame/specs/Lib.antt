@@ -5,5 +5,6 @@ pub mod Operations
 pub mod OpReading
 pub mod Entries
 pub mod EntryReading
+pub mod Sound
 pub mod Faults
 pub mod Laws

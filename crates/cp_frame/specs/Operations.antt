@@ -7,9 +7,9 @@ use Rattle.cp_model.specs.declared.literal.Literal.TheVariants as literal
 use Rattle.cp_model.specs.declared.op.Op.{Op}
 use Rattle.cp_model.specs.declared.op.Op.TheVariants.{Ins}
 use Rattle.cp_model.specs.Place.{Label}
-use Rattle.cp_record.specs.Kept.{IsLabel}
+use Rattle.cp_record.specs.Kept.{IsLabel, IsPath}
 use Rattle.cp_format.specs.Formats.{Check, Format, ReadsAt, moved}
-use Rattle.cp_format.specs.Operations.{IsShort, IsTarget, IsSpelledOp, op_bytes, op_form}
+use Rattle.cp_format.specs.Operations.{HasSpelledParts, IsShort, IsTarget, IsSpelledOp, op_bytes, op_form}
 use Rattle.cp_frame.specs.Trees.{Children, HasParts, number_of, node, rows_below, tree_bytes, tree_checks}
 use Rattle.cp_frame.specs.Rooms.{FitsIn, Room, whole_room}
 
@@ -57,10 +57,10 @@ abbrev pub IsAllowed : Bool → WrittenOp → Type 0
 IsAllowed trees (short o) = ⊤
 IsAllowed trees (planted p a cs) = trees ≡ true
 
--- a short operation inserts no tree with children; one of the other form has children in its tree, which can be spelled
+-- a short operation inserts no tree with children, and one of the other form has children in its tree; its parts can be spelled
 abbrev pub IsWellFormed : WrittenOp → Type 0
-IsWellFormed (short o) = IsShort o
-IsWellFormed (planted p a cs) = (1 ≤ number_of cs) × HasParts (node cs)
+IsWellFormed (short o) = IsShort o × HasSpelledParts o
+IsWellFormed (planted p a cs) = (1 ≤ number_of cs) × HasParts (node cs) × IsPath p.path × IsLabel a
 
 -- an operation; one that inserts a tree with children only where that is allowed
 abbrev pub op_format_with : Bool → Format WrittenOp

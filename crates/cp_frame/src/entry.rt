@@ -1,19 +1,19 @@
 //! Entries of a store's history.
-ghost use Rattle.std.specs.Prelude.{◌≡◌, ◌≤◌, ◌<◌, ◌^◌, ◌++◌, [], Bool, List, map, length, IfErr, IfOk, OnErr, OnOk};
+ghost use Rattle.std.specs.Prelude.{◌≡◌, ◌≤◌, ◌<◌, ◌^◌, ◌++◌, [], Bool, true, List, map, length, IfErr, IfOk, OnErr, OnOk};
 ghost use Rattle.std.specs.List.{AllByRecursion};
-ghost use Rattle.cp_record.specs.Packed.{Grew};
 ghost use Rattle.cp_format.specs.Faults.{FaultAt};
 ghost use Rattle.cp_format.specs.Formats.{Reads, ReadsAt};
-ghost use Rattle.cp_frame.specs.Entries.{Batch, IsBatchOf, IsEntry, IsWellFormedEntry, batch_bytes, batch_format, entry_format, kind_number, ops_bytes, stamp_bytes, written_entry, WrittenEntry};
-ghost use Rattle.cp_frame.specs.EntryReading.{HasReadBatch, HasReadEntry, AreWritableOps, IsWritableBatch, IsWritableEntry, entry_behind, kind_format, stamp_format};
+ghost use Rattle.cp_frame.specs.Entries.{Batch, IsBatchOf, IsEntry, IsStamp, IsWellFormedBatch, IsWellFormedEntry, batch_bytes, batch_format, entry_format, entry_records, kind_number, ops_bytes, stamp_bytes, written_entry, WrittenEntry};
+ghost use Rattle.cp_frame.specs.EntryReading.{HasReadBatch, HasReadEntry, entry_behind, kind_format, stamp_format};
 ghost use Rattle.cp_frame.specs.Faults.{FaultOf};
 ghost use Rattle.cp_frame.specs.Operations.{HasTakenOps, IsWellFormed, WrittenOp, op_of, ops_format_of};
+ghost use Rattle.cp_frame.specs.Sound.{IsSoundBatch, IsSoundEntry, IsSoundOp};
 
 use crate::operation::{put_op, take_op};
 use crate::record::{put_records, records_at};
 use crate::tree::{put_number, put_tree, take_tree};
 use cp_format::{FormatFault, bounded_at, count_at, label_at, name_at, number_at, put_counted};
-use cp_model::{Kind, Literal, OPS_MAX, Op, OpList, RecordList, Stamp};
+use cp_model::{Kind, Literal, OPS_MAX, Op, OpList, Record, RecordList, Stamp};
 use cp_path::{LABEL_MAX, Name};
 use std::alloc::{AllocError, Global};
 
@@ -41,6 +41,19 @@ pub enum Entry {
         ops: OpList,
         records: RecordList,
     },
+}
+
+impl Entry {
+    /// The records that are written with it: those of a commit.
+    pub fn records(&self) -> &[Record]
+        ensures { result.now ≡ entry_records self.now }
+    {
+        match self {
+            Entry::Start { .. } | Entry::Load { .. } => &[],
+            Entry::Commit { records, .. } => &records.items,
+            Entry::Stamped { records, .. } => &records.items,
+        }
+    }
 }
 
 /// The kind of the next byte.
@@ -182,7 +195,7 @@ fn entry_in_front(alloc: Global, bytes: &[u8]) -> Result<(Entry, usize), FormatF
 /// judged at its last byte, and what may still come is not looked at.
 pub fn entry_of(alloc: Global, bytes: &[u8]) -> Result<Entry, FormatFault>
     ensures read { IfOk result (λ e. (w : WrittenEntry) × IsEntry e w × Reads entry_format bytes.now w []) }
-    ensures writable { IfOk result IsWritableEntry }
+    ensures sound { IfOk result IsSoundEntry }
     ensures fault { IfErr result (FaultOf entry_format bytes.now) }
 {
     let (entry, end) = entry_in_front(alloc, bytes)?;
@@ -206,7 +219,7 @@ fn kind_number(kind: Kind) -> u8
 
 /// Appends the number of operations, and these.
 fn put_ops(ops: &OpList, out: &mut Vec<u8>) -> Result<(), AllocError>
-    requires writable { AreWritableOps ops.now }
+    requires sound { AllByRecursion (IsSoundOp true) ops.now }
     requires few { length ops.now ≤ OPS_MAX }
     ensures { OnOk result ((ws : List WrittenOp) × (map op_of ws ≡ ops.now) × (out.new.items ≡ out.old.items ++ ops_bytes ws)
         × AllByRecursion IsWellFormed ws) }
@@ -220,9 +233,9 @@ fn put_ops(ops: &OpList, out: &mut Vec<u8>) -> Result<(), AllocError>
 
 /// Appends the operations and the records of a commit.
 fn put_batch(ops: &OpList, records: &RecordList, out: &mut Vec<u8>) -> Result<(), AllocError>
-    requires { IsWritableBatch ops.now records.now }
+    requires { IsSoundBatch true ops.now records.now }
     ensures { OnOk result ((b : Batch) × IsBatchOf b ops.now records.now × (out.new.items ≡ out.old.items ++ batch_bytes b)
-        × AllByRecursion IsWellFormed b.ops) }
+        × IsWellFormedBatch b) }
 {
     put_ops(ops, out)?;
     put_records(records, out)
@@ -230,7 +243,8 @@ fn put_batch(ops: &OpList, records: &RecordList, out: &mut Vec<u8>) -> Result<()
 
 /// Appends the curator and the moment.
 fn put_stamp(stamp: &Stamp, out: &mut Vec<u8>) -> Result<(), AllocError>
-    ensures { OnOk result (out.new.items ≡ out.old.items ++ stamp_bytes stamp.now) }
+    ensures ok { OnOk result (out.new.items ≡ out.old.items ++ stamp_bytes stamp.now) }
+    ensures stamp { OnOk result (IsStamp stamp.now) }
 {
     put_counted(stamp.curator.as_str().as_bytes(), out)?;
     out.extend_from_slice(&stamp.moment.to_be_bytes())
@@ -238,7 +252,7 @@ fn put_stamp(stamp: &Stamp, out: &mut Vec<u8>) -> Result<(), AllocError>
 
 /// Appends the bytes of an entry.
 fn put_entry(entry: &Entry, out: &mut Vec<u8>) -> Result<(), AllocError>
-    requires { IsWritableEntry entry.now }
+    requires { IsSoundEntry entry.now }
     ensures { OnOk result ((w : WrittenEntry) × IsEntry entry.now w × (out.new.items ≡ out.old.items ++ written_entry w)
         × IsWellFormedEntry w) }
 {
@@ -269,11 +283,10 @@ fn put_entry(entry: &Entry, out: &mut Vec<u8>) -> Result<(), AllocError>
     }
 }
 
-/// The bytes of an entry. Costs them.
+/// The bytes of an entry, which are read back. Costs them.
 pub fn entry_bytes(alloc: Global, entry: &Entry) -> Result<Vec<u8>, AllocError>
-    requires { IsWritableEntry entry.now }
-    ensures { IfOk result (λ v. (w : WrittenEntry) × IsEntry entry.now w × (v.items ≡ written_entry w)
-        × IsWellFormedEntry w) }
+    requires { IsSoundEntry entry.now }
+    ensures { IfOk result (λ v. (w : WrittenEntry) × IsEntry entry.now w × Reads entry_format v.items w []) }
 {
     let mut out = Vec::new(alloc);
     put_entry(entry, &mut out)?;

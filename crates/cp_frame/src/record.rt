@@ -1,13 +1,17 @@
 //! Records in the order of their Tids, and then of their places.
 ghost use Rattle.std.specs.Prelude.{◌≡◌, ◌≤◌, ◌<◌, ◌+◌, ◌^◌, ◌++◌, length, IfErr, IfOk, OnErr, OnOk, None};
+ghost use Rattle.std.specs.List.{AllByRecursion};
 ghost use Rattle.std.specs.Option.{option_map};
+ghost use Rattle.cp_record.specs.Kept.{IsPackable};
 ghost use Rattle.cp_record.specs.Packed.{Grew};
 ghost use Rattle.cp_store.specs.Changes.{goes_before};
 ghost use Rattle.cp_format.specs.Faults.{FaultAt};
 ghost use Rattle.cp_format.specs.Formats.{ReadsAt};
 ghost use Rattle.cp_frame.specs.Entries.{counted_records};
-ghost use Rattle.cp_frame.specs.EntryReading.{next_record_format, counted_records_format, AreWritable};
+ghost use Rattle.cp_frame.specs.EntryReading.{next_record_format, counted_records_format};
+ghost use Rattle.cp_frame.specs.Sound.{AreWritable};
 
+use crate::tree::put_number;
 use cp_format::{FormatFault, bounded_at, put, record_at};
 use cp_model::{Record, RecordList};
 use std::alloc::{AllocError, Global};
@@ -65,9 +69,10 @@ pub(crate) fn put_records(records: &RecordList, out: &mut Vec<u8>) -> Result<(),
     requires writable { AreWritable records.now }
     requires counted { length records.now < 2 ^ 32 }
     ensures ok { OnOk result (out.new.items ≡ out.old.items ++ counted_records records.now) }
+    ensures kept { OnOk result (AllByRecursion IsPackable records.now) }
     ensures err { OnErr result (Grew out.old.items out.new.items) }
 {
-    out.extend_from_slice(&(records.items.len() as u32).to_be_bytes())?;
+    put_number(records.items.len(), out)?;
     for record in &records.items {
         put(record, out)?;
     }

@@ -1,8 +1,6 @@
-use Rattle.std.proofs.Common.{refl, sym, ◌∙◌}
-use Rattle.cp_format.proofs.Growing.{after_success}
+use Rattle.std.proofs.Common.{sym, ◌∙◌}
 use Rattle.cp_format.specs.Operations.{IsShort}
-use Rattle.cp_frame.specs.Operations.{short}
-use Rattle.cp_frame.proofs.PutOps.{bare_short, other_short}
+use Rattle.cp_frame.proofs.PutOps.{bare_short, other_short, short_put}
 use Rattle.cp_frame.proofs.operation.put_op.Goals.{in_default-via-in-Ins+else-is_branch, in_default-via-in_default}
 use Rattle.cp_frame.proofs.operation.put_op.Goals as goal
 
@@ -14,4 +12,4 @@ returns-in_default-clause-ok c =
       | in_default-via-in_default w ↦ other_short c.args.op.now w.in_default.not-Ins
     ]
     in
-    after_success c.put_short.result (λ e. record { written = short c.args.op.now; is = refl; formed = form; bytes = e }) c.put_short.ensures.ok
+    short_put c.args.op.now c.args.out.now.items c.put_short.new.out.items c.put_short.result form c.put_short.ensures.ok c.put_short.ensures.parts

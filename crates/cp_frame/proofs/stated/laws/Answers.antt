@@ -1,7 +1,9 @@
 use Rattle.cp_frame.proofs.EntryForms.{plain_entry}
 use Rattle.cp_frame.proofs.LegalTrees.{legal_spelled, written_legal}
-use Rattle.cp_frame.proofs.Lengths.{batch_counted}
+use Rattle.cp_frame.proofs.Lengths.{batch_counted, trees_light, trees_measured}
 use Rattle.cp_frame.proofs.SameRows.{rows_tell}
+use Rattle.cp_frame.proofs.SoundEntries.{ops_written}
+use Rattle.cp_frame.proofs.Sources.{sources_legal, sources_spelled}
 use Rattle.cp_frame.proofs.TreeFormats.{plain_tree}
 use Rattle.cp_frame.proofs.stated.laws.Goals as goal
 
@@ -22,3 +24,18 @@ returns-clause-entries c = plain_entry
 
 pub returns-clause-counted : goal.returns-clause-counted
 returns-clause-counted c = batch_counted
+
+pub returns-clause-sources : goal.returns-clause-sources
+returns-clause-sources c = sources_legal
+
+pub returns-clause-named : goal.returns-clause-named
+returns-clause-named c = sources_spelled
+
+pub returns-clause-written : goal.returns-clause-written
+returns-clause-written c = ops_written
+
+pub returns-clause-measured : goal.returns-clause-measured
+returns-clause-measured c = trees_measured
+
+pub returns-clause-light : goal.returns-clause-light
+returns-clause-light c = trees_light
