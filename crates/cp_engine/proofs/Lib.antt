@@ -1,7 +1,9 @@
+pub mod Accepting
 pub mod Cases
 pub mod Limits
 pub mod Reached
 pub mod Changed
+pub mod Committed
 pub mod Depths
 pub mod Recorded
 pub mod OpRows
@@ -9,6 +11,7 @@ mod Finishing
 mod Followed
 pub mod Going
 pub mod Loading
+mod Replayed
 pub mod Linked
 pub mod LoadedLemmas
 pub mod Rising

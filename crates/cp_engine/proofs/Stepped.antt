@@ -74,11 +74,12 @@ module _ (s : State) (ops : List Op) (some : 1 ≤ length ops) (a : AllAccepted 
         few = omega (arith, count, some);
       }
 
-  stepped_in : (k : Kind) → s.kind ≡ k → IsStepped s (fold after_step s (steps_of k ops)) k ops
-  stepped_in kind.N e = stepped_alone kind.N e refl refl
-  stepped_in kind.T e = stepped_whole kind.T e refl refl
-  stepped_in kind.H e = stepped_alone kind.H e refl refl
-  stepped_in kind.HT e = stepped_whole kind.HT e refl refl
+  -- the steps of accepted operations lead to where they pass, and their records come next
+  pub stepped-in : (k : Kind) → s.kind ≡ k → IsStepped s (fold after_step s (steps_of k ops)) k ops
+  stepped-in kind.N e = stepped_alone kind.N e refl refl
+  stepped-in kind.T e = stepped_whole kind.T e refl refl
+  stepped-in kind.H e = stepped_alone kind.H e refl refl
+  stepped-in kind.HT e = stepped_whole kind.HT e refl refl
 
 -- where the step is committed, with accepted operations, the state is the next one
 pub record Commits {R : Type 0} (view : R → Tree) (s z : State) (x : Step R) (ops : List Op) : Type 0 where
@@ -95,7 +96,7 @@ pub commits-step : {R : Type 0} (view : R → Tree) (s : State) (k : Kind) (ss :
     Commits view s (fold after_step s (steps_of k ops)) x ops
 commits-step view s k ss ops limit x e o a h =
     let t : Tree = tree_of s.tree in
-    let i = stepped_in s ops h.some (subst (λ os. AllAccepted os t ops) (sym o) a) k e in
+    let i = stepped-in s ops h.some (subst (λ os. AllAccepted os t ops) (sym o) a) k e in
     let rows : records_of k s.sources t (s.now + 1) ops ≡ x.rows = ap (λ os. records_of k os t (s.now + 1) ops) o ∙ sym h.rows in
     let few = i.few in
     record {

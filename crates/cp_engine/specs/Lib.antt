@@ -1,3 +1,4 @@
+pub mod Accepted
 pub mod Passed
 pub mod Reaching
 pub mod RowsAlone

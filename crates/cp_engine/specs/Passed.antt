@@ -1,6 +1,6 @@
 -- Operations one by one, each a step of its own: the tree they lead to and the records that they leave.
 use Rattle.cp_model.specs.declared.limits.TheConstants.{OPS_MAX}
-use Rattle.std.specs.Prelude.{ℕ, ◌+◌, ◌≡◌, ◌==◌, List, [], ◌∷◌, ◌++◌, length, fold, if◌then◌else◌, ⊤}
+use Rattle.std.specs.Prelude.{ℕ, ◌+◌, ◌≡◌, ◌==◌, List, [], ◌∷◌, ◌++◌, length, fold, is_some, if◌then◌else◌, ⊤}
 use Rattle.std.specs.declared.option.Option.{Option}
 use Rattle.std.specs.declared.option.Option.TheVariants.{None, Some}
 use Rattle.cp_model.specs.Tree.{Tree, Source, refusal, tree_after}
@@ -51,3 +51,8 @@ refusal_behind k ss t n ops op = if length ops == OPS_MAX then Some TooManyOps e
 abbrev pub AllAccepted : List Source → Tree → List Op → Type 0
 AllAccepted ss t [] = ⊤
 AllAccepted ss t (op ∷ ops) = (refusal ss t op ≡ None) × AllAccepted ss (tree_after ss t op) ops
+
+-- the tree after the operations before the first that is refused, or after all of them where none is
+abbrev pub tree_until : List Source → Tree → List Op → Tree
+tree_until ss t [] = t
+tree_until ss t (op ∷ ops) = if is_some (refusal ss t op) then t else tree_until ss (tree_after ss t op) ops

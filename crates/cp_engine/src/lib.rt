@@ -7,6 +7,7 @@ mod copy;
 mod fault;
 mod follow;
 mod held;
+mod replaying;
 mod rows;
 mod sources;
 mod state;
@@ -14,6 +15,7 @@ mod txn;
 
 pub use checks::check;
 pub use fault::{ApplyFault, FinishFault};
+pub use replaying::replay;
 pub use sources::Sources;
 pub use state::TxnState;
-pub use txn::{Step, Txn};
+pub use txn::{Step, Txn, steps_of};

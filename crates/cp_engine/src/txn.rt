@@ -274,7 +274,7 @@ fn commit_length(ops: &HeldOps, rows: &PackedRecords) -> u64
 }
 
 /// The number of steps that so many operations are in a kind.
-fn steps_of(kind: Kind, count: u32) -> u64
+pub fn steps_of(kind: Kind, count: u32) -> u64
     ensures { (ops : List Op) → length ops ≡ count → result ≡ length (steps_of kind ops) }
 {
     match kind {
