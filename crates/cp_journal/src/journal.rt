@@ -55,6 +55,7 @@ impl Journal {
         ensures rests { IsTrue D.is_known → Rests (D.view disk.old) (D.view disk.new) }
         ensures kinds { OnErr result (IsErrOf result JournalFault.Disk ⊎ IsErrOf result JournalFault.Memory) }
         ensures cause { Accounts IsDiskFault (D.counts disk.old).faults (D.counts disk.new).faults result }
+        ensures wants { (D.counts disk.old).wants ≤ (D.counts disk.new).wants }
     {
         Ok(is_vacant(disk)?)
     }
@@ -243,6 +244,8 @@ impl Journal {
         ensures too_large { IsErrOf result JournalFault.TooLarge
             ↔ ((BODY_MAX < length body.now) ⊎ (DISK_MAX < self.old.next + length body.now + FRAME_HEAD + 1)) }
         ensures unchanged { IsErrOf result JournalFault.TooLarge → (self.new ≡ self.old) × (disk.new ≡ disk.old) }
+        ensures kinds { OnErr result
+            (IsErrOf result JournalFault.Disk ⊎ (IsErrOf result JournalFault.Memory ⊎ IsErrOf result JournalFault.TooLarge)) }
         ensures spent { IsTrue self.new.spent ↔ (IsErrOf result JournalFault.Disk ⊎ IsErrOf result JournalFault.Memory) }
         ensures broken { self.new.broken ≡ self.old.broken }
         ensures cause { Accounts IsDiskFault (D.counts disk.old).faults (D.counts disk.new).faults result }
