@@ -1,0 +1,4 @@
+pub mod Standing
+pub mod Images
+pub mod Ends
+pub mod Measures

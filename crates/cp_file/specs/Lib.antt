@@ -1,0 +1,4 @@
+pub mod Items
+pub mod Stands
+pub mod Sizes
+pub mod Laws
