@@ -1,0 +1,14 @@
+mod TakingCounts
+mod TakingLists
+mod Taking
+mod TakingCommits
+mod OpeningFrames
+mod OpeningItems
+mod OpeningStores
+mod WritingStanding
+mod WritingFrames
+mod WritingLoads
+mod WritingWithin
+mod WritingCommits
+mod WritingTransactions
+mod WritingStarts

@@ -1,0 +1,190 @@
+-- A file that is opened is a store where a database comes of it, and none where its parts are not those of one.
+use Rattle.std.proofs.Common.{◌≡◌, ◌≤◌, ◌+◌, ◌∙◌, ◌==◌, ◌⊎◌, inl, inr, ℕ, Bool, true, false, if◌then◌else◌, List, length, take, drop, get_or, nat_lt, refl, sym, ap, subst, arith, length-take, Ok, Err}
+use Rattle.std.specs.List.{flat_map}
+use Rattle.std.specs.declared.option.Option.{Option}
+use Rattle.std.specs.declared.option.Option.TheVariants.{None, Some}
+use Rattle.std.proofs.lemmas.Bool.{cases_Bool}
+use Rattle.cp_model.specs.Tree.{Tree}
+use Rattle.cp_model.specs.History.{Entry as History}
+use Rattle.cp_disk.specs.Views.{View, Rests}
+use Rattle.cp_journal.specs.Frames.{Frame, frames_of}
+use Rattle.cp_journal.specs.Headers.{HasHeader, header_in}
+use Rattle.cp_journal.specs.Holding.{IsAtRest}
+use Rattle.cp_journal.specs.Journals.{JournalState, Describes, HasWalked, Lists}
+use Rattle.cp_journal.specs.declared.header.Header.{Header}
+use Rattle.cp_journal.specs.declared.header.Slot.{Slot}
+use Rattle.cp_journal.specs.declared.limits.TheConstants.{HEADER_SIZE, VERSION_AT}
+use Rattle.cp_file.specs.Items.{Item, AllStand, Tell, entries_in}
+use Rattle.cp_file.specs.Stands.{IsStore}
+use Rattle.cp_file.proofs.Images.{StoreParts, closed_header, parts-store, store-parts}
+use Rattle.cp_file.proofs.Standing.{held-one, replayed-items, rows-right}
+use Rattle.cp_db.specs.Committed.{HasReplayed, HasTaken}
+use Rattle.cp_db.specs.Databases.{IsKept, Stands}
+use Rattle.cp_db.specs.Opening.{HasOpened, OpensAs, TellsAs, open_slot}
+use Rattle.cp_db.specs.declared.committed.Committed.{Committed}
+use Rattle.cp_db.specs.declared.database.Db.{Db}
+use Rattle.cp_db.specs.declared.fault.OpenFault.{OpenFault}
+use Rattle.cp_db.specs.declared.fault.OpenFault.TheVariants.{NoStore, Disk, Memory}
+
+-- ---- headers
+
+-- a header says version 1 or 2
+version_said : (bytes : List ℕ) → ((header_in bytes).version ≡ 1) ⊎ ((header_in bytes).version ≡ 2)
+version_said bytes = elim (cases_Bool (get_or bytes VERSION_AT 0 == 1)) [
+  | inl two ↦ inr (rw two refl)
+  | inr one ↦ inl (rw one refl)
+]
+
+-- so that it is kept where one of these is
+pub version_kept : (bytes : List ℕ) (h : Header) (version : ℕ) → h ≡ header_in bytes → ((h.version ≡ 1) ⊎ (h.version ≡ 2) → version ≡ h.version) → version ≡ h.version
+version_kept bytes h version is kept = kept (subst (λ (x : Header). (x.version ≡ 1) ⊎ (x.version ≡ 2)) (sym is) (version_said bytes))
+
+none_open : (a b : Option Slot) → open_slot (record { version = 0; first = a; second = b }) ≡ None → (a ≡ None) × (b ≡ None)
+none_open None None none = (refl, refl)
+none_open (Some a) None none = let no : Some 64 ≡ None = none in absurd (cc no)
+none_open None (Some b) none = let no : Some 128 ≡ None = none in absurd (cc no)
+none_open (Some a) (Some b) none = elim (cases_Bool (nat_lt b.seq a.seq)) [
+  | inl first ↦ (let no : Some 64 ≡ None = rw first at none in absurd (cc no))
+  | inr second ↦ (let no : Some 128 ≡ None = rw second at none in absurd (cc no))
+]
+
+-- one without an open slot says its version alone
+pub closed_is : (h : Header) → open_slot h ≡ None → h ≡ closed_header h.version
+closed_is h none =
+    let both = none_open h.first h.second none in
+    λ k. record { version = h.version; first = both.0 k; second = both.1 k }
+
+-- ---- what the journal found
+
+clean_of : (clean : Bool) (n : ℕ) (broken : Option ℕ) → broken ≡ (if clean then None else Some n) → broken ≡ None → clean ≡ true
+clean_of true n broken is none = refl
+clean_of false n broken is none = let no : Some n ≡ None = sym is ∙ none in absurd (cc no)
+
+-- what a journal describes it describes after calls that leave the content
+rests_describes : (head : List ℕ) (fs : List Frame) (j : JournalState) (v w : View) → Rests v w → Describes head fs j v → Describes head fs j w
+rests_describes head fs j v w rests d =
+    let same = rests.content in
+    let holds = d.holds in
+    record {
+      holds = record {
+        lawful = holds.lawful;
+        size = holds.size;
+        front = ap (take j.next) same ∙ holds.front;
+        at_rest = rests_at_rest;
+      };
+      lists = subst (Lists (length head) fs j) (sym same) d.lists;
+    }
+  where
+    rests_at_rest : IsAtRest j.next w
+    rests_at_rest = record {
+      inside = omega (arith, d.holds.at_rest.inside, ap length rests.content);
+      closed = λ one. d.holds.at_rest.closed (ap (λ (b : List ℕ). get_or b j.next 0) (sym rests.content) ∙ one);
+      settled = λ c im. d.holds.at_rest.settled c (rests.images c im) ∙ ap (take (j.next + 1)) (sym rests.content);
+    }
+
+module _ (u v w x : View) (uv : Rests u v) (vw : Rests v w) (wx : Rests w x) (j : JournalState) (walked : HasWalked HEADER_SIZE (frames_of (drop HEADER_SIZE v.content)) j v.content) where
+  -- the walk was over what was there at first
+  pub walked_first : HasWalked HEADER_SIZE (frames_of (drop HEADER_SIZE u.content)) j u.content
+  walked_first = subst (λ (b : List ℕ). HasWalked HEADER_SIZE (frames_of (drop HEADER_SIZE b)) j b) uv.content walked
+
+  -- and its frames are there after it
+  pub lists_after : Lists HEADER_SIZE (frames_of (drop HEADER_SIZE u.content)).frames j w.content
+  lists_after = subst (Lists HEADER_SIZE (frames_of (drop HEADER_SIZE u.content)).frames j) (sym (vw.content ∙ uv.content)) walked_first.lists
+
+  -- what was described then is described at the end
+  pub described_last : Describes (take HEADER_SIZE v.content) (frames_of (drop HEADER_SIZE v.content)).frames j w → Describes (take HEADER_SIZE u.content) (frames_of (drop HEADER_SIZE u.content)).frames j x
+  described_last d = subst (λ (b : List ℕ). Describes (take HEADER_SIZE b) (frames_of (drop HEADER_SIZE b)).frames j x) uv.content (rests_describes _ _ j w x wx d)
+
+module _ (c : List ℕ) (has : HasHeader c) where
+  -- a header has its length
+  head_long : length (take HEADER_SIZE c) ≡ HEADER_SIZE
+  head_long = omega (arith, has.0, length-take HEADER_SIZE c)
+
+  -- behind one a journal that describes the file is at rest
+  pub is_ready : (j : JournalState) (fs : List Frame) (v : View) → Describes (take HEADER_SIZE c) fs j v → (HEADER_SIZE ≤ j.next) × IsAtRest j.next v
+  is_ready j fs v described = (omega (arith, described.holds.size, head_long), described.holds.at_rest)
+
+-- ---- the database
+
+module _ {R S : Type 0} (view : R → Tree) (source_view : S → Tree) where
+  -- what is right where the records are, of what has been taken
+  right_replayed : (right : Bool) (c : Committed R S) (items : List Item) → HasTaken view source_view c items → AllStand right None items → HasReplayed view source_view right c (flat_map entries_in items)
+  right_replayed right c items t stand = record {
+    state = t.replayed.state;
+    replayed = t.replayed.replayed;
+    legal = t.replayed.legal;
+    kind = t.replayed.kind;
+    sources = t.replayed.sources;
+    bounded = t.replayed.bounded;
+    tree = t.replayed.tree;
+    rows = λ is. t.kept ∙ sym (rows-right items t.replayed.state (subst (λ (b : Bool). AllStand b None items) is stand) (sym (replayed-items items) ∙ t.replayed.replayed));
+    upto = t.replayed.upto;
+    commits = t.replayed.commits;
+    tids = t.replayed.tids;
+    few = t.replayed.few;
+  }
+
+  module _ (c : List ℕ) (hd : Header) (has : HasHeader c) (said : hd ≡ header_in (take HEADER_SIZE c)) where
+    version_is : (right : Bool) (h : List History) (p : StoreParts right h c) → p.version ≡ hd.version
+    version_is right h p = ap (λ (x : Header). x.version) (sym p.says ∙ sym said)
+
+    -- frames that tell no history are none of a store
+    pub opens_not : (v : View) (e : OpenFault) → TellsAs view source_view hd.version (frames_of (drop HEADER_SIZE c)).frames (Err e) → OpensAs view source_view c v (Err e)
+    opens_not v (NoStore at) none = λ opens.
+        let p = store-parts false opens.0 c opens.1 in
+        none opens.0 p.some (subst (λ (n : ℕ). Tell false n (frames_of (drop HEADER_SIZE c)).frames opens.0) (version_is false opens.0 p) p.tell)
+    opens_not v Disk none = tt
+    opens_not v Memory none = tt
+
+    module _ (d : Db R S) (v : View) (version : d.version ≡ hd.version) (closed : open_slot hd ≡ None) (whole : d.journal.broken ≡ None) (usable : d.journal.spent ≡ false)
+        (walked : HasWalked HEADER_SIZE (frames_of (drop HEADER_SIZE c)) d.journal c)
+        (described : Describes (take HEADER_SIZE c) (frames_of (drop HEADER_SIZE c)).frames d.journal v)
+        (tells : TellsAs view source_view hd.version (frames_of (drop HEADER_SIZE c)).frames (Ok d.committed)) where
+      says : header_in (take HEADER_SIZE c) ≡ closed_header hd.version
+      says = sym said ∙ closed_is hd closed
+
+      clean : (frames_of (drop HEADER_SIZE c)).clean ≡ true
+      clean = clean_of (frames_of (drop HEADER_SIZE c)).clean _ d.journal.broken walked.broken whole
+
+      -- the file is a store
+      opened_parts : StoreParts false (flat_map entries_in tells.1) c
+      opened_parts = record {
+        version = hd.version;
+        header = has;
+        says = says;
+        clean = clean;
+        tell = record { items = tells.1; held = tells.2; stand = tells.3.stand; are = refl };
+        some = tells.0;
+      }
+
+      module _ (right : Bool) (h : List History) (is : IsStore right h c) where
+        told : Tell right hd.version (frames_of (drop HEADER_SIZE c)).frames h
+        told = let p = store-parts right h c is in subst (λ (n : ℕ). Tell right n (frames_of (drop HEADER_SIZE c)).frames h) (version_is right h p) p.tell
+
+        same_items : told.items ≡ tells.1
+        same_items = held-one hd.version (frames_of (drop HEADER_SIZE c)).frames told.items tells.1 told.held tells.2
+
+        opened_stands : Stands view source_view right d h
+        opened_stands = record {
+          committed = subst (HasReplayed view source_view right d.committed) (sym (told.are ∙ ap (flat_map entries_in) same_items))
+              (right_replayed right d.committed tells.1 tells.3 (subst (AllStand right None) same_items told.stand));
+          whole = whole;
+          usable = usable;
+        }
+
+        opened_kept : IsKept right d h v
+        opened_kept = record {
+          head = take HEADER_SIZE c;
+          is_head = record { size = head_long c has; header = has.1; says = says ∙ ap closed_header (sym version) };
+          frames = (frames_of (drop HEADER_SIZE c)).frames;
+          some = tells.0;
+          described = described;
+          tell = subst (λ (n : ℕ). Tell right n (frames_of (drop HEADER_SIZE c)).frames h) (sym version) told;
+        }
+
+      -- and the database has opened it
+      pub has_opened : HasOpened view source_view d c v
+      has_opened = record {
+        opens = (flat_map entries_in tells.1, parts-store false (flat_map entries_in tells.1) c opened_parts);
+        stands = λ right h is. (opened_stands right h is, opened_kept right h is);
+      }

@@ -1,0 +1,167 @@
+-- A commit that is replayed after others, or that may not follow them.
+use Rattle.std.specs.Prelude.{ℕ, ◌≡◌, ◌≤◌, ◌+◌, ◌++◌, Bool, false, IsTrue, List, [], ◌∷◌, length}
+use Rattle.std.proofs.Common.{sym, ap, subst, ◌∙◌, arith}
+use Rattle.std.specs.List.{flat_map}
+use Rattle.std.specs.declared.option.Option.{Option}
+use Rattle.std.specs.declared.option.Option.TheVariants.{Some}
+use Rattle.cp_model.specs.declared.limits.TheConstants.{SOURCES_MAX}
+use Rattle.cp_model.specs.declared.kind.Kind.{Kind}
+use Rattle.cp_model.specs.declared.op.Op.{Op}
+use Rattle.cp_model.specs.declared.record.Record.{Record}
+use Rattle.cp_model.specs.declared.stamp.Stamp.{Stamp}
+use Rattle.cp_model.specs.Past.{tree_of}
+use Rattle.cp_model.specs.Tree.{Tree, Source}
+use Rattle.cp_model.specs.History.{Entry, State, commit, AreWritten, CanCommit, CanFollow, after_commit, replay, steps_of, then_entry}
+use Rattle.cp_model.proofs.Histories.{replay-snoc, legal-snoc}
+use Rattle.cp_frame.specs.Entries as written
+use Rattle.cp_frame.specs.Entries.{Batch, WrittenEntry, IsBatchOf, IsEntry}
+use Rattle.cp_frame.specs.declared.entry.Entry.TheVariants as entry
+use Rattle.cp_frame.specs.Sound.{IsSoundBatch}
+use Rattle.cp_engine.specs.Loaded.{sources_in}
+use Rattle.cp_engine.specs.Passed.{stage_after, records_of, AllAccepted}
+use Rattle.cp_engine.proofs.Committed.{committed, can-commit, commit-accepted}
+use Rattle.cp_file.specs.Items.{Item, an_entry, CanStand, HasRecords, entry_meant, entries_in, records_with, ops_in, no_stamp}
+use Rattle.cp_db.specs.Committed.{HasReplayed, HasTaken, HasKept, HoldsBatch, TidsLieBetween}
+use Rattle.cp_db.specs.declared.committed.Committed.{Committed}
+use Rattle.cp_db.specs.declared.limits.TheConstants.{TIDS_MAX}
+use Rattle.cp_db.proofs.Taking.{taken-more}
+
+-- ---- what is written of a commit
+
+-- the entry means a commit of the operations, and the records are written with it
+record IsCommitOf (w : WrittenEntry) (os : List Op) (rs : List Record) : Type 0 where
+  stamp : Stamp
+  means : entry_meant w ≡ commit stamp os
+  records : records_with w ≡ rs
+
+-- a commit is written so
+pub holds-commit : (os : List Op) (rs : List Record) (w : WrittenEntry) → IsEntry (entry.Commit os rs) w → HoldsBatch w os rs
+holds-commit os rs (written.start k t) is = absurd is
+holds-commit os rs (written.load n t) is = absurd is
+holds-commit os rs (written.commit b) is = is
+holds-commit os rs (written.stamped r b) is = absurd is
+
+-- and so is one with a stamp
+pub holds-stamped : (stamp : Stamp) (os : List Op) (rs : List Record) (w : WrittenEntry) → IsEntry (entry.Stamped stamp os rs) w → HoldsBatch w os rs
+holds-stamped stamp os rs (written.start k t) is = absurd is
+holds-stamped stamp os rs (written.load n t) is = absurd is
+holds-stamped stamp os rs (written.commit b) is = absurd is
+holds-stamped stamp os rs (written.stamped r b) is = is.1
+
+-- it may stand after a state where the operations may be committed and the records have Tids of theirs
+abbrev MayStand : State → List Op → List Record → Type 0
+MayStand s os rs = CanCommit s os × HasRecords false s (after_commit s os) rs
+
+may_of : (s : State) (b : Batch) (os : List Op) (rs : List Record) → IsBatchOf b os rs → MayStand s (ops_in b) b.records → MayStand s os rs
+may_of s b os rs h m = subst (MayStand s os) h.records (subst (λ (o : List Op). MayStand s o b.records) h.ops m)
+
+may_as : (s : State) (b : Batch) (os : List Op) (rs : List Record) → IsBatchOf b os rs → MayStand s os rs → MayStand s (ops_in b) b.records
+may_as s b os rs h m = subst (λ (o : List Op). MayStand s o b.records) (sym h.ops) (subst (MayStand s os) (sym h.records) m)
+
+commit_of : (w : WrittenEntry) (os : List Op) (rs : List Record) → HoldsBatch w os rs → IsCommitOf w os rs
+commit_of (written.start k t) os rs h = absurd h
+commit_of (written.load n t) os rs h = absurd h
+commit_of (written.commit b) os rs h = record { stamp = no_stamp; means = ap (commit no_stamp) h.ops; records = h.records }
+commit_of (written.stamped r b) os rs h = record { stamp = r; means = ap (commit r) h.ops; records = h.records }
+
+-- what may stand after a state, and only that
+may_when : (s : State) (w : WrittenEntry) (os : List Op) (rs : List Record) → HoldsBatch w os rs → CanStand false (Some s) (an_entry w) → MayStand s os rs
+may_when s (written.start k t) os rs h c = absurd h
+may_when s (written.load n t) os rs h c = absurd h
+may_when s (written.commit b) os rs h c = may_of s b os rs h c
+may_when s (written.stamped r b) os rs h c = may_of s b os rs h c
+
+can_when : (s : State) (w : WrittenEntry) (os : List Op) (rs : List Record) → HoldsBatch w os rs → MayStand s os rs → CanStand false (Some s) (an_entry w)
+can_when s (written.start k t) os rs h m = absurd h
+can_when s (written.load n t) os rs h m = absurd h
+can_when s (written.commit b) os rs h m = may_as s b os rs h m
+can_when s (written.stamped r b) os rs h m = may_as s b os rs h m
+
+-- ---- what is kept of a commit
+
+module _ {R S : Type 0} (view : R → Tree) (source_view : S → Tree) (c m : Committed R S) where
+  -- a commit that may be made has been
+  pub replayed-committed : (right : Bool) (h : List Entry) (stamp : Stamp) (os : List Op) (z : HasReplayed view source_view right c h) → CanCommit z.state os
+      → view m.tree ≡ (stage_after z.state.kind z.state.sources (tree_of z.state.tree) (z.state.now + 1) os).tree → m.sources ≡ c.sources → m.store.kind ≡ c.store.kind
+      → (IsTrue right → m.store.rows.list ≡ c.store.rows.list ++ records_of z.state.kind z.state.sources (tree_of z.state.tree) (z.state.now + 1) os)
+      → m.store.rows.upto ≡ c.store.rows.upto + length (steps_of z.state.kind os) → m.commits ≡ c.commits + 1 → m.store.rows.upto ≤ TIDS_MAX → HasReplayed view source_view right m (h ++ commit stamp os ∷ [])
+  replayed-committed right h stamp os z can tree sources kind rows upto counted few =
+      let s = z.state in
+      let a = committed s os can.some (commit-accepted s os can) in
+      let now = a.now in
+      let commits = a.commits in
+      let some = a.some in
+      let tids = z.tids in
+      let last : m.store.rows.upto ≡ (after_commit s os).now = upto ∙ ap (λ n. n + length (steps_of s.kind os)) z.upto ∙ sym now in
+      record {
+        state = after_commit s os;
+        replayed = replay-snoc h (commit stamp os) ∙ ap (λ (o : Option State). then_entry o (commit stamp os)) z.replayed;
+        legal = legal-snoc h (commit stamp os) z.legal (subst (λ (o : Option State). CanFollow o (commit stamp os)) (sym z.replayed) can);
+        kind = kind ∙ z.kind ∙ sym a.kind;
+        sources = ap (sources_in source_view) sources ∙ z.sources ∙ sym a.sources;
+        bounded = subst (λ (ss : List Source). length ss ≤ SOURCES_MAX) (sym a.sources) z.bounded;
+        tree = tree ∙ sym a.tree;
+        rows = λ r. rows r ∙ ap (λ (rs : List Record). rs ++ records_of s.kind s.sources (tree_of s.tree) (s.now + 1) os) (z.rows r) ∙ sym a.rows;
+        upto = last;
+        commits = counted ∙ ap (λ n. n + 1) z.commits ∙ sym commits;
+        tids = omega (arith, now, commits, some, tids);
+        few = subst (λ n. n ≤ TIDS_MAX) last few;
+      }
+
+module _ {R S : Type 0} (view : R → Tree) (source_view : S → Tree) (c : Committed R S) (items : List Item) (old : HasTaken view source_view c items) (w : WrittenEntry) (os : List Op) (rs : List Record) (holds : HoldsBatch w os rs) where
+  abbrev s : State
+  s = old.replayed.state
+
+  -- operations that are accepted on what is kept are accepted after its history, and the other way round
+  accepted_after : AllAccepted (sources_in source_view c.sources) (view c.tree) os → AllAccepted s.sources (tree_of s.tree) os
+  accepted_after a = subst (λ (ss : List Source). AllAccepted ss (tree_of s.tree) os) old.replayed.sources (subst (λ t. AllAccepted (sources_in source_view c.sources) t os) old.replayed.tree a)
+
+  accepted_here : AllAccepted s.sources (tree_of s.tree) os → AllAccepted (sources_in source_view c.sources) (view c.tree) os
+  accepted_here a = subst (λ (ss : List Source). AllAccepted ss (view c.tree) os) (sym old.replayed.sources) (subst (λ t. AllAccepted s.sources t os) (sym old.replayed.tree) a)
+
+  -- the last Tid of the commit
+  last_tid : (tids : ℕ) → tids ≡ length (steps_of c.store.kind os) → 1 ≤ length os → AllAccepted s.sources (tree_of s.tree) os → c.store.rows.upto + tids ≡ (after_commit s os).now
+  last_tid tids e some a =
+      ap (λ n. c.store.rows.upto + n) (e ∙ ap (λ (k : Kind). length (steps_of k os)) old.replayed.kind) ∙ ap (λ n. n + length (steps_of s.kind os)) old.replayed.upto
+      ∙ sym (committed s os some a).now
+
+  -- where it may stand, each record has one of the Tids
+  tids_of : (tids : ℕ) → tids ≡ length (steps_of c.store.kind os) → CanStand false (Some s) (an_entry w) → TidsLieBetween c.store.rows.upto (c.store.rows.upto + tids) rs
+  tids_of tids e can =
+      let may = may_when s w os rs holds can in
+      subst (λ n. TidsLieBetween n (c.store.rows.upto + tids) rs) (sym old.replayed.upto)
+      (subst (λ n. TidsLieBetween s.now n rs) (sym (last_tid tids e may.0.some (commit-accepted s os may.0))) may.1.tids)
+
+  stands_so : CanStand false (replay (flat_map entries_in items)) (an_entry w) → CanStand false (Some s) (an_entry w)
+  stands_so can = subst (λ (o : Option State). CanStand false o (an_entry w)) old.replayed.replayed can
+
+  -- a commit may not follow where a record has none of the Tids
+  pub refused-tids : (tids : ℕ) → tids ≡ length (steps_of c.store.kind os) → (TidsLieBetween c.store.rows.upto (c.store.rows.upto + tids) rs → ⊥) → CanStand false (replay (flat_map entries_in items)) (an_entry w) → ⊥
+  refused-tids tids e none can = none (tids_of tids e (stands_so can))
+
+  -- nor where an operation isn't accepted
+  pub refused-ops : (AllAccepted (sources_in source_view c.sources) (view c.tree) os → ⊥) → CanStand false (replay (flat_map entries_in items)) (an_entry w) → ⊥
+  refused-ops none can = none (accepted_here (commit-accepted s os (may_when s w os rs holds (stands_so can)).0))
+
+  module _ (m : Committed R S) (u : R) (trees : Bool) (sound : IsSoundBatch trees os rs) (are_written : AreWritten os) (accepted : AllAccepted (sources_in source_view c.sources) (view c.tree) os) where
+    can_commit : CanCommit s os
+    can_commit = can-commit s os sound.some sound.few are_written (accepted_after accepted)
+
+    -- the tree after the operations is that of the commit
+    tree_kept : view u ≡ (stage_after s.kind (sources_in source_view c.sources) (view c.tree) (s.now + 1) os).tree → m.tree ≡ u → view m.tree ≡ (stage_after s.kind s.sources (tree_of s.tree) (s.now + 1) os).tree
+    tree_kept e same = ap view same ∙ e ∙ ap (λ (ss : List Source). (stage_after s.kind ss (view c.tree) (s.now + 1) os).tree) old.replayed.sources ∙ ap (λ t. (stage_after s.kind s.sources t (s.now + 1) os).tree) old.replayed.tree
+
+    -- the commit has been taken
+    pub taken-commit : (tids : ℕ) → tids ≡ length (steps_of c.store.kind os) → TidsLieBetween c.store.rows.upto (c.store.rows.upto + tids) rs
+        → ((k : Kind) (n : ℕ) → view u ≡ (stage_after k (sources_in source_view c.sources) (view c.tree) n os).tree) → HasKept (record c { tree = u }) m tids rs → HasTaken view source_view m (items ++ an_entry w ∷ [])
+    taken-commit tids e lie tree kept =
+        let is = commit_of w os rs holds in
+        let low = subst (λ n. TidsLieBetween n (c.store.rows.upto + tids) rs) old.replayed.upto lie in
+        let between = subst (λ n. TidsLieBetween s.now n rs) (last_tid tids e sound.some (accepted_after accepted)) low in
+        let can = can_when s w os rs holds (can_commit, record { tids = between; all = λ f. cc }) in
+        let steps = e ∙ ap (λ (k : Kind). length (steps_of k os)) old.replayed.kind in
+        let replayed =
+        replayed-committed view source_view c m false (flat_map entries_in items) is.stamp os old.replayed can_commit (tree_kept (tree s.kind (s.now + 1)) kept.tree) kept.sources kept.kind (λ f. cc)
+        (kept.upto ∙ ap (λ n. c.store.rows.upto + n) steps) kept.commits kept.few in
+        taken-more view source_view c m items w old can (subst (λ (x : Entry). HasReplayed view source_view false m (flat_map entries_in items ++ x ∷ [])) (sym is.means) replayed)
+        (kept.rows ∙ ap (λ (x : List Record). c.store.rows.list ++ x) (sym is.records))

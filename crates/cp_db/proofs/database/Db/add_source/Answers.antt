@@ -1,0 +1,92 @@
+use Rattle.std.proofs.Common.{◌≡◌, ◌+◌, [], ap, sym, ◌∙◌, subst, true, false, length, List, ℕ, refl, arith}
+use Rattle.cp_format.specs.Formats.{Reads}
+use Rattle.cp_frame.specs.Entries.{IsEntry, entry_format}
+use Rattle.cp_journal.specs.declared.limits.TheConstants.{FRAME_HEAD}
+use Rattle.cp_db.specs.Databases.{end_in}
+use Rattle.cp_frame.specs.Sound.{IsSoundEntry}
+use Rattle.cp_frame.specs.declared.entry.Entry.TheVariants as frame
+use Rattle.cp_file.specs.Sizes.{has_room, load_size}
+use Rattle.cp_db.proofs.WritingFrames.{crash-none, crash-added, kept-added}
+use Rattle.cp_db.proofs.WritingLoads.{load-sound, load-next, load-length, load-new, load-few, replayed-loaded}
+use Rattle.cp_db.proofs.WritingStanding.{stands-appended}
+use Rattle.cp_db.proofs.database.Db.add_source.Goals as goal
+
+pub returns-in_err-literal-clause-crash : goal.returns-in_err-literal-clause-crash
+returns-in_err-literal-clause-crash g c = λ known h z k. crash-none c.args.self.now h _ k _
+
+pub returns-in_err-clone-clause-crash : goal.returns-in_err-clone-clause-crash
+returns-in_err-clone-clause-crash g c = λ known h z k. crash-none c.args.self.now h _ k _
+
+pub entry_bytes-requires : goal.entry_bytes-requires
+entry_bytes-requires g c =
+    let z = c.requires.stands.1 in
+    subst (λ (m : List ℕ). IsSoundEntry (frame.Load m c.in_ok-literal.literal)) (sym c.in_ok-clone.ensures.cases)
+    (load-sound c.args.name c.in_ok-literal.literal (g.S.TreeRep.contents c.args.tree) c.in_ok-literal.ensures.literal c.in_ok-literal.ensures.tree z.committed.state (c.requires.can false c.requires.stands.0 z))
+
+pub returns-in_err-body-clause-crash : goal.returns-in_err-body-clause-crash
+returns-in_err-body-clause-crash g c = λ known h z k. crash-none c.args.self.now h _ k _
+
+pub returns-then-not-has_room-clause-loaded : goal.returns-then-not-has_room-clause-loaded
+returns-then-not-has_room-clause-loaded g c = λ right h z.
+    let e = subst (λ (m : List ℕ). IsEntry (frame.Load m c.in_ok-literal.literal) c.in_ok-body.ensures.0) c.in_ok-clone.ensures.cases c.in_ok-body.ensures.1 in
+    let size = load-length c.args.name c.in_ok-literal.literal (g.S.TreeRep.contents c.args.tree) c.in_ok-literal.ensures.literal c.in_ok-literal.ensures.tree c.in_ok-body.body.items c.in_ok-body.ensures.0 e c.in_ok-body.ensures.2 in
+    let counted : c.len.result ≡ load_size c.args.name (g.S.TreeRep.contents c.args.tree) = omega (arith, c.len.ensures, c.in_ok-body.body.ok, size) in
+    (ap (has_room (end_in c.args.self.now)) (sym counted) ∙ sym c.has_room.ensures ∙ c.if-not-has_room.true, refl)
+
+pub returns-then-not-has_room-clause-crash : goal.returns-then-not-has_room-clause-crash
+returns-then-not-has_room-clause-crash g c = λ known h z k. crash-none c.args.self.now h _ k _
+
+pub add-requires-clause-new : goal.add-requires-clause-new
+add-requires-clause-new g c =
+    let z = c.requires.stands.1 in
+    load-new g.R.TreeRep.contents g.S.TreeRep.contents false c.args.self.now.committed c.requires.stands.0 z.committed c.args.name (g.S.TreeRep.contents c.args.tree) (c.requires.can false c.requires.stands.0 z)
+
+pub add-requires-clause-few : goal.add-requires-clause-few
+add-requires-clause-few g c =
+    let z = c.requires.stands.1 in
+    load-few g.R.TreeRep.contents g.S.TreeRep.contents false c.args.self.now.committed c.requires.stands.0 z.committed c.args.name (g.S.TreeRep.contents c.args.tree) (c.requires.can false c.requires.stands.0 z)
+
+pub returns-in_err-add-clause-crash : goal.returns-in_err-add-clause-crash
+returns-in_err-add-clause-crash g c = λ known h z k. crash-none c.args.self.now h _ k _
+
+pub returns-in_err-append-clause-crash : goal.returns-in_err-append-clause-crash
+returns-in_err-append-clause-crash g c = λ known h z k.
+    let w = c.in_ok-body.ensures.0 in
+    let e = subst (λ (m : List ℕ). IsEntry (frame.Load m c.in_ok-literal.literal) w) c.in_ok-clone.ensures.cases c.in_ok-body.ensures.1 in
+    let body = c.deref.result.now in
+    let read : Reads entry_format body w [] = subst (λ (b : List ℕ). Reads entry_format b w []) (sym c.deref.ensures.value) c.in_ok-body.ensures.2 in
+    let next = load-next c.args.name c.in_ok-literal.literal (g.S.TreeRep.contents c.args.tree) c.in_ok-literal.ensures.literal c.in_ok-literal.ensures.tree c.args.self.now.version h z.committed.state body w z.committed.replayed (c.requires.can true h z) e read in
+    crash-added c.args.self.now.version h _ body next c.args.self.now _ _ refl k (c.append.ensures.crash known)
+
+pub returns-clause-loaded : goal.returns-clause-loaded
+returns-clause-loaded g c = λ right h z.
+    let view = g.R.TreeRep.contents in
+    let source_view = g.S.TreeRep.contents in
+    let e = subst (λ (m : List ℕ). IsEntry (frame.Load m c.in_ok-literal.literal) c.in_ok-body.ensures.0) c.in_ok-clone.ensures.cases c.in_ok-body.ensures.1 in
+    let size = load-length c.args.name c.in_ok-literal.literal (g.S.TreeRep.contents c.args.tree) c.in_ok-literal.ensures.literal c.in_ok-literal.ensures.tree c.in_ok-body.body.items c.in_ok-body.ensures.0 e c.in_ok-body.ensures.2 in
+    let counted : c.len.result ≡ load_size c.args.name (g.S.TreeRep.contents c.args.tree) = omega (arith, c.len.ensures, c.in_ok-body.body.ok, size) in (
+      ap (has_room (end_in c.args.self.now)) (sym counted) ∙ sym c.has_room.ensures ∙ c.if-not-has_room.false,
+      record {
+        stands = stands-appended view source_view right _ c.append.new.self _ (ap (λ d. d.committed) c.append.ensures.same) c.append.ensures.whole c.in_ok-append.ensures.usable
+            (replayed-loaded view source_view right c.args.self.now.committed h z.committed c.args.name (source_view c.args.tree) (c.requires.can right h z) _ refl refl refl c.in_ok-add.ensures.added);
+        end = c.in_ok-append.ensures.end ∙ ap (λ (n : ℕ). end_in c.args.self.now + FRAME_HEAD + n) (ap length c.deref.ensures.value ∙ size);
+      },
+    )
+
+pub returns-clause-kept : goal.returns-clause-kept
+returns-clause-kept g c = λ known h z k.
+    let w = c.in_ok-body.ensures.0 in
+    let e = subst (λ (m : List ℕ). IsEntry (frame.Load m c.in_ok-literal.literal) w) c.in_ok-clone.ensures.cases c.in_ok-body.ensures.1 in
+    let body = c.deref.result.now in
+    let read : Reads entry_format body w [] = subst (λ (b : List ℕ). Reads entry_format b w []) (sym c.deref.ensures.value) c.in_ok-body.ensures.2 in
+    let next = load-next c.args.name c.in_ok-literal.literal (g.S.TreeRep.contents c.args.tree) c.in_ok-literal.ensures.literal c.in_ok-literal.ensures.tree c.args.self.now.version h z.committed.state body w z.committed.replayed (c.requires.can true h z) e read in
+    kept-added c.args.self.now.version h _ body next c.args.self.now _ _ refl k c.append.new.self (ap (λ d. d.version) c.append.ensures.same) (c.in_ok-append.ensures.described known)
+
+pub returns-clause-crash : goal.returns-clause-crash
+returns-clause-crash g c = λ known h z k.
+    let w = c.in_ok-body.ensures.0 in
+    let e = subst (λ (m : List ℕ). IsEntry (frame.Load m c.in_ok-literal.literal) w) c.in_ok-clone.ensures.cases c.in_ok-body.ensures.1 in
+    let body = c.deref.result.now in
+    let read : Reads entry_format body w [] = subst (λ (b : List ℕ). Reads entry_format b w []) (sym c.deref.ensures.value) c.in_ok-body.ensures.2 in
+    let next = load-next c.args.name c.in_ok-literal.literal (g.S.TreeRep.contents c.args.tree) c.in_ok-literal.ensures.literal c.in_ok-literal.ensures.tree c.args.self.now.version h z.committed.state body w z.committed.replayed (c.requires.can true h z) e read in
+    crash-added c.args.self.now.version h _ body next c.args.self.now _ _ refl k (c.append.ensures.crash known)

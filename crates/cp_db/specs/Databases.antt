@@ -1,0 +1,62 @@
+-- What a database stands for, and what the disk holds of it.
+use Rattle.std.specs.Prelude.{ℕ, ◌≡◌, ◌≤◌, ◌+◌, Bool, false, List, length}
+use Rattle.std.specs.declared.option.Option.TheVariants.{None}
+use Rattle.cp_model.specs.Tree.{Tree}
+use Rattle.cp_model.specs.Past.{tree_of}
+use Rattle.cp_model.specs.History.{Entry}
+use Rattle.cp_disk.specs.Views.{View}
+use Rattle.cp_journal.specs.Frames.{Frame}
+use Rattle.cp_journal.specs.Holding.{IsAtRest}
+use Rattle.cp_journal.specs.Journals.{Describes}
+use Rattle.cp_journal.specs.declared.limits.TheConstants.{HEADER_SIZE}
+use Rattle.cp_file.specs.Items.{Tell}
+use Rattle.cp_file.specs.Stands.{IsHead}
+use Rattle.cp_engine.specs.Transactions as txn
+use Rattle.cp_engine.specs.declared.txn.Txn.{Txn}
+use Rattle.cp_db.specs.Committed.{HasReplayed}
+use Rattle.cp_db.specs.declared.database.Db.{Db}
+
+-- the database stands for the history, with its rows where they are right, and its journal may be written
+pub record Stands {R S : Type 0} (view : R → Tree) (source_view : S → Tree) (right : Bool) (d : Db R S) (h : List Entry) : Type 0 where
+  pub committed : HasReplayed view source_view right d.committed h
+  pub whole : d.journal.broken ≡ None
+  pub usable : d.journal.spent ≡ false
+
+-- it stands for some history
+abbrev pub IsDatabase : {R S : Type 0} → (R → Tree) → (S → Tree) → Db R S → Type 0
+IsDatabase view source_view d = (h : List Entry) × Stands view source_view false d h
+
+-- where the frames of its file end
+abbrev pub end_in : {R S : Type 0} → Db R S → ℕ
+end_in d = d.journal.next
+
+-- the version of its file
+abbrev pub version_in : {R S : Type 0} → Db R S → ℕ
+version_in d = d.version
+
+-- it can't be used any more: a call that writes has failed, or ran out of memory
+abbrev pub is_spent : {R S : Type 0} → Db R S → Bool
+is_spent d = d.spent
+
+-- its frames come after a header, then a closed gate, and nothing is pending but after that
+abbrev pub IsReady : {R S : Type 0} → Db R S → View → Type 0
+IsReady d v = (HEADER_SIZE ≤ d.journal.next) × IsAtRest d.journal.next v
+
+-- the disk holds its file, which tells the history, with the right records or not; nothing is pending but after its frames
+pub record IsKept {R S : Type 0} (right : Bool) (d : Db R S) (h : List Entry) (v : View) : Type 0 where
+  pub head : List ℕ
+  pub is_head : IsHead d.version head
+  pub frames : List Frame
+  pub some : 1 ≤ length frames
+  pub described : Describes head frames d.journal v
+  pub tell : Tell right d.version frames h
+
+-- the transaction, which was begun on the database, has come so far
+abbrev pub HasCome : {R S : Type 0} → (R → Tree) → (S → Tree) → Db R S → Txn R → txn.Progress → Type 0
+HasCome view source_view d x p =
+    (right : Bool) (h : List Entry) (z : Stands view source_view right d h)
+    → txn.Stands view x z.committed.state.kind z.committed.state.sources (tree_of z.committed.state.tree) (z.committed.state.now + 1) p
+
+-- what it keeps of its file is the same
+abbrev pub IsSameFile : {R S : Type 0} → Db R S → Db R S → Type 0
+IsSameFile old new = (new.journal ≡ old.journal) × (new.version ≡ old.version) × (new.spent ≡ old.spent)

@@ -1,0 +1,4 @@
+pub mod Committed
+pub mod Databases
+pub mod Opening
+pub mod Writing

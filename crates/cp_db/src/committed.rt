@@ -1,0 +1,180 @@
+//! What a history leads to, in memory.
+ghost use Rattle.std.specs.Prelude.{◌≡◌, ◌≤◌, ◌+◌, ◌∷◌, ◌↔◌, [], true, false, Bool, IsTrue, List, IfOk, OnOk};
+ghost use Rattle.std.specs.List.{AllByRecursion};
+ghost use Rattle.cp_model.specs.Answers.{stats};
+ghost use Rattle.cp_model.specs.History.{Entry as HistoryEntry, start, AreWritten};
+ghost use Rattle.cp_model.specs.declared.limits.TheConstants.{OPS_MAX};
+ghost use Rattle.cp_store.specs.Changes.{AreNext};
+ghost use Rattle.cp_db.specs.declared.limits.TheConstants.{TIDS_MAX};
+ghost use Rattle.cp_frame.specs.Entries.{WrittenEntry, IsEntry};
+ghost use Rattle.cp_frame.specs.Sound.{IsSoundEntry, IsSoundBatch, IsSoundOp};
+ghost use Rattle.cp_file.specs.Items.{Item};
+ghost use Rattle.cp_db.specs.Committed.{HasReplayed, HasTaken, TidsLieBetween, HasKept, CanTake, HoldsBatch};
+
+use crate::limits::TIDS_MAX;
+use cp_engine::{Sources, replay, steps_of};
+use cp_frame::Entry;
+use cp_kinds::KindStore;
+use cp_literal::tree_of;
+use cp_model::{Kind, Literal, Op, OpList, Record, RecordList, SOURCES_MAX, Stats};
+use cp_path::Name;
+use cp_store::ProvStore;
+use cp_tree::TreeRep;
+use std::alloc::{AllocError, Global};
+
+/// The committed tree, the sources and the rows of all steps, and the number of commits.
+#[derive(Drop)]
+pub(crate) struct Committed<R: TreeRep, S: TreeRep> {
+    pub(crate) tree: R,
+    pub(crate) sources: Sources<S>,
+    pub(crate) store: KindStore,
+    pub(crate) commits: u64,
+}
+
+/// Whether each record has a Tid after `low` and up to `high`.
+fn tids_lie_between(records: &[Record], low: u64, high: u64) -> bool
+    ensures { IsTrue result ↔ TidsLieBetween low high records.now }
+{
+    for record in records {
+        if record.tid <= low || record.tid > high {
+            return false;
+        }
+    }
+    true
+}
+
+/// Does nothing. The text of a label says that it is short, as it has to be where its operation is applied.
+fn look_at_labels(ops: &[Op])
+    requires { (trees : Bool) × AllByRecursion (IsSoundOp trees) ops.now }
+    ensures { AreWritten ops.now }
+{
+    for op in ops {
+        if let Op::Ins { label, .. } = op {
+            let _text = label.as_str();
+        }
+    }
+}
+
+impl<R: TreeRep, S: TreeRep> Committed<R, S> {
+    /// A tree without sources and without rows.
+    pub(crate) fn start(alloc: Global, kind: Kind, tree: R) -> Result<Committed<R, S>, AllocError>
+        ensures replayed { IfOk result (λ c. (right : Bool)
+            → HasReplayed R.contents S.contents right c (start kind (R.contents tree) ∷ [])) }
+        ensures none { IfOk result (λ c. c.store.rows.list ≡ []) }
+    {
+        Ok(Committed {
+            tree,
+            sources: Sources::new(alloc),
+            store: KindStore::new(alloc, kind, 0)?,
+            commits: 0,
+        })
+    }
+
+    /// The numbers of the committed state.
+    pub(crate) fn stats(&self) -> Stats
+        requires { (h : List HistoryEntry) × HasReplayed R.contents S.contents false self.now h }
+        ensures { (h : List HistoryEntry) (z : HasReplayed R.contents S.contents true self.now h)
+            → result ≡ stats z.state }
+    {
+        Stats {
+            kind: self.store.kind(),
+            tid: self.store.upto(),
+            transactions: self.commits,
+            records: self.store.count(),
+            nodes: self.tree.count(),
+            sources: self.sources.len() as u32,
+        }
+    }
+
+    /// Keeps a tree as a source, if one may be loaded under the name; says whether it may.
+    fn take_source(
+        &mut self,
+        alloc: Global,
+        name: Name,
+        literal: &Literal,
+    ) -> Result<bool, AllocError>
+        requires sound { IsSoundEntry (Entry.Load name literal.now) }
+        requires replayed { (items : List Item) × HasTaken R.contents S.contents self.old items }
+        ensures taken { (items : List Item) (w : WrittenEntry)
+            → HasTaken R.contents S.contents self.old items → IsEntry (Entry.Load name literal.now) w
+            → IfOk result (CanTake R.contents S.contents items w self.new) }
+    {
+        if name.is_target()
+            || self.sources.get(&name).is_some()
+            || self.sources.len() == SOURCES_MAX
+        {
+            return Ok(false);
+        }
+        let tree = tree_of::<S>(alloc, literal)?;
+        self.sources.add(name, tree)?;
+        Ok(true)
+    }
+
+    /// Keeps the records of the next commit, which has so many Tids. After an error what is kept isn't said.
+    pub(crate) fn keep_records(
+        &mut self,
+        alloc: Global,
+        tids: u64,
+        records: &[Record],
+    ) -> Result<(), AllocError>
+        requires few { (self.old.store.rows.upto ≤ TIDS_MAX) × (tids ≤ OPS_MAX) }
+        requires counted { self.old.commits ≤ self.old.store.rows.upto }
+        requires next { AreNext self.old.store.rows.upto (self.old.store.rows.upto + tids) records.now }
+        ensures kept { OnOk result (HasKept self.old self.new tids records.now) }
+    {
+        if self.store.upto() + tids > TIDS_MAX {
+            return Err(AllocError);
+        }
+        match self.store.absorb(alloc, tids, records) {
+            Ok(()) => {
+                self.commits += 1;
+                Ok(())
+            }
+            Err(_) => Err(AllocError),
+        }
+    }
+
+    /// Applies the operations of a commit and keeps its records, if the operations are accepted and each record has one of
+    /// its Tids; says whether that is so. Costs the operations and the records.
+    fn take_commit(
+        &mut self,
+        alloc: Global,
+        ops: &OpList,
+        records: &RecordList,
+    ) -> Result<bool, AllocError>
+        requires sound { (trees : Bool) × IsSoundBatch trees ops.now records.now }
+        requires replayed { (items : List Item) × HasTaken R.contents S.contents self.old items }
+        ensures taken { (items : List Item) (w : WrittenEntry)
+            → HasTaken R.contents S.contents self.old items → HoldsBatch w ops.now records.now
+            → IfOk result (CanTake R.contents S.contents items w self.new) }
+    {
+        let low = self.store.upto();
+        let tids = steps_of(self.store.kind(), ops.items.len() as u32);
+        if !tids_lie_between(&records.items, low, low + tids) {
+            return Ok(false);
+        }
+        look_at_labels(&ops.items);
+        if !replay(alloc, &mut self.tree, &self.sources, &ops.items)? {
+            return Ok(false);
+        }
+        self.keep_records(alloc, tids, &records.items)?;
+        Ok(true)
+    }
+
+    /// Replays an entry, if it may follow those before it; says whether it may. After an entry that may not, and after an
+    /// error, what is kept isn't said.
+    pub(crate) fn take(&mut self, alloc: Global, entry: Entry) -> Result<bool, AllocError>
+        requires sound { IsSoundEntry entry }
+        requires replayed { (items : List Item) × HasTaken R.contents S.contents self.old items }
+        ensures taken { (items : List Item) (w : WrittenEntry)
+            → HasTaken R.contents S.contents self.old items → IsEntry entry w
+            → IfOk result (CanTake R.contents S.contents items w self.new) }
+    {
+        match entry {
+            Entry::Start { .. } => Ok(false),
+            Entry::Load { name, tree } => self.take_source(alloc, name, &tree),
+            Entry::Commit { ops, records } => self.take_commit(alloc, &ops, &records),
+            Entry::Stamped { ops, records, .. } => self.take_commit(alloc, &ops, &records),
+        }
+    }
+}

@@ -1,0 +1,17 @@
+//! A curated database in a file: its committed tree, its sources and the rows of its steps in memory, and its history as
+//! entries on a disk.
+//!
+//! What a file stands for is defined in `specs/` of cp_file. A crash at any moment of a call that writes leaves the history
+//! before it, or that with its one entry more.
+#![tactic(auto)]
+
+mod committed;
+mod database;
+mod fault;
+mod limits;
+mod opening;
+mod writing;
+
+pub use database::{Db, Tids};
+pub use fault::{CommitFault, InitFault, OpenFault, WriteFault};
+pub use limits::TIDS_MAX;

@@ -1,0 +1,231 @@
+//! A file that is opened: its header, and its entries, replayed one after another.
+ghost use Rattle.std.specs.Prelude.{◌≡◌, ◌≤◌, ◌<◌, ◌∷◌, ◌⊎◌, ◌↔◌, true, false, IsTrue, List, ℕ, length, take, IfOk, IfErr, OnOk, None, Some};
+ghost use Rattle.std.specs.List.{slice_get};
+ghost use Rattle.cp_outside.specs.Causes.{Accounts};
+ghost use Rattle.cp_disk.specs.Views.{Only, Rests};
+ghost use Rattle.cp_journal.specs.Frames.{Frame};
+ghost use Rattle.cp_journal.specs.Journals.{Lists};
+ghost use Rattle.cp_journal.specs.declared.frame.TheConstants.{ENTRY};
+ghost use Rattle.cp_file.specs.Items.{Item, IsOfVersion};
+ghost use Rattle.cp_frame.specs.Entries.{WrittenEntry, IsEntry};
+ghost use Rattle.cp_frame.specs.Sound.{IsSoundEntry};
+ghost use Rattle.cp_db.specs.Committed.{HasTaken};
+ghost use Rattle.cp_db.specs.Databases.{IsDatabase, IsReady, is_spent, version_in};
+ghost use Rattle.cp_db.specs.Opening.{OpensAs, IsOpenDisk, open_slot, SpellsAs, ReplaysAs, StartsAs, TellsAs};
+
+use crate::committed::Committed;
+use crate::database::Db;
+use crate::fault::OpenFault;
+use cp_disk::Disk;
+use cp_format::FormatFault;
+use cp_frame::{Entry, entry_of};
+use cp_journal::{ENTRY, HEADER_SIZE, Header, Journal};
+use cp_literal::tree_of;
+use cp_tree::TreeRep;
+use std::alloc::Global;
+
+/// The offset of the slot that names the newest checkpoint, if one is open.
+fn open_slot(header: &Header) -> Option<u64>
+    ensures { result ≡ open_slot header.now }
+{
+    match (header.first, header.second) {
+        (None, None) => None,
+        (Some(_), None) => Some(64),
+        (None, Some(_)) => Some(128),
+        (Some(first), Some(second)) => {
+            if first.seq > second.seq {
+                Some(64)
+            } else {
+                Some(128)
+            }
+        }
+    }
+}
+
+/// The entry that the bytes of the frame at this offset spell.
+fn entry_in(alloc: Global, body: &[u8], at: u64) -> Result<Entry, OpenFault>
+    ensures spells { (f : Frame) → f.body ≡ body.now → SpellsAs f result }
+    ensures sound { IfOk result IsSoundEntry }
+    ensures at { IfErr result (λ e. (n : ℕ) → e ≡ OpenFault.NoStore n → n ≡ at) }
+    ensures disk { IfErr result (λ e. e ≡ OpenFault.Disk → ⊥) }
+{
+    match entry_of(alloc, body) {
+        Ok(entry) => Ok(entry),
+        Err(FormatFault::BadByte(_)) => Err(OpenFault::NoStore(at)),
+        Err(FormatFault::Memory) => Err(OpenFault::Memory),
+    }
+}
+
+/// Whether the entry may stand in a file of this version.
+fn is_of_version(entry: &Entry, version: u8) -> bool
+    ensures { (w : WrittenEntry) → IsEntry entry.now w → IsTrue result ↔ IsOfVersion version w }
+{
+    match entry {
+        Entry::Stamped { .. } => version == 2,
+        _ => true,
+    }
+}
+
+impl<R: TreeRep, S: TreeRep> Committed<R, S> {
+    /// What the first frame starts from.
+    fn first<D: Disk>(
+        alloc: Global,
+        disk: &mut D,
+        journal: &Journal,
+        body: &mut Vec<u8>,
+    ) -> Result<Committed<R, S>, OpenFault>
+        requires listed { IsTrue D.is_known
+            → (from : ℕ) × (fs : List Frame) × Lists from fs journal.now (D.view disk.old).content }
+        ensures started { IsTrue D.is_known → (from version : ℕ) (fs : List Frame)
+            → Lists from fs journal.now (D.view disk.old).content
+            → StartsAs R.contents S.contents version fs result }
+        ensures taken { IfOk result (λ c. (items : List Item) × HasTaken R.contents S.contents c items) }
+        ensures some { OnOk result (1 ≤ length journal.now.frames) }
+        ensures rests { IsTrue D.is_known → Rests (D.view disk.old) (D.view disk.new) }
+        ensures cause { Accounts IsOpenDisk (D.counts disk.old).faults (D.counts disk.new).faults result }
+    {
+        if journal.len() == 0 {
+            return Err(OpenFault::NoStore(HEADER_SIZE as u64));
+        }
+        let frame = journal.read(disk, 0, body)?;
+        if frame.tag != ENTRY {
+            return Err(OpenFault::NoStore(frame.at));
+        }
+        Committed::first_entry(alloc, body, frame.at)
+    }
+
+    /// What the entry starts from that these bytes of the frame at this offset spell, if they spell a start.
+    fn first_entry(alloc: Global, body: &[u8], at: u64) -> Result<Committed<R, S>, OpenFault>
+        ensures started { (version : ℕ) (f : Frame) (rest : List Frame) → f.tag ≡ ENTRY → f.body ≡ body.now
+            → StartsAs R.contents S.contents version (f ∷ rest) result }
+        ensures taken { IfOk result (λ c. (items : List Item) × HasTaken R.contents S.contents c items) }
+        ensures disk { IfErr result (λ e. e ≡ OpenFault.Disk → ⊥) }
+    {
+        match entry_in(alloc, body, at)? {
+            Entry::Start { kind, tree } => {
+                let tree = tree_of(alloc, &tree)?;
+                Ok(Committed::start(alloc, kind, tree)?)
+            }
+            _ => Err(OpenFault::NoStore(at)),
+        }
+    }
+
+    /// Replays what the frame of this number holds.
+    fn replay_frame<D: Disk>(
+        &mut self,
+        alloc: Global,
+        disk: &mut D,
+        journal: &Journal,
+        n: usize,
+        version: u8,
+        body: &mut Vec<u8>,
+    ) -> Result<(), OpenFault>
+        requires within { n < length journal.now.frames }
+        requires listed { IsTrue D.is_known
+            → (from : ℕ) × (fs : List Frame) × Lists from fs journal.now (D.view disk.old).content }
+        requires taken { (items : List Item) × HasTaken R.contents S.contents self.old items }
+        ensures replayed { IsTrue D.is_known → (from : ℕ) (fs : List Frame) (f : Frame) (items : List Item)
+            → Lists from fs journal.now (D.view disk.old).content → slice_get fs n ≡ Some f
+            → HasTaken R.contents S.contents self.old items
+            → ReplaysAs R.contents S.contents version f items self.new result }
+        ensures taken { OnOk result ((items : List Item) × HasTaken R.contents S.contents self.new items) }
+        ensures rests { IsTrue D.is_known → Rests (D.view disk.old) (D.view disk.new) }
+        ensures cause { Accounts IsOpenDisk (D.counts disk.old).faults (D.counts disk.new).faults result }
+    {
+        let frame = journal.read(disk, n, body)?;
+        if frame.tag != ENTRY {
+            return Ok(());
+        }
+        self.replay_entry(alloc, body, frame.at, version)
+    }
+
+    /// Replays the entry that these bytes of the frame at this offset spell, if they spell one that may follow.
+    fn replay_entry(
+        &mut self,
+        alloc: Global,
+        body: &[u8],
+        at: u64,
+        version: u8,
+    ) -> Result<(), OpenFault>
+        requires taken { (items : List Item) × HasTaken R.contents S.contents self.old items }
+        ensures replayed { (f : Frame) (items : List Item) → f.tag ≡ ENTRY → f.body ≡ body.now
+            → HasTaken R.contents S.contents self.old items
+            → ReplaysAs R.contents S.contents version f items self.new result }
+        ensures taken { OnOk result ((items : List Item) × HasTaken R.contents S.contents self.new items) }
+        ensures disk { IfErr result (λ e. e ≡ OpenFault.Disk → ⊥) }
+    {
+        let entry = entry_in(alloc, body, at)?;
+        if !is_of_version(&entry, version) {
+            return Err(OpenFault::NoStore(at));
+        }
+        if !self.take(alloc, entry)? {
+            return Err(OpenFault::NoStore(at));
+        }
+        Ok(())
+    }
+
+    /// Replays what all frames hold.
+    fn replay_all<D: Disk>(
+        alloc: Global,
+        disk: &mut D,
+        journal: &Journal,
+        version: u8,
+    ) -> Result<Committed<R, S>, OpenFault>
+        requires listed { IsTrue D.is_known
+            → (from : ℕ) × (fs : List Frame) × Lists from fs journal.now (D.view disk.old).content }
+        ensures replayed { IsTrue D.is_known → (from : ℕ) (fs : List Frame)
+            → Lists from fs journal.now (D.view disk.old).content
+            → TellsAs R.contents S.contents version fs result }
+        ensures taken { IfOk result (λ c. (items : List Item) × HasTaken R.contents S.contents c items) }
+        ensures rests { IsTrue D.is_known → Rests (D.view disk.old) (D.view disk.new) }
+        ensures cause { Accounts IsOpenDisk (D.counts disk.old).faults (D.counts disk.new).faults result }
+    {
+        let mut body = Vec::new(alloc);
+        let mut committed = Committed::first(alloc, disk, journal, &mut body)?;
+        for n in 1..journal.len() {
+            committed.replay_frame(alloc, disk, journal, n, version, &mut body)?;
+        }
+        Ok(committed)
+    }
+}
+
+/// The version that a header says, which is 1 or 2.
+fn version_of(header: &Header) -> u8
+    ensures either { (result ≡ 1) ⊎ (result ≡ 2) }
+    ensures said { (header.now.version ≡ 1) ⊎ (header.now.version ≡ 2) → result ≡ header.now.version }
+{
+    if header.version == 1 { 1 } else { 2 }
+}
+
+impl<R: TreeRep, S: TreeRep> Db<R, S> {
+    /// Opens a file: replays its entries over the tree, in one pass, and keeps their records. Begins with a sync, writes
+    /// nothing, and reads each frame once.
+    pub fn open_on<D: Disk>(alloc: Global, disk: &mut D) -> Result<Db<R, S>, OpenFault>
+        ensures opened { IsTrue D.is_known
+            → OpensAs R.contents S.contents (D.view disk.old).content (D.view disk.new) result }
+        ensures stands { IfOk result (λ d. IsDatabase R.contents S.contents d) }
+        ensures ready { IsTrue D.is_known → IfOk result (λ d. IsReady d (D.view disk.new)) }
+        ensures usable { IfOk result (λ d. is_spent d ≡ false) }
+        ensures version { IfOk result (λ d. (version_in d ≡ 1) ⊎ (version_in d ≡ 2)) }
+        ensures durable { IsTrue D.is_known → OnOk result (Only (D.view disk.new).content (D.view disk.new).images) }
+        ensures rests { IsTrue D.is_known → Rests (D.view disk.old) (D.view disk.new) }
+        ensures cause { Accounts IsOpenDisk (D.counts disk.old).faults (D.counts disk.new).faults result }
+    {
+        let header = Journal::header(disk)?;
+        if let Some(at) = open_slot(&header) {
+            return Err(OpenFault::NoStore(at));
+        }
+        let version = version_of(&header);
+        let journal = Journal::open_on(alloc, disk, HEADER_SIZE as u64)?;
+        let committed = Committed::replay_all(alloc, disk, &journal, version)?;
+        if let Some(at) = journal.broken() {
+            return Err(OpenFault::NoStore(at));
+        }
+        Ok(Db {
+            committed,
+            version,
+            journal,
+            spent: false,
+        })
+    }
+}

@@ -1,0 +1,398 @@
+//! The calls that write: a new store, one entry more, and the version of the file.
+ghost use Rattle.std.specs.Prelude.{◌≡◌, ◌+◌, ◌++◌, ◌∷◌, ◌⊎◌, ◌↔◌, [], true, false, Bool, IsTrue, IsErrOf, IsOk, List, ℕ, length, IfOk, OnOk};
+ghost use Rattle.std.specs.declared.option.Option.TheVariants.{None};
+ghost use Rattle.cp_outside.specs.Causes.{Accounts, Rose};
+ghost use Rattle.cp_model.specs.History.{Entry as HistoryEntry, CanLoad, start, load, commit};
+ghost use Rattle.cp_model.specs.declared.op.Op.{Op as OpValue};
+ghost use Rattle.cp_disk.specs.Views.{Keeps, Only, Rests};
+ghost use Rattle.cp_journal.specs.Frames.{Frame, entry};
+ghost use Rattle.cp_journal.specs.Holding.{Holds, StandsWithOrWithout as HasFrameOrNot};
+ghost use Rattle.cp_journal.specs.Journals.{Describes};
+ghost use Rattle.cp_journal.specs.NewStores.{IsVacant};
+ghost use Rattle.cp_engine.specs.Transactions.{Progress, going};
+ghost use Rattle.cp_file.specs.Stands.{StandsFor, StandsWithOrWithout};
+ghost use Rattle.cp_file.specs.Sizes.{has_room, start_size};
+ghost use Rattle.cp_db.specs.Databases.{Stands, IsDatabase, IsReady, IsKept, HasCome, end_in, is_spent, version_in};
+ghost use Rattle.cp_db.specs.Writing.{HasCommitted, HasLoaded, HasMade, HasStepped, IsBeforeOrCommitted, IsCommitDisk, IsInitDisk, IsOldOrVacantOrStart, IsWriteDisk};
+
+use crate::committed::Committed;
+use crate::database::{Db, Tids};
+use crate::fault::{CommitFault, InitFault, WriteFault};
+use cp_disk::{DISK_MAX, Disk};
+use cp_engine::{Step, Txn};
+use cp_frame::{Entry, entry_bytes};
+use cp_journal::{BODY_MAX, FRAME_HEAD, HEADER_SIZE, Journal};
+use cp_literal::literal_of;
+use cp_model::{Kind, Stamp};
+use cp_path::Name;
+use cp_store::ProvStore;
+use cp_tree::TreeRep;
+use std::alloc::Global;
+
+/// The most bytes of a commit without its stamp, which takes nine and those of the curator.
+fn commit_limit(stamp: &Stamp) -> u64
+    ensures { result + 9 + length stamp.now.curator ≡ BODY_MAX }
+{
+    BODY_MAX as u64 - 9 - stamp.curator.as_str().len() as u64
+}
+
+impl<R: TreeRep, S: TreeRep> Db<R, S> {
+    /// Makes a store of a kind in a vacant file, which starts from this tree. Takes its memory before the first write.
+    ///
+    /// Until the first call of the disk that writes, a crash leaves what it could leave before; after it, a vacant file or
+    /// the store. After `Exists` the file is as it was.
+    pub fn init<D: Disk>(
+        alloc: Global,
+        disk: &mut D,
+        kind: Kind,
+        tree: R,
+    ) -> Result<Db<R, S>, InitFault>
+        ensures stands { IfOk result (λ d. (right : Bool)
+            → Stands R.contents S.contents right d (start kind (R.contents tree) ∷ [])) }
+        ensures kept { IsTrue D.is_known → IfOk result (λ d.
+            IsKept true d (start kind (R.contents tree) ∷ []) (D.view disk.new)) }
+        ensures made { IfOk result (λ d. (version_in d ≡ 2) × (is_spent d ≡ false)
+            × (end_in d ≡ HEADER_SIZE + FRAME_HEAD + start_size (R.contents tree))) }
+        ensures ready { IsTrue D.is_known → IfOk result (λ d. IsReady d (D.view disk.new)) }
+        ensures vacant { IsTrue D.is_known → OnOk result (IsVacant (D.view disk.old).content) }
+        ensures exists { IsTrue D.is_known → IsErrOf result InitFault.Exists
+            → (IsVacant (D.view disk.old).content → ⊥) × Rests (D.view disk.old) (D.view disk.new) }
+        ensures durable { IsTrue D.is_known → OnOk result (Only (D.view disk.new).content (D.view disk.new).images) }
+        ensures crash { IsTrue D.is_known
+            → Keeps (IsOldOrVacantOrStart (D.view disk.old) kind (R.contents tree)) (D.view disk.old) (D.view disk.new) }
+        ensures cause { Accounts IsInitDisk (D.counts disk.old).faults (D.counts disk.new).faults result }
+        ensures memory { IsTrue D.is_known → IsErrOf result InitFault.Memory
+            → Rests (D.view disk.old) (D.view disk.new) ⊎ Rose (D.counts disk.old).wants (D.counts disk.new).wants }
+    {
+        if !Journal::vacant(disk)? {
+            return Err(InitFault::Exists);
+        }
+        let literal = literal_of(alloc, &tree)?;
+        let body = entry_bytes(
+            alloc,
+            &Entry::Start {
+                kind,
+                tree: literal,
+            },
+        )?;
+        let committed = Committed::start(alloc, kind, tree)?;
+        let journal = Journal::create(alloc, disk, &body)?;
+        Ok(Db {
+            committed,
+            version: 2,
+            journal,
+            spent: false,
+        })
+    }
+
+    /// Whether there is room for an entry of so many bytes.
+    fn has_room(&self, size: usize) -> bool
+        ensures { result ≡ has_room (end_in self.now) size }
+    {
+        size <= BODY_MAX && self.journal.next() <= DISK_MAX - FRAME_HEAD - 1 - size as u64
+    }
+
+    /// Loads a tree as a source under a name that isn't loaded, while fewer than 32 sources are. Takes its memory before it
+    /// writes. Costs the tree, and two writes and two syncs.
+    ///
+    /// A crash at any moment leaves the history before, or that with the source. `TooLarge` changes nothing. After `Disk`
+    /// and `Memory` the database is spent.
+    pub fn load<D: Disk>(
+        &mut self,
+        alloc: Global,
+        disk: &mut D,
+        name: Name,
+        tree: S,
+    ) -> Result<(), WriteFault>
+        requires usable { is_spent self.old ≡ false }
+        requires stands { IsDatabase R.contents S.contents self.old }
+        requires ready { IsTrue D.is_known → IsReady self.old (D.view disk.old) }
+        requires can { (right : Bool) (h : List HistoryEntry) (z : Stands R.contents S.contents right self.old h)
+            → CanLoad z.committed.state name (S.contents tree) }
+        ensures loaded { (right : Bool) (h : List HistoryEntry) → Stands R.contents S.contents right self.old h
+            → HasLoaded R.contents S.contents right self.old h name (S.contents tree) self.new result }
+        ensures kept { IsTrue D.is_known → (h : List HistoryEntry) → Stands R.contents S.contents true self.old h
+            → IsKept true self.old h (D.view disk.old)
+            → OnOk result (IsKept true self.new (h ++ load name (S.contents tree) ∷ []) (D.view disk.new)) }
+        ensures crash { IsTrue D.is_known → (h : List HistoryEntry) → Stands R.contents S.contents true self.old h
+            → IsKept true self.old h (D.view disk.old)
+            → Keeps (StandsWithOrWithout h (load name (S.contents tree))) (D.view disk.old) (D.view disk.new) }
+        ensures ready { IsTrue D.is_known → OnOk result (IsReady self.new (D.view disk.new)) }
+        ensures durable { IsTrue D.is_known → OnOk result (Only (D.view disk.new).content (D.view disk.new).images) }
+        ensures version { version_in self.new ≡ version_in self.old }
+        ensures unchanged { IsErrOf result WriteFault.TooLarge → disk.new ≡ disk.old }
+        ensures spent { IsTrue (is_spent self.new) ↔ (IsErrOf result WriteFault.Disk ⊎ IsErrOf result WriteFault.Memory) }
+        ensures cause { Accounts IsWriteDisk (D.counts disk.old).faults (D.counts disk.new).faults result }
+        ensures memory { IsErrOf result WriteFault.Memory
+            → (disk.new ≡ disk.old) ⊎ Rose (D.counts disk.old).wants (D.counts disk.new).wants }
+        ensures reads { (D.counts disk.new).reads ≡ (D.counts disk.old).reads }
+    {
+        match self.add_source(alloc, disk, name, tree) {
+            Ok(()) => Ok(()),
+            Err(WriteFault::TooLarge) => Err(WriteFault::TooLarge),
+            Err(fault) => {
+                self.spent = true;
+                Err(fault)
+            }
+        }
+    }
+
+    /// Commits the operations that a transaction holds, which was begun on this database, in a file of version 2. Takes its
+    /// memory before it writes. Costs the bytes of its entry, and two writes and two syncs.
+    ///
+    /// A crash at any moment leaves the history before, or that with the commit. `Empty`, `Failed` and `TooLarge` change
+    /// nothing. After `Disk` and `Memory` the database is spent. The transaction is given up in each.
+    pub fn commit<D: Disk>(
+        &mut self,
+        alloc: Global,
+        disk: &mut D,
+        transaction: Txn<R>,
+        stamp: Stamp,
+    ) -> Result<Tids, CommitFault>
+        requires usable { is_spent self.old ≡ false }
+        requires version { version_in self.old ≡ 2 }
+        requires stands { IsDatabase R.contents S.contents self.old }
+        requires ready { IsTrue D.is_known → IsReady self.old (D.view disk.old) }
+        requires come { (p : Progress) × HasCome R.contents S.contents self.old transaction p }
+        ensures committed { (p : Progress) → HasCome R.contents S.contents self.old transaction p
+            → (right : Bool) (h : List HistoryEntry) (z : Stands R.contents S.contents right self.old h)
+            → HasCommitted R.contents S.contents right self.old h z.committed.state stamp p self.new result }
+        ensures kept { IsTrue D.is_known → (ops : List OpValue)
+            → HasCome R.contents S.contents self.old transaction (going ops)
+            → (h : List HistoryEntry) → Stands R.contents S.contents true self.old h
+            → IsKept true self.old h (D.view disk.old)
+            → OnOk result (IsKept true self.new (h ++ commit stamp ops ∷ []) (D.view disk.new)) }
+        ensures crash { IsTrue D.is_known → (p : Progress)
+            → HasCome R.contents S.contents self.old transaction p
+            → (h : List HistoryEntry) → Stands R.contents S.contents true self.old h
+            → IsKept true self.old h (D.view disk.old)
+            → Keeps (IsBeforeOrCommitted h stamp p) (D.view disk.old) (D.view disk.new) }
+        ensures ready { IsTrue D.is_known → OnOk result (IsReady self.new (D.view disk.new)) }
+        ensures durable { IsTrue D.is_known → OnOk result (Only (D.view disk.new).content (D.view disk.new).images) }
+        ensures version { version_in self.new ≡ version_in self.old }
+        ensures unchanged { ¬ (IsOk result) → ¬ (IsErrOf result CommitFault.Disk) → ¬ (IsErrOf result CommitFault.Memory)
+            → disk.new ≡ disk.old }
+        ensures spent { IsTrue (is_spent self.new)
+            ↔ (IsErrOf result CommitFault.Disk ⊎ IsErrOf result CommitFault.Memory) }
+        ensures cause { Accounts IsCommitDisk (D.counts disk.old).faults (D.counts disk.new).faults result }
+        ensures memory { IsErrOf result CommitFault.Memory
+            → (disk.new ≡ disk.old) ⊎ Rose (D.counts disk.old).wants (D.counts disk.new).wants }
+        ensures reads { (D.counts disk.new).reads ≡ (D.counts disk.old).reads }
+    {
+        match self.add_commit(alloc, disk, transaction, stamp) {
+            Err(CommitFault::Disk) => {
+                self.spent = true;
+                Err(CommitFault::Disk)
+            }
+            Err(CommitFault::Memory) => {
+                self.spent = true;
+                Err(CommitFault::Memory)
+            }
+            committed => committed,
+        }
+    }
+
+    /// Makes a file of version 1 one of version 2.
+    ///
+    /// A crash at any moment leaves the same history. After an error the database is spent.
+    pub fn migrate<D: Disk>(&mut self, disk: &mut D) -> Result<(), WriteFault>
+        requires usable { is_spent self.old ≡ false }
+        requires version { version_in self.old ≡ 1 }
+        requires stands { IsDatabase R.contents S.contents self.old }
+        requires ready { IsTrue D.is_known → IsReady self.old (D.view disk.old) }
+        ensures stands { (right : Bool) (h : List HistoryEntry) → Stands R.contents S.contents right self.old h
+            → OnOk result (Stands R.contents S.contents right self.new h) }
+        ensures kept { IsTrue D.is_known → (right : Bool) (h : List HistoryEntry)
+            → IsKept right self.old h (D.view disk.old) → OnOk result (IsKept right self.new h (D.view disk.new)) }
+        ensures crash { IsTrue D.is_known → (h : List HistoryEntry) → IsKept true self.old h (D.view disk.old)
+            → Keeps (StandsFor h) (D.view disk.old) (D.view disk.new) }
+        ensures version { OnOk result (version_in self.new ≡ 2) }
+        ensures end { end_in self.new ≡ end_in self.old }
+        ensures ready { IsTrue D.is_known → OnOk result (IsReady self.new (D.view disk.new)) }
+        ensures durable { IsTrue D.is_known → OnOk result (Only (D.view disk.new).content (D.view disk.new).images) }
+        ensures kinds { IsErrOf result WriteFault.TooLarge → ⊥ }
+        ensures spent { IsTrue (is_spent self.new) ↔ (IsErrOf result WriteFault.Disk ⊎ IsErrOf result WriteFault.Memory) }
+        ensures cause { Accounts IsWriteDisk (D.counts disk.old).faults (D.counts disk.new).faults result }
+    {
+        match self.journal.upgrade(disk) {
+            Ok(()) => {
+                self.version = 2;
+                Ok(())
+            }
+            Err(fault) => {
+                self.spent = true;
+                Err(fault.into())
+            }
+        }
+    }
+
+    /// Adds an entry with this body, for which there is room, to the file.
+    fn append<D: Disk>(
+        &mut self,
+        alloc: Global,
+        disk: &mut D,
+        body: &[u8],
+    ) -> Result<(), WriteFault>
+        requires whole { self.old.journal.broken ≡ None }
+        requires usable { self.old.journal.spent ≡ false }
+        requires ready { IsTrue D.is_known → IsReady self.old (D.view disk.old) }
+        requires room { has_room (end_in self.old) (length body.now) ≡ true }
+        ensures same { self.new ≡ record self.old { journal = self.new.journal } }
+        ensures whole { self.new.journal.broken ≡ None }
+        ensures usable { OnOk result (self.new.journal.spent ≡ false) }
+        ensures end { OnOk result (end_in self.new ≡ end_in self.old + FRAME_HEAD + length body.now) }
+        ensures described { IsTrue D.is_known → (head : List ℕ) (fs : List Frame)
+            → Describes head fs self.old.journal (D.view disk.old)
+            → OnOk result (Describes head (fs ++ entry body.now ∷ []) self.new.journal (D.view disk.new)) }
+        ensures crash { IsTrue D.is_known → (head : List ℕ) (fs : List Frame)
+            → Holds head fs (end_in self.old) (D.view disk.old)
+            → Keeps (HasFrameOrNot head fs (entry body.now)) (D.view disk.old) (D.view disk.new) }
+        ensures ready { IsTrue D.is_known → OnOk result (IsReady self.new (D.view disk.new)) }
+        ensures durable { IsTrue D.is_known → OnOk result (Only (D.view disk.new).content (D.view disk.new).images) }
+        ensures kinds { IsErrOf result WriteFault.TooLarge → ⊥ }
+        ensures cause { Accounts IsWriteDisk (D.counts disk.old).faults (D.counts disk.new).faults result }
+        ensures memory { IsErrOf result WriteFault.Memory
+            → (disk.new ≡ disk.old) ⊎ Rose (D.counts disk.old).wants (D.counts disk.new).wants }
+        ensures reads { (D.counts disk.new).reads ≡ (D.counts disk.old).reads }
+    {
+        self.journal.append(alloc, disk, body)?;
+        Ok(())
+    }
+
+    /// Adds a source, and its entry.
+    fn add_source<D: Disk>(
+        &mut self,
+        alloc: Global,
+        disk: &mut D,
+        name: Name,
+        tree: S,
+    ) -> Result<(), WriteFault>
+        requires stands { IsDatabase R.contents S.contents self.old }
+        requires ready { IsTrue D.is_known → IsReady self.old (D.view disk.old) }
+        requires can { (right : Bool) (h : List HistoryEntry) (z : Stands R.contents S.contents right self.old h)
+            → CanLoad z.committed.state name (S.contents tree) }
+        ensures loaded { (right : Bool) (h : List HistoryEntry) → Stands R.contents S.contents right self.old h
+            → HasLoaded R.contents S.contents right self.old h name (S.contents tree) self.new result }
+        ensures kept { IsTrue D.is_known → (h : List HistoryEntry) → Stands R.contents S.contents true self.old h
+            → IsKept true self.old h (D.view disk.old)
+            → OnOk result (IsKept true self.new (h ++ load name (S.contents tree) ∷ []) (D.view disk.new)) }
+        ensures crash { IsTrue D.is_known → (h : List HistoryEntry) → Stands R.contents S.contents true self.old h
+            → IsKept true self.old h (D.view disk.old)
+            → Keeps (StandsWithOrWithout h (load name (S.contents tree))) (D.view disk.old) (D.view disk.new) }
+        ensures ready { IsTrue D.is_known → OnOk result (IsReady self.new (D.view disk.new)) }
+        ensures durable { IsTrue D.is_known → OnOk result (Only (D.view disk.new).content (D.view disk.new).images) }
+        ensures version { version_in self.new ≡ version_in self.old }
+        ensures spent { is_spent self.new ≡ is_spent self.old }
+        ensures unchanged { IsErrOf result WriteFault.TooLarge → disk.new ≡ disk.old }
+        ensures cause { Accounts IsWriteDisk (D.counts disk.old).faults (D.counts disk.new).faults result }
+        ensures memory { IsErrOf result WriteFault.Memory
+            → (disk.new ≡ disk.old) ⊎ Rose (D.counts disk.old).wants (D.counts disk.new).wants }
+        ensures reads { (D.counts disk.new).reads ≡ (D.counts disk.old).reads }
+    {
+        let literal = literal_of(alloc, &tree)?;
+        let entry = Entry::Load {
+            name: name.clone()?,
+            tree: literal,
+        };
+        let body = entry_bytes(alloc, &entry)?;
+        if !self.has_room(body.len()) {
+            return Err(WriteFault::TooLarge);
+        }
+        self.committed.sources.add(name, tree)?;
+        self.append(alloc, disk, &body)?;
+        Ok(())
+    }
+
+    /// Adds a commit, and its entry.
+    fn add_commit<D: Disk>(
+        &mut self,
+        alloc: Global,
+        disk: &mut D,
+        transaction: Txn<R>,
+        stamp: Stamp,
+    ) -> Result<Tids, CommitFault>
+        requires version { version_in self.old ≡ 2 }
+        requires stands { IsDatabase R.contents S.contents self.old }
+        requires ready { IsTrue D.is_known → IsReady self.old (D.view disk.old) }
+        requires come { (p : Progress) × HasCome R.contents S.contents self.old transaction p }
+        ensures committed { (p : Progress) → HasCome R.contents S.contents self.old transaction p
+            → (right : Bool) (h : List HistoryEntry) (z : Stands R.contents S.contents right self.old h)
+            → HasCommitted R.contents S.contents right self.old h z.committed.state stamp p self.new result }
+        ensures kept { IsTrue D.is_known → (ops : List OpValue)
+            → HasCome R.contents S.contents self.old transaction (going ops)
+            → (h : List HistoryEntry) → Stands R.contents S.contents true self.old h
+            → IsKept true self.old h (D.view disk.old)
+            → OnOk result (IsKept true self.new (h ++ commit stamp ops ∷ []) (D.view disk.new)) }
+        ensures crash { IsTrue D.is_known → (p : Progress)
+            → HasCome R.contents S.contents self.old transaction p
+            → (h : List HistoryEntry) → Stands R.contents S.contents true self.old h
+            → IsKept true self.old h (D.view disk.old)
+            → Keeps (IsBeforeOrCommitted h stamp p) (D.view disk.old) (D.view disk.new) }
+        ensures ready { IsTrue D.is_known → OnOk result (IsReady self.new (D.view disk.new)) }
+        ensures durable { IsTrue D.is_known → OnOk result (Only (D.view disk.new).content (D.view disk.new).images) }
+        ensures version { version_in self.new ≡ version_in self.old }
+        ensures unchanged { ¬ (IsOk result) → ¬ (IsErrOf result CommitFault.Disk) → ¬ (IsErrOf result CommitFault.Memory)
+            → disk.new ≡ disk.old }
+        ensures spent { is_spent self.new ≡ is_spent self.old }
+        ensures cause { Accounts IsCommitDisk (D.counts disk.old).faults (D.counts disk.new).faults result }
+        ensures memory { IsErrOf result CommitFault.Memory
+            → (disk.new ≡ disk.old) ⊎ Rose (D.counts disk.old).wants (D.counts disk.new).wants }
+        ensures reads { (D.counts disk.new).reads ≡ (D.counts disk.old).reads }
+    {
+        let step = transaction.finish(alloc, commit_limit(&stamp))?;
+        Ok(self.add_step(alloc, disk, step, stamp)?)
+    }
+
+    /// Adds what a transaction has made, and its entry.
+    fn add_step<D: Disk>(
+        &mut self,
+        alloc: Global,
+        disk: &mut D,
+        step: Step<R>,
+        stamp: Stamp,
+    ) -> Result<Tids, WriteFault>
+        requires version { version_in self.old ≡ 2 }
+        requires stands { IsDatabase R.contents S.contents self.old }
+        requires ready { IsTrue D.is_known → IsReady self.old (D.view disk.old) }
+        requires made { (ops : List OpValue) × HasMade R.contents S.contents self.old ops step }
+        ensures committed { (ops : List OpValue) → HasMade R.contents S.contents self.old ops step
+            → (right : Bool) (h : List HistoryEntry) (z : Stands R.contents S.contents right self.old h)
+            → HasStepped R.contents S.contents right self.old h z.committed.state stamp ops self.new result }
+        ensures kept { IsTrue D.is_known → (ops : List OpValue) → HasMade R.contents S.contents self.old ops step
+            → (h : List HistoryEntry) → Stands R.contents S.contents true self.old h
+            → IsKept true self.old h (D.view disk.old)
+            → OnOk result (IsKept true self.new (h ++ commit stamp ops ∷ []) (D.view disk.new)) }
+        ensures crash { IsTrue D.is_known → (ops : List OpValue) → HasMade R.contents S.contents self.old ops step
+            → (h : List HistoryEntry) → Stands R.contents S.contents true self.old h
+            → IsKept true self.old h (D.view disk.old)
+            → Keeps (StandsWithOrWithout h (commit stamp ops)) (D.view disk.old) (D.view disk.new) }
+        ensures ready { IsTrue D.is_known → OnOk result (IsReady self.new (D.view disk.new)) }
+        ensures durable { IsTrue D.is_known → OnOk result (Only (D.view disk.new).content (D.view disk.new).images) }
+        ensures version { version_in self.new ≡ version_in self.old }
+        ensures spent { is_spent self.new ≡ is_spent self.old }
+        ensures unchanged { IsErrOf result WriteFault.TooLarge → disk.new ≡ disk.old }
+        ensures cause { Accounts IsWriteDisk (D.counts disk.old).faults (D.counts disk.new).faults result }
+        ensures memory { IsErrOf result WriteFault.Memory
+            → (disk.new ≡ disk.old) ⊎ Rose (D.counts disk.old).wants (D.counts disk.new).wants }
+        ensures reads { (D.counts disk.new).reads ≡ (D.counts disk.old).reads }
+    {
+        let low = self.committed.store.upto() + 1;
+        let entry = Entry::Stamped {
+            stamp,
+            ops: step.ops,
+            records: step.rows,
+        };
+        let body = entry_bytes(alloc, &entry)?;
+        if !self.has_room(body.len()) {
+            return Err(WriteFault::TooLarge);
+        }
+        self.committed
+            .keep_records(alloc, step.tids, entry.records())?;
+        self.committed.tree = step.tree;
+        self.append(alloc, disk, &body)?;
+        Ok(Tids {
+            low,
+            high: self.committed.store.upto(),
+        })
+    }
+}
