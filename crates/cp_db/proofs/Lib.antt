@@ -1,3 +1,4 @@
+pub mod Keeping
 mod TakingCounts
 mod TakingLists
 mod Taking

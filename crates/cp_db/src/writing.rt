@@ -11,9 +11,9 @@ ghost use Rattle.cp_journal.specs.Journals.{Describes};
 ghost use Rattle.cp_journal.specs.NewStores.{IsVacant};
 ghost use Rattle.cp_engine.specs.Transactions.{Progress, going};
 ghost use Rattle.cp_file.specs.Stands.{StandsFor, StandsWithOrWithout};
-ghost use Rattle.cp_file.specs.Sizes.{has_room, start_size};
+ghost use Rattle.cp_file.specs.Sizes.{has_room, load_size, start_size};
 ghost use Rattle.cp_db.specs.Databases.{Stands, IsDatabase, IsReady, IsKept, HasCome, end_in, is_spent, version_in};
-ghost use Rattle.cp_db.specs.Writing.{HasCommitted, HasLoaded, HasMade, HasStepped, IsBeforeOrCommitted, IsCommitDisk, IsInitDisk, IsOldOrVacantOrStart, IsWriteDisk};
+ghost use Rattle.cp_db.specs.Writing.{commit_size, HasCommitted, HasLoaded, HasMade, HasStepped, IsBeforeOrCommitted, IsCommitDisk, IsInitDisk, IsOldOrVacantOrStart, IsWriteDisk};
 
 use crate::committed::Committed;
 use crate::database::{Db, Tids};
@@ -117,6 +117,7 @@ impl<R: TreeRep, S: TreeRep> Db<R, S> {
         ensures crash { IsTrue D.is_known → (h : List HistoryEntry) → Stands R.contents S.contents true self.old h
             → IsKept true self.old h (D.view disk.old)
             → Keeps (StandsWithOrWithout h (load name (S.contents tree))) (D.view disk.old) (D.view disk.new) }
+        ensures room { has_room (end_in self.old) (load_size name (S.contents tree)) ≡ false → disk.new ≡ disk.old }
         ensures ready { IsTrue D.is_known → OnOk result (IsReady self.new (D.view disk.new)) }
         ensures durable { IsTrue D.is_known → OnOk result (Only (D.view disk.new).content (D.view disk.new).images) }
         ensures version { version_in self.new ≡ version_in self.old }
@@ -167,6 +168,10 @@ impl<R: TreeRep, S: TreeRep> Db<R, S> {
             → (h : List HistoryEntry) → Stands R.contents S.contents true self.old h
             → IsKept true self.old h (D.view disk.old)
             → Keeps (IsBeforeOrCommitted h stamp p) (D.view disk.old) (D.view disk.new) }
+        ensures room { (ops : List OpValue)
+            → HasCome R.contents S.contents self.old transaction (going ops)
+            → (h : List HistoryEntry) (z : Stands R.contents S.contents true self.old h)
+            → has_room (end_in self.old) (commit_size z.committed.state stamp ops) ≡ false → disk.new ≡ disk.old }
         ensures ready { IsTrue D.is_known → OnOk result (IsReady self.new (D.view disk.new)) }
         ensures durable { IsTrue D.is_known → OnOk result (Only (D.view disk.new).content (D.view disk.new).images) }
         ensures version { version_in self.new ≡ version_in self.old }
@@ -279,6 +284,7 @@ impl<R: TreeRep, S: TreeRep> Db<R, S> {
         ensures crash { IsTrue D.is_known → (h : List HistoryEntry) → Stands R.contents S.contents true self.old h
             → IsKept true self.old h (D.view disk.old)
             → Keeps (StandsWithOrWithout h (load name (S.contents tree))) (D.view disk.old) (D.view disk.new) }
+        ensures room { has_room (end_in self.old) (load_size name (S.contents tree)) ≡ false → disk.new ≡ disk.old }
         ensures ready { IsTrue D.is_known → OnOk result (IsReady self.new (D.view disk.new)) }
         ensures durable { IsTrue D.is_known → OnOk result (Only (D.view disk.new).content (D.view disk.new).images) }
         ensures version { version_in self.new ≡ version_in self.old }
@@ -328,6 +334,10 @@ impl<R: TreeRep, S: TreeRep> Db<R, S> {
             → (h : List HistoryEntry) → Stands R.contents S.contents true self.old h
             → IsKept true self.old h (D.view disk.old)
             → Keeps (IsBeforeOrCommitted h stamp p) (D.view disk.old) (D.view disk.new) }
+        ensures room { (ops : List OpValue)
+            → HasCome R.contents S.contents self.old transaction (going ops)
+            → (h : List HistoryEntry) (z : Stands R.contents S.contents true self.old h)
+            → has_room (end_in self.old) (commit_size z.committed.state stamp ops) ≡ false → disk.new ≡ disk.old }
         ensures ready { IsTrue D.is_known → OnOk result (IsReady self.new (D.view disk.new)) }
         ensures durable { IsTrue D.is_known → OnOk result (Only (D.view disk.new).content (D.view disk.new).images) }
         ensures version { version_in self.new ≡ version_in self.old }
@@ -366,6 +376,9 @@ impl<R: TreeRep, S: TreeRep> Db<R, S> {
             → (h : List HistoryEntry) → Stands R.contents S.contents true self.old h
             → IsKept true self.old h (D.view disk.old)
             → Keeps (StandsWithOrWithout h (commit stamp ops)) (D.view disk.old) (D.view disk.new) }
+        ensures room { (ops : List OpValue) → HasMade R.contents S.contents self.old ops step
+            → (h : List HistoryEntry) (z : Stands R.contents S.contents true self.old h)
+            → has_room (end_in self.old) (commit_size z.committed.state stamp ops) ≡ false → disk.new ≡ disk.old }
         ensures ready { IsTrue D.is_known → OnOk result (IsReady self.new (D.view disk.new)) }
         ensures durable { IsTrue D.is_known → OnOk result (Only (D.view disk.new).content (D.view disk.new).images) }
         ensures version { version_in self.new ≡ version_in self.old }

@@ -1,4 +1,4 @@
-use Rattle.std.proofs.Common.{List, ◌∙◌, ◌≤◌, false, sym, ap, subst, arith, length}
+use Rattle.std.proofs.Common.{List, ◌∙◌, ◌≤◌, sym, ap, subst, arith, length}
 use Rattle.std.specs.List.{slice_get}
 use Rattle.cp_journal.specs.Frames.{Frame}
 use Rattle.cp_db.specs.Opening.{StartsAs}

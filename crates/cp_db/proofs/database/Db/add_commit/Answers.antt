@@ -54,3 +54,13 @@ pub returns-clause-crash : goal.returns-clause-crash
 returns-clause-crash g c = λ known p come h z k.
     made-cases g.R.TreeRep.contents g.S.TreeRep.contents c.args.self.now c.args.transaction c.commit_limit.result c.in_ok-step.step (omega (arith, c.commit_limit.ensures)) (λ k ss t n p x. c.in_ok-step.ensures k ss t n p x)
     (λ q. Keeps (IsBeforeOrCommitted h c.args.stamp q) (g.D.Disk.view c.args.disk.now) (g.D.Disk.view c.add_step.new.disk)) (λ ops made. c.add_step.ensures.crash known ops made h z k) p come true h z
+
+pub returns-in_err-add_step-clause-room : goal.returns-in_err-add_step-clause-room
+returns-in_err-add_step-clause-room g c = λ ops come h z full.
+    c.add_step.ensures.room ops
+    (made-going g.R.TreeRep.contents g.S.TreeRep.contents c.args.self.now c.args.transaction c.commit_limit.result c.in_ok-step.step (omega (arith, c.commit_limit.ensures)) (λ k ss t n p x. c.in_ok-step.ensures k ss t n p x) ops come) h z full
+
+pub returns-clause-room : goal.returns-clause-room
+returns-clause-room g c = λ ops come h z full.
+    c.add_step.ensures.room ops
+    (made-going g.R.TreeRep.contents g.S.TreeRep.contents c.args.self.now c.args.transaction c.commit_limit.result c.in_ok-step.step (omega (arith, c.commit_limit.ensures)) (λ k ss t n p x. c.in_ok-step.ensures k ss t n p x) ops come) h z full

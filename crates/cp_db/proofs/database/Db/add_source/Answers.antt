@@ -90,3 +90,19 @@ returns-clause-crash g c = λ known h z k.
     let read : Reads entry_format body w [] = subst (λ (b : List ℕ). Reads entry_format b w []) (sym c.deref.ensures.value) c.in_ok-body.ensures.2 in
     let next = load-next c.args.name c.in_ok-literal.literal (g.S.TreeRep.contents c.args.tree) c.in_ok-literal.ensures.literal c.in_ok-literal.ensures.tree c.args.self.now.version h z.committed.state body w z.committed.replayed (c.requires.can true h z) e read in
     crash-added c.args.self.now.version h _ body next c.args.self.now _ _ refl k (c.append.ensures.crash known)
+
+pub returns-in_err-append-clause-room : goal.returns-in_err-append-clause-room
+returns-in_err-append-clause-room g c = λ full.
+    let e = subst (λ (m : List ℕ). IsEntry (frame.Load m c.in_ok-literal.literal) c.in_ok-body.ensures.0) c.in_ok-clone.ensures.cases c.in_ok-body.ensures.1 in
+    let size = load-length c.args.name c.in_ok-literal.literal (g.S.TreeRep.contents c.args.tree) c.in_ok-literal.ensures.literal c.in_ok-literal.ensures.tree c.in_ok-body.body.items c.in_ok-body.ensures.0 e c.in_ok-body.ensures.2 in
+    let counted : c.len.result ≡ load_size c.args.name (g.S.TreeRep.contents c.args.tree) = omega (arith, c.len.ensures, c.in_ok-body.body.ok, size) in
+    let none : true ≡ false = sym (ap (has_room (end_in c.args.self.now)) (sym counted) ∙ sym c.has_room.ensures ∙ c.if-not-has_room.false) ∙ full in
+    absurd (cc none)
+
+pub returns-clause-room : goal.returns-clause-room
+returns-clause-room g c = λ full.
+    let e = subst (λ (m : List ℕ). IsEntry (frame.Load m c.in_ok-literal.literal) c.in_ok-body.ensures.0) c.in_ok-clone.ensures.cases c.in_ok-body.ensures.1 in
+    let size = load-length c.args.name c.in_ok-literal.literal (g.S.TreeRep.contents c.args.tree) c.in_ok-literal.ensures.literal c.in_ok-literal.ensures.tree c.in_ok-body.body.items c.in_ok-body.ensures.0 e c.in_ok-body.ensures.2 in
+    let counted : c.len.result ≡ load_size c.args.name (g.S.TreeRep.contents c.args.tree) = omega (arith, c.len.ensures, c.in_ok-body.body.ok, size) in
+    let none : true ≡ false = sym (ap (has_room (end_in c.args.self.now)) (sym counted) ∙ sym c.has_room.ensures ∙ c.if-not-has_room.false) ∙ full in
+    absurd (cc none)

@@ -92,3 +92,19 @@ returns-clause-crash g c = λ known ops made h z k.
     let read : Reads entry_format body c.in_ok-body.ensures.0 [] = subst (λ (b : List ℕ). Reads entry_format b c.in_ok-body.ensures.0 []) (sym c.deref.ensures.value) c.in_ok-body.ensures.2 in
     let next = step-next g.R.TreeRep.contents g.S.TreeRep.contents true c.args.self.now.committed h z.committed c.args.stamp ops c.args.step is.0 is.1 body c.in_ok-body.ensures.0 c.in_ok-body.ensures.1 read in
     crash-added 2 h _ body next c.args.self.now _ _ c.requires.version k (c.append.ensures.crash known)
+
+pub returns-in_err-append-clause-room : goal.returns-in_err-append-clause-room
+returns-in_err-append-clause-room g c = λ ops made h z full.
+    let is = made true h z in
+    let size = step-size g.R.TreeRep.contents g.S.TreeRep.contents true c.args.self.now.committed h z.committed c.args.stamp ops c.args.step is.0 is.1 c.in_ok-body.body.items c.in_ok-body.ensures.0 c.in_ok-body.ensures.1 c.in_ok-body.ensures.2 in
+    let counted : c.len.result ≡ commit_size z.committed.state c.args.stamp ops = omega (arith, c.len.ensures, c.in_ok-body.body.ok, size) in
+    let none : true ≡ false = sym (ap (has_room (end_in c.args.self.now)) (sym counted) ∙ sym c.has_room.ensures ∙ c.if-not-has_room.false) ∙ full in
+    absurd (cc none)
+
+pub returns-clause-room : goal.returns-clause-room
+returns-clause-room g c = λ ops made h z full.
+    let is = made true h z in
+    let size = step-size g.R.TreeRep.contents g.S.TreeRep.contents true c.args.self.now.committed h z.committed c.args.stamp ops c.args.step is.0 is.1 c.in_ok-body.body.items c.in_ok-body.ensures.0 c.in_ok-body.ensures.1 c.in_ok-body.ensures.2 in
+    let counted : c.len.result ≡ commit_size z.committed.state c.args.stamp ops = omega (arith, c.len.ensures, c.in_ok-body.body.ok, size) in
+    let none : true ≡ false = sym (ap (has_room (end_in c.args.self.now)) (sym counted) ∙ sym c.has_room.ensures ∙ c.if-not-has_room.false) ∙ full in
+    absurd (cc none)
