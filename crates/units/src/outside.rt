@@ -1,3 +1,4 @@
+use cp_clock::{Clock, MemClock};
 use cp_outside::{
     Failed, FileEnd, Files, FilesFault, MemFile, MemFiles, MemSink, MemSource, Sink, SinkFault,
     Source, write_all,
@@ -40,6 +41,16 @@ fn files_are_read(rt: HostRuntime) -> Result<(), Fail> {
     assert_eq!(rt; into.as_slice(), b"north".as_slice());
     assert_eq!(rt; files.read_file("quay", 4, &mut into), Ok(FileEnd::TooLong));
     assert_eq!(rt; files.read_file("pier", 5, &mut into), Ok(FileEnd::Missing));
+    Ok(())
+}
+
+#[test]
+fn moments_are_told(rt: HostRuntime) -> Result<(), Fail> {
+    let mut clock = MemClock::with_faults(rt.alloc(), &[1000, 2000], &[2])?;
+    assert_eq!(rt; clock.now(), Ok(1000));
+    assert_eq!(rt; clock.now(), Err(Failed));
+    assert_eq!(rt; clock.now(), Ok(2000));
+    assert_eq!(rt; clock.now(), Ok(0));
     Ok(())
 }
 
