@@ -1,4 +1,4 @@
--- What callers see of the real input, output and files.
+-- What callers see of the real input, output, files and clock.
 use Rattle.std.specs.Prelude.{ℕ, ◌≡◌, List, Some}
 use Rattle.std.specs.declared.option.Option.{Option}
 use Rattle.cp_outside.specs.FileReads.{EndsAs}
@@ -6,6 +6,7 @@ use Rattle.cp_outside.specs.declared.files.FileEnd.{FileEnd}
 use Rattle.cp_host.specs.declared.input.StdinSource.{StdinSource}
 use Rattle.cp_host.specs.declared.output.StdoutSink.{StdoutSink}
 use Rattle.cp_host.specs.declared.files.HostFiles.{HostFiles}
+use Rattle.cp_host.specs.declared.clock.HostClock.{HostClock}
 
 -- The reader inside.
 abbrev pub source_inner : {R : Type 0} → StdinSource R → R
@@ -34,6 +35,10 @@ files_reads s = s.reads
 -- How often reading a file has failed.
 abbrev pub files_faults : {R : Type 0} → HostFiles R → ℕ
 files_faults s = s.faults
+
+-- How often the clock has failed.
+abbrev pub clock_faults : {R : Type 0} → HostClock R → ℕ
+clock_faults s = s.faults
 
 -- An open file held these bytes, which are the known ones where they are known, and was read so.
 abbrev pub ReadsAll : Option (List ℕ) → ℕ → List ℕ → FileEnd → Type 0

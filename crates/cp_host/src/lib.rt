@@ -1,16 +1,19 @@
-//! The real outside: standard input and output, the files of the operating system, and one of them
-//! as a disk.
+//! The real outside: standard input and output, the files of the operating system, one of them as a
+//! disk, and the clock.
 //!
 //! Each adapter keeps a count of its failures, and tells of the bytes what the reader or the writer
-//! inside it tells; of files nothing is told. What the operating system does is trusted.
+//! inside it tells; of files and of moments nothing is told. What the operating system does is
+//! trusted.
 #![tactic(auto)]
 
+mod clock;
 mod disk;
 mod files;
 mod input;
 mod named_file;
 mod output;
 
+pub use clock::HostClock;
 pub use disk::FileDisk;
 pub use files::HostFiles;
 pub use input::StdinSource;

@@ -1,5 +1,6 @@
+use cp_clock::Clock;
 use cp_disk::{Disk, DiskFault};
-use cp_host::{FileDisk, HostFiles, StdinSource, StdoutSink};
+use cp_host::{FileDisk, HostClock, HostFiles, StdinSource, StdoutSink};
 use cp_outside::{Failed, FileEnd, Files, FilesFault, Sink, SinkFault, Source, write_all};
 use std::alloc::{AllocError, Global};
 use std::io::{Error, ErrorKind, Read, Write};
@@ -57,6 +58,17 @@ fn output_reaches_its_writer(rt: HostRuntime) -> Result<(), Fail> {
         let mut broken = StdoutSink::new(Broken { takes_none });
         assert_eq!(rt; broken.write(b"east"), Err(SinkFault::Failed));
     }
+    Ok(())
+}
+
+#[test]
+fn the_clock_tells_the_time(rt: HostRuntime) -> Result<(), Fail> {
+    let mut clock = HostClock::new(&rt);
+    let first = clock.now();
+    let second = clock.now();
+    // 2026-01-01, and 2100-01-01
+    assert!(rt; matches!(first, Ok(now) if now > 1_767_225_600 && now < 4_102_444_800));
+    assert!(rt; first.unwrap_or(0) <= second.unwrap_or(0));
     Ok(())
 }
 
