@@ -1,7 +1,0 @@
-pub mod Fetching
-pub mod Fetched
-pub mod Texts
-pub mod Files
-pub mod Loads
-pub mod Faults
-pub mod Databases

@@ -1,0 +1,10 @@
+pub mod Standing
+mod Turning
+mod Operating
+mod Committing
+mod Answering
+mod Loading
+mod Blaming
+mod Fetched
+pub mod Readings
+pub mod ReadCounts

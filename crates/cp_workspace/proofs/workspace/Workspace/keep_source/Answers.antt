@@ -1,0 +1,63 @@
+use Rattle.std.proofs.Common.{true, false, refl, ap, subst, Err}
+use Rattle.std.specs.declared.option.Option.TheVariants.{Some}
+use Rattle.std.proofs.lemmas.Result.{err_from_is_err_and}
+use Rattle.cp_db.specs.Writing.{HasLoaded}
+use Rattle.cp_workspace.specs.declared.fault.WorkspaceFault.TheVariants as failed
+use Rattle.cp_workspace.specs.Disks.{known_disk}
+use Rattle.cp_workspace.proofs.Standing.{turns-failed-still, workspace-added, usable-shut}
+use Rattle.cp_workspace.proofs.Loading.{can-load, turns-loaded, turns-no_room, turns-unloaded, kept-unspent}
+use Rattle.cp_workspace.proofs.workspace.Workspace.keep_source.Goals as goal
+
+pub returns-in_err-loaded-clause-turned : goal.returns-in_err-loaded-clause-turned
+returns-in_err-loaded-clause-turned g c = λ files terms s z.
+    let p = err_from_is_err_and c.from_residual.result c.from_residual.ensures.1 in
+    turns-failed-still g.R.TreeRep.contents g.S.TreeRep.contents (λ r. Some r) terms _ s s.moments c.args.self.now c.args.self.now (known_disk g.D.Disk c.args.disk.now) c.from_residual.result (p.0, p.1)
+
+pub load-requires-clause-can : goal.load-requires-clause-can
+load-requires-clause-can g c =
+    can-load g.R.TreeRep.contents g.S.TreeRep.contents c.args.self.now c.args.name (g.S.TreeRep.contents c.args.tree) c.requires.may c.as_str-text.ensures.name c.requires.other (g.met.S.TreeRep.is_tree c.args.tree) c.requires.fits
+
+pub returns-in-Ok-clause-turned : goal.returns-in-Ok-clause-turned
+returns-in-Ok-clause-turned g c = λ files terms s z.
+    turns-loaded g.R.TreeRep.contents g.S.TreeRep.contents g.D.Disk terms files c.args.self.now (record c.args.self.now { db = c.load.new.self }) s z c.args.disk.now c.load.new.disk c.args.name (g.S.TreeRep.contents c.args.tree) c.requires.may.closed
+    c.in_ok-loaded.loaded c.count-nodes.result c.in_ok-loaded.ensures.cases c.count-nodes.ensures refl refl
+    (c.in-Ok.ensures.loaded true s.history z.db)
+    (λ known held. c.in-Ok.ensures.kept known s.history z.db held)
+    (λ known held. c.load.ensures.crash known s.history z.db held)
+
+pub returns-in-Ok-clause-stays : goal.returns-in-Ok-clause-stays
+returns-in-Ok-clause-stays g c =
+    let h = c.requires.usable.workspace.stands in
+    record {
+      workspace = workspace-added g.R.TreeRep.contents g.S.TreeRep.contents c.args.self.now (record c.args.self.now { db = c.load.new.self }) c.requires.may.closed c.requires.usable.workspace
+          (_, (c.in-Ok.ensures.loaded false h.0 h.1).1.stands) c.load.ensures.version (kept-unspent c.load.new.self.spent tt c.in-Ok.ensures.spent.0);
+      ready = c.in-Ok.ensures.ready;
+    }
+
+pub returns-in-Err-TooLarge-clause-turned : goal.returns-in-Err-TooLarge-clause-turned
+returns-in-Err-TooLarge-clause-turned g c = λ files terms s z.
+    let view = g.R.TreeRep.contents in
+    let source_view = g.S.TreeRep.contents in
+    let refused = subst (λ e. HasLoaded view source_view true c.args.self.now.db s.history c.args.name (source_view c.args.tree) c.load.new.self (Err e)) c.in-Err-TooLarge.field-0-is (c.in-Err-TooLarge.ensures.loaded true s.history z.db) in
+    rw (c.refused_load.ensures)
+    (turns-no_room view source_view g.D.Disk terms files c.args.self.now (record c.args.self.now { db = c.load.new.self }) s z c.args.disk.now c.load.new.disk c.args.name (source_view c.args.tree) c.requires.may.closed
+    (c.in-Err-TooLarge.ensures.unchanged (ap (λ e. Err e) c.in-Err-TooLarge.field-0-is)) (ap (λ b. record c.args.self.now { db = b }) refused.1) refused.0)
+
+pub returns-in-Err-TooLarge-clause-stays : goal.returns-in-Err-TooLarge-clause-stays
+returns-in-Err-TooLarge-clause-stays g c =
+    let view = g.R.TreeRep.contents in
+    let source_view = g.S.TreeRep.contents in
+    let h = c.requires.usable.workspace.stands in
+    let refused = subst (λ e. HasLoaded view source_view false c.args.self.now.db h.0 c.args.name (source_view c.args.tree) c.load.new.self (Err e)) c.in-Err-TooLarge.field-0-is (c.in-Err-TooLarge.ensures.loaded false h.0 h.1) in
+    usable-shut view source_view c.args.self.now (record c.args.self.now { db = c.load.new.self }) c.requires.may.closed g.D.Disk c.args.disk.now c.load.new.disk
+    (c.in-Err-TooLarge.ensures.unchanged (ap (λ e. Err e) c.in-Err-TooLarge.field-0-is)) c.requires.usable refused.1
+
+pub returns-in-Err-Disk-clause-turned : goal.returns-in-Err-Disk-clause-turned
+returns-in-Err-Disk-clause-turned g c = λ files terms s z.
+    turns-unloaded g.R.TreeRep.contents g.S.TreeRep.contents g.D.Disk terms files c.args.self.now (record c.args.self.now { db = c.load.new.self }) s z c.args.disk.now c.load.new.disk c.args.name (g.S.TreeRep.contents c.args.tree) c.requires.may.closed
+    (Err failed.Disk) (failed.Disk, refl) (λ known held. c.load.ensures.crash known s.history z.db held) c.load.ensures.room
+
+pub returns-clause-turned : goal.returns-clause-turned
+returns-clause-turned g c = λ files terms s z.
+    turns-unloaded g.R.TreeRep.contents g.S.TreeRep.contents g.D.Disk terms files c.args.self.now (record c.args.self.now { db = c.load.new.self }) s z c.args.disk.now c.load.new.disk c.args.name (g.S.TreeRep.contents c.args.tree) c.requires.may.closed
+    (Err failed.Memory) (failed.Memory, refl) (λ known held. c.load.ensures.crash known s.history z.db held) c.load.ensures.room

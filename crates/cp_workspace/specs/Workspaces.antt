@@ -1,0 +1,144 @@
+-- What a workspace keeps of a session: the database with its history, and the open transaction.
+use Rattle.std.specs.Prelude.{ℕ, ◌≡◌, ◌+◌, ◌≤◌, ◌++◌, Bool, true, false, IsTrue, List, [], length, map, is_some, if◌then◌else◌, Result, IfOk, OnOk, ⊤}
+use Rattle.std.specs.declared.option.Option.{Option}
+use Rattle.std.specs.declared.option.Option.TheVariants.{None, Some}
+use Rattle.cp_path.specs.declared.loc.Loc.{Loc}
+use Rattle.cp_model.specs.Place.{in_target}
+use Rattle.cp_model.specs.declared.limits.TheConstants.{SOURCES_MAX}
+use Rattle.cp_model.specs.Tree.{Tree, source}
+use Rattle.cp_model.specs.Subtrees.{is_there, below}
+use Rattle.cp_model.specs.History.{Entry, State}
+use Rattle.cp_reply.specs.declared.reply.Reply.{Reply}
+use Rattle.cp_reply.specs.declared.reply.Of.TheVariants as of
+use Rattle.cp_reply.specs.declared.reply.Why.TheVariants as why
+use Rattle.cp_reply.specs.declared.reply.Reply.TheVariants as reply
+use Rattle.cp_session.specs.Session.{Session, OpenTransaction, closed, going, failed, Turn, current_tree, row_of}
+use Rattle.cp_engine.specs.Transactions as txn
+use Rattle.cp_engine.specs.declared.txn.Txn.{Txn}
+use Rattle.cp_clock.specs.Moments.{HasTold}
+use Rattle.cp_file.specs.Sizes.{FrameEnd, end_of}
+use Rattle.cp_outside.specs.FileReads.{FileTable}
+use Rattle.cp_db.specs.Databases as database
+use Rattle.cp_db.specs.Databases.{IsDatabase, IsReady, IsKept, HasCome, IsSameFile, end_in, is_spent, version_in}
+use Rattle.cp_db.specs.declared.database.Db.{Db}
+use Rattle.cp_workspace.specs.Texts.{Terms}
+use Rattle.cp_workspace.specs.Disks.{KnownDisk, LeavesEither}
+use Rattle.cp_workspace.specs.declared.fault.WorkspaceFault.{WorkspaceFault}
+use Rattle.cp_workspace.specs.declared.workspace.Workspace.{Workspace}
+pub use Rattle.cp_lang.specs.Written.{IsWrittenStmt}
+
+-- ---- what it stands for
+
+-- the transaction, if one is open, has come as far as the session's
+abbrev pub Opens : {R S : Type 0} → (R → Tree) → (S → Tree) → Db R S → Option (Txn R) → OpenTransaction → Type 0
+Opens view source_view d None closed = ⊤
+Opens view source_view d None (going ops) = ⊥
+Opens view source_view d None (failed i c) = ⊥
+Opens view source_view d (Some x) closed = ⊥
+Opens view source_view d (Some x) (going ops) = HasCome view source_view d x (txn.going ops) × (1 ≤ length ops)
+Opens view source_view d (Some x) (failed i c) = HasCome view source_view d x (txn.failed i c)
+
+-- the frames end here after the history, which begins with the entries of which it is known where they end
+pub record EndsAt (f : FrameEnd) (h : List Entry) (at : ℕ) : Type 0 where
+  pub later : List Entry
+  pub begun : h ≡ f.entries ++ later
+  pub is_end : at ≡ end_of f h
+
+-- the database stands for the session's history, and the transaction is the session's
+pub record Stands {R S : Type 0} (view : R → Tree) (source_view : S → Tree) (terms : Terms) (d : Workspace R S) (s : Session) : Type 0 where
+  pub db : database.Stands view source_view true d.db s.history
+  pub ends : EndsAt terms.ends s.history (end_in d.db)
+  pub curator : d.curator ≡ terms.curator
+  pub opened : Opens view source_view d.db d.transaction s.opened
+
+-- its database
+abbrev pub db_in : {R S : Type 0} → Workspace R S → Db R S
+db_in d = d.db
+
+-- ---- what may be run on it
+
+-- the transaction, if one is open, was begun on the database
+abbrev pub IsBegun : {R S : Type 0} → (R → Tree) → (S → Tree) → Db R S → Option (Txn R) → Type 0
+IsBegun view source_view d None = ⊤
+IsBegun view source_view d (Some x) = (p : txn.Progress) × HasCome view source_view d x p
+
+-- its database stands for some history, and may be written
+pub record IsWorkspace {R S : Type 0} (view : R → Tree) (source_view : S → Tree) (d : Workspace R S) : Type 0 where
+  pub stands : IsDatabase view source_view d.db
+  pub usable : is_spent d.db ≡ false
+  pub version : version_in d.db ≡ 2
+  pub begun : IsBegun view source_view d.db d.transaction
+
+-- and the disk, where it is known what that holds, is one on which it may be
+pub record IsUsable {R S : Type 0} (view : R → Tree) (source_view : S → Tree) (v : KnownDisk) (d : Workspace R S) : Type 0 where
+  pub workspace : IsWorkspace view source_view d
+  pub ready : IsTrue v.known → IsReady d.db v.view
+
+-- the disk holds its file, which tells the history
+abbrev pub HoldsFile : {R S : Type 0} → Workspace R S → List Entry → KnownDisk → Type 0
+HoldsFile d h v = IsKept true d.db h v.view
+
+-- what it keeps of its file is the same
+abbrev pub KeepsFile : {R S : Type 0} → Workspace R S → Workspace R S → Type 0
+KeepsFile old new = IsSameFile old.db new.db
+
+-- ---- turns
+
+-- the reply is the turn's, and what is kept stands for its next state
+abbrev pub Turned : {R S : Type 0} → (R → Tree) → (S → Tree) → Terms → Turn → Workspace R S → Option Reply → Type 0
+Turned view source_view terms t new r = (r ≡ t.reply) × Stands view source_view terms new t.next
+
+-- The turn t of the session s was made, unless something failed: its reply was given, the moments after it are the rest, and the disk holds its history.
+-- In any case each file that a crash leaves stands for the history before the turn or for the one after it.
+pub record TurnsAs {R S A : Type 0} (view : R → Tree) (source_view : S → Tree) (given : A → Option Reply) (terms : Terms) (t : Turn) (s : Session) (rest : List ℕ) (old new : Workspace R S) (v w : KnownDisk) (result : Result A WorkspaceFault) : Type 0 where
+  pub turned : IfOk result (λ r. Turned view source_view terms t new (given r))
+  pub asked : OnOk result (t.next.moments ≡ rest)
+  pub kept : IsTrue v.known → HoldsFile old s.history v → OnOk result (HoldsFile new t.next.history w)
+  pub leaves : IsTrue v.known → HoldsFile old s.history v → LeavesEither s.history t.next.history v w
+
+-- The clock told some moments; and with files that are known well enough, and whatever moments come after those, the turn was made.
+pub record HasTurned {R S A : Type 0} (view : R → Tree) (source_view : S → Tree) (given : A → Option Reply) (turning : FileTable → Terms → Session → Turn) (IsKnown : FileTable → Type 0) (old new : Workspace R S) (v w : KnownDisk) (cb ca : Option (List ℕ)) (result : Result A WorkspaceFault) : Type 0 where
+  pub moments : List ℕ
+  pub told : HasTold cb ca moments
+  pub turns : (files : FileTable) → IsKnown files → (terms : Terms) (s : Session) (rest : List ℕ) → Stands view source_view terms old s → s.moments ≡ moments ++ rest
+      → TurnsAs view source_view given terms (turning files terms s) s rest old new v w result
+
+-- the transaction is open
+abbrev pub holding : {R S : Type 0} → Workspace R S → Txn R → Workspace R S
+holding d x = record d { transaction = Some x }
+
+-- ---- parts
+
+-- the tree that is shown of the place's database, if there is such a database
+abbrev pub shown_tree : State → OpenTransaction → Loc → Option Tree
+shown_tree t o q = if in_target q then Some (current_tree t o) else source t.sources q.db
+
+-- the rows at and below a place of a tree, or that nothing stands there
+abbrev pub shown_reply : Loc → Tree → Reply
+shown_reply q t = if is_there t q.path then reply.Show q (map row_of (below q.path t)) else reply.Refused of.Statement (why.NoPlace q)
+
+-- how far the transaction has come once one is open: where none was, it holds no operation
+abbrev pub progress_of : OpenTransaction → txn.Progress
+progress_of closed = txn.going []
+progress_of (going ops) = txn.going ops
+progress_of (failed n c) = txn.failed n c
+
+-- the transaction is the session's, if one is open, or one that begins on the committed tree
+abbrev pub IsOpened : {R S : Type 0} → (R → Tree) → (S → Tree) → Workspace R S → Txn R → Type 0
+IsOpened view source_view d x = (terms : Terms) (s : Session) → Stands view source_view terms d s → HasCome view source_view d.db x (progress_of s.opened)
+
+-- nothing is in the way of a source with this name, whatever its file gives
+pub record MayLoad {R S : Type 0} (view : R → Tree) (source_view : S → Tree) (d : Workspace R S) (name : List ℕ) : Type 0 where
+  pub closed : d.transaction ≡ None
+  pub fresh : (right : Bool) (h : List Entry) (z : database.Stands view source_view right d.db h) → is_some (source z.committed.state.sources name) ≡ false
+  pub few : (right : Bool) (h : List Entry) (z : database.Stands view source_view right d.db h) → length z.committed.state.sources + 1 ≤ SOURCES_MAX
+
+-- ---- beginnings
+
+-- where the frames end in a file that was just made or opened
+abbrev pub end_now : {R S : Type 0} → List Entry → Db R S → FrameEnd
+end_now h d = record { entries = h; at = end_in d }
+
+-- a session on this history
+abbrev pub opened_session : List Entry → List ℕ → Session
+opened_session h moments = record { history = h; opened = closed; moments = moments }

@@ -1,0 +1,105 @@
+ghost use Rattle.std.specs.Prelude.{◌≡◌, true, false, List, ℕ, IsErrOf, OnOk};
+ghost use Rattle.cp_outside.specs.Causes.{Accounts};
+ghost use Rattle.cp_model.specs.History.{Entry};
+ghost use Rattle.cp_session.specs.Session.{Session, says, turn_of};
+ghost use Rattle.cp_db.specs.Databases as database;
+ghost use Rattle.cp_db.specs.Databases.{IsDatabase, is_spent, version_in};
+ghost use Rattle.cp_workspace.specs.Texts.{Terms, setting};
+ghost use Rattle.cp_workspace.specs.Loads.{statement_reads};
+ghost use Rattle.cp_workspace.specs.Files.{known_files, HasReadSome, IsTable, Reads, UsesFiles};
+ghost use Rattle.cp_workspace.specs.Disks.{known_disk};
+ghost use Rattle.cp_workspace.specs.Faults.{IsFileFault, IsDiskFault, IsClockFault};
+ghost use Rattle.cp_workspace.specs.Workspaces.{
+  Stands,
+  IsWorkspace,
+  IsUsable,
+  HasTurned,
+  IsWrittenStmt,
+  db_in,
+  end_now,
+  opened_session,
+};
+
+mod answer;
+mod commit;
+mod load;
+mod operate;
+mod refusal;
+mod reply;
+mod show;
+
+use crate::fault::WorkspaceFault;
+use cp_clock::Clock;
+use cp_db::Db;
+use cp_disk::Disk;
+use cp_engine::Txn;
+use cp_lang::Stmt;
+use cp_outside::Files;
+use cp_path::Label;
+use cp_reply::Reply;
+use cp_tree::TreeRep;
+use std::alloc::Global;
+
+/// A database in a file, the open transaction, and the curator of its commits. A tree of a source may have another form
+/// than those that are changed.
+///
+/// Each call takes the disk on which the database was opened or made. After an error the file is opened again.
+#[derive(Drop)]
+pub struct Workspace<R: TreeRep, S: TreeRep> {
+    db: Db<R, S>,
+    transaction: Option<Txn<R>>,
+    curator: Label,
+}
+
+impl<R: TreeRep, S: TreeRep> Workspace<R, S> {
+    /// A workspace on this database, whose file is of version 2, without a transaction.
+    pub fn new(db: Db<R, S>, curator: Label) -> Workspace<R, S>
+        requires stands { IsDatabase R.contents S.contents db }
+        requires usable { is_spent db ≡ false }
+        requires version { version_in db ≡ 2 }
+        ensures workspace { IsWorkspace R.contents S.contents result }
+        ensures same { db_in result ≡ db }
+        ensures stands { (h : List Entry) (moments : List ℕ) → database.Stands R.contents S.contents true db h
+            → Stands R.contents S.contents (record { ends = end_now h db; curator = curator }) result (opened_session h moments) }
+    {
+        Workspace {
+            db,
+            transaction: None,
+            curator,
+        }
+    }
+
+    /// Runs a statement. What stands after an error isn't said.
+    fn run<D: Disk, F: Files, K: Clock>(
+        &mut self,
+        alloc: Global,
+        statement: Stmt,
+        disk: &mut D,
+        files: &mut F,
+        clock: &mut K,
+    ) -> Result<Option<Reply>, WorkspaceFault>
+        requires usable { IsUsable R.contents S.contents (known_disk D.Disk disk.old) self.old }
+        requires written { IsWrittenStmt statement }
+        ensures turned { HasTurned R.contents S.contents (λ r. r) (λ t terms s. turn_of (setting t terms) s (says statement))
+            (λ t. IsTable t (known_files F.Files files.old) (known_files F.Files files.new)) self.old self.new
+            (known_disk D.Disk disk.old) (known_disk D.Disk disk.new) (K.left clock.old) (K.left clock.new) result }
+        ensures stays { OnOk result (IsUsable R.contents S.contents (known_disk D.Disk disk.new) self.new) }
+        ensures reads { (terms : Terms) (s : Session) → Stands R.contents S.contents terms self.old s
+            → Reads IsFileFault (statement_reads s statement) (known_files F.Files files.old) (known_files F.Files files.new) result }
+        ensures read { HasReadSome (known_files F.Files files.old) (known_files F.Files files.new) }
+        ensures used { UsesFiles IsFileFault (known_files F.Files files.old) (known_files F.Files files.new) result }
+        ensures disk { Accounts IsDiskFault (D.counts disk.old).faults (D.counts disk.new).faults result }
+        ensures clock { Accounts IsClockFault (K.faults clock.old) (K.faults clock.new) result }
+        ensures same { IsErrOf result WorkspaceFault.File → disk.new ≡ disk.old }
+        ensures untouched { IsErrOf result WorkspaceFault.Clock → disk.new ≡ disk.old }
+    {
+        match statement {
+            Stmt::Op(op) => Ok(self.operate(alloc, op)?),
+            Stmt::Commit => Ok(Some(self.commit(alloc, disk, clock)?)),
+            Stmt::Abort => Ok(Some(self.abort())),
+            Stmt::Load(load) => Ok(Some(self.load(alloc, load, disk, files)?)),
+            Stmt::Ask(query) => Ok(Some(self.ask(alloc, query)?)),
+            Stmt::Show(place) => Ok(Some(self.show(alloc, place)?)),
+        }
+    }
+}

@@ -1,0 +1,102 @@
+ghost use Rattle.std.specs.Prelude.{◌≡◌, List, OnOk, IsErrOf, ⊤};
+ghost use Rattle.std.specs.declared.option.Option.TheVariants.{None, Some};
+ghost use Rattle.cp_outside.specs.Causes.{Accounts};
+ghost use Rattle.cp_outside.specs.FileReads.{FileTable};
+ghost use Rattle.cp_engine.specs.Transactions.{going};
+ghost use Rattle.cp_model.specs.declared.op.Op.{Op as OpValue};
+ghost use Rattle.cp_db.specs.Databases.{HasCome};
+ghost use Rattle.cp_session.specs.Session.{Session, says, turn_of};
+ghost use Rattle.cp_workspace.specs.Texts.{Terms, setting};
+ghost use Rattle.cp_workspace.specs.Disks.{known_disk};
+ghost use Rattle.cp_workspace.specs.Faults.{IsDiskFault, IsClockFault};
+ghost use Rattle.cp_workspace.specs.Workspaces.{Stands, IsWorkspace, IsUsable, HasTurned, Turned, holding};
+
+use crate::fault::WorkspaceFault;
+use crate::workspace::Workspace;
+use crate::workspace::refusal::refused_commit;
+use cp_clock::Clock;
+use cp_db::CommitFault;
+use cp_disk::Disk;
+use cp_engine::{Txn, TxnState};
+use cp_lang::Stmt;
+use cp_model::Stamp;
+use cp_reply::{Reply, Why};
+use cp_tree::TreeRep;
+use std::alloc::Global;
+
+impl<R: TreeRep, S: TreeRep> Workspace<R, S> {
+    /// Commits the operations of a transaction that is going, with the next moment of the clock.
+    fn commit_going<D: Disk, K: Clock>(
+        &mut self,
+        alloc: Global,
+        transaction: Txn<R>,
+        disk: &mut D,
+        clock: &mut K,
+    ) -> Result<Reply, WorkspaceFault>
+        requires usable { IsUsable R.contents S.contents (known_disk D.Disk disk.old) self.old }
+        requires taken { self.old.transaction ≡ None }
+        requires going { (ops : List OpValue) × HasCome R.contents S.contents self.old.db transaction (going ops) }
+        ensures turned { HasTurned R.contents S.contents (λ r. Some r) (λ t terms s. turn_of (setting t terms) s (says Stmt.Commit)) (λ t. ⊤)
+            (holding self.old transaction) self.new (known_disk D.Disk disk.old) (known_disk D.Disk disk.new) (K.left clock.old) (K.left clock.new) result }
+        ensures stays { OnOk result (IsUsable R.contents S.contents (known_disk D.Disk disk.new) self.new) }
+        ensures disk { Accounts IsDiskFault (D.counts disk.old).faults (D.counts disk.new).faults result }
+        ensures clock { Accounts IsClockFault (K.faults clock.old) (K.faults clock.new) result }
+        ensures kinds { IsErrOf result WorkspaceFault.File → ⊥ }
+        ensures untouched { IsErrOf result WorkspaceFault.Clock → disk.new ≡ disk.old }
+    {
+        let curator = self.curator.clone()?;
+        let moment = clock.now()?;
+        let stamp = Stamp { curator, moment };
+        match self.db.commit(alloc, disk, transaction, stamp) {
+            Ok(tids) => Ok(Reply::Committed {
+                low: tids.low,
+                high: tids.high,
+            }),
+            Err(CommitFault::TooLarge) => Ok(refused_commit(Why::TransactionTooLarge)),
+            Err(CommitFault::Empty) => Ok(refused_commit(Why::NoOperation)),
+            Err(CommitFault::Failed(..)) => unreachable!(),
+            Err(CommitFault::Disk) => Err(WorkspaceFault::Disk),
+            Err(CommitFault::Memory) => Err(WorkspaceFault::Memory),
+        }
+    }
+
+    /// Commits the open transaction, which is closed also where it is refused.
+    pub(super) fn commit<D: Disk, K: Clock>(
+        &mut self,
+        alloc: Global,
+        disk: &mut D,
+        clock: &mut K,
+    ) -> Result<Reply, WorkspaceFault>
+        requires usable { IsUsable R.contents S.contents (known_disk D.Disk disk.old) self.old }
+        ensures turned { HasTurned R.contents S.contents (λ r. Some r) (λ t terms s. turn_of (setting t terms) s (says Stmt.Commit)) (λ t. ⊤)
+            self.old self.new (known_disk D.Disk disk.old) (known_disk D.Disk disk.new) (K.left clock.old) (K.left clock.new) result }
+        ensures stays { OnOk result (IsUsable R.contents S.contents (known_disk D.Disk disk.new) self.new) }
+        ensures disk { Accounts IsDiskFault (D.counts disk.old).faults (D.counts disk.new).faults result }
+        ensures clock { Accounts IsClockFault (K.faults clock.old) (K.faults clock.new) result }
+        ensures kinds { IsErrOf result WorkspaceFault.File → ⊥ }
+        ensures untouched { IsErrOf result WorkspaceFault.Clock → disk.new ≡ disk.old }
+    {
+        let Some(transaction) = self.transaction.take() else {
+            return Ok(refused_commit(Why::NoOperation));
+        };
+        match transaction.state() {
+            TxnState::Going(_) => self.commit_going(alloc, transaction, disk, clock),
+            TxnState::Failed(number, _) => Ok(refused_commit(Why::FailedAt(number))),
+        }
+    }
+
+    /// Gives the open transaction up.
+    pub(super) fn abort(&mut self) -> Reply
+        requires workspace { IsWorkspace R.contents S.contents self.old }
+        ensures turned { (t : FileTable) (terms : Terms) (s : Session) → Stands R.contents S.contents terms self.old s
+            → Turned R.contents S.contents terms (turn_of (setting t terms) s (says Stmt.Abort)) self.new (Some result) }
+        ensures stays { IsWorkspace R.contents S.contents self.new }
+        ensures same { self.new.db ≡ self.old.db }
+    {
+        let count = match self.transaction.take() {
+            Some(transaction) => transaction.abort(),
+            None => 0,
+        };
+        Reply::Aborted { count }
+    }
+}

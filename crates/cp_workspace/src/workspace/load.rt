@@ -1,0 +1,121 @@
+ghost use Rattle.std.specs.Prelude.{◌≡◌, ◌<◌, false, length, is_some, IfOk, OnOk, IsErrOf};
+ghost use Rattle.std.specs.declared.option.Option.TheVariants.{None, Some};
+ghost use Rattle.cp_outside.specs.Causes.{Accounts};
+ghost use Rattle.cp_outside.specs.FileReads.{FileTable};
+ghost use Rattle.cp_model.specs.Place.{label_eq, target};
+ghost use Rattle.cp_session.specs.Session.{Session, gives, load_fetched, says, turn_of};
+ghost use Rattle.cp_workspace.specs.Fetched.{FitsUnder};
+ghost use Rattle.cp_workspace.specs.Texts.{Terms, setting};
+ghost use Rattle.cp_workspace.specs.Disks.{known_disk};
+ghost use Rattle.cp_workspace.specs.Loads.{why_not_loaded, statement_reads};
+ghost use Rattle.cp_workspace.specs.Faults.{IsFileFault, IsDiskFault};
+ghost use Rattle.cp_workspace.specs.Files.{known_files, HasReadSome, IsTable, Reads, UsesFiles};
+ghost use Rattle.cp_workspace.specs.Workspaces.{Stands, IsWorkspace, IsUsable, MayLoad, TurnsAs};
+
+use crate::fault::WorkspaceFault;
+use crate::source_file::fetch;
+use crate::workspace::Workspace;
+use crate::workspace::refusal::refused_load;
+use cp_db::WriteFault;
+use cp_disk::Disk;
+use cp_lang::{Load, Stmt};
+use cp_model::SOURCES_MAX;
+use cp_outside::Files;
+use cp_path::Name;
+use cp_reply::{Reply, Why};
+use cp_tree::TreeRep;
+use std::alloc::{AllocError, Global};
+
+impl<R: TreeRep, S: TreeRep> Workspace<R, S> {
+    /// Keeps a tree as a source under a new name, unless there is no room for it.
+    fn keep_source<D: Disk>(
+        &mut self,
+        alloc: Global,
+        name: Name,
+        tree: S,
+        disk: &mut D,
+    ) -> Result<Reply, WorkspaceFault>
+        requires usable { IsUsable R.contents S.contents (known_disk D.Disk disk.old) self.old }
+        requires may { MayLoad R.contents S.contents self.old name }
+        requires other { label_eq name target ≡ false }
+        requires fits { FitsUnder name (S.contents tree) }
+        ensures turned { (t : FileTable) (terms : Terms) (s : Session) → Stands R.contents S.contents terms self.old s
+            → TurnsAs R.contents S.contents (λ r. Some r) terms (load_fetched (setting t terms) s name (gives (S.contents tree))) s s.moments self.old self.new
+            (known_disk D.Disk disk.old) (known_disk D.Disk disk.new) result }
+        ensures stays { OnOk result (IsUsable R.contents S.contents (known_disk D.Disk disk.new) self.new) }
+        ensures disk { Accounts IsDiskFault (D.counts disk.old).faults (D.counts disk.new).faults result }
+        ensures kinds { (IsErrOf result WorkspaceFault.File → ⊥) × (IsErrOf result WorkspaceFault.Clock → ⊥) }
+    {
+        // Its text says that the name is one.
+        let _text = name.as_str();
+        let nodes = tree.count();
+        let loaded = name.clone()?;
+        match self.db.load(alloc, disk, name, tree) {
+            Ok(()) => Ok(Reply::Loaded {
+                name: loaded,
+                nodes,
+            }),
+            Err(WriteFault::TooLarge) => Ok(refused_load(Why::StoreTooLarge)),
+            Err(WriteFault::Disk) => Err(WorkspaceFault::Disk),
+            Err(WriteFault::Memory) => Err(WorkspaceFault::Memory),
+        }
+    }
+
+    /// Why nothing is loaded under the name, whatever its file gives.
+    fn why_not_loaded(&self, name: &Name) -> Result<Option<Why>, AllocError>
+        requires workspace { IsWorkspace R.contents S.contents self.now }
+        ensures why { IfOk result (λ w. (terms : Terms) (s : Session) (z : Stands R.contents S.contents terms self.now s)
+            → w ≡ why_not_loaded z.db.committed.state s.opened name.now) }
+        ensures open { IfOk result (λ w. w ≡ None → MayLoad R.contents S.contents self.now name.now) }
+    {
+        if self.transaction.is_some() {
+            return Ok(Some(Why::TransactionOpen));
+        }
+        let sources = self.db.sources();
+        if sources.get(name).is_some() {
+            return Ok(Some(Why::SourceThere(name.clone()?)));
+        }
+        if sources.len() == SOURCES_MAX {
+            return Ok(Some(Why::TooManySources));
+        }
+        Ok(None)
+    }
+
+    /// Loads the tree of a file as a source. A load that is refused changes nothing. Costs the file, and what it gives.
+    pub(super) fn load<D: Disk, F: Files>(
+        &mut self,
+        alloc: Global,
+        load: Load,
+        disk: &mut D,
+        files: &mut F,
+    ) -> Result<Reply, WorkspaceFault>
+        requires usable { IsUsable R.contents S.contents (known_disk D.Disk disk.old) self.old }
+        requires other { label_eq load.name target ≡ false }
+        ensures turned { (t : FileTable) → IsTable t (known_files F.Files files.old) (known_files F.Files files.new)
+            → (terms : Terms) (s : Session) → Stands R.contents S.contents terms self.old s
+            → TurnsAs R.contents S.contents (λ r. Some r) terms (turn_of (setting t terms) s (says (Stmt.Load load))) s s.moments self.old self.new
+            (known_disk D.Disk disk.old) (known_disk D.Disk disk.new) result }
+        ensures stays { OnOk result (IsUsable R.contents S.contents (known_disk D.Disk disk.new) self.new) }
+        ensures reads { (terms : Terms) (s : Session) → Stands R.contents S.contents terms self.old s
+            → Reads IsFileFault (statement_reads s (Stmt.Load load)) (known_files F.Files files.old) (known_files F.Files files.new) result }
+        ensures read { HasReadSome (known_files F.Files files.old) (known_files F.Files files.new) }
+        ensures used { UsesFiles IsFileFault (known_files F.Files files.old) (known_files F.Files files.new) result }
+        ensures disk { Accounts IsDiskFault (D.counts disk.old).faults (D.counts disk.new).faults result }
+        ensures kinds { IsErrOf result WorkspaceFault.Clock → ⊥ }
+        ensures untouched { IsErrOf result WorkspaceFault.File → disk.new ≡ disk.old }
+    {
+        if let Some(why) = self.why_not_loaded(&load.name)? {
+            return Ok(refused_load(why));
+        }
+        match fetch::<S, F>(
+            alloc,
+            files,
+            &load.name,
+            &load.form,
+            load.file.items.as_str(),
+        )? {
+            Ok(tree) => self.keep_source(alloc, load.name, tree, disk),
+            Err(why) => Ok(refused_load(why)),
+        }
+    }
+}

@@ -1,0 +1,103 @@
+//! The turn that a cut of an input brings.
+ghost use Rattle.std.specs.Prelude.{◌≡◌, IfOk, OnOk, IsErrOf};
+ghost use Rattle.std.specs.declared.option.Option.TheVariants.{Some};
+ghost use Rattle.cp_outside.specs.Causes.{Accounts};
+ghost use Rattle.cp_session.specs.Session.{Session, turn, turn_of, not_read};
+ghost use Rattle.cp_workspace.specs.Texts.{Terms, setting, reading};
+ghost use Rattle.cp_workspace.specs.Disks.{known_disk};
+ghost use Rattle.cp_workspace.specs.Loads.{text_reads, cut_reads};
+ghost use Rattle.cp_workspace.specs.Files.{known_files, HasReadSome, IsTable, Reads, UsesFiles};
+ghost use Rattle.cp_workspace.specs.Faults.{IsFileFault, IsDiskFault, IsClockFault};
+ghost use Rattle.cp_workspace.specs.Workspaces.{Stands, IsWorkspace, IsUsable, HasTurned, Turned};
+
+use crate::fault::WorkspaceFault;
+use crate::text::read;
+use crate::workspace::Workspace;
+use crate::workspace::refusal::refused;
+use cp_clock::Clock;
+use cp_disk::Disk;
+use cp_lang::Cut;
+use cp_outside::Files;
+use cp_reply::{Reply, Why};
+use cp_tree::TreeRep;
+use std::alloc::{AllocError, Global};
+
+impl<R: TreeRep, S: TreeRep> Workspace<R, S> {
+    /// Refuses a text that can't be read.
+    fn refuse(&mut self, alloc: Global, why: Why) -> Result<Reply, AllocError>
+        requires workspace { IsWorkspace R.contents S.contents self.old }
+        ensures turned { IfOk result (λ r. (terms : Terms) (s : Session) → Stands R.contents S.contents terms self.old s
+            → Turned R.contents S.contents terms (not_read s why) self.new (Some r)) }
+        ensures stays { OnOk result (IsWorkspace R.contents S.contents self.new) }
+        ensures same { self.new.db ≡ self.old.db }
+    {
+        self.spoil(alloc)?;
+        Ok(refused(why))
+    }
+
+    /// Runs what a text says. Costs the text's bytes, and what its statement costs.
+    fn run_text<D: Disk, F: Files, K: Clock>(
+        &mut self,
+        alloc: Global,
+        text: &[u8],
+        disk: &mut D,
+        files: &mut F,
+        clock: &mut K,
+    ) -> Result<Option<Reply>, WorkspaceFault>
+        requires usable { IsUsable R.contents S.contents (known_disk D.Disk disk.old) self.old }
+        ensures turned { HasTurned R.contents S.contents (λ r. r) (λ t terms s. turn_of (setting t terms) s (reading text.now))
+            (λ t. IsTable t (known_files F.Files files.old) (known_files F.Files files.new)) self.old self.new
+            (known_disk D.Disk disk.old) (known_disk D.Disk disk.new) (K.left clock.old) (K.left clock.new) result }
+        ensures stays { OnOk result (IsUsable R.contents S.contents (known_disk D.Disk disk.new) self.new) }
+        ensures reads { (terms : Terms) (s : Session) → Stands R.contents S.contents terms self.old s
+            → Reads IsFileFault (text_reads s (reading text.now)) (known_files F.Files files.old) (known_files F.Files files.new) result }
+        ensures read { HasReadSome (known_files F.Files files.old) (known_files F.Files files.new) }
+        ensures used { UsesFiles IsFileFault (known_files F.Files files.old) (known_files F.Files files.new) result }
+        ensures disk { Accounts IsDiskFault (D.counts disk.old).faults (D.counts disk.new).faults result }
+        ensures clock { Accounts IsClockFault (K.faults clock.old) (K.faults clock.new) result }
+        ensures same { IsErrOf result WorkspaceFault.File → disk.new ≡ disk.old }
+        ensures untouched { IsErrOf result WorkspaceFault.Clock → disk.new ≡ disk.old }
+    {
+        match read(alloc, text)? {
+            Ok(statement) => self.run(alloc, statement, disk, files, clock),
+            Err(why) => Ok(Some(self.refuse(alloc, why)?)),
+        }
+    }
+
+    /// What a cut of the input replies, which is nothing for an operation that is accepted. Costs the cut's bytes, and
+    /// what its statement costs.
+    ///
+    /// A crash at any moment leaves the history before the turn or after it, and once the reply is given, that after it.
+    /// What stands after an error isn't said; where a file or the clock failed, the disk is as it was.
+    pub fn reply_to<D: Disk, F: Files, K: Clock>(
+        &mut self,
+        alloc: Global,
+        cut: Cut,
+        disk: &mut D,
+        files: &mut F,
+        clock: &mut K,
+    ) -> Result<Option<Reply>, WorkspaceFault>
+        requires usable { IsUsable R.contents S.contents (known_disk D.Disk disk.old) self.old }
+        ensures turned { HasTurned R.contents S.contents (λ r. r) (λ t terms s. turn (setting t terms) s cut)
+            (λ t. IsTable t (known_files F.Files files.old) (known_files F.Files files.new)) self.old self.new
+            (known_disk D.Disk disk.old) (known_disk D.Disk disk.new) (K.left clock.old) (K.left clock.new) result }
+        ensures stays { OnOk result (IsUsable R.contents S.contents (known_disk D.Disk disk.new) self.new) }
+        ensures reads { (terms : Terms) (s : Session) → Stands R.contents S.contents terms self.old s
+            → Reads IsFileFault (cut_reads s cut) (known_files F.Files files.old) (known_files F.Files files.new) result }
+        ensures read { HasReadSome (known_files F.Files files.old) (known_files F.Files files.new) }
+        ensures used { UsesFiles IsFileFault (known_files F.Files files.old) (known_files F.Files files.new) result }
+        ensures disk { Accounts IsDiskFault (D.counts disk.old).faults (D.counts disk.new).faults result }
+        ensures clock { Accounts IsClockFault (K.faults clock.old) (K.faults clock.new) result }
+        ensures same { IsErrOf result WorkspaceFault.File → disk.new ≡ disk.old }
+        ensures untouched { IsErrOf result WorkspaceFault.Clock → disk.new ≡ disk.old }
+    {
+        match cut {
+            Cut::Text(text) => self.run_text(alloc, text.as_slice(), disk, files, clock),
+            Cut::TooLong => Ok(Some(self.refuse(alloc, Why::StatementTooLong)?)),
+            Cut::Unfinished(text) => {
+                let why = Why::Syntax(text.as_slice().len());
+                Ok(Some(self.refuse(alloc, why)?))
+            }
+        }
+    }
+}
