@@ -1,3 +1,8 @@
-pub mod Plays
-pub mod Runs
-pub mod Whole
+mod Asked
+mod Blame
+mod Lines
+mod Plays
+mod Runs
+mod Whole
+mod Opened
+mod Made

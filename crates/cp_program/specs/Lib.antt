@@ -6,3 +6,4 @@ pub mod Ends
 pub mod Story
 pub mod Starts
 pub mod Turns
+pub mod Begins

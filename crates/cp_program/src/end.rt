@@ -16,12 +16,19 @@ pub enum End {
     File,
     /// The output failed.
     Output,
+    /// The disk failed.
+    Disk,
+    /// The file is no store, from this offset on.
+    NoStore(u64),
     Memory,
     /// More input came than a call takes.
     TooLong,
+    /// The clock failed.
+    Clock,
 }
 
-/// The exit status of the program: 0 done, 1 refused, 2 usage, 3 input or file, 4 output, 7 memory, 8 input too long.
+/// The exit status of the program: 0 done, 1 refused, 2 usage, 3 input or file, 4 output, 5 disk, 6 not a store, 7 memory,
+/// 8 input too long, 9 clock.
 #[derive(Clone, Copy, Debug, Drop, PartialEq, Eq)]
 pub struct Status {
     pub code: u8,
@@ -37,8 +44,11 @@ impl End {
             End::Usage => 2,
             End::Input | End::File => 3,
             End::Output => 4,
+            End::Disk => 5,
+            End::NoStore(_) => 6,
             End::Memory => 7,
             End::TooLong => 8,
+            End::Clock => 9,
         }
     }
 }

@@ -1,35 +1,33 @@
-//! A session: the cuts of its input, run one after another on its database.
-ghost use Rattle.std.specs.Prelude.{◌≡◌, ◌||◌, ◌≤◌, ◌<◌, ◌+◌, true, false, length, IfOk, OnOk, [], ◌∷◌};
+//! A session: the cuts of its input, run one after another in its workspace.
+ghost use Rattle.std.specs.Prelude.{◌≡◌, ◌||◌, false, OnOk, IfErr, [], ◌∷◌};
 ghost use Rattle.std.specs.Option.{option_to_list};
-ghost use Rattle.cp_outside.specs.FileReads.{FileTable};
 ghost use Rattle.cp_reply.specs.Lines.{lines};
-ghost use Rattle.cp_lang.specs.Cuts.{rest_of};
 ghost use Rattle.cp_program.specs.Job.{is_refusal};
-ghost use Rattle.cp_database.specs.Databases.{runs_of};
-ghost use Rattle.cp_database.specs.Files.{known_files, HasReadSome, IsTable};
+ghost use Rattle.cp_lang.specs.Cuts.{scan_start};
+ghost use Rattle.cp_lang.specs.CutterState.{held_of};
+ghost use Rattle.cp_workspace.specs.Disks.{known_disk};
 ghost use Rattle.cp_program.specs.Outside.{known_output, known_world};
-ghost use Rattle.cp_program.specs.Play.{Seen, start, plays, after_play};
-ghost use Rattle.cp_program.specs.Turns.{Follows, FollowsOne, SendsOut, Goes, Fed, RunsLast, Uses, UsesOutput, cuts_play, after_cuts};
-ghost use Rattle.cp_database.specs.declared.limits.TheConstants.{RUNS_MAX};
+ghost use Rattle.cp_program.specs.Play.{plays, after_play};
+ghost use Rattle.cp_program.specs.Turns.{MayGoOn, SendsOut, Went, WasFed, RanLast, Uses, UsesOutput, IsOpenedStop, cuts_play, after_cuts};
 
-use crate::stop::{Stop, stop_of};
+use crate::stop::Stop;
 use crate::tell::tell;
-use cp_database::Database;
-use cp_kinds::KindStore;
+use cp_clock::Clock;
+use cp_disk::Disk;
 use cp_lang::{Cut, Cutter};
-use cp_model::Kind;
 use cp_outside::{Files, Sink};
 use cp_reply::Reply;
 use cp_tree::TreeRep;
-use std::alloc::{AllocError, Global};
+use cp_workspace::Workspace;
+use std::alloc::Global;
 use std::mem;
 
-/// A session between two bytes of its input, as the program keeps it.
+/// A session between two bytes of its input, as the program keeps it. Each call takes the disk of its workspace.
 #[derive(Drop)]
 pub(crate) struct Interpreter<R: TreeRep, S: TreeRep> {
     alloc: Global,
     cutter: Cutter,
-    database: Database<R, S, KindStore>,
+    workspace: Workspace<R, S>,
     /// Room for the lines of a reply.
     text: Vec<u8>,
     /// Whether a refusal was written.
@@ -46,20 +44,19 @@ fn is_refusal(reply: &Reply) -> bool
 }
 
 impl<R: TreeRep, S: TreeRep> Interpreter<R, S> {
-    /// A session of a kind on this tree, without sources and without rows.
-    pub(crate) fn new(alloc: Global, kind: Kind, tree: R) -> Result<Interpreter<R, S>, AllocError>
-        ensures start { IfOk result (λ x. Follows R.contents S.contents x (start kind (R.contents tree))) }
-        ensures refused { IfOk result (λ x. x.refused ≡ false) }
-        ensures runs { IfOk result (λ x. runs_of x.database ≡ 0) }
+    /// A session in this workspace, before the first byte.
+    pub(crate) fn new(alloc: Global, workspace: Workspace<R, S>) -> Interpreter<R, S>
+        ensures cutter { result.cutter ≡ held_of scan_start }
+        ensures workspace { result.workspace ≡ workspace }
+        ensures refused { result.refused ≡ false }
     {
-        let store = KindStore::new(alloc, kind, 0)?;
-        Ok(Interpreter {
+        Interpreter {
             alloc,
             cutter: Cutter::new(alloc),
-            database: Database::new(alloc, tree, store),
+            workspace,
             text: Vec::new(alloc),
             refused: false,
-        })
+        }
     }
 
     /// Whether a refusal was written.
@@ -73,7 +70,7 @@ impl<R: TreeRep, S: TreeRep> Interpreter<R, S> {
     fn say<O: Sink>(&mut self, reply: &Reply, output: &mut O) -> Result<(), Stop>
         ensures went { SendsOut (lines reply.now) (O.contents output.old) (O.contents output.new) result }
         ensures held { OnOk result (self.new.cutter ≡ self.old.cutter) }
-        ensures database { OnOk result (self.new.database ≡ self.old.database) }
+        ensures workspace { OnOk result (self.new.workspace ≡ self.old.workspace) }
         ensures refused { OnOk result (self.new.refused ≡ (self.old.refused || is_refusal reply.now)) }
         ensures used { UsesOutput (known_output O.Sink output.old) (known_output O.Sink output.new) result }
     {
@@ -83,89 +80,98 @@ impl<R: TreeRep, S: TreeRep> Interpreter<R, S> {
     }
 
     /// Runs a cut, if there is one, and writes what it replies.
-    fn run<F: Files, O: Sink>(
+    fn run<D: Disk, F: Files, K: Clock, O: Sink>(
         &mut self,
         cut: Option<Cut>,
+        disk: &mut D,
         files: &mut F,
+        clock: &mut K,
         output: &mut O,
     ) -> Result<(), Stop>
-        requires stands { FollowsOne R.contents S.contents self.old }
-        requires room { runs_of self.old.database < RUNS_MAX }
-        ensures runs { OnOk result (runs_of self.new.database ≤ runs_of self.old.database + 1) }
-        ensures went { (t : FileTable) → IsTable t (known_files F.Files files.old) (known_files F.Files files.new) → (s : Seen) → Follows R.contents S.contents self.old s
-            → Goes R.contents S.contents (cuts_play t s (option_to_list cut)) (after_cuts t s (option_to_list cut)) self.old self.new (known_world F.Files O.Sink files.old output.old) (known_world F.Files O.Sink files.new output.new) result }
-        ensures stays { OnOk result (FollowsOne R.contents S.contents self.new) }
-        ensures uses { Uses (known_world F.Files O.Sink files.old output.old) (known_world F.Files O.Sink files.new output.new) result }
-        ensures read { HasReadSome (known_files F.Files files.old) (known_files F.Files files.new) }
+        requires goes_on { MayGoOn R.contents S.contents (known_disk D.Disk disk.old) self.old }
+        ensures went { Went R.contents S.contents (λ t s. cuts_play t s (option_to_list cut)) (λ t s. after_cuts t s (option_to_list cut)) self.old self.new
+            (known_world F.Files K.Clock O.Sink files.old clock.old output.old) (known_world F.Files K.Clock O.Sink files.new clock.new output.new)
+            (known_disk D.Disk disk.old) (known_disk D.Disk disk.new) result }
+        ensures stays { OnOk result (MayGoOn R.contents S.contents (known_disk D.Disk disk.new) self.new) }
+        ensures uses { Uses (known_world F.Files K.Clock O.Sink files.old clock.old output.old) (known_world F.Files K.Clock O.Sink files.new clock.new output.new)
+            (known_disk D.Disk disk.old) (known_disk D.Disk disk.new) result }
+        ensures opened { IfErr result IsOpenedStop }
     {
         let Some(cut) = cut else {
             return Ok(());
         };
-        match self.database.reply_to(self.alloc, cut, files) {
-            Ok(Some(reply)) => self.say(&reply, output),
-            Ok(None) => Ok(()),
-            Err(fault) => Err(stop_of(fault)),
+        match self
+            .workspace
+            .reply_to(self.alloc, cut, disk, files, clock)?
+        {
+            Some(reply) => self.say(&reply, output),
+            None => Ok(()),
         }
     }
 
-    fn push<F: Files, O: Sink>(
+    fn push<D: Disk, F: Files, K: Clock, O: Sink>(
         &mut self,
         byte: u8,
+        disk: &mut D,
         files: &mut F,
+        clock: &mut K,
         output: &mut O,
     ) -> Result<(), Stop>
-        requires stands { FollowsOne R.contents S.contents self.old }
-        requires room { runs_of self.old.database < RUNS_MAX }
-        ensures runs { OnOk result (runs_of self.new.database ≤ runs_of self.old.database + 1) }
-        ensures went { (t : FileTable) → IsTable t (known_files F.Files files.old) (known_files F.Files files.new) → (s : Seen) → Follows R.contents S.contents self.old s
-            → Goes R.contents S.contents (plays t s (byte ∷ [])) (after_play t s (byte ∷ [])) self.old self.new (known_world F.Files O.Sink files.old output.old) (known_world F.Files O.Sink files.new output.new) result }
-        ensures stays { OnOk result (FollowsOne R.contents S.contents self.new) }
-        ensures uses { Uses (known_world F.Files O.Sink files.old output.old) (known_world F.Files O.Sink files.new output.new) result }
-        ensures read { HasReadSome (known_files F.Files files.old) (known_files F.Files files.new) }
+        requires goes_on { MayGoOn R.contents S.contents (known_disk D.Disk disk.old) self.old }
+        ensures went { Went R.contents S.contents (λ t s. plays t s (byte ∷ [])) (λ t s. after_play t s (byte ∷ [])) self.old self.new
+            (known_world F.Files K.Clock O.Sink files.old clock.old output.old) (known_world F.Files K.Clock O.Sink files.new clock.new output.new)
+            (known_disk D.Disk disk.old) (known_disk D.Disk disk.new) result }
+        ensures stays { OnOk result (MayGoOn R.contents S.contents (known_disk D.Disk disk.new) self.new) }
+        ensures uses { Uses (known_world F.Files K.Clock O.Sink files.old clock.old output.old) (known_world F.Files K.Clock O.Sink files.new clock.new output.new)
+            (known_disk D.Disk disk.old) (known_disk D.Disk disk.new) result }
+        ensures opened { IfErr result IsOpenedStop }
     {
         let cut = self.cutter.push(byte)?;
-        self.run(cut, files, output)
+        self.run(cut, disk, files, clock, output)
     }
 
     /// Runs the statements that end in the next piece of the input, each reply written before the next byte is taken.
     /// Keeps the bytes since the last statement's end, up to the longest that a statement may have.
-    pub(crate) fn feed<F: Files, O: Sink>(
+    pub(crate) fn feed<D: Disk, F: Files, K: Clock, O: Sink>(
         &mut self,
         piece: &[u8],
+        disk: &mut D,
         files: &mut F,
+        clock: &mut K,
         output: &mut O,
     ) -> Result<(), Stop>
-        requires stands { FollowsOne R.contents S.contents self.old }
-        requires room { runs_of self.old.database + length piece.now ≤ RUNS_MAX }
-        ensures runs { OnOk result (runs_of self.new.database ≤ runs_of self.old.database + length piece.now) }
-        ensures went { (t : FileTable) → IsTable t (known_files F.Files files.old) (known_files F.Files files.new) → (s : Seen) → Follows R.contents S.contents self.old s
-            → Fed R.contents S.contents t s piece.now self.old self.new (known_world F.Files O.Sink files.old output.old) (known_world F.Files O.Sink files.new output.new) result }
-        ensures stays { OnOk result (FollowsOne R.contents S.contents self.new) }
-        ensures uses { Uses (known_world F.Files O.Sink files.old output.old) (known_world F.Files O.Sink files.new output.new) result }
-        ensures read { HasReadSome (known_files F.Files files.old) (known_files F.Files files.new) }
+        requires goes_on { MayGoOn R.contents S.contents (known_disk D.Disk disk.old) self.old }
+        ensures went { WasFed R.contents S.contents piece.now self.old self.new
+            (known_world F.Files K.Clock O.Sink files.old clock.old output.old) (known_world F.Files K.Clock O.Sink files.new clock.new output.new)
+            (known_disk D.Disk disk.old) (known_disk D.Disk disk.new) result }
+        ensures stays { OnOk result (MayGoOn R.contents S.contents (known_disk D.Disk disk.new) self.new) }
+        ensures uses { Uses (known_world F.Files K.Clock O.Sink files.old clock.old output.old) (known_world F.Files K.Clock O.Sink files.new clock.new output.new)
+            (known_disk D.Disk disk.old) (known_disk D.Disk disk.new) result }
+        ensures opened { IfErr result IsOpenedStop }
     {
         for byte in piece {
-            self.push(*byte, files, output)?;
+            self.push(*byte, disk, files, clock, output)?;
         }
         Ok(())
     }
 
     /// The input has ended: a text that is left is refused.
-    pub(crate) fn close<F: Files, O: Sink>(
+    pub(crate) fn close<D: Disk, F: Files, K: Clock, O: Sink>(
         &mut self,
+        disk: &mut D,
         files: &mut F,
+        clock: &mut K,
         output: &mut O,
     ) -> Result<(), Stop>
-        requires stands { FollowsOne R.contents S.contents self.old }
-        requires room { runs_of self.old.database < RUNS_MAX }
-        ensures runs { OnOk result (runs_of self.new.database ≤ runs_of self.old.database + 1) }
-        ensures went { (t : FileTable) → IsTable t (known_files F.Files files.old) (known_files F.Files files.new) → (s : Seen) → Follows R.contents S.contents self.old s
-            → RunsLast t s self.old self.new (known_world F.Files O.Sink files.old output.old) (known_world F.Files O.Sink files.new output.new) result }
-        ensures stays { OnOk result (FollowsOne R.contents S.contents self.new) }
-        ensures uses { Uses (known_world F.Files O.Sink files.old output.old) (known_world F.Files O.Sink files.new output.new) result }
-        ensures read { HasReadSome (known_files F.Files files.old) (known_files F.Files files.new) }
+        requires goes_on { MayGoOn R.contents S.contents (known_disk D.Disk disk.old) self.old }
+        ensures went { RanLast R.contents S.contents self.old self.new
+            (known_world F.Files K.Clock O.Sink files.old clock.old output.old) (known_world F.Files K.Clock O.Sink files.new clock.new output.new)
+            (known_disk D.Disk disk.old) (known_disk D.Disk disk.new) result }
+        ensures uses { Uses (known_world F.Files K.Clock O.Sink files.old clock.old output.old) (known_world F.Files K.Clock O.Sink files.new clock.new output.new)
+            (known_disk D.Disk disk.old) (known_disk D.Disk disk.new) result }
+        ensures opened { IfErr result IsOpenedStop }
     {
         let cutter = mem::replace(&mut self.cutter, Cutter::new(self.alloc));
-        self.run(cutter.rest(), files, output)
+        self.run(cutter.rest(), disk, files, clock, output)
     }
 }

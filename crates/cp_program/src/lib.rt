@@ -1,13 +1,18 @@
-//! Everything that the program does but for the real files, input and output: words, statements and source files to
-//! replies and an exit status.
+//! Everything that the program does but for the real disk, files, clock, input and output: words, statements and source
+//! files to replies, a store and an exit status.
 #![tactic(auto)]
 
 mod command;
 mod end;
+mod init;
 mod interpreter;
 mod limits;
 mod run;
+mod scratch;
+mod session;
+mod start;
 mod stop;
+mod store;
 mod tell;
 
 pub use end::Status;

@@ -1,11 +1,11 @@
-ghost use Rattle.std.specs.Prelude.{◌≡◌};
-
-use cp_database::DatabaseFault;
+use cp_db::OpenFault;
+use cp_journal::JournalFault;
 use cp_outside::{FilesFault, SinkFault};
+use cp_workspace::WorkspaceFault;
 use std::alloc::{AllocError, AllocFailed};
 use thiserror::Error;
 
-/// Why a session ended before its input did.
+/// Why a session ended before its input did, or wasn't begun.
 #[derive(Clone, Copy, Debug, Drop, PartialEq, Eq, Error)]
 pub enum Stop {
     #[error("the output failed")]
@@ -15,6 +15,13 @@ pub enum Stop {
     Full,
     #[error("a file failed")]
     File,
+    #[error("the disk failed")]
+    Disk,
+    /// The file is no store, from this offset on.
+    #[error("not a store, at {0}")]
+    NoStore(u64),
+    #[error("the clock failed")]
+    Clock,
     #[error("out of memory")]
     Memory,
 }
@@ -71,15 +78,53 @@ impl From<FilesFault> for Stop {
     }
 }
 
-/// Why a session stops where its database has a fault, whose store is in memory.
-pub(crate) fn stop_of(fault: DatabaseFault) -> Stop
-    requires memory { ¬ (fault ≡ DatabaseFault.Disk) }
-    ensures file { fault ≡ DatabaseFault.File → result ≡ Stop.File }
-    ensures memory { fault ≡ DatabaseFault.Memory → result ≡ Stop.Memory }
-{
-    match fault {
-        DatabaseFault::File => Stop::File,
-        DatabaseFault::Disk => unreachable!(),
-        DatabaseFault::Memory => Stop::Memory,
+impl From<WorkspaceFault> for Stop {
+    ghost use Rattle.std.specs.Prelude.{◌≡◌};
+    ghost use Rattle.cp_workspace.specs.declared.fault.WorkspaceFault.TheVariants as fault;
+    ghost use Rattle.cp_program.specs.declared.stop.Stop.TheVariants.{File, Disk, Clock, Memory};
+
+    ghost from_gives = { λ f e. (f ≡ fault.File → e ≡ File) × (f ≡ fault.Disk → e ≡ Disk)
+        × (f ≡ fault.Clock → e ≡ Clock) × (f ≡ fault.Memory → e ≡ Memory) };
+
+    fn from(fault: WorkspaceFault) -> Stop {
+        match fault {
+            WorkspaceFault::File => Stop::File,
+            WorkspaceFault::Disk => Stop::Disk,
+            WorkspaceFault::Clock => Stop::Clock,
+            WorkspaceFault::Memory => Stop::Memory,
+        }
+    }
+}
+
+impl From<OpenFault> for Stop {
+    ghost use Rattle.std.specs.Prelude.{◌≡◌, ℕ};
+    ghost use Rattle.cp_db.specs.declared.fault.OpenFault.TheVariants as fault;
+    ghost use Rattle.cp_program.specs.declared.stop.Stop.TheVariants.{Disk, NoStore, Memory};
+
+    ghost from_gives = { λ f e. (f ≡ fault.Disk → e ≡ Disk) × (f ≡ fault.Memory → e ≡ Memory)
+        × ((at : ℕ) → f ≡ fault.NoStore at → e ≡ NoStore at) };
+
+    fn from(fault: OpenFault) -> Stop {
+        match fault {
+            OpenFault::NoStore(at) => Stop::NoStore(at),
+            OpenFault::Disk => Stop::Disk,
+            OpenFault::Memory => Stop::Memory,
+        }
+    }
+}
+
+/// What the journal has no reason to answer here is read as want of memory.
+impl From<JournalFault> for Stop {
+    ghost use Rattle.std.specs.Prelude.{◌≡◌};
+    ghost use Rattle.cp_journal.specs.declared.fault.JournalFault.TheVariants as fault;
+    ghost use Rattle.cp_program.specs.declared.stop.Stop.TheVariants.{Disk, Memory};
+
+    ghost from_gives = { λ f e. (f ≡ fault.Disk → e ≡ Disk) × (f ≡ fault.Memory → e ≡ Memory) };
+
+    fn from(fault: JournalFault) -> Stop {
+        match fault {
+            JournalFault::Disk => Stop::Disk,
+            _ => Stop::Memory,
+        }
     }
 }

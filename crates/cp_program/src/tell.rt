@@ -1,7 +1,7 @@
 //! Lines that go to the output: replies, and the last line of a call that doesn't end with one.
-ghost use Rattle.std.specs.Prelude.{◌≡◌, ◌≤◌, [], OnErr};
+ghost use Rattle.std.specs.Prelude.{◌≡◌, ◌≤◌, []};
 ghost use Rattle.cp_reply.specs.Lines.{lines};
-ghost use Rattle.cp_program.specs.Words.{memory_line, file_line};
+ghost use Rattle.cp_program.specs.Words.{memory_line, no_store_line};
 ghost use Rattle.cp_program.specs.Outside.{known_output};
 ghost use Rattle.cp_program.specs.Story.{WritesLast};
 ghost use Rattle.cp_program.specs.Turns.{SendsOut, TellsStop, UsesOutput, end_of_stop};
@@ -10,6 +10,7 @@ use crate::end::End;
 use crate::stop::Stop;
 use cp_outside::{Sink, write_all};
 use cp_reply::{Reply, lines};
+use itoa::Buffer;
 use std::alloc::Global;
 
 /// Writes the lines of a reply, by way of `text`, whose old contents are dropped.
@@ -36,6 +37,21 @@ pub(crate) fn last_line<O: Sink>(output: &mut O, line: &[u8])
     let _ = write_all(output, line);
 }
 
+/// Writes the last line of a call that met no store: that it is none from this offset on. Takes no memory.
+fn no_store_line<O: Sink>(output: &mut O, at: u64)
+    ensures wrote { WritesLast (known_output O.Sink output.old) (known_output O.Sink output.new) [] (no_store_line at) }
+    ensures later { O.faults output.old ≤ O.faults output.new }
+{
+    if write_all(output, b"error: not a store at ").is_err() {
+        return;
+    }
+    let mut digits = Buffer::new();
+    if write_all(output, digits.format(at).as_bytes()).is_err() {
+        return;
+    }
+    last_line(output, b"\n");
+}
+
 /// There was no memory to begin with, or to go on.
 pub(crate) fn out_of_memory<O: Sink>(output: &mut O) -> End
     ensures end { result ≡ End.Memory }
@@ -46,14 +62,18 @@ pub(crate) fn out_of_memory<O: Sink>(output: &mut O) -> End
     End::Memory
 }
 
-/// A file failed.
-fn file_failed<O: Sink>(output: &mut O) -> End
-    ensures end { result ≡ End.File }
-    ensures wrote { WritesLast (known_output O.Sink output.old) (known_output O.Sink output.new) [] file_line }
-    ensures later { O.faults output.old ≤ O.faults output.new }
+/// The end of a call whose session stopped so.
+fn end_of(stop: Stop) -> End
+    ensures { result ≡ end_of_stop stop }
 {
-    last_line(output, b"error: file\n");
-    End::File
+    match stop {
+        Stop::Output => End::Output,
+        Stop::Full | Stop::Memory => End::Memory,
+        Stop::File => End::File,
+        Stop::Disk => End::Disk,
+        Stop::NoStore(at) => End::NoStore(at),
+        Stop::Clock => End::Clock,
+    }
 }
 
 /// How a session ends that was stopped.
@@ -63,9 +83,12 @@ pub(crate) fn stopped<O: Sink>(output: &mut O, stop: Stop) -> End
     ensures later { O.faults output.old ≤ O.faults output.new }
 {
     match stop {
-        Stop::Output => End::Output,
-        Stop::Full => End::Memory,
-        Stop::File => file_failed(output),
-        Stop::Memory => out_of_memory(output),
+        Stop::Output | Stop::Full => {}
+        Stop::File => last_line(output, b"error: file\n"),
+        Stop::Disk => last_line(output, b"error: disk\n"),
+        Stop::NoStore(at) => no_store_line(output, at),
+        Stop::Clock => last_line(output, b"error: clock\n"),
+        Stop::Memory => last_line(output, b"error: memory\n"),
     }
+    end_of(stop)
 }

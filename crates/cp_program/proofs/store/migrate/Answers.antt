@@ -1,0 +1,23 @@
+use Rattle.std.proofs.Common.{inl, inr, refl, false, true}
+use Rattle.cp_workspace.specs.Disks.{known_disk}
+use Rattle.cp_program.proofs.Opened.{none-migrated, unspent}
+use Rattle.cp_program.proofs.store.migrate.Goals as goal
+
+pub returns-then-version-eq2-clause-migrated : goal.returns-then-version-eq2-clause-migrated
+returns-then-version-eq2-clause-migrated g c = none-migrated g.R.TreeRep.contents g.S.TreeRep.contents c.args.db (known_disk g.D.Disk c.args.disk.now)
+
+pub returns-in-Ok-clause-migrated : goal.returns-in-Ok-clause-migrated
+returns-in-Ok-clause-migrated g c = λ h z known k. (c.in-Ok.ensures.crash known h k, (c.in-Ok.ensures.stands true h z, c.in-Ok.ensures.kept known true h k, c.in-Ok.ensures.end))
+
+pub returns-in-Ok-clause-usable : goal.returns-in-Ok-clause-usable
+returns-in-Ok-clause-usable g c = (
+  (c.requires.stands.0, c.in-Ok.ensures.stands false c.requires.stands.0 c.requires.stands.1),
+  unspent _ (λ t. elim (c.in-Ok.ensures.spent.0 t) [ inl e ↦ absurd (cc) | inr e ↦ absurd (cc) ]),
+  c.in-Ok.ensures.version,
+)
+
+pub returns-in-Err-Disk-clause-migrated : goal.returns-in-Err-Disk-clause-migrated
+returns-in-Err-Disk-clause-migrated g c = λ h z known k. (c.migrate.ensures.crash known h k, inl refl)
+
+pub returns-clause-migrated : goal.returns-clause-migrated
+returns-clause-migrated g c = λ h z known k. (c.migrate.ensures.crash known h k, inr refl)

@@ -1,0 +1,13 @@
+use Rattle.cp_workspace.specs.Disks.{known_disk}
+use Rattle.cp_program.proofs.Opened.{opened-result, opened-leaves}
+use Rattle.cp_program.proofs.store.open_db.Goals as goal
+
+pub returns-clause-opened : goal.returns-clause-opened
+returns-clause-opened g c = λ known.
+    opened-result g.R.TreeRep.contents g.S.TreeRep.contents (known_disk g.D.Disk c.args.disk.now) (known_disk g.D.Disk c.open_on.new.disk) (known_disk g.D.Disk c.migrate.new.disk)
+    c.in_ok-db.db c.migrate.result known (c.in_ok-db.ensures.opened known) (c.open_on.ensures.rests known) (g.met.D.Disk.leaves_content c.open_on.new.disk known) c.migrate.ensures.migrated c.migrate.ensures.kinds
+
+pub returns-clause-leaves : goal.returns-clause-leaves
+returns-clause-leaves g c = λ known.
+    opened-leaves g.R.TreeRep.contents g.S.TreeRep.contents (known_disk g.D.Disk c.args.disk.now) (known_disk g.D.Disk c.open_on.new.disk) (known_disk g.D.Disk c.migrate.new.disk)
+    c.in_ok-db.db c.migrate.result known (c.in_ok-db.ensures.opened known) (c.open_on.ensures.rests known) c.migrate.ensures.migrated

@@ -1,0 +1,102 @@
+//! A new store.
+ghost use Rattle.std.specs.Prelude.{◌≡◌, ◌⊎◌, IsTrue, IfErr};
+ghost use Rattle.cp_outside.specs.Causes.{Accounts};
+ghost use Rattle.cp_disk.specs.Views.{Keeps};
+ghost use Rattle.cp_journal.specs.NewStores.{IsVacant};
+ghost use Rattle.cp_db.specs.Writing.{IsOldOrVacantOrStart};
+ghost use Rattle.cp_workspace.specs.Disks.{known_disk};
+ghost use Rattle.cp_workspace.specs.Files.{known_files, UsesFiles};
+ghost use Rattle.cp_program.specs.Begins.{CreatedAs, StoreMade};
+ghost use Rattle.cp_program.specs.Job.{start_given, start_reads};
+ghost use Rattle.cp_program.specs.Outside.{KnownInput, KnownClock, known_output};
+ghost use Rattle.cp_program.specs.Starts.{start_asked};
+ghost use Rattle.cp_program.specs.Story.{Made, HasCauses, DiskCauses};
+ghost use Rattle.cp_program.specs.Turns.{IsDiskStop, IsFileStop};
+
+use crate::command::Start;
+use crate::end::End;
+use crate::start::{end_with, start_tree};
+use crate::stop::Stop;
+use crate::tell::stopped;
+use cp_db::{Db, InitFault};
+use cp_disk::Disk;
+use cp_journal::Journal;
+use cp_model::Kind;
+use cp_outside::{Files, Sink};
+use cp_reply::{Of, Reply, Why};
+use cp_tree::TreeRep;
+use std::alloc::Global;
+
+/// The refusal of a new store.
+fn refused(why: Why) -> Reply
+    ensures { result ≡ Reply.Refused Of.Init why }
+{
+    Reply::Refused { of: Of::Init, why }
+}
+
+/// Makes a store from this tree, in a file that was vacant. That there is a store by now is read as want of memory.
+fn create<R: TreeRep, D: Disk>(
+    alloc: Global,
+    kind: Kind,
+    tree: R,
+    disk: &mut D,
+) -> Result<Reply, Stop>
+    ensures created { IsTrue D.is_known → IsVacant (D.view disk.old).content → CreatedAs kind (R.contents tree) (known_disk D.Disk disk.new) result }
+    ensures crash { IsTrue D.is_known → Keeps (IsOldOrVacantOrStart (D.view disk.old) kind (R.contents tree)) (D.view disk.old) (D.view disk.new) }
+    ensures cause { Accounts IsDiskStop (D.counts disk.old).faults (D.counts disk.new).faults result }
+    ensures kinds { IfErr result (λ e. (e ≡ Stop.Disk) ⊎ (e ≡ Stop.Memory)) }
+{
+    let nodes = tree.count();
+    match Db::<R, R>::init(alloc, disk, kind, tree) {
+        Ok(_) => Ok(Reply::Created { kind, nodes }),
+        Err(InitFault::Disk) => Err(Stop::Disk),
+        Err(InitFault::Exists | InitFault::Memory) => Err(Stop::Memory),
+    }
+}
+
+/// Makes a store, unless there is one, or says why there is no start tree.
+fn make<R: TreeRep, D: Disk, F: Files>(
+    alloc: Global,
+    kind: Kind,
+    start: Start<'_>,
+    disk: &mut D,
+    files: &mut F,
+) -> Result<Reply, Stop>
+    ensures made { StoreMade kind (λ t. start_given t (start_asked start.entry)) (start_reads (start_asked start.entry))
+        (known_files F.Files files.old) (known_files F.Files files.new) (known_disk D.Disk disk.old) (known_disk D.Disk disk.new) result }
+    ensures used { UsesFiles IsFileStop (known_files F.Files files.old) (known_files F.Files files.new) result }
+    ensures cause { Accounts IsDiskStop (D.counts disk.old).faults (D.counts disk.new).faults result }
+{
+    if !Journal::vacant(disk)? {
+        return Ok(refused(Why::StoreExists));
+    }
+    match start_tree::<R, F>(alloc, start, files)? {
+        Ok(tree) => create(alloc, kind, tree, disk),
+        Err(why) => Ok(refused(why)),
+    }
+}
+
+/// Makes a store, and says so, or why it wasn't made. The file is looked at before the start tree is read.
+pub(crate) fn init<R: TreeRep, D: Disk, F: Files, O: Sink>(
+    alloc: Global,
+    kind: Kind,
+    start: Start<'_>,
+    disk: &mut D,
+    files: &mut F,
+    output: &mut O,
+) -> End
+    ensures made { (i : KnownInput) (c : KnownClock) → Made kind (λ t. start_given t (start_asked start.entry)) (start_reads (start_asked start.entry))
+        (record { input = i; files = known_files F.Files files.old; clock = c; output = known_output O.Sink output.old })
+        (record { input = i; files = known_files F.Files files.new; clock = c; output = known_output O.Sink output.new })
+        (known_disk D.Disk disk.old) (known_disk D.Disk disk.new) result }
+    ensures causes { (i : KnownInput) (c : KnownClock) → HasCauses
+        (record { input = i; files = known_files F.Files files.old; clock = c; output = known_output O.Sink output.old })
+        (record { input = i; files = known_files F.Files files.new; clock = c; output = known_output O.Sink output.new }) result }
+    ensures disk { DiskCauses (known_disk D.Disk disk.old) (known_disk D.Disk disk.new) result }
+    ensures short { result ≡ End.TooLong → ⊥ }
+{
+    match make::<R, D, F>(alloc, kind, start, disk, files) {
+        Ok(reply) => end_with(alloc, &reply, output),
+        Err(stop) => stopped(output, stop),
+    }
+}

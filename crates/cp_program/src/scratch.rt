@@ -1,0 +1,145 @@
+//! A session in memory.
+ghost use Rattle.std.specs.Prelude.{◌≡◌, ◌+◌, ◌∷◌, [], Bool, true, false, List, ℕ, IfOk};
+ghost use Rattle.cp_disk.specs.MemoryDisks.{sure_view};
+ghost use Rattle.cp_journal.specs.NewStores.{IsVacant};
+ghost use Rattle.cp_journal.specs.declared.limits.TheConstants.{HEADER_SIZE, FRAME_HEAD};
+ghost use Rattle.cp_model.specs.History.{start};
+ghost use Rattle.cp_outside.specs.FileReads.{FileTable};
+ghost use Rattle.cp_file.specs.Sizes.{start_size};
+ghost use Rattle.cp_db.specs.Databases as database;
+ghost use Rattle.cp_db.specs.Databases.{IsKept, IsReady, end_in, is_spent, version_in};
+ghost use Rattle.cp_workspace.specs.Faults.{IsFailedFile};
+ghost use Rattle.cp_workspace.specs.Files.{known_files, IsTable, Reads, UsesFiles};
+ghost use Rattle.cp_program.specs.Begins.{Begun, sure_disk};
+ghost use Rattle.cp_program.specs.Job.{start_given, start_reads, scratch_terms, scratch_session};
+ghost use Rattle.cp_program.specs.Outside.{known_outside};
+ghost use Rattle.cp_program.specs.Starts.{start_asked};
+ghost use Rattle.cp_program.specs.Story.{Ran, HasCauses};
+ghost use Rattle.cp_program.specs.Play.{begun};
+ghost use Rattle.cp_program.specs.Turns.{Follows, MayGoOn};
+
+use crate::command::Start;
+use crate::end::End;
+use crate::interpreter::Interpreter;
+use crate::limits::PIECE_MAX;
+use crate::session::turns;
+use crate::start::{curator_of, end_with, start_tree};
+use crate::stop::Stop;
+use crate::tell::{out_of_memory, stopped};
+use cp_clock::Clock;
+use cp_db::{Db, InitFault};
+use cp_disk::SureDisk;
+use cp_model::Kind;
+use cp_outside::{Files, FilesFault, Sink, Source};
+use cp_reply::{Of, Reply, Why};
+use cp_tree::TreeRep;
+use cp_workspace::Workspace;
+use std::alloc::{AllocError, Global};
+
+/// A database of a kind on this tree, in memory.
+fn new_db<R: TreeRep, S: TreeRep>(
+    alloc: Global,
+    kind: Kind,
+    tree: R,
+    disk: &mut SureDisk,
+) -> Result<Db<R, S>, AllocError>
+    requires vacant { IsVacant (sure_view disk.old).content }
+    ensures stands { IfOk result (λ d. (right : Bool) → database.Stands R.contents S.contents right d (start kind (R.contents tree) ∷ [])) }
+    ensures kept { IfOk result (λ d. IsKept true d (start kind (R.contents tree) ∷ []) (sure_view disk.new)) }
+    ensures made { IfOk result (λ d. (version_in d ≡ 2) × (is_spent d ≡ false)
+        × (end_in d ≡ HEADER_SIZE + FRAME_HEAD + start_size (R.contents tree))) }
+    ensures ready { IfOk result (λ d. IsReady d (sure_view disk.new)) }
+{
+    match Db::init(alloc, disk, kind, tree) {
+        Ok(db) => Ok(db),
+        Err(InitFault::Exists | InitFault::Disk) => unreachable!(),
+        Err(InitFault::Memory) => Err(AllocError),
+    }
+}
+
+/// A session of a kind on this tree.
+fn session_on<R: TreeRep, S: TreeRep>(
+    alloc: Global,
+    kind: Kind,
+    tree: R,
+    disk: &mut SureDisk,
+) -> Result<Interpreter<R, S>, AllocError>
+    requires vacant { IsVacant (sure_view disk.old).content }
+    ensures follows { IfOk result (λ x. (moments : List ℕ) → Follows R.contents S.contents (sure_disk disk.new) x
+        (begun (scratch_terms kind (R.contents tree)) (scratch_session kind (R.contents tree) moments))) }
+    ensures goes_on { IfOk result (λ x. MayGoOn R.contents S.contents (sure_disk disk.new) x × (x.refused ≡ false)) }
+{
+    let curator = curator_of(alloc, "")?;
+    let db = new_db(alloc, kind, tree, disk)?;
+    Ok(Interpreter::new(alloc, Workspace::new(db, curator)))
+}
+
+/// A session on its start tree, or why there is no such tree.
+fn begin<R: TreeRep, S: TreeRep, F: Files>(
+    alloc: Global,
+    kind: Kind,
+    start: Start<'_>,
+    disk: &mut SureDisk,
+    files: &mut F,
+) -> Result<Result<Interpreter<R, S>, Why>, FilesFault>
+    requires vacant { IsVacant (sure_view disk.old).content }
+    ensures begun { IfOk result (λ r. (t : FileTable) → IsTable t (known_files F.Files files.old) (known_files F.Files files.new)
+        → Begun R.contents S.contents (sure_disk disk.new) kind (start_given t (start_asked start.entry)) r) }
+    ensures goes_on { IfOk result (λ r. IfOk r (λ x. MayGoOn R.contents S.contents (sure_disk disk.new) x × (x.refused ≡ false))) }
+    ensures used { UsesFiles IsFailedFile (known_files F.Files files.old) (known_files F.Files files.new) result }
+    ensures reads { Reads IsFailedFile (start_reads (start_asked start.entry)) (known_files F.Files files.old) (known_files F.Files files.new) result }
+{
+    match start_tree::<R, F>(alloc, start, files)? {
+        Ok(tree) => Ok(Ok(session_on(alloc, kind, tree, disk)?)),
+        Err(why) => Ok(Err(why)),
+    }
+}
+
+/// The refusal of a start tree.
+fn refused_start(why: Why) -> Reply
+    ensures { result ≡ Reply.Refused Of.Scratch why }
+{
+    Reply::Refused {
+        of: Of::Scratch,
+        why,
+    }
+}
+
+/// The session over the input, from its start, with room for a piece of the input.
+pub(crate) fn scratch<R: TreeRep, S: TreeRep, F: Files, K: Clock, I: Source, O: Sink>(
+    alloc: Global,
+    kind: Kind,
+    start: Start<'_>,
+    files: &mut F,
+    clock: &mut K,
+    input: &mut I,
+    output: &mut O,
+) -> End
+    ensures ran { Ran kind (λ t. start_given t (start_asked start.entry)) (start_reads (start_asked start.entry))
+        (known_outside F.Files K.Clock I.Source O.Sink files.old clock.old input.old output.old)
+        (known_outside F.Files K.Clock I.Source O.Sink files.new clock.new input.new output.new) result }
+    ensures causes { HasCauses
+        (known_outside F.Files K.Clock I.Source O.Sink files.old clock.old input.old output.old)
+        (known_outside F.Files K.Clock I.Source O.Sink files.new clock.new input.new output.new) result }
+    ensures disk { result ≡ End.Disk → ⊥ }
+{
+    let Ok(mut piece) = vec![in alloc; 0u8; PIECE_MAX] else {
+        return out_of_memory(output);
+    };
+    let Ok(mut disk) = SureDisk::new(alloc, &[]) else {
+        return out_of_memory(output);
+    };
+    match begin::<R, S, F>(alloc, kind, start, &mut disk, files) {
+        Ok(Ok(mut session)) => turns(
+            &mut session,
+            &mut piece,
+            &mut disk,
+            files,
+            clock,
+            input,
+            output,
+        ),
+        Ok(Err(why)) => end_with(alloc, &refused_start(why), output),
+        Err(fault) => stopped(output, Stop::from(fault)),
+    }
+}

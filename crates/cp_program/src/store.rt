@@ -1,0 +1,108 @@
+//! A session on a store.
+ghost use Rattle.std.specs.Prelude.{◌≡◌, ◌⊎◌, false, IsTrue, IfOk, IfErr};
+ghost use Rattle.cp_outside.specs.Causes.{Accounts};
+ghost use Rattle.cp_db.specs.Databases.{IsDatabase, IsReady, is_spent, version_in};
+ghost use Rattle.cp_workspace.specs.Disks.{known_disk};
+ghost use Rattle.cp_program.specs.Begins.{Migrated, OpenedAs, BegunOn, IsOpeningStop, LeavesStore};
+ghost use Rattle.cp_program.specs.Outside.{known_outside};
+ghost use Rattle.cp_program.specs.Story.{RanOn, HasCauses, DiskCauses};
+ghost use Rattle.cp_program.specs.Turns.{MayGoOn, IsDiskStop};
+
+use crate::end::End;
+use crate::interpreter::Interpreter;
+use crate::limits::PIECE_MAX;
+use crate::session::turns;
+use crate::start::curator_of;
+use crate::stop::Stop;
+use crate::tell::{out_of_memory, stopped};
+use cp_clock::Clock;
+use cp_db::{Db, WriteFault};
+use cp_disk::Disk;
+use cp_outside::{Files, Sink, Source};
+use cp_tree::TreeRep;
+use cp_workspace::Workspace;
+use std::alloc::Global;
+
+/// Makes the file of version 2, if it is of version 1.
+fn migrate<R: TreeRep, S: TreeRep, D: Disk>(
+    mut db: Db<R, S>,
+    disk: &mut D,
+) -> Result<Db<R, S>, Stop>
+    requires usable { is_spent db ≡ false }
+    requires version { (version_in db ≡ 1) ⊎ (version_in db ≡ 2) }
+    requires stands { IsDatabase R.contents S.contents db }
+    requires ready { IsTrue D.is_known → IsReady db (D.view disk.old) }
+    ensures migrated { Migrated R.contents S.contents db (known_disk D.Disk disk.old) (known_disk D.Disk disk.new) result }
+    ensures usable { IfOk result (λ d. IsDatabase R.contents S.contents d × (is_spent d ≡ false) × (version_in d ≡ 2)) }
+    ensures ready { IsTrue D.is_known → IfOk result (λ d. IsReady d (D.view disk.new)) }
+    ensures cause { Accounts IsDiskStop (D.counts disk.old).faults (D.counts disk.new).faults result }
+    ensures kinds { IfErr result (λ e. (e ≡ Stop.Disk) ⊎ (e ≡ Stop.Memory)) }
+{
+    if db.version() == 2 {
+        return Ok(db);
+    }
+    match db.migrate(disk) {
+        Ok(()) => Ok(db),
+        Err(WriteFault::TooLarge) => unreachable!(),
+        Err(WriteFault::Disk) => Err(Stop::Disk),
+        Err(WriteFault::Memory) => Err(Stop::Memory),
+    }
+}
+
+/// Opens a store, whose file then is of version 2.
+fn open_db<R: TreeRep, S: TreeRep, D: Disk>(alloc: Global, disk: &mut D) -> Result<Db<R, S>, Stop>
+    ensures opened { IsTrue D.is_known → OpenedAs R.contents S.contents (known_disk D.Disk disk.old) (known_disk D.Disk disk.new) result }
+    ensures leaves { LeavesStore (known_disk D.Disk disk.old) (known_disk D.Disk disk.new) }
+    ensures usable { IfOk result (λ d. IsDatabase R.contents S.contents d × (is_spent d ≡ false) × (version_in d ≡ 2)) }
+    ensures ready { IsTrue D.is_known → IfOk result (λ d. IsReady d (D.view disk.new)) }
+    ensures cause { Accounts IsDiskStop (D.counts disk.old).faults (D.counts disk.new).faults result }
+    ensures kinds { IfErr result IsOpeningStop }
+{
+    let db = Db::open_on(alloc, disk)?;
+    migrate(db, disk)
+}
+
+/// A session on a store, by this curator.
+fn begin<R: TreeRep, S: TreeRep, D: Disk>(
+    alloc: Global,
+    curator: &str,
+    disk: &mut D,
+) -> Result<Interpreter<R, S>, Stop>
+    ensures begun { IsTrue D.is_known → BegunOn R.contents S.contents curator.now (known_disk D.Disk disk.old) (known_disk D.Disk disk.new) result }
+    ensures leaves { LeavesStore (known_disk D.Disk disk.old) (known_disk D.Disk disk.new) }
+    ensures goes_on { IfOk result (λ x. MayGoOn R.contents S.contents (known_disk D.Disk disk.new) x × (x.refused ≡ false)) }
+    ensures cause { Accounts IsDiskStop (D.counts disk.old).faults (D.counts disk.new).faults result }
+    ensures kinds { IfErr result IsOpeningStop }
+{
+    let curator = curator_of(alloc, curator)?;
+    let db = open_db(alloc, disk)?;
+    Ok(Interpreter::new(alloc, Workspace::new(db, curator)))
+}
+
+/// The session over the input, on a store that is opened before the first byte is read.
+pub(crate) fn run<R: TreeRep, S: TreeRep, D: Disk, F: Files, K: Clock, I: Source, O: Sink>(
+    alloc: Global,
+    curator: &str,
+    disk: &mut D,
+    files: &mut F,
+    clock: &mut K,
+    input: &mut I,
+    output: &mut O,
+) -> End
+    ensures ran { RanOn curator.now
+        (known_outside F.Files K.Clock I.Source O.Sink files.old clock.old input.old output.old)
+        (known_outside F.Files K.Clock I.Source O.Sink files.new clock.new input.new output.new)
+        (known_disk D.Disk disk.old) (known_disk D.Disk disk.new) result }
+    ensures causes { HasCauses
+        (known_outside F.Files K.Clock I.Source O.Sink files.old clock.old input.old output.old)
+        (known_outside F.Files K.Clock I.Source O.Sink files.new clock.new input.new output.new) result }
+    ensures disk { DiskCauses (known_disk D.Disk disk.old) (known_disk D.Disk disk.new) result }
+{
+    let Ok(mut piece) = vec![in alloc; 0u8; PIECE_MAX] else {
+        return out_of_memory(output);
+    };
+    match begin::<R, S, D>(alloc, curator, disk) {
+        Ok(mut session) => turns(&mut session, &mut piece, disk, files, clock, input, output),
+        Err(stop) => stopped(output, stop),
+    }
+}
