@@ -5,6 +5,8 @@
 #![tactic(auto)]
 
 mod call;
+mod failures;
+mod file;
 mod pieces;
 mod play;
 mod screen;

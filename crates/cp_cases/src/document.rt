@@ -3,6 +3,7 @@
 //! Examples stand in blocks that are indented by four spaces. After `< ` comes the whole input of a call of `scratch n`, and
 //! the lines below it are its output. After `$ bin/cpdb ` come the words of a session: of the lines of this block and of all
 //! later ones, those that end in a semicolon go in, and all others come out. The status is 1 where a line refuses something.
+//! A session whose first word is `run` goes on in the case of the call before it, whose store it opens.
 
 use crate::sheet::{Case, Part, Sheet};
 use std::alloc::{AllocError, Global};
@@ -22,14 +23,35 @@ struct Line<'a> {
     text: &'a str,
 }
 
+/// Adds a call with these words to a case, with no input and no output yet.
+fn add_call(alloc: Global, case: &mut Case, line: Line<'_>, words: &str) -> Result<(), AllocError> {
+    for (key, rest) in [("words", words), ("in", "-"), ("out", "")] {
+        case.parts.push(Part::new(alloc, line.number, key, rest)?)?;
+    }
+    Ok(())
+}
+
 /// A case of one call with these words, over the real files, with no input and no output yet.
 fn call_of(alloc: Global, line: Line<'_>, words: &str) -> Result<Case, AllocError> {
     let mut case = Case::new(alloc, line.text)?;
     case.real = true;
-    for (key, rest) in [("words", words), ("in", "-"), ("out", "")] {
-        case.parts.push(Part::new(alloc, line.number, key, rest)?)?;
-    }
+    add_call(alloc, &mut case, line, words)?;
     Ok(case)
+}
+
+/// Begins a session with these words, in a case of its own or in that of the call before it.
+fn begin_session(
+    alloc: Global,
+    cases: &mut Vec<Case>,
+    line: Line<'_>,
+    words: &str,
+) -> Result<(), AllocError> {
+    if let (true, Some(case)) = (words.starts_with("run "), cases.last_mut()) {
+        add_status(alloc, case)?;
+        return add_call(alloc, case, line, words);
+    }
+    cases.push(call_of(alloc, line, words)?)?;
+    Ok(())
 }
 
 /// Adds a line to the input or the output of the last call.
@@ -43,8 +65,8 @@ fn add_to_last(
         return Ok(());
     };
     match case.parts.as_mut_slice() {
-        [_, input, _] if goes_in => input.add(alloc, line),
-        [_, _, output] => output.add(alloc, line),
+        [.., input, _] if goes_in => input.add(alloc, line),
+        [.., output] => output.add(alloc, line),
         _ => Ok(()),
     }
 }
@@ -62,7 +84,7 @@ fn add_line(
         return Ok(Block::Example);
     }
     if let Some(words) = line.text.strip_prefix("$ bin/cpdb ") {
-        cases.push(call_of(alloc, line, words)?)?;
+        begin_session(alloc, cases, line, words)?;
         return Ok(Block::Session);
     }
     if block != Block::Prose {
@@ -72,9 +94,9 @@ fn add_line(
     Ok(block)
 }
 
-/// Whether the case's output refuses something.
+/// Whether the output of the case's last call refuses something.
 fn refuses(case: &Case) -> bool {
-    let [_, _, output] = case.parts.as_slice() else {
+    let [.., output] = case.parts.as_slice() else {
         return false;
     };
     for line in output.lines.iter() {
@@ -85,11 +107,17 @@ fn refuses(case: &Case) -> bool {
     false
 }
 
-/// Adds the status that goes with the output of each call.
+/// Adds the status that goes with the output of the case's last call.
+fn add_status(alloc: Global, case: &mut Case) -> Result<(), AllocError> {
+    let status = if refuses(case) { "1" } else { "0" };
+    case.parts.push(Part::new(alloc, 0, "ends", status)?)?;
+    Ok(())
+}
+
+/// Adds the status that goes with the output of each case's last call.
 fn add_statuses(alloc: Global, cases: &mut [Case]) -> Result<(), AllocError> {
     for case in cases.iter_mut() {
-        let status = if refuses(case) { "1" } else { "0" };
-        case.parts.push(Part::new(alloc, 0, "ends", status)?)?;
+        add_status(alloc, case)?;
     }
     Ok(())
 }

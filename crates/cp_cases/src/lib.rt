@@ -8,10 +8,12 @@
 
 mod document;
 mod escape;
+mod hex;
 mod player;
 mod sheet;
 mod words;
 
+pub use hex::{bytes_in, hex_of};
 pub use player::{Player, play_files};
 pub use sheet::Step;
 pub use words::{compare, number_of, numbers_of, words_of};

@@ -4,9 +4,8 @@
 //! `write AT BYTES`, `cut SIZE`, `sync`, `crash old`, `crash new` or `crash BYTE`, which shows what a crash would leave, and
 //! `content`. A call that may not be made is `not asked`.
 
-use crate::hex::{bytes_in, hex_of};
 use crate::ranges::number_at;
-use cp_cases::numbers_of;
+use cp_cases::{bytes_in, hex_of, numbers_of};
 use cp_disk::{Crash, DISK_MAX, Disk, DiskFault, MemDisk, READ_MAX};
 use std::alloc::{AllocError, Global};
 

@@ -1,7 +1,7 @@
 //! Plays tables of stored bytes: entries, files of stores, and what crashes leave of them.
 //!
 //! The words are those of every program that plays cases: the stage up to which they hold, and files.
-//! A part makes a call on the bytes in the text below it, which `hex` reads, and `out` with a text
+//! A part makes a call on the bytes in the text below it, which `cp_cases` reads, and `out` with a text
 //! below it is what the call has to give:
 //!
 //! | Part | What it gives |
@@ -26,11 +26,10 @@ mod crashes;
 mod disks;
 mod entries;
 mod files;
-mod hex;
 mod ranges;
 mod show;
 
-use cp_cases::{Player, Step, compare, play_files};
+use cp_cases::{Player, Step, bytes_in, compare, play_files};
 use std::alloc::{AllocError, Global};
 use std::io;
 use std::process::ExitCode;
@@ -43,7 +42,7 @@ struct Caller {
 
 /// What the call of this keyword gives; `None` where there is no such call.
 fn answer(alloc: Global, step: &Step) -> Result<Option<String>, AllocError> {
-    let bytes = hex::bytes_in(alloc, step.text.as_slice())?;
+    let bytes = bytes_in(alloc, step.text.as_slice())?;
     let bytes = bytes.as_slice();
     let words = step.rest.as_str();
     let answer = match step.key.as_str() {

@@ -25,7 +25,7 @@ fn add_word(bytes: &mut Vec<u8>, word: &str) -> Result<(), AllocError> {
 }
 
 /// The bytes that a text spells.
-pub(crate) fn bytes_in(alloc: Global, text: &[u8]) -> Result<Vec<u8>, AllocError> {
+pub fn bytes_in(alloc: Global, text: &[u8]) -> Result<Vec<u8>, AllocError> {
     let text = std::str::from_utf8(text).unwrap_or("");
     let mut bytes = Vec::new(alloc);
     for word in text.split_whitespace() {
@@ -46,7 +46,7 @@ fn letter(half: u8) -> char {
 }
 
 /// The bytes as digits, with a space between two.
-pub(crate) fn hex_of(alloc: Global, bytes: &[u8]) -> Result<String, AllocError> {
+pub fn hex_of(alloc: Global, bytes: &[u8]) -> Result<String, AllocError> {
     let mut text = String::new(alloc);
     for byte in bytes {
         if !text.is_empty() {
