@@ -1,6 +1,7 @@
-# drawn() steps the generator X := X * 6364136223846793005 + 1442695040888963407 modulo 2^64, whose seed is 1, and gives
-# X divided by 2^33. X stands in four limbs of 16 bits, x0 the least, so that awk's doubles hold every product.
-BEGIN { x0 = 1 }
+# drawn() steps the generator X := X * 6364136223846793005 + 1442695040888963407 modulo 2^64, and gives X divided by
+# 2^33. The seed is that of -v seed=N, a number below 2^16, or 1. X stands in four limbs of 16 bits, x0 the least, so that awk's doubles
+# hold every product.
+BEGIN { x0 = seed == "" ? 1 : seed }
 
 function drawn(   s0, s1, s2, s3) {
   s0 = x0 * 32557 + 33103
