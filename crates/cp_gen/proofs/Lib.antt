@@ -1,0 +1,4 @@
+pub mod Labels
+pub mod Tested
+pub mod SourceLaws
+pub mod ScriptLaws

@@ -1,0 +1,5 @@
+pub mod Drawing
+pub mod Choices
+pub mod Source
+pub mod Operations
+pub mod Script

@@ -1,0 +1,6 @@
+mod Getters
+mod Leaf
+mod Fitting
+mod Rows
+mod Written
+mod Growing

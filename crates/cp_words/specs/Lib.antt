@@ -1,0 +1,4 @@
+pub mod Operands
+pub mod Commands
+pub mod Shapes
+pub mod Matches
