@@ -6,6 +6,8 @@ mod TakingCommits
 mod OpeningFrames
 mod OpeningItems
 mod OpeningStores
+mod Logging
+mod LoggingFrames
 mod WritingStanding
 mod WritingFrames
 mod WritingLoads

@@ -56,7 +56,7 @@ closed_is h none =
 
 -- ---- what the journal found
 
-clean_of : (clean : Bool) (n : ℕ) (broken : Option ℕ) → broken ≡ (if clean then None else Some n) → broken ≡ None → clean ≡ true
+pub clean_of : (clean : Bool) (n : ℕ) (broken : Option ℕ) → broken ≡ (if clean then None else Some n) → broken ≡ None → clean ≡ true
 clean_of true n broken is none = refl
 clean_of false n broken is none = let no : Some n ≡ None = sym is ∙ none in absurd (cc no)
 

@@ -52,6 +52,15 @@ pub record HasKept {R S : Type 0} (old new : Committed R S) (tids : ℕ) (rs : L
   pub commits : new.commits ≡ old.commits + 1
   pub few : new.store.rows.upto ≤ TIDS_MAX
 
+-- the records were forgotten; all else is the same
+pub record HasForgotten {R S : Type 0} (old new : Committed R S) : Type 0 where
+  pub tree : new.tree ≡ old.tree
+  pub sources : new.sources ≡ old.sources
+  pub kind : new.store.kind ≡ old.store.kind
+  pub none : new.store.rows.list ≡ []
+  pub upto : new.store.rows.upto ≡ old.store.rows.upto
+  pub commits : new.commits ≡ old.commits
+
 -- these operations and records are written so
 abbrev pub HoldsBatch : WrittenEntry → List Op → List Record → Type 0
 HoldsBatch (written.start k t) os rs = ⊥

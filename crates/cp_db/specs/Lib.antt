@@ -1,4 +1,5 @@
 pub mod Committed
 pub mod Databases
+pub mod Log
 pub mod Opening
 pub mod Writing

@@ -9,7 +9,7 @@ ghost use Rattle.cp_db.specs.declared.limits.TheConstants.{TIDS_MAX};
 ghost use Rattle.cp_frame.specs.Entries.{WrittenEntry, IsEntry};
 ghost use Rattle.cp_frame.specs.Sound.{IsSoundEntry, IsSoundBatch, IsSoundOp};
 ghost use Rattle.cp_file.specs.Items.{Item};
-ghost use Rattle.cp_db.specs.Committed.{HasReplayed, HasTaken, TidsLieBetween, HasKept, CanTake, HoldsBatch};
+ghost use Rattle.cp_db.specs.Committed.{HasReplayed, HasTaken, TidsLieBetween, HasForgotten, HasKept, CanTake, HoldsBatch};
 
 use crate::limits::TIDS_MAX;
 use cp_engine::{Sources, replay, steps_of};
@@ -132,6 +132,14 @@ impl<R: TreeRep, S: TreeRep> Committed<R, S> {
             }
             Err(_) => Err(AllocError),
         }
+    }
+
+    /// Gives up the records, and keeps the last Tid.
+    pub(crate) fn forget_records(&mut self, alloc: Global) -> Result<(), AllocError>
+        ensures forgotten { OnOk result (HasForgotten self.old self.new) }
+    {
+        self.store = KindStore::new(alloc, self.store.kind(), self.store.upto())?;
+        Ok(())
     }
 
     /// Applies the operations of a commit and keeps its records, if the operations are accepted and each record has one of

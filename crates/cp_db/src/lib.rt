@@ -9,9 +9,11 @@ mod committed;
 mod database;
 mod fault;
 mod limits;
+mod log;
 mod opening;
 mod writing;
 
 pub use database::{Db, Tids};
 pub use fault::{CommitFault, InitFault, OpenFault, WriteFault};
 pub use limits::TIDS_MAX;
+pub use log::log_of;

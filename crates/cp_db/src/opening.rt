@@ -1,5 +1,5 @@
 //! A file that is opened: its header, and its entries, replayed one after another.
-ghost use Rattle.std.specs.Prelude.{◌≡◌, ◌≤◌, ◌<◌, ◌∷◌, ◌⊎◌, ◌↔◌, true, false, IsTrue, List, ℕ, length, take, IfOk, IfErr, OnOk, None, Some};
+ghost use Rattle.std.specs.Prelude.{◌≡◌, ◌≤◌, ◌<◌, ◌∷◌, ◌⊎◌, ◌↔◌, [], true, false, IsTrue, List, ℕ, length, take, IfOk, IfErr, OnOk, None, Some};
 ghost use Rattle.std.specs.List.{slice_get};
 ghost use Rattle.cp_outside.specs.Causes.{Accounts};
 ghost use Rattle.cp_disk.specs.Views.{Only, Rests};
@@ -25,7 +25,7 @@ use cp_tree::TreeRep;
 use std::alloc::Global;
 
 /// The offset of the slot that names the newest checkpoint, if one is open.
-fn open_slot(header: &Header) -> Option<u64>
+pub(crate) fn open_slot(header: &Header) -> Option<u64>
     ensures { result ≡ open_slot header.now }
 {
     match (header.first, header.second) {
@@ -43,7 +43,7 @@ fn open_slot(header: &Header) -> Option<u64>
 }
 
 /// The entry that the bytes of the frame at this offset spell.
-fn entry_in(alloc: Global, body: &[u8], at: u64) -> Result<Entry, OpenFault>
+pub(crate) fn entry_in(alloc: Global, body: &[u8], at: u64) -> Result<Entry, OpenFault>
     ensures spells { (f : Frame) → f.body ≡ body.now → SpellsAs f result }
     ensures sound { IfOk result IsSoundEntry }
     ensures at { IfErr result (λ e. (n : ℕ) → e ≡ OpenFault.NoStore n → n ≡ at) }
@@ -57,7 +57,7 @@ fn entry_in(alloc: Global, body: &[u8], at: u64) -> Result<Entry, OpenFault>
 }
 
 /// Whether the entry may stand in a file of this version.
-fn is_of_version(entry: &Entry, version: u8) -> bool
+pub(crate) fn is_of_version(entry: &Entry, version: u8) -> bool
     ensures { (w : WrittenEntry) → IsEntry entry.now w → IsTrue result ↔ IsOfVersion version w }
 {
     match entry {
@@ -68,7 +68,7 @@ fn is_of_version(entry: &Entry, version: u8) -> bool
 
 impl<R: TreeRep, S: TreeRep> Committed<R, S> {
     /// What the first frame starts from.
-    fn first<D: Disk>(
+    pub(crate) fn first<D: Disk>(
         alloc: Global,
         disk: &mut D,
         journal: &Journal,
@@ -79,7 +79,7 @@ impl<R: TreeRep, S: TreeRep> Committed<R, S> {
         ensures started { IsTrue D.is_known → (from version : ℕ) (fs : List Frame)
             → Lists from fs journal.now (D.view disk.old).content
             → StartsAs R.contents S.contents version fs result }
-        ensures taken { IfOk result (λ c. (items : List Item) × HasTaken R.contents S.contents c items) }
+        ensures taken { IfOk result (λ c. (i : Item) × HasTaken R.contents S.contents c (i ∷ [])) }
         ensures some { OnOk result (1 ≤ length journal.now.frames) }
         ensures rests { IsTrue D.is_known → Rests (D.view disk.old) (D.view disk.new) }
         ensures cause { Accounts IsOpenDisk (D.counts disk.old).faults (D.counts disk.new).faults result }
@@ -98,7 +98,7 @@ impl<R: TreeRep, S: TreeRep> Committed<R, S> {
     fn first_entry(alloc: Global, body: &[u8], at: u64) -> Result<Committed<R, S>, OpenFault>
         ensures started { (version : ℕ) (f : Frame) (rest : List Frame) → f.tag ≡ ENTRY → f.body ≡ body.now
             → StartsAs R.contents S.contents version (f ∷ rest) result }
-        ensures taken { IfOk result (λ c. (items : List Item) × HasTaken R.contents S.contents c items) }
+        ensures taken { IfOk result (λ c. (i : Item) × HasTaken R.contents S.contents c (i ∷ [])) }
         ensures disk { IfErr result (λ e. e ≡ OpenFault.Disk → ⊥) }
     {
         match entry_in(alloc, body, at)? {
@@ -190,7 +190,7 @@ impl<R: TreeRep, S: TreeRep> Committed<R, S> {
 }
 
 /// The version that a header says, which is 1 or 2.
-fn version_of(header: &Header) -> u8
+pub(crate) fn version_of(header: &Header) -> u8
     ensures either { (result ≡ 1) ⊎ (result ≡ 2) }
     ensures said { (header.now.version ≡ 1) ⊎ (header.now.version ≡ 2) → result ≡ header.now.version }
 {

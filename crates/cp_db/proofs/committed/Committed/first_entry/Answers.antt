@@ -31,7 +31,7 @@ pub returns-in-Start-clause-taken : goal.returns-in-Start-clause-taken
 returns-in-Start-clause-taken g c =
     let f : Frame = record { tag = ENTRY; body = c.args.body.now } in
     let s = returns-in-Start-clause-started g c 0 f [] refl refl in
-    (s.2 ∷ [], s.5)
+    (s.2, s.5)
 
 pub returns : goal.returns
 returns g c = record {

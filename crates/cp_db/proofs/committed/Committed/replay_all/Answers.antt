@@ -1,4 +1,4 @@
-use Rattle.std.proofs.Common.{◌≡◌, ◌∙◌, ◌<◌, List, ℕ, length, sym, subst, arith}
+use Rattle.std.proofs.Common.{◌≡◌, ◌∙◌, ◌<◌, List, [], ◌∷◌, ℕ, length, sym, subst, arith}
 use Rattle.std.proofs.lemmas.Result.{err_from_is_err_and}
 use Rattle.cp_disk.proofs.Composing.{rests_then}
 use Rattle.cp_journal.specs.Journals.{Lists}
@@ -19,7 +19,7 @@ loop-n-init g c = record {
   some = omega arith;
   within = c.in_ok-committed.ensures.some;
   gone = λ known from fs lists. gone_first g.R.TreeRep.contents g.S.TreeRep.contents c.args.version fs c.in_ok-committed.committed (c.in_ok-committed.ensures.started known from c.args.version fs lists);
-  taken = c.in_ok-committed.ensures.taken;
+  taken = (c.in_ok-committed.ensures.taken.0 ∷ [], c.in_ok-committed.ensures.taken.1);
   rests = c.in_ok-committed.ensures.rests;
   steady = c.in_ok-committed.ensures.cause.steady;
 }

@@ -1,0 +1,17 @@
+use Rattle.std.proofs.Common.{◌≡◌, ◌∙◌}
+use Rattle.cp_journal.specs.declared.frame.TheConstants.{ENTRY}
+use Rattle.cp_file.specs.Items.{a_checkpoint}
+use Rattle.cp_db.proofs.Logging.{checkpoint-logged}
+use Rattle.cp_db.proofs.OpeningFrames.{checkpoint_is, entry_read, lawful_at, listed_tag}
+use Rattle.cp_db.proofs.log.LogWalk.add_frame.Goals as goal
+
+pub returns-then-frame-ne-ENTRY-clause-added : goal.returns-then-frame-ne-ENTRY-clause-added
+returns-then-frame-ne-ENTRY-clause-added g c = λ known from fs f items lists here t.
+    let other : f.tag ≡ ENTRY → ⊥ = λ is. c.if-frame-ne-ENTRY.true (listed_tag from fs c.args.journal.now _ lists c.args.n c.in_ok-frame.frame f c.in_ok-frame.ensures.at here ∙ is) in
+    (a_checkpoint f.body, checkpoint_is f (lawful_at fs c.args.n f lists.lawful here) other, checkpoint-logged g.R.TreeRep.contents g.S.TreeRep.contents c.args.self.now items t f.body)
+
+pub returns-clause-added : goal.returns-clause-added
+returns-clause-added g c = λ known from fs f items lists here t.
+    let read = entry_read from fs c.args.journal.now _ c.args.n c.in_ok-frame.frame f c.deref.result.now lists c.in_ok-frame.ensures.at here c.if-frame-ne-ENTRY.false
+    (c.deref.ensures.value ∙ c.in_ok-frame.ensures.body known from fs f lists here) in
+    c.add_entry.ensures.added f items read.0 read.1 t

@@ -1,0 +1,19 @@
+use Rattle.std.proofs.Common.{◌≡◌, ◌≤◌, IsTrue, ℕ, List, length}
+use Rattle.cp_disk.specs.Views.{Rests}
+use Rattle.cp_journal.specs.Frames.{Frame}
+use Rattle.cp_journal.specs.Journals.{Lists}
+use Rattle.cp_file.specs.Items.{Item}
+use Rattle.cp_db.specs.Log.{HasLogged}
+use Rattle.cp_db.proofs.LoggingFrames.{HasCome}
+use Rattle.cp_db.proofs.log.LogWalk.over_all.Given as goal
+
+abbrev pub invariant-loop-n : goal.invariant-loop-n
+invariant-loop-n g l = record {
+  some : 1 ≤ l.n;
+  within : l.n ≤ length l.fn.journal.frames;
+  come : IsTrue g.D.Disk.is_known → (from : ℕ) (fs : List Frame) → Lists from fs l.fn.journal (g.D.Disk.view l.fn.disk).content
+      → HasCome g.R.TreeRep.contents g.S.TreeRep.contents l.fn.version fs l.n l.walk;
+  logged : (items : List Item) × HasLogged g.R.TreeRep.contents g.S.TreeRep.contents l.walk items;
+  rests : IsTrue g.D.Disk.is_known → Rests (g.D.Disk.view l.fn.disk) (g.D.Disk.view l.disk);
+  steady : (g.D.Disk.counts l.disk).faults ≡ (g.D.Disk.counts l.fn.disk).faults;
+}
