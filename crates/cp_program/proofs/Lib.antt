@@ -1,4 +1,3 @@
-mod Asked
 mod Blame
 mod Lines
 mod Plays
@@ -6,3 +5,7 @@ mod Runs
 mod Whole
 mod Opened
 mod Made
+mod Scripted
+mod Answered
+mod LoadedAlone
+mod Called

@@ -24,7 +24,7 @@ use Rattle.cp_db.proofs.Keeping.{kept-images}
 use Rattle.cp_session.specs.Session.{Session, session_after}
 use Rattle.cp_workspace.specs.Texts.{Terms}
 use Rattle.cp_workspace.specs.Disks.{KnownDisk}
-use Rattle.cp_workspace.specs.Workspaces.{Stands, IsUsable, HoldsFile, end_now, opened_session}
+use Rattle.cp_workspace.specs.Workspaces.{Stands, IsUsable, HasStamps, HoldsFile, end_now, opened_session}
 use Rattle.cp_workspace.specs.declared.workspace.Workspace.{Workspace}
 use Rattle.cp_program.specs.Job.{job_so_far, job}
 use Rattle.cp_program.specs.Play.{begun, plays, plays_all}
@@ -359,5 +359,5 @@ module _ {R S : Type 0} (view : R → Tree) (source_view : S → Tree) (v : Know
   }
 
   -- and may go on where that may be used
-  pub goes-in : IsUsable view source_view v d → MayGoOn view source_view v x
-  goes-in u = record { scan = scan_start; cutter = cutter; usable = subst (IsUsable view source_view v) (sym same) u }
+  pub goes-in : IsUsable view source_view v d → HasStamps d → MayGoOn view source_view v x
+  goes-in u t = record { scan = scan_start; cutter = cutter; usable = subst (IsUsable view source_view v) (sym same) u; stamps = subst HasStamps (sym same) t }

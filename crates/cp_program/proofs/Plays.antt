@@ -33,7 +33,7 @@ use Rattle.cp_workspace.specs.Texts.{Terms, setting}
 use Rattle.cp_workspace.specs.Loads.{cut_reads}
 use Rattle.cp_workspace.specs.Disks.{KnownDisk}
 use Rattle.cp_workspace.specs.Files.{HasRead, HasReadSome, IsTable, ReadsBefore}
-use Rattle.cp_workspace.specs.Workspaces.{Stands, IsUsable, HoldsFile, TurnsAs, HasTurned}
+use Rattle.cp_workspace.specs.Workspaces.{Stands, IsUsable, HasStamps, HoldsFile, TurnsAs, HasTurned}
 use Rattle.cp_workspace.specs.Faults.{IsFileFault}
 use Rattle.cp_workspace.specs.declared.fault.WorkspaceFault.{WorkspaceFault}
 use Rattle.cp_workspace.specs.declared.fault.WorkspaceFault.TheVariants as fails
@@ -158,18 +158,18 @@ follows-cutter view source_view v old mid s c f h l = record {
 -- where it stands elsewhere, the code may still go on
 pub goes_on-cutter : {R S : Type 0} (view : R → Tree) (source_view : S → Tree) (v : KnownDisk) (old mid : Interpreter R S) (c : Scan)
     → MayGoOn view source_view v old → mid.cutter ≡ held_of c → mid.workspace ≡ old.workspace → MayGoOn view source_view v mid
-goes_on-cutter view source_view v old mid c f h l = record { scan = c; cutter = h; usable = subst (λ z. IsUsable view source_view v z) (sym l) f.usable }
+goes_on-cutter view source_view v old mid c f h l = record { scan = c; cutter = h; usable = subst (λ z. IsUsable view source_view v z) (sym l) f.usable; stamps = subst HasStamps (sym l) f.stamps }
 
 -- behind a byte too
 pub goes_on-byte : {R S : Type 0} (view : R → Tree) (source_view : S → Tree) (v : KnownDisk) (x : ℕ) (old mid : Interpreter R S)
     → MayGoOn view source_view v old → mid.cutter ≡ byte_held old.cutter x → mid.workspace ≡ old.workspace → MayGoOn view source_view v mid
 goes_on-byte view source_view v x old mid f h l = goes_on-cutter view source_view v old mid (scan_byte f.scan x).scan f (held-byte f.scan x old.cutter mid.cutter f.cutter h) l
 
--- and behind a reply that was written, where the workspace may be used
+-- and behind a reply that was written, where the workspace may be used, and commit
 pub goes_on-told : {R S : Type 0} (view : R → Tree) (source_view : S → Tree) (v w : KnownDisk) (old new : Interpreter R S) (d : Workspace R S) (result : Result ⊤ Stop)
-    → MayGoOn view source_view v old → IsUsable view source_view w d → OnOk result (new.cutter ≡ old.cutter) → OnOk result (new.workspace ≡ d) → OnOk result (MayGoOn view source_view w new)
-goes_on-told view source_view v w old new d (Ok x) f u h l = record { scan = f.scan; cutter = h ∙ f.cutter; usable = subst (λ z. IsUsable view source_view w z) (sym l) u }
-goes_on-told view source_view v w old new d (Err e) f u h l = tt
+    → MayGoOn view source_view v old → IsUsable view source_view w d → HasStamps d → OnOk result (new.cutter ≡ old.cutter) → OnOk result (new.workspace ≡ d) → OnOk result (MayGoOn view source_view w new)
+goes_on-told view source_view v w old new d (Ok x) f u t h l = record { scan = f.scan; cutter = h ∙ f.cutter; usable = subst (λ z. IsUsable view source_view w z) (sym l) u; stamps = subst HasStamps (sym l) t }
+goes_on-told view source_view v w old new d (Err e) f u t h l = tt
 
 module _ (files : FileTable) where
   -- what cuts do one after another

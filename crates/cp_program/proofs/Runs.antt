@@ -17,7 +17,7 @@ use Rattle.cp_workspace.specs.Disks.{KnownDisk}
 use Rattle.cp_workspace.specs.Files.{KnownFiles, HasRead, HasReadSome}
 use Rattle.cp_workspace.proofs.ReadCounts.{read-sum, some-then, table-first, table-second}
 use Rattle.cp_workspace.proofs.Standing.{on-ok}
-use Rattle.cp_program.specs.Words.{input_line, file_line, disk_line, clock_line, memory_line, too_long_line}
+use Rattle.cp_program.specs.Texts.{input_line, file_line, disk_line, clock_line, memory_line, too_long_line}
 use Rattle.cp_program.specs.Job.{Report}
 use Rattle.cp_program.specs.Outside.{KnownInput, KnownClock, KnownOutput, World, Outside, world_of}
 use Rattle.cp_program.specs.Play.{Seen, plays, after_play, closes, plays_all}

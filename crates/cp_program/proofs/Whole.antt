@@ -16,7 +16,7 @@ use Rattle.cp_lang.specs.Cuts.{scan_start}
 use Rattle.cp_lang.specs.CutterState.{held_of}
 use Rattle.cp_journal.specs.declared.limits.TheConstants.{HEADER_SIZE, FRAME_HEAD}
 use Rattle.cp_file.specs.Sizes.{start_size}
-use Rattle.cp_db.specs.Databases.{IsKept, IsReady, end_in}
+use Rattle.cp_db.specs.Databases.{IsKept, IsReady, end_in, version_in}
 use Rattle.cp_db.specs.declared.database.Db.{Db}
 use Rattle.cp_model.specs.Place.{Label}
 use Rattle.cp_model.specs.History.{start}
@@ -28,16 +28,16 @@ use Rattle.cp_workspace.specs.Fetched.{Gives}
 use Rattle.cp_workspace.specs.Files.{KnownFiles, HasRead, HasReadSome, IsTable, ReadsBefore}
 use Rattle.cp_workspace.specs.Disks.{KnownDisk}
 use Rattle.cp_workspace.specs.Texts.{Terms}
-use Rattle.cp_workspace.specs.Workspaces.{Stands, IsWorkspace, IsUsable, HoldsFile, db_in, end_now}
+use Rattle.cp_workspace.specs.Workspaces.{Stands, IsWorkspace, IsUsable, HasStamps, HoldsFile, db_in, end_now}
 use Rattle.cp_workspace.specs.declared.workspace.Workspace.{Workspace}
 use Rattle.cp_workspace.specs.Faults.{IsFailedFile}
 use Rattle.cp_workspace.proofs.ReadCounts.{read-sum, table-first, table-second}
 use Rattle.cp_workspace.proofs.Standing.{on-ok}
-use Rattle.cp_program.specs.Words.{Asked, scratch, init, run, usage_text, file_line, memory_line}
+use Rattle.cp_program.specs.Texts.{file_line, memory_line}
 use Rattle.cp_program.specs.Job.{job_so_far, job, scratch_terms, scratch_session, refused_start}
 use Rattle.cp_program.specs.Outside.{KnownInput, KnownClock, KnownOutput, Outside}
 use Rattle.cp_program.specs.Play.{begun, plays, plays_all}
-use Rattle.cp_program.specs.Story.{WritesLast, SaidLine, Leaving, left_on, unseen, AllDone, OutputStopped, StoppedInside, Did, DidFrom, work_on, IsRunning, Ran, RanAs, HasStore, IsShort, IsFaultless, HasCauses, DiskCauses, Called, result_of}
+use Rattle.cp_program.specs.Story.{WritesLast, SaidLine, Leaving, left_on, unseen, AllDone, OutputStopped, StoppedInside, Did, DidFrom, work_on, IsRunning, Ran, HasCauses, DiskCauses, result_of}
 use Rattle.cp_program.specs.Begins.{Begun}
 use Rattle.cp_program.specs.Ends.{code_of}
 use Rattle.cp_program.specs.Turns.{Follows, MayGoOn, work_from, RanFrom, TellsStop, end_of_stop}
@@ -152,11 +152,12 @@ module _ {R S : Type 0} (view : R → Tree) (source_view : S → Tree) (d : Db R
       }
 
   -- and may go on
-  pub scratch-goes_on : IsWorkspace view source_view m → IsReady d v.view → MayGoOn view source_view v x
-  scratch-goes_on w r = record {
+  pub scratch-goes_on : IsWorkspace view source_view m → IsReady d v.view → version_in d ≡ 2 → MayGoOn view source_view v x
+  scratch-goes_on w r two = record {
     scan = scan_start;
     cutter = cutter;
     usable = subst (IsUsable view source_view v) (sym workspace) (record { workspace = w; ready = λ known. subst (λ z. IsReady z v.view) (sym same) r });
+    stamps = subst HasStamps (sym workspace) (ap version_in same ∙ two);
   }
 
 -- ---- calls that run no session
@@ -317,88 +318,3 @@ early-no-disk fails.Failed stop becomes h = let e = sym (ap end_of_stop (becomes
 early-no-disk fails.Memory stop becomes h = let e = sym (ap end_of_stop (becomes.1 refl)) ∙ h in absurd (cc)
 
 -- ---- whole calls
-
--- more came than a call takes, so that it isn't known that so little would come
-pub too-short : (l m : Option (List ℕ)) (taken : List ℕ) (e : End) → Consumes l m taken → (e ≡ how.TooLong) ↔ (INPUT_MAX < length taken) → e ≡ how.TooLong → IsShort l → ⊥
-too-short None m taken e t much h s = s
-too-short (Some all) None taken e t much h s = t
-too-short (Some all) (Some rest) taken e t much h s =
-    let n : length all ≡ length taken + length rest = ap length t ∙ length-append taken rest in
-    absurd (omega (arith, much.0 h, n, s))
-
--- with words that fit the call doesn't end with the usage
-fits : (asked : Asked) (before now : Outside) (v w : KnownDisk) (e : End) → RanAs (Some asked) before now v w e → e ≡ how.Usage → ⊥
-fits (scratch k s) before now v w e r = r.running.fitting
-fits (init k s) before now v w e r = r.running.fitting
-fits (run curator) before now v w e r = r.fitting
-
--- where there is a store, if there is to be one, it is found
-opens : (asked : Asked) (before now : Outside) (v w : KnownDisk) (e : End) → RanAs (Some asked) before now v w e → HasStore (Some asked) v → (at : ℕ) → e ≡ how.NoStore at → ⊥
-opens (scratch k s) before now v w e r has at h = r.running.opened at h
-opens (init k s) before now v w e r has at h = r.running.opened at h
-opens (run curator) before now v w e r has at h = (r.no_store has.0 at h).2 has.1
-
--- where nothing failed and little came, the call ends with an answer
-complete : (asked : Asked) (before now : Outside) (v w : KnownDisk) (e : End) → RanAs (Some asked) before now v w e → HasCauses before now e → DiskCauses v w e → (e ≡ how.TooLong → IsShort before.input.left → ⊥)
-    → HasStore (Some asked) v → IsShort before.input.left → IsFaultless before now v w → (e ≡ how.Done) ⊎ (e ≡ how.Refused) ⊎ (e ≡ how.Memory)
-complete asked before now v w how.Done r c d few has short calm = inl refl
-complete asked before now v w how.Refused r c d few has short calm = inr (inl refl)
-complete asked before now v w how.Usage r c d few has short calm = absurd (fits asked before now v w how.Usage r refl)
-complete asked before now v w how.Input r c d few has short calm = absurd (calm.input (c.input.blamed refl))
-complete asked before now v w how.File r c d few has short calm = absurd (calm.files (c.world.files.blamed refl))
-complete asked before now v w how.Output r c d few has short calm = absurd (calm.output (c.world.output.blamed refl))
-complete asked before now v w how.Disk r c d few has short calm = absurd (calm.disk (d.blamed refl))
-complete asked before now v w (how.NoStore at) r c d few has short calm = absurd (opens asked before now v w (how.NoStore at) r has at refl)
-complete asked before now v w how.Memory r c d few has short calm = inr (inr refl)
-complete asked before now v w how.TooLong r c d few has short calm = absurd (few refl short)
-complete asked before now v w how.Clock r c d few has short calm = absurd (calm.clock (c.world.clock.blamed refl))
-
--- a call with words that fit
-pub called : (asked : Asked) (before now : Outside) (v w : KnownDisk) (e : End) (code : ℕ) → code ≡ code_of e → RanAs (Some asked) before now v w e → HasCauses before now e → DiskCauses v w e → (e ≡ how.TooLong → IsShort before.input.left → ⊥) → Called (Some asked) before now v w code
-called asked before now v w e code n r c d few = record {
-  end = e;
-  number = n;
-  ran = r;
-  complete = λ has short calm. complete asked before now v w e r c d few has short calm;
-  causes = c;
-  disk = d;
-}
-
--- a call with other words
-pub called-usage : (i : KnownInput) (f : KnownFiles) (k : KnownClock) (o p : KnownOutput) (v : KnownDisk) (code : ℕ) → code ≡ 2 → WritesLast o p [] usage_text → o.faults ≤ p.faults → Called None (parts i f k o) (parts i f k p) v v code
-called-usage i f k o p v code n w later = record {
-  end = how.Usage;
-  number = n;
-  ran = record { usage = refl; input = refl; files = refl; clock = refl; wrote = w };
-  complete = λ has short calm. absurd has;
-  causes = record {
-    input = record { later = omega arith; blamed = λ e. absurd (cc); steady = tt };
-    world = record {
-      same = refl;
-      files = record { later = omega arith; blamed = λ e. absurd (cc); steady = tt };
-      clock = record { later = omega arith; blamed = λ e. absurd (cc); steady = tt };
-      output = record { later = later; blamed = λ e. absurd (cc); steady = tt };
-    };
-  };
-  disk = disk-still v how.Usage (λ e. absurd (cc));
-}
-
--- ---- numbers
-
--- the usage alone has the number 2
-pub usage_number : (e : End) → code_of e ≡ 2 → e ≡ how.Usage
-usage_number how.Done h = absurd (cc)
-usage_number how.Refused h = absurd (cc)
-usage_number how.Usage h = refl
-usage_number how.Input h = absurd (cc)
-usage_number how.File h = absurd (cc)
-usage_number how.Output h = absurd (cc)
-usage_number how.Disk h = absurd (cc)
-usage_number (how.NoStore at) h = absurd (cc)
-usage_number how.Memory h = absurd (cc)
-usage_number how.TooLong h = absurd (cc)
-usage_number how.Clock h = absurd (cc)
-
--- so words that fit don't have it
-pub called-number : (asked : Asked) (before now : Outside) (v w : KnownDisk) (e : End) (code : ℕ) → code ≡ code_of e → RanAs (Some asked) before now v w e → (code ≡ 2) ↔ (Some asked ≡ None)
-called-number asked before now v w e code n r = (λ h. absurd (fits asked before now v w e r (usage_number e (sym n ∙ h))), λ h. absurd (cc))

@@ -1,8 +1,9 @@
 -- How sessions begin, and how stores are opened and made.
-use Rattle.std.specs.Prelude.{◌≡◌, ◌⊎◌, ℕ, ◌≤◌, List, [], ◌∷◌, true, IsTrue, Result, Ok, Err, IfErr}
+use Rattle.std.specs.Prelude.{◌≡◌, ◌⊎◌, ℕ, ◌≤◌, List, [], ◌∷◌, Bool, true, IsTrue, Result, Ok, Err, IfErr, ⊤}
 use Rattle.cp_model.specs.Keyed.{len}
 use Rattle.cp_model.specs.Tree.{Tree}
-use Rattle.cp_model.specs.History.{Entry, start}
+use Rattle.std.specs.declared.option.Option.TheVariants.{Some}
+use Rattle.cp_model.specs.History.{Entry, State, start}
 use Rattle.cp_model.specs.declared.kind.Kind.{Kind}
 use Rattle.cp_outside.specs.FileReads.{FileTable}
 use Rattle.cp_disk.specs.MemoryDisks.{SureState, sure_view, sure_counts}
@@ -12,22 +13,32 @@ use Rattle.cp_file.specs.Stands.{IsStore, Opens, StandsFor}
 use Rattle.cp_db.specs.Databases as database
 use Rattle.cp_db.specs.Databases.{IsKept, end_in}
 use Rattle.cp_db.specs.declared.database.Db.{Db}
+use Rattle.cp_lang.specs.declared.syntax_tree.Load.{Load}
+use Rattle.cp_lang.specs.declared.syntax_tree.Stmt.TheVariants as stmt
+use Rattle.cp_reply.specs.Lines.{lines}
 use Rattle.cp_reply.specs.declared.reply.Of.TheVariants as of
 use Rattle.cp_reply.specs.declared.reply.Why.{Why}
 use Rattle.cp_reply.specs.declared.reply.Why.TheVariants as why
 use Rattle.cp_reply.specs.declared.reply.Reply.{Reply}
 use Rattle.cp_reply.specs.declared.reply.Reply.TheVariants as reply
-use Rattle.cp_session.specs.Session.{FetchedFile, gives, withholds}
+use Rattle.cp_session.specs.Session.{Session, FetchedFile, gives, withholds}
+use Rattle.cp_workspace.specs.Texts.{Terms}
 use Rattle.cp_workspace.specs.Disks.{KnownDisk}
 use Rattle.cp_workspace.specs.Files.{KnownFiles, HasRead, IsTable}
-use Rattle.cp_workspace.specs.Workspaces.{opened_session}
-use Rattle.cp_program.specs.Job.{scratch_terms, scratch_session}
+use Rattle.cp_workspace.specs.Workspaces as workspace
+use Rattle.cp_workspace.specs.Workspaces.{HoldsFile, opened_session}
+use Rattle.cp_workspace.specs.declared.workspace.Workspace.{Workspace}
+use Rattle.cp_program.specs.Job.{Report, is_refusal, scratch_terms, scratch_session}
+use Rattle.cp_program.specs.Outside.{KnownOutput}
 use Rattle.cp_program.specs.Play.{begun}
-use Rattle.cp_program.specs.Story.{frames_end, store_terms, LeavesStart}
-use Rattle.cp_program.specs.Turns.{Follows}
+use Rattle.cp_program.specs.Story.{frames_end, left_on, store_terms, SaidLine, LeavesStart}
+use Rattle.cp_program.specs.Alone.{LeavesOneOf, report_on}
+use Rattle.cp_program.specs.Scripts.{ScriptState}
+use Rattle.cp_program.specs.Turns.{Follows, TellsStop, end_of_stop}
 use Rattle.cp_program.specs.declared.interpreter.Interpreter.{Interpreter}
+use Rattle.cp_program.specs.declared.end.End.{End}
 use Rattle.cp_program.specs.declared.stop.Stop.{Stop}
-use Rattle.cp_program.specs.declared.stop.Stop.TheVariants.{File, Disk, NoStore, Memory}
+use Rattle.cp_program.specs.declared.stop.Stop.TheVariants.{Output, Full, File, Disk, NoStore, Clock, Memory}
 
 -- ---- in memory
 
@@ -115,3 +126,63 @@ pub record StoreMade (k : Kind) (given : FileTable → FetchedFile) (reads : ℕ
   pub made : IsTrue v.known → IsVacant v.view.content → (files : FileTable) → IsTable files before now
       → MadeAs k (given files) reads before now w result × LeavesStart k (given files) v.view w.view
   pub stops : IfErr result IsMakingStop
+
+-- ---- scripts
+
+-- the script that is expected, before its first byte, or why there is none
+abbrev pub GivesScript : Result (List ℕ) Why → Result ScriptState Why → Type 0
+GivesScript (Ok bytes) (Ok s) = s ≡ record { left = bytes; given = 0 }
+GivesScript (Ok bytes) (Err w) = ⊥
+GivesScript (Err w) (Ok s) = ⊥
+GivesScript (Err w) (Err y) = y ≡ w
+
+-- ---- calls that hand over one statement
+
+-- a content that opens gives its workspace, which commits nothing; what isn't opened is no store
+abbrev pub OpenedAlone : {R S : Type 0} → (R → Tree) → (S → Tree) → KnownDisk → KnownDisk → Result (Workspace R S) Stop → Type 0
+OpenedAlone view source_view v w (Ok d) = Opens v.view.content
+    × ((h : List Entry) (moments : List ℕ) → IsStore true h v.view.content → workspace.Stands view source_view (store_terms h v.view.content []) d (opened_session h moments) × HoldsFile d h w)
+OpenedAlone view source_view v w (Err (NoStore at)) = Opens v.view.content → ⊥
+OpenedAlone view source_view v w (Err stop) = ⊤
+
+-- the store wasn't opened, and nothing was read or written
+pub record NotOpened (before now : KnownFiles) (v w : KnownDisk) (result : Result Reply Stop) : Type 0 where
+  pub stop : Stop
+  pub is : result ≡ Err stop
+  pub opening : IsOpeningStop stop
+  pub files : now ≡ before
+  pub rests : Rests v.view w.view
+
+-- what a load with this report gave, on the history h
+abbrev pub LoadGives : Report → List Entry → KnownFiles → KnownFiles → KnownDisk → Result Reply Stop → Type 0
+LoadGives r h before now w (Ok y) = (lines y ≡ r.out) × (is_refusal y ≡ r.refused) × HasRead before now r.reads × left_on w r.history r.history
+LoadGives r h before now w (Err Output) = ⊥
+LoadGives r h before now w (Err Full) = ⊥
+LoadGives r h before now w (Err File) = (r.reads ≡ 1) × HasRead before now 1 × left_on w h h
+LoadGives r h before now w (Err Disk) = left_on w h r.history
+LoadGives r h before now w (Err (NoStore at)) = ⊥
+LoadGives r h before now w (Err Clock) = ⊥
+LoadGives r h before now w (Err Memory) = left_on w h r.history
+
+-- what a load did to files and disk, whose report is expected on each history
+pub record LoadedAs (l : Load) (before now : KnownFiles) (v w : KnownDisk) (result : Result Reply Stop) : Type 0 where
+  pub no_store : IsTrue v.known → (at : ℕ) → result ≡ Err (NoStore at) → NotOpened before now v w result × (Opens v.view.content → ⊥)
+  pub unopened : IsTrue v.known → (Opens v.view.content → ⊥) → NotOpened before now v w result
+  pub did : IsTrue v.known → (files : FileTable) → IsTable files before now → (h : List Entry) → IsStore true h v.view.content
+      → NotOpened before now v w result ⊎ LoadGives (report_on files h v.view.content (stmt.Load l)) h before now w result
+  pub later : IsTrue v.known → (files : FileTable) → IsTable files before now → (h : List Entry) → IsStore true h v.view.content → v.view.moment ≤ w.view.moment
+  pub crash : IsTrue v.known → (files : FileTable) → IsTable files before now → (h : List Entry) → IsStore true h v.view.content
+      → LeavesOneOf h (report_on files h v.view.content (stmt.Load l)).history v.view w.view
+  pub kinds : IfErr result (λ e. (e ≡ Output → ⊥) × (e ≡ Full → ⊥) × (e ≡ Clock → ⊥))
+
+-- what a store answers whose report is expected on each history
+abbrev pub AnsweredAs : Bool → (List Entry → List ℕ → Report) → KnownDisk → Result Reply Stop → Type 0
+AnsweredAs right report v (Ok y) = Opens v.view.content
+    × ((h : List Entry) → IsStore right h v.view.content → (lines y ≡ (report h v.view.content).out) × (is_refusal y ≡ (report h v.view.content).refused))
+AnsweredAs right report v (Err (NoStore at)) = Opens v.view.content → ⊥
+AnsweredAs right report v (Err stop) = ⊤
+
+-- the answer was written, or the last line of what stopped the call
+abbrev pub GaveAnswer : Result Reply Stop → KnownOutput → KnownOutput → End → Type 0
+GaveAnswer (Ok y) before now end = SaidLine (lines y) (is_refusal y) before now end
+GaveAnswer (Err stop) before now end = (end ≡ end_of_stop stop) × TellsStop before now stop

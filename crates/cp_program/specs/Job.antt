@@ -24,7 +24,8 @@ use Rattle.cp_workspace.specs.Texts.{Terms, setting}
 use Rattle.cp_workspace.specs.Fetching.{fetch}
 use Rattle.cp_workspace.specs.Loads.{cut_reads}
 use Rattle.cp_workspace.specs.Workspaces.{opened_session}
-use Rattle.cp_program.specs.Words.{Start, alone, tree_in}
+use Rattle.cp_words.specs.declared.command.Start.{Start}
+use Rattle.cp_words.specs.declared.command.Start.TheVariants.{Alone, TreeIn}
 
 -- ---- starts
 
@@ -38,13 +39,13 @@ start_load file = record { name = target; form = Json; file = file }
 
 -- the tree that a history starts from, or why it starts from none
 abbrev pub start_given : FileTable → Start → FetchedFile
-start_given files alone = gives empty_tree
-start_given files (tree_in file) = fetch files (start_load file)
+start_given files Alone = gives empty_tree
+start_given files (TreeIn file) = fetch files (start_load file)
 
 -- how many files are read for the start tree
 abbrev pub start_reads : Start → ℕ
-start_reads alone = 0
-start_reads (tree_in file) = 1
+start_reads Alone = 0
+start_reads (TreeIn file) = 1
 
 -- a session in memory on a history of its own: its commits have no curator
 abbrev pub scratch_terms : Kind → Tree → Terms

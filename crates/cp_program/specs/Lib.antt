@@ -1,9 +1,12 @@
-pub mod Words
+pub mod Texts
 pub mod Outside
 pub mod Job
 pub mod Play
 pub mod Ends
 pub mod Story
-pub mod Starts
+pub mod Alone
+pub mod Answering
+pub mod Scripts
+pub mod Calls
 pub mod Turns
 pub mod Begins

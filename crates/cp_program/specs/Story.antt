@@ -27,7 +27,7 @@ use Rattle.cp_workspace.specs.Texts.{Terms}
 use Rattle.cp_workspace.specs.Files.{HasRead, IsTable}
 use Rattle.cp_workspace.specs.Disks.{KnownDisk}
 use Rattle.cp_workspace.specs.Workspaces.{opened_session}
-use Rattle.cp_program.specs.Words.{Asked, scratch, init, run, usage_text, input_line, file_line, disk_line, no_store_line, memory_line, too_long_line, clock_line}
+use Rattle.cp_program.specs.Texts.{input_line, file_line, disk_line, no_store_line, memory_line, too_long_line, clock_line}
 use Rattle.cp_program.specs.Job.{Report, start_given, start_reads, scratch_terms, scratch_session, job_so_far, job, refused_start}
 use Rattle.cp_program.specs.Outside.{KnownOutput, World, Outside, world_of}
 use Rattle.cp_program.specs.Ends.{code_of}
@@ -325,30 +325,6 @@ pub record Made (k : Kind) (given : FileTable → FetchedFile) (reads : ℕ) (be
       → FileOfStartFailed reads before now end ⊎ EndedEarly before now end ⊎ MadeFrom k (given files) before now v w end
   pub crash : IsTrue v.known → IsVacant v.view.content → (files : FileTable) → IsTable files before.files now.files → LeavesStart k (given files) v.view w.view
 
--- ---- what a call did
-
--- With words that fit no row the usage was written, and nothing else was done.
-pub record GaveUsage (before now : Outside) (end : End) : Type 0 where
-  pub usage : end ≡ how.Usage
-  pub input : now.input ≡ before.input
-  pub files : now.files ≡ before.files
-  pub clock : now.clock ≡ before.clock
-  pub wrote : WritesLast before.output now.output [] usage_text
-
--- The words, and what was done for them.
-abbrev pub RanAs : Option Asked → Outside → Outside → KnownDisk → KnownDisk → End → Type 0
-RanAs None before now v w end = GaveUsage before now end
-RanAs (Some (scratch k from)) before now v w end = Ran k (λ files. start_given files from) (start_reads from) before now end
-RanAs (Some (init k from)) before now v w end = Made k (λ files. start_given files from) (start_reads from) before now v w end
-RanAs (Some (run curator)) before now v w end = RanOn curator before now v w end
-
--- The words ask for nothing of the disk.
-abbrev pub NeedsNoDisk : Option Asked → Type 0
-NeedsNoDisk None = ⊤
-NeedsNoDisk (Some (scratch k from)) = ⊤
-NeedsNoDisk (Some (init k from)) = ⊥
-NeedsNoDisk (Some (run curator)) = ⊥
-
 -- ---- causes
 
 -- The causes of an end in files, the clock and the output: counts of faults never fall; an end blames one of them only where its count rose, and each stayed where all was done. The files are what they were.
@@ -374,25 +350,3 @@ pub record IsFaultless (before now : Outside) (v w : KnownDisk) : Type 0 where
   pub clock : Rose before.clock.faults now.clock.faults → ⊥
   pub output : Rose before.output.faults now.output.faults → ⊥
   pub disk : Rose v.counts.faults w.counts.faults → ⊥
-
--- At most so many bytes are known to come.
-abbrev pub IsShort : Option (List ℕ) → Type 0
-IsShort None = ⊥
-IsShort (Some all) = length all ≤ INPUT_MAX
-
--- What the words ask for needs no store, or the disk is known to hold one that opens.
-abbrev pub HasStore : Option Asked → KnownDisk → Type 0
-HasStore None v = ⊥
-HasStore (Some (scratch k from)) v = ⊤
-HasStore (Some (init k from)) v = ⊤
-HasStore (Some (run curator)) v = IsTrue v.known × Opens v.view.content
-
--- One call of the program: it ended in some way, whose number the status is, and what it did and the causes are those of this end.
-pub record Called (asked : Option Asked) (before now : Outside) (v w : KnownDisk) (code : ℕ) : Type 0 where
-  pub end : End
-  pub number : code ≡ code_of end
-  pub ran : RanAs asked before now v w end
-  -- where the words fit, the store opens if there is to be one, nothing failed and not too much comes, the end is an answer, or memory ran out
-  pub complete : HasStore asked v → IsShort before.input.left → IsFaultless before now v w → (end ≡ how.Done) ⊎ (end ≡ how.Refused) ⊎ (end ≡ how.Memory)
-  pub causes : HasCauses before now end
-  pub disk : DiskCauses v w end

@@ -14,15 +14,16 @@ use Rattle.cp_model.specs.Tree.{Tree}
 use Rattle.cp_model.specs.History.{Entry}
 use Rattle.cp_file.specs.Stands.{StandsFor}
 use Rattle.cp_session.specs.Session.{session_after}
-use Rattle.cp_program.specs.Words.{no_store_line, memory_line, file_line, disk_line, clock_line}
+use Rattle.cp_program.specs.Texts.{no_store_line, memory_line, file_line, disk_line, clock_line}
 use Rattle.cp_workspace.specs.Texts.{setting}
 use Rattle.cp_workspace.specs.Disks.{KnownDisk}
 use Rattle.cp_workspace.specs.Files.{HasRead, HasReadSome, IsTable, UsesFiles}
-use Rattle.cp_workspace.specs.Workspaces.{Stands, IsUsable, HoldsFile}
+use Rattle.cp_workspace.specs.Workspaces.{Stands, IsUsable, HasStamps, HoldsFile}
 use Rattle.cp_program.specs.Job.{Report, report_of}
 use Rattle.cp_program.specs.Play.{Seen, plays, after_play, closes, plays_all}
 use Rattle.cp_program.specs.Outside.{KnownOutput, World, Outside, world_of}
-use Rattle.cp_program.specs.Story.{Writes, StopsIn, WritesLast, left_on, Work, Did, IsRunning, result_of}
+use Rattle.cp_program.specs.Story.{Writes, StopsIn, WritesLast, left_on, Work, Did, after_reads, IsRunning, result_of}
+use Rattle.cp_program.specs.Scripts.{script_of, ScriptFailed, DidScript}
 use Rattle.cp_program.specs.declared.interpreter.Interpreter.{Interpreter}
 use Rattle.cp_program.specs.declared.end.End.{End}
 use Rattle.cp_program.specs.declared.end.End.TheVariants as how
@@ -37,11 +38,12 @@ pub record Follows {R S : Type 0} (view : R → Tree) (source_view : S → Tree)
   pub stands : Stands view source_view s.terms x.workspace s.session
   pub holds : IsTrue v.known → HoldsFile x.workspace s.session.history v
 
--- it may go on: the cutter stands in some text, and the workspace may be used on the disk
+-- it may go on: the cutter stands in some text, and the workspace may be used on the disk, and commit
 pub record MayGoOn {R S : Type 0} (view : R → Tree) (source_view : S → Tree) (v : KnownDisk) (x : Interpreter R S) : Type 0 where
   pub scan : Scan
   pub cutter : x.cutter ≡ held_of scan
   pub usable : IsUsable view source_view v x.workspace
+  pub stamps : HasStamps x.workspace
 
 -- ---- what the outside says of a step that may stop the session
 
@@ -315,3 +317,19 @@ pub record IsSteady (before now : Outside) (v w : KnownDisk) : Type 0 where
   pub output : now.output.faults ≡ before.output.faults
   pub refused : now.output.refusals ≡ before.output.refusals
   pub disk : w.counts.faults ≡ v.counts.faults
+
+-- ---- scripts
+
+-- the work of a session that stands at s, and maybe wrote a refusal, whose script has been read
+abbrev pub script_from : FileTable → Seen → Bool → Work
+script_from files s refused = record { so_far = λ bytes. after_reads 1 (plays files s bytes); whole = λ bytes. after_reads 1 (with_refusal refused (plays_all files s bytes)) }
+
+-- The script of the commit file with this name was run in the session of x, or there is none.
+pub record RanScript {R S : Type 0} (view : R → Tree) (source_view : S → Tree) (x : Interpreter R S) (file : List ℕ) (before now : World) (v w : KnownDisk) (end : End) : Type 0 where
+  pub taken : List ℕ
+  pub moments : List ℕ
+  pub told : HasTold before.clock.left now.clock.left moments
+  pub closing : IsClosing end
+  pub did : (files : FileTable) → IsTable files before.files now.files → (s : Seen) (rest : List ℕ) → Follows view source_view v x s → s.session.moments ≡ moments ++ rest
+      → (ScriptFailed s.session.history (left_on w) taken moments before now end ⊎ DidScript (script_of (files file)) (script_from files s x.refused) s.session.history (left_on w) taken moments before now end)
+      × LeavesAlong files s taken v w

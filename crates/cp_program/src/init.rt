@@ -9,11 +9,9 @@ ghost use Rattle.cp_workspace.specs.Files.{known_files, UsesFiles};
 ghost use Rattle.cp_program.specs.Begins.{CreatedAs, StoreMade};
 ghost use Rattle.cp_program.specs.Job.{start_given, start_reads};
 ghost use Rattle.cp_program.specs.Outside.{KnownInput, KnownClock, known_output};
-ghost use Rattle.cp_program.specs.Starts.{start_asked};
 ghost use Rattle.cp_program.specs.Story.{Made, HasCauses, DiskCauses};
 ghost use Rattle.cp_program.specs.Turns.{IsDiskStop, IsFileStop};
 
-use crate::command::Start;
 use crate::end::End;
 use crate::start::{end_with, start_tree};
 use crate::stop::Stop;
@@ -25,6 +23,7 @@ use cp_model::Kind;
 use cp_outside::{Files, Sink};
 use cp_reply::{Of, Reply, Why};
 use cp_tree::TreeRep;
+use cp_words::Start;
 use std::alloc::Global;
 
 /// The refusal of a new store.
@@ -58,11 +57,11 @@ fn create<R: TreeRep, D: Disk>(
 fn make<R: TreeRep, D: Disk, F: Files>(
     alloc: Global,
     kind: Kind,
-    start: Start<'_>,
+    start: Start,
     disk: &mut D,
     files: &mut F,
 ) -> Result<Reply, Stop>
-    ensures made { StoreMade kind (λ t. start_given t (start_asked start.entry)) (start_reads (start_asked start.entry))
+    ensures made { StoreMade kind (λ t. start_given t start) (start_reads start)
         (known_files F.Files files.old) (known_files F.Files files.new) (known_disk D.Disk disk.old) (known_disk D.Disk disk.new) result }
     ensures used { UsesFiles IsFileStop (known_files F.Files files.old) (known_files F.Files files.new) result }
     ensures cause { Accounts IsDiskStop (D.counts disk.old).faults (D.counts disk.new).faults result }
@@ -80,12 +79,12 @@ fn make<R: TreeRep, D: Disk, F: Files>(
 pub(crate) fn init<R: TreeRep, D: Disk, F: Files, O: Sink>(
     alloc: Global,
     kind: Kind,
-    start: Start<'_>,
+    start: Start,
     disk: &mut D,
     files: &mut F,
     output: &mut O,
 ) -> End
-    ensures made { (i : KnownInput) (c : KnownClock) → Made kind (λ t. start_given t (start_asked start.entry)) (start_reads (start_asked start.entry))
+    ensures made { (i : KnownInput) (c : KnownClock) → Made kind (λ t. start_given t start) (start_reads start)
         (record { input = i; files = known_files F.Files files.old; clock = c; output = known_output O.Sink output.old })
         (record { input = i; files = known_files F.Files files.new; clock = c; output = known_output O.Sink output.new })
         (known_disk D.Disk disk.old) (known_disk D.Disk disk.new) result }

@@ -2,13 +2,16 @@
 //! files to replies, a store and an exit status.
 #![tactic(auto)]
 
-mod command;
+mod answer;
+mod commit;
 mod end;
 mod init;
 mod interpreter;
 mod limits;
+mod load;
 mod run;
 mod scratch;
+mod script;
 mod session;
 mod start;
 mod stop;

@@ -1,38 +1,45 @@
 //! A call: its words, what they ask for, and its end.
-ghost use Rattle.std.specs.Prelude.{◌≡◌, ◌↔◌, map, string_bytes};
+ghost use Rattle.std.specs.Prelude.{◌≡◌, ◌⊎◌, ◌≤◌, [], true, map, string_bytes};
 ghost use Rattle.std.specs.declared.option.Option.TheVariants.{None, Some};
+ghost use Rattle.cp_words.specs.Commands.{command_of, IsWrittenCommand};
 ghost use Rattle.cp_workspace.specs.Disks.{known_disk};
-ghost use Rattle.cp_program.specs.Words.{asked_by};
-ghost use Rattle.cp_program.specs.Outside.{known_outside};
-ghost use Rattle.cp_program.specs.Starts.{asked_for};
-ghost use Rattle.cp_program.specs.Story.{RanAs, NeedsNoDisk, HasCauses, DiskCauses, IsShort, Called};
+ghost use Rattle.cp_program.specs.Texts.{usage_text};
+ghost use Rattle.cp_program.specs.Ends.{code_of};
+ghost use Rattle.cp_program.specs.Outside.{known_output, known_outside};
+ghost use Rattle.cp_program.specs.Story.{WritesLast, HasCauses, DiskCauses};
+ghost use Rattle.cp_program.specs.Calls.{built, is_built, DidCommand, LeavesDisk, NeedsNoDisk, IsShort, Called};
 
-use crate::command::{Asked, asked_by};
+use crate::answer::{ask, list_commits, show};
+use crate::commit::commit;
 use crate::end::{End, Status};
 use crate::init::init;
+use crate::load::load;
 use crate::scratch::scratch;
 use crate::store::run;
-use crate::tell::last_line;
+use crate::tell::{last_line, out_of_memory};
 use cp_clock::Clock;
 use cp_disk::Disk;
 use cp_outside::{Files, Sink, Source};
 use cp_tree::TreeRep;
+use cp_words::{Command, command_of};
 use std::alloc::Global;
 
 const USAGE: &[u8] =
     b"usage: cpdb scratch KIND [JSON]\nusage: cpdb init STORE KIND [JSON]\nusage: cpdb run STORE [CURATOR]\nusage: cpdb commit STORE FILE [CURATOR]\nusage: cpdb load STORE NAME json FILE\nusage: cpdb load STORE NAME csv FILE [COLUMN]\nusage: cpdb query STORE STATEMENT\nusage: cpdb verify STORE\nusage: cpdb checkpoint STORE\nusage: cpdb gen SEED COUNT KIND\nusage: cpdb log STORE\n";
 
-/// Does what the words ask for.
-fn run_asked<R: TreeRep, S: TreeRep, D: Disk, F: Files, K: Clock, I: Source, O: Sink>(
+/// Does what the command asks for.
+fn run_command<R: TreeRep, S: TreeRep, D: Disk, F: Files, K: Clock, I: Source, O: Sink>(
     alloc: Global,
-    asked: Asked<'_>,
+    command: Command,
     disk: &mut D,
     files: &mut F,
     clock: &mut K,
     input: &mut I,
     output: &mut O,
 ) -> End
-    ensures ran { RanAs (Some (asked_for asked.entry))
+    requires written { IsWrittenCommand command }
+    requires built { is_built command ≡ true }
+    ensures ran { DidCommand command
         (known_outside F.Files K.Clock I.Source O.Sink files.old clock.old input.old output.old)
         (known_outside F.Files K.Clock I.Source O.Sink files.new clock.new input.new output.new)
         (known_disk D.Disk disk.old) (known_disk D.Disk disk.new) result }
@@ -40,18 +47,52 @@ fn run_asked<R: TreeRep, S: TreeRep, D: Disk, F: Files, K: Clock, I: Source, O: 
         (known_outside F.Files K.Clock I.Source O.Sink files.old clock.old input.old output.old)
         (known_outside F.Files K.Clock I.Source O.Sink files.new clock.new input.new output.new) result }
     ensures disk { DiskCauses (known_disk D.Disk disk.old) (known_disk D.Disk disk.new) result }
-    ensures untouched { NeedsNoDisk (Some (asked_for asked.entry)) → disk.new ≡ disk.old }
+    ensures untouched { LeavesDisk command → disk.new ≡ disk.old }
     ensures short { result ≡ End.TooLong → IsShort (I.left input.old) → ⊥ }
 {
-    match asked {
-        Asked::Scratch(kind, start) => {
+    match command {
+        Command::Scratch { kind, start } => {
             scratch::<R, S, F, K, I, O>(alloc, kind, start, files, clock, input, output)
         }
-        Asked::Init(kind, start) => init::<R, D, F, O>(alloc, kind, start, disk, files, output),
-        Asked::Run(curator) => {
+        Command::Init { kind, start } => {
+            init::<R, D, F, O>(alloc, kind, start, disk, files, output)
+        }
+        Command::Run { curator } => {
             run::<R, S, D, F, K, I, O>(alloc, curator, disk, files, clock, input, output)
         }
+        Command::Commit { file, curator } => {
+            commit::<R, S, D, F, K, O>(alloc, file, curator, disk, files, clock, output)
+        }
+        Command::Load(source) => load::<R, S, D, F, O>(alloc, source, disk, files, output),
+        Command::Ask(query) => ask::<R, S, D, O>(alloc, query, disk, output),
+        Command::Show(place) => show::<R, S, D, O>(alloc, place, disk, output),
+        Command::Generate { .. } => unreachable!(),
+        Command::Log => list_commits::<R, S, D, O>(alloc, disk, output),
     }
+}
+
+/// Whether a command is built: not yet the run of a drawn script.
+fn is_built(command: &Command) -> bool
+    ensures { result ≡ is_built command.now }
+{
+    !matches!(command, Command::Generate { .. })
+}
+
+/// Writes the usage.
+fn give_usage<O: Sink>(output: &mut O) -> End
+    ensures end { result ≡ End.Usage }
+    ensures wrote { WritesLast (known_output O.Sink output.old) (known_output O.Sink output.new) [] usage_text }
+    ensures later { O.faults output.old ≤ O.faults output.new }
+{
+    last_line(output, USAGE);
+    End::Usage
+}
+
+/// The status of an end.
+fn status_of(end: End) -> Status
+    ensures { result.code ≡ code_of end }
+{
+    Status { code: end.code() }
 }
 
 /// Everything that the program does: words, a disk, files, a clock, input and output to an exit status.
@@ -78,19 +119,23 @@ pub fn run_cpdb<R: TreeRep, S: TreeRep, D: Disk, F: Files, K: Clock, I: Source, 
     input: &mut I,
     output: &mut O,
 ) -> Status
-    ensures call { Called (asked_by (map string_bytes words.now))
+    ensures call { Called (built (command_of (map string_bytes words.now)))
         (known_outside F.Files K.Clock I.Source O.Sink files.old clock.old input.old output.old)
         (known_outside F.Files K.Clock I.Source O.Sink files.new clock.new input.new output.new)
         (known_disk D.Disk disk.old) (known_disk D.Disk disk.new) result.code }
-    ensures usage { (result.code ≡ 2) ↔ (asked_by (map string_bytes words.now) ≡ None) }
-    ensures untouched { NeedsNoDisk (asked_by (map string_bytes words.now)) → disk.new ≡ disk.old }
+    ensures usage { result.code ≡ 2 → built (command_of (map string_bytes words.now)) ≡ None }
+    ensures unfitting { built (command_of (map string_bytes words.now)) ≡ None → (result.code ≡ 2) ⊎ (result.code ≡ 7) }
+    ensures untouched { NeedsNoDisk (built (command_of (map string_bytes words.now))) → disk.new ≡ disk.old }
 {
-    let Some(asked) = asked_by(words) else {
-        last_line(output, USAGE);
-        return Status {
-            code: End::Usage.code(),
-        };
+    let Ok(asked) = command_of(alloc, words) else {
+        return status_of(out_of_memory(output));
     };
-    let end = run_asked::<R, S, D, F, K, I, O>(alloc, asked, disk, files, clock, input, output);
-    Status { code: end.code() }
+    let Some(command) = asked else {
+        return status_of(give_usage(output));
+    };
+    if !is_built(&command) {
+        return status_of(give_usage(output));
+    }
+    let end = run_command::<R, S, D, F, K, I, O>(alloc, command, disk, files, clock, input, output);
+    status_of(end)
 }

@@ -13,17 +13,15 @@ ghost use Rattle.cp_workspace.specs.Files.{known_files, IsTable, Reads, UsesFile
 ghost use Rattle.cp_program.specs.Begins.{Begun, sure_disk};
 ghost use Rattle.cp_program.specs.Job.{start_given, start_reads, scratch_terms, scratch_session};
 ghost use Rattle.cp_program.specs.Outside.{known_outside};
-ghost use Rattle.cp_program.specs.Starts.{start_asked};
 ghost use Rattle.cp_program.specs.Story.{Ran, HasCauses};
 ghost use Rattle.cp_program.specs.Play.{begun};
 ghost use Rattle.cp_program.specs.Turns.{Follows, MayGoOn};
 
-use crate::command::Start;
 use crate::end::End;
 use crate::interpreter::Interpreter;
 use crate::limits::PIECE_MAX;
 use crate::session::turns;
-use crate::start::{curator_of, end_with, start_tree};
+use crate::start::{end_with, no_curator, start_tree};
 use crate::stop::Stop;
 use crate::tell::{out_of_memory, stopped};
 use cp_clock::Clock;
@@ -33,11 +31,12 @@ use cp_model::Kind;
 use cp_outside::{Files, FilesFault, Sink, Source};
 use cp_reply::{Of, Reply, Why};
 use cp_tree::TreeRep;
+use cp_words::Start;
 use cp_workspace::Workspace;
 use std::alloc::{AllocError, Global};
 
 /// A database of a kind on this tree, in memory.
-fn new_db<R: TreeRep, S: TreeRep>(
+pub(crate) fn new_db<R: TreeRep, S: TreeRep>(
     alloc: Global,
     kind: Kind,
     tree: R,
@@ -69,7 +68,7 @@ fn session_on<R: TreeRep, S: TreeRep>(
         (begun (scratch_terms kind (R.contents tree)) (scratch_session kind (R.contents tree) moments))) }
     ensures goes_on { IfOk result (λ x. MayGoOn R.contents S.contents (sure_disk disk.new) x × (x.refused ≡ false)) }
 {
-    let curator = curator_of(alloc, "")?;
+    let curator = no_curator(alloc)?;
     let db = new_db(alloc, kind, tree, disk)?;
     Ok(Interpreter::new(alloc, Workspace::new(db, curator)))
 }
@@ -78,16 +77,16 @@ fn session_on<R: TreeRep, S: TreeRep>(
 fn begin<R: TreeRep, S: TreeRep, F: Files>(
     alloc: Global,
     kind: Kind,
-    start: Start<'_>,
+    start: Start,
     disk: &mut SureDisk,
     files: &mut F,
 ) -> Result<Result<Interpreter<R, S>, Why>, FilesFault>
     requires vacant { IsVacant (sure_view disk.old).content }
     ensures begun { IfOk result (λ r. (t : FileTable) → IsTable t (known_files F.Files files.old) (known_files F.Files files.new)
-        → Begun R.contents S.contents (sure_disk disk.new) kind (start_given t (start_asked start.entry)) r) }
+        → Begun R.contents S.contents (sure_disk disk.new) kind (start_given t start) r) }
     ensures goes_on { IfOk result (λ r. IfOk r (λ x. MayGoOn R.contents S.contents (sure_disk disk.new) x × (x.refused ≡ false))) }
     ensures used { UsesFiles IsFailedFile (known_files F.Files files.old) (known_files F.Files files.new) result }
-    ensures reads { Reads IsFailedFile (start_reads (start_asked start.entry)) (known_files F.Files files.old) (known_files F.Files files.new) result }
+    ensures reads { Reads IsFailedFile (start_reads start) (known_files F.Files files.old) (known_files F.Files files.new) result }
 {
     match start_tree::<R, F>(alloc, start, files)? {
         Ok(tree) => Ok(Ok(session_on(alloc, kind, tree, disk)?)),
@@ -109,13 +108,13 @@ fn refused_start(why: Why) -> Reply
 pub(crate) fn scratch<R: TreeRep, S: TreeRep, F: Files, K: Clock, I: Source, O: Sink>(
     alloc: Global,
     kind: Kind,
-    start: Start<'_>,
+    start: Start,
     files: &mut F,
     clock: &mut K,
     input: &mut I,
     output: &mut O,
 ) -> End
-    ensures ran { Ran kind (λ t. start_given t (start_asked start.entry)) (start_reads (start_asked start.entry))
+    ensures ran { Ran kind (λ t. start_given t start) (start_reads start)
         (known_outside F.Files K.Clock I.Source O.Sink files.old clock.old input.old output.old)
         (known_outside F.Files K.Clock I.Source O.Sink files.new clock.new input.new output.new) result }
     ensures causes { HasCauses

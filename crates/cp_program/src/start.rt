@@ -1,5 +1,5 @@
 //! What a history starts from, and replies that stand alone.
-ghost use Rattle.std.specs.Prelude.{◌≡◌, IfOk};
+ghost use Rattle.std.specs.Prelude.{◌≡◌, [], IfOk};
 ghost use Rattle.cp_outside.specs.Causes.{Accounts};
 ghost use Rattle.cp_outside.specs.FileReads.{FileTable};
 ghost use Rattle.cp_reply.specs.Lines.{lines};
@@ -8,11 +8,9 @@ ghost use Rattle.cp_workspace.specs.Fetched.{Gives};
 ghost use Rattle.cp_workspace.specs.Files.{known_files, IsTable, Reads, UsesFiles};
 ghost use Rattle.cp_program.specs.Job.{is_refusal, start_given, start_reads};
 ghost use Rattle.cp_program.specs.Outside.{known_output};
-ghost use Rattle.cp_program.specs.Starts.{start_asked};
 ghost use Rattle.cp_program.specs.Story.{SaidLine, result_of};
 ghost use Rattle.cp_program.specs.Turns.{SendsOut, UsesOutput};
 
-use crate::command::Start;
 use crate::end::End;
 use crate::stop::Stop;
 use crate::tell::{stopped, tell};
@@ -21,34 +19,35 @@ use cp_outside::{Files, FilesFault, Sink};
 use cp_path::{Label, Name};
 use cp_reply::{Reply, Why};
 use cp_tree::TreeRep;
+use cp_words::Start;
 use cp_workspace::fetch;
 use std::alloc::{AllocError, Global};
 
 /// The tree that a history starts from, or why it starts from none.
 pub(crate) fn start_tree<R: TreeRep, F: Files>(
     alloc: Global,
-    start: Start<'_>,
+    start: Start,
     files: &mut F,
 ) -> Result<Result<R, Why>, FilesFault>
     ensures gives { IfOk result (λ r. (t : FileTable) → IsTable t (known_files F.Files files.old) (known_files F.Files files.new)
-        → Gives R.contents (start_given t (start_asked start.entry)) r) }
+        → Gives R.contents (start_given t start) r) }
     ensures used { UsesFiles IsFailedFile (known_files F.Files files.old) (known_files F.Files files.new) result }
-    ensures reads { Reads IsFailedFile (start_reads (start_asked start.entry)) (known_files F.Files files.old) (known_files F.Files files.new) result }
+    ensures reads { Reads IsFailedFile (start_reads start) (known_files F.Files files.old) (known_files F.Files files.new) result }
 {
     match start {
         Start::Alone => Ok(Ok(R::single(alloc, &Content::Node)?)),
         Start::TreeIn(file) => {
             let name = Name::target(alloc)?;
-            fetch(alloc, files, &name, &Form::Json, file)
+            fetch(alloc, files, &name, &Form::Json, file.as_str())
         }
     }
 }
 
-/// The curator with this name. A longer one than a label may be, which no words ask for, is read as want of memory.
-pub(crate) fn curator_of(alloc: Global, name: &str) -> Result<Label, AllocError>
-    ensures { IfOk result (λ a. a ≡ name.now) }
+/// The curator of those that commit without one, and of calls that commit nothing.
+pub(crate) fn no_curator(alloc: Global) -> Result<Label, AllocError>
+    ensures { IfOk result (λ a. a ≡ []) }
 {
-    match Label::new(alloc, name) {
+    match Label::new(alloc, "") {
         Ok(curator) => Ok(curator),
         Err(_) => Err(AllocError),
     }

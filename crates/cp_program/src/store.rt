@@ -12,13 +12,13 @@ use crate::end::End;
 use crate::interpreter::Interpreter;
 use crate::limits::PIECE_MAX;
 use crate::session::turns;
-use crate::start::curator_of;
 use crate::stop::Stop;
 use crate::tell::{out_of_memory, stopped};
 use cp_clock::Clock;
 use cp_db::{Db, WriteFault};
 use cp_disk::Disk;
 use cp_outside::{Files, Sink, Source};
+use cp_path::Label;
 use cp_tree::TreeRep;
 use cp_workspace::Workspace;
 use std::alloc::Global;
@@ -63,18 +63,17 @@ fn open_db<R: TreeRep, S: TreeRep, D: Disk>(alloc: Global, disk: &mut D) -> Resu
 }
 
 /// A session on a store, by this curator.
-fn begin<R: TreeRep, S: TreeRep, D: Disk>(
+pub(crate) fn begin<R: TreeRep, S: TreeRep, D: Disk>(
     alloc: Global,
-    curator: &str,
+    curator: Label,
     disk: &mut D,
 ) -> Result<Interpreter<R, S>, Stop>
-    ensures begun { IsTrue D.is_known → BegunOn R.contents S.contents curator.now (known_disk D.Disk disk.old) (known_disk D.Disk disk.new) result }
+    ensures begun { IsTrue D.is_known → BegunOn R.contents S.contents curator (known_disk D.Disk disk.old) (known_disk D.Disk disk.new) result }
     ensures leaves { LeavesStore (known_disk D.Disk disk.old) (known_disk D.Disk disk.new) }
     ensures goes_on { IfOk result (λ x. MayGoOn R.contents S.contents (known_disk D.Disk disk.new) x × (x.refused ≡ false)) }
     ensures cause { Accounts IsDiskStop (D.counts disk.old).faults (D.counts disk.new).faults result }
     ensures kinds { IfErr result IsOpeningStop }
 {
-    let curator = curator_of(alloc, curator)?;
     let db = open_db(alloc, disk)?;
     Ok(Interpreter::new(alloc, Workspace::new(db, curator)))
 }
@@ -82,14 +81,14 @@ fn begin<R: TreeRep, S: TreeRep, D: Disk>(
 /// The session over the input, on a store that is opened before the first byte is read.
 pub(crate) fn run<R: TreeRep, S: TreeRep, D: Disk, F: Files, K: Clock, I: Source, O: Sink>(
     alloc: Global,
-    curator: &str,
+    curator: Label,
     disk: &mut D,
     files: &mut F,
     clock: &mut K,
     input: &mut I,
     output: &mut O,
 ) -> End
-    ensures ran { RanOn curator.now
+    ensures ran { RanOn curator
         (known_outside F.Files K.Clock I.Source O.Sink files.old clock.old input.old output.old)
         (known_outside F.Files K.Clock I.Source O.Sink files.new clock.new input.new output.new)
         (known_disk D.Disk disk.old) (known_disk D.Disk disk.new) result }

@@ -1,7 +1,7 @@
 //! Lines that go to the output: replies, and the last line of a call that doesn't end with one.
 ghost use Rattle.std.specs.Prelude.{◌≡◌, ◌≤◌, []};
 ghost use Rattle.cp_reply.specs.Lines.{lines};
-ghost use Rattle.cp_program.specs.Words.{memory_line, no_store_line};
+ghost use Rattle.cp_program.specs.Texts.{memory_line, no_store_line};
 ghost use Rattle.cp_program.specs.Outside.{known_output};
 ghost use Rattle.cp_program.specs.Story.{WritesLast};
 ghost use Rattle.cp_program.specs.Turns.{SendsOut, TellsStop, UsesOutput, end_of_stop};

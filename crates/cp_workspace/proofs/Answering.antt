@@ -116,8 +116,8 @@ told-shown view source_view d q u (Err y) e h = tt
 -- ---- queries
 
 -- what a history leads to is one
-one_state : (h : List Entry) (t u : State) → replay h ≡ Some t → replay h ≡ Some u → t ≡ u
-one_state h t u e f = let same : Some t ≡ Some u = sym e ∙ f in cc
+pub one-state : (h : List Entry) (t u : State) → replay h ≡ Some t → replay h ≡ Some u → t ≡ u
+one-state h t u e f = let same : Some t ≡ Some u = sym e ∙ f in cc
 
 module _ {R S : Type 0} (view : R → Tree) (source_view : S → Tree) (d new : Db R S) (some : IsDatabase view source_view d) (same : (right : Bool) (h : List Entry) → database.Stands view source_view right d h → database.Stands view source_view right new h) where
   -- a transaction has come as far on a database that stands for each history that it stood for
@@ -126,7 +126,7 @@ module _ {R S : Type 0} (view : R → Tree) (source_view : S → Tree) (d new : 
       let old = some.1.committed in
       let now = (same false some.0 some.1).committed in
       let later = w.committed in
-      let is = one_state some.0 now.state old.state now.replayed old.replayed in
+      let is = one-state some.0 now.state old.state now.replayed old.replayed in
       let kind : old.state.kind ≡ later.state.kind = sym (ap (λ t. t.kind) is) ∙ sym now.kind ∙ later.kind in
       let sources : old.state.sources ≡ later.state.sources = sym (ap (λ t. t.sources) is) ∙ sym now.sources ∙ later.sources in
       let tree : tree_of old.state.tree ≡ tree_of later.state.tree = sym (ap (λ t. tree_of t.tree) is) ∙ sym now.tree ∙ later.tree in
@@ -155,28 +155,28 @@ pub workspace-asked : {R S : Type 0} (view : R → Tree) (source_view : S → Tr
 workspace-asked view source_view d m file same there w = record {
   stands = (w.stands.0, same false w.stands.0 w.stands.1);
   usable = file.2 ∙ w.usable;
-  version = file.1 ∙ w.version;
   begun = subst (IsBegun view source_view m.db) (sym there) (begun_kept view source_view d.db m.db w.stands same d.transaction w.begun);
 }
 
-module _ {R S : Type 0} (view : R → Tree) (source_view : S → Tree) (files : FileTable) (terms : Terms) (d m : Workspace R S) (s : Session) (z : Stands view source_view terms d s) (some : IsDatabase view source_view d.db) (file : IsSameFile d.db m.db) (same : (right : Bool) (h : List Entry) → database.Stands view source_view right d.db h → database.Stands view source_view right m.db h) (curator : m.curator ≡ d.curator) (there : m.transaction ≡ d.transaction) where
+module _ {R S : Type 0} (view : R → Tree) (source_view : S → Tree) (terms : Terms) (d m : Workspace R S) (s : Session) (z : Stands view source_view terms d s) (some : IsDatabase view source_view d.db) (file : IsSameFile d.db m.db) (same : (right : Bool) (h : List Entry) → database.Stands view source_view right d.db h → database.Stands view source_view right m.db h) (curator : m.curator ≡ d.curator) (there : m.transaction ≡ d.transaction) where
   -- it stands for the same session after a query
-  stands_asked : Stands view source_view terms m s
-  stands_asked = record {
+  pub stands-asked : Stands view source_view terms m s
+  stands-asked = record {
     db = same true s.history z.db;
     ends = subst (λ j. EndsAt terms.ends s.history j.next) (sym file.0) z.ends;
     curator = curator ∙ z.curator;
     opened = subst (λ x. Opens view source_view m.db x s.opened) (sym there) (opens-kept view source_view d.db m.db some same d.transaction s.opened z.opened);
   }
 
+module _ {R S : Type 0} (view : R → Tree) (source_view : S → Tree) (files : FileTable) (terms : Terms) (d m : Workspace R S) (s : Session) (z : Stands view source_view terms d s) (some : IsDatabase view source_view d.db) (file : IsSameFile d.db m.db) (same : (right : Bool) (h : List Entry) → database.Stands view source_view right d.db h → database.Stands view source_view right m.db h) (curator : m.curator ≡ d.curator) (there : m.transaction ≡ d.transaction) where
   -- an answer is replied
   pub turned-answered : (q : Query) (a : Answer) → answer_to z.db.committed.state q ≡ Some a → Turned view source_view terms (turn_of (setting files terms) s (says (stmt.Ask q))) m (Some (reply.Answered q a))
   turned-answered q a e =
       let r = Some (reply.Answered q a) in
-      turned-stands view source_view terms d m s z files (stmt.Ask q) r (subst (λ o. Turned view source_view terms (answer_or_refuse s q o) m r) (sym e) (refl, stands_asked))
+      turned-stands view source_view terms d m s z files (stmt.Ask q) r (subst (λ o. Turned view source_view terms (answer_or_refuse s q o) m r) (sym e) (refl, stands-asked view source_view terms d m s z some file same curator there))
 
   -- a query without one is refused
   pub turned-unanswered : (q : Query) → answer_to z.db.committed.state q ≡ None → Turned view source_view terms (turn_of (setting files terms) s (says (stmt.Ask q))) m (Some (reply.Refused of.Statement (no_place_of q)))
   turned-unanswered q e =
       let r = Some (reply.Refused of.Statement (no_place_of q)) in
-      turned-stands view source_view terms d m s z files (stmt.Ask q) r (subst (λ o. Turned view source_view terms (answer_or_refuse s q o) m r) (sym e) (refl, stands_asked))
+      turned-stands view source_view terms d m s z files (stmt.Ask q) r (subst (λ o. Turned view source_view terms (answer_or_refuse s q o) m r) (sym e) (refl, stands-asked view source_view terms d m s z some file same curator there))

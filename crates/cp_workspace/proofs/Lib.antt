@@ -3,6 +3,8 @@ mod Turning
 mod Operating
 mod Committing
 mod Answering
+mod Answered
+mod Counting
 mod Loading
 mod Blaming
 mod Fetched

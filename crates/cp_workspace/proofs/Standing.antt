@@ -14,7 +14,7 @@ use Rattle.cp_file.specs.Stands.{StandsFor}
 use Rattle.cp_file.specs.Sizes.{FrameEnd, end_after, end_of, entry_size}
 use Rattle.cp_file.proofs.Ends.{end_of-snoc, end_of-none}
 use Rattle.cp_db.specs.Databases as database
-use Rattle.cp_db.specs.Databases.{IsDatabase, IsReady, IsKept, end_in, is_spent, version_in}
+use Rattle.cp_db.specs.Databases.{IsDatabase, IsReady, IsKept, end_in, is_spent}
 use Rattle.cp_db.specs.Writing.{HasAdded}
 use Rattle.cp_db.specs.declared.database.Db.{Db}
 use Rattle.cp_db.proofs.Keeping.{kept-images}
@@ -96,15 +96,14 @@ module _ {R S : Type 0} (view : R → Tree) (source_view : S → Tree) (d m : Wo
   none_begun = subst (IsBegun view source_view m.db) (sym none) tt
 
   -- after an entry more it may still be written
-  pub workspace-added : IsWorkspace view source_view d → IsDatabase view source_view m.db → version_in m.db ≡ version_in d.db → (IsTrue (is_spent m.db) → ⊥) → IsWorkspace view source_view m
-  workspace-added u stands version spent = record { stands = stands; usable = not_spent (is_spent m.db) spent; version = version ∙ u.version; begun = none_begun }
+  pub workspace-added : IsWorkspace view source_view d → IsDatabase view source_view m.db → (IsTrue (is_spent m.db) → ⊥) → IsWorkspace view source_view m
+  workspace-added u stands spent = record { stands = stands; usable = not_spent (is_spent m.db) spent; begun = none_begun }
 
   -- and so it may where its database is the same
   pub workspace-shut : IsWorkspace view source_view d → m.db ≡ d.db → IsWorkspace view source_view m
   workspace-shut u same = record {
     stands = subst (IsDatabase view source_view) (sym same) u.stands;
     usable = ap is_spent same ∙ u.usable;
-    version = ap version_in same ∙ u.version;
     begun = none_begun;
   }
 

@@ -25,7 +25,7 @@ use Rattle.cp_disk.proofs.Composing.{keeps_none}
 use Rattle.cp_outside.specs.FileReads.{FileTable}
 use Rattle.cp_file.specs.Stands.{StandsFor}
 use Rattle.cp_db.specs.Databases as database
-use Rattle.cp_db.specs.Databases.{IsDatabase, IsReady, IsSameFile, end_in, is_spent, version_in}
+use Rattle.cp_db.specs.Databases.{IsDatabase, IsReady, IsSameFile, end_in, is_spent}
 use Rattle.cp_db.specs.declared.database.Db.{Db}
 use Rattle.cp_db.proofs.Keeping.{kept-images, kept-same}
 use Rattle.cp_workspace.specs.Texts.{Terms, setting}
@@ -65,7 +65,6 @@ module _ {R S : Type 0} (view : R → Tree) (source_view : S → Tree) (d m : Wo
   workspace-opened same begun w = record {
     stands = subst (IsDatabase view source_view) (sym same) w.stands;
     usable = ap is_spent same ∙ w.usable;
-    version = ap version_in same ∙ w.version;
     begun = subst (λ b. IsBegun view source_view b m.transaction) (sym same) begun;
   }
 

@@ -6,3 +6,4 @@ pub mod Disks
 pub mod Loads
 pub mod Faults
 pub mod Workspaces
+pub mod Summaries

@@ -55,6 +55,10 @@ pub record Stands {R S : Type 0} (view : R → Tree) (source_view : S → Tree) 
 abbrev pub db_in : {R S : Type 0} → Workspace R S → Db R S
 db_in d = d.db
 
+-- its file is of version 2, in which commits have stamps
+abbrev pub HasStamps : {R S : Type 0} → Workspace R S → Type 0
+HasStamps d = version_in (db_in d) ≡ 2
+
 -- ---- what may be run on it
 
 -- the transaction, if one is open, was begun on the database
@@ -66,7 +70,6 @@ IsBegun view source_view d (Some x) = (p : txn.Progress) × HasCome view source_
 pub record IsWorkspace {R S : Type 0} (view : R → Tree) (source_view : S → Tree) (d : Workspace R S) : Type 0 where
   pub stands : IsDatabase view source_view d.db
   pub usable : is_spent d.db ≡ false
-  pub version : version_in d.db ≡ 2
   pub begun : IsBegun view source_view d.db d.transaction
 
 -- and the disk, where it is known what that holds, is one on which it may be

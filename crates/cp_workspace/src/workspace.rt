@@ -13,6 +13,7 @@ ghost use Rattle.cp_workspace.specs.Workspaces.{
   Stands,
   IsWorkspace,
   IsUsable,
+  HasStamps,
   HasTurned,
   IsWrittenStmt,
   db_in,
@@ -27,6 +28,7 @@ mod operate;
 mod refusal;
 mod reply;
 mod show;
+mod summary;
 
 use crate::fault::WorkspaceFault;
 use cp_clock::Clock;
@@ -52,11 +54,10 @@ pub struct Workspace<R: TreeRep, S: TreeRep> {
 }
 
 impl<R: TreeRep, S: TreeRep> Workspace<R, S> {
-    /// A workspace on this database, whose file is of version 2, without a transaction.
+    /// A workspace on this database, without a transaction.
     pub fn new(db: Db<R, S>, curator: Label) -> Workspace<R, S>
         requires stands { IsDatabase R.contents S.contents db }
         requires usable { is_spent db ≡ false }
-        requires version { version_in db ≡ 2 }
         ensures workspace { IsWorkspace R.contents S.contents result }
         ensures same { db_in result ≡ db }
         ensures stands { (h : List Entry) (moments : List ℕ) → database.Stands R.contents S.contents true db h
@@ -69,8 +70,14 @@ impl<R: TreeRep, S: TreeRep> Workspace<R, S> {
         }
     }
 
-    /// Runs a statement. What stands after an error isn't said.
-    fn run<D: Disk, F: Files, K: Clock>(
+    /// Runs a statement, and gives its reply, which is none for an operation that is accepted. Costs what the statement
+    /// does: an operation its change of the working tree, a query its look-ups, `show` the rows that it shows, a load its
+    /// file; a commit and a load also two writes and two syncs.
+    ///
+    /// A commit wants a file of version 2, and alone asks the clock. A crash at any moment leaves the history before the
+    /// statement or after it, and once the reply is given, that after it. What stands after an error isn't said: the file
+    /// is opened again. Where a source file or the clock failed, the disk is as it was.
+    pub fn run<D: Disk, F: Files, K: Clock>(
         &mut self,
         alloc: Global,
         statement: Stmt,
@@ -80,10 +87,12 @@ impl<R: TreeRep, S: TreeRep> Workspace<R, S> {
     ) -> Result<Option<Reply>, WorkspaceFault>
         requires usable { IsUsable R.contents S.contents (known_disk D.Disk disk.old) self.old }
         requires written { IsWrittenStmt statement }
+        requires stamps { statement ≡ Stmt.Commit → HasStamps self.old }
         ensures turned { HasTurned R.contents S.contents (λ r. r) (λ t terms s. turn_of (setting t terms) s (says statement))
             (λ t. IsTable t (known_files F.Files files.old) (known_files F.Files files.new)) self.old self.new
             (known_disk D.Disk disk.old) (known_disk D.Disk disk.new) (K.left clock.old) (K.left clock.new) result }
         ensures stays { OnOk result (IsUsable R.contents S.contents (known_disk D.Disk disk.new) self.new) }
+        ensures version { OnOk result (version_in (db_in self.new) ≡ version_in (db_in self.old)) }
         ensures reads { (terms : Terms) (s : Session) → Stands R.contents S.contents terms self.old s
             → Reads IsFileFault (statement_reads s statement) (known_files F.Files files.old) (known_files F.Files files.new) result }
         ensures read { HasReadSome (known_files F.Files files.old) (known_files F.Files files.new) }

@@ -43,8 +43,8 @@ fn unanswered(fault: QueryFault, query: Query) -> Result<Reply, AllocError>
 }
 
 impl<R: TreeRep, S: TreeRep> Workspace<R, S> {
-    /// Answers a query on the committed state. Costs as the query.
-    pub(super) fn ask(&mut self, alloc: Global, query: Query) -> Result<Reply, AllocError>
+    /// Answers a query on the committed state. Reads no disk, and costs as the query. An error changes nothing.
+    pub fn ask(&mut self, alloc: Global, query: Query) -> Result<Reply, AllocError>
         requires workspace { IsWorkspace R.contents S.contents self.old }
         ensures turned { IfOk result (λ r. (t : FileTable) (terms : Terms) (s : Session) → Stands R.contents S.contents terms self.old s
             → Turned R.contents S.contents terms (turn_of (setting t terms) s (says (Stmt.Ask query))) self.new (Some r)) }

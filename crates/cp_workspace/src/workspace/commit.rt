@@ -4,12 +4,12 @@ ghost use Rattle.cp_outside.specs.Causes.{Accounts};
 ghost use Rattle.cp_outside.specs.FileReads.{FileTable};
 ghost use Rattle.cp_engine.specs.Transactions.{going};
 ghost use Rattle.cp_model.specs.declared.op.Op.{Op as OpValue};
-ghost use Rattle.cp_db.specs.Databases.{HasCome};
+ghost use Rattle.cp_db.specs.Databases.{HasCome, version_in};
 ghost use Rattle.cp_session.specs.Session.{Session, says, turn_of};
 ghost use Rattle.cp_workspace.specs.Texts.{Terms, setting};
 ghost use Rattle.cp_workspace.specs.Disks.{known_disk};
 ghost use Rattle.cp_workspace.specs.Faults.{IsDiskFault, IsClockFault};
-ghost use Rattle.cp_workspace.specs.Workspaces.{Stands, IsWorkspace, IsUsable, HasTurned, Turned, holding};
+ghost use Rattle.cp_workspace.specs.Workspaces.{Stands, IsWorkspace, IsUsable, HasStamps, HasTurned, Turned, db_in, holding};
 
 use crate::fault::WorkspaceFault;
 use crate::workspace::Workspace;
@@ -34,11 +34,13 @@ impl<R: TreeRep, S: TreeRep> Workspace<R, S> {
         clock: &mut K,
     ) -> Result<Reply, WorkspaceFault>
         requires usable { IsUsable R.contents S.contents (known_disk D.Disk disk.old) self.old }
+        requires stamps { HasStamps self.old }
         requires taken { self.old.transaction ≡ None }
         requires going { (ops : List OpValue) × HasCome R.contents S.contents self.old.db transaction (going ops) }
         ensures turned { HasTurned R.contents S.contents (λ r. Some r) (λ t terms s. turn_of (setting t terms) s (says Stmt.Commit)) (λ t. ⊤)
             (holding self.old transaction) self.new (known_disk D.Disk disk.old) (known_disk D.Disk disk.new) (K.left clock.old) (K.left clock.new) result }
         ensures stays { OnOk result (IsUsable R.contents S.contents (known_disk D.Disk disk.new) self.new) }
+        ensures version { version_in (db_in self.new) ≡ version_in (db_in self.old) }
         ensures disk { Accounts IsDiskFault (D.counts disk.old).faults (D.counts disk.new).faults result }
         ensures clock { Accounts IsClockFault (K.faults clock.old) (K.faults clock.new) result }
         ensures kinds { IsErrOf result WorkspaceFault.File → ⊥ }
@@ -60,17 +62,23 @@ impl<R: TreeRep, S: TreeRep> Workspace<R, S> {
         }
     }
 
-    /// Commits the open transaction, which is closed also where it is refused.
-    pub(super) fn commit<D: Disk, K: Clock>(
+    /// Commits the open transaction, which is closed also where it is refused. Costs its entry and its records, two writes
+    /// and two syncs.
+    ///
+    /// A crash at any moment leaves the history before or after it. After an error what stands isn't said; where the clock
+    /// failed, the disk is as it was.
+    pub fn commit<D: Disk, K: Clock>(
         &mut self,
         alloc: Global,
         disk: &mut D,
         clock: &mut K,
     ) -> Result<Reply, WorkspaceFault>
         requires usable { IsUsable R.contents S.contents (known_disk D.Disk disk.old) self.old }
+        requires stamps { HasStamps self.old }
         ensures turned { HasTurned R.contents S.contents (λ r. Some r) (λ t terms s. turn_of (setting t terms) s (says Stmt.Commit)) (λ t. ⊤)
             self.old self.new (known_disk D.Disk disk.old) (known_disk D.Disk disk.new) (K.left clock.old) (K.left clock.new) result }
         ensures stays { OnOk result (IsUsable R.contents S.contents (known_disk D.Disk disk.new) self.new) }
+        ensures version { version_in (db_in self.new) ≡ version_in (db_in self.old) }
         ensures disk { Accounts IsDiskFault (D.counts disk.old).faults (D.counts disk.new).faults result }
         ensures clock { Accounts IsClockFault (K.faults clock.old) (K.faults clock.new) result }
         ensures kinds { IsErrOf result WorkspaceFault.File → ⊥ }

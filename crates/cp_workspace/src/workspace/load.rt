@@ -3,6 +3,7 @@ ghost use Rattle.std.specs.declared.option.Option.TheVariants.{None, Some};
 ghost use Rattle.cp_outside.specs.Causes.{Accounts};
 ghost use Rattle.cp_outside.specs.FileReads.{FileTable};
 ghost use Rattle.cp_model.specs.Place.{label_eq, target};
+ghost use Rattle.cp_db.specs.Databases.{version_in};
 ghost use Rattle.cp_session.specs.Session.{Session, gives, load_fetched, says, turn_of};
 ghost use Rattle.cp_workspace.specs.Fetched.{FitsUnder};
 ghost use Rattle.cp_workspace.specs.Texts.{Terms, setting};
@@ -10,7 +11,7 @@ ghost use Rattle.cp_workspace.specs.Disks.{known_disk};
 ghost use Rattle.cp_workspace.specs.Loads.{why_not_loaded, statement_reads};
 ghost use Rattle.cp_workspace.specs.Faults.{IsFileFault, IsDiskFault};
 ghost use Rattle.cp_workspace.specs.Files.{known_files, HasReadSome, IsTable, Reads, UsesFiles};
-ghost use Rattle.cp_workspace.specs.Workspaces.{Stands, IsWorkspace, IsUsable, MayLoad, TurnsAs};
+ghost use Rattle.cp_workspace.specs.Workspaces.{Stands, IsWorkspace, IsUsable, MayLoad, TurnsAs, db_in};
 
 use crate::fault::WorkspaceFault;
 use crate::source_file::fetch;
@@ -43,6 +44,7 @@ impl<R: TreeRep, S: TreeRep> Workspace<R, S> {
             → TurnsAs R.contents S.contents (λ r. Some r) terms (load_fetched (setting t terms) s name (gives (S.contents tree))) s s.moments self.old self.new
             (known_disk D.Disk disk.old) (known_disk D.Disk disk.new) result }
         ensures stays { OnOk result (IsUsable R.contents S.contents (known_disk D.Disk disk.new) self.new) }
+        ensures version { version_in (db_in self.new) ≡ version_in (db_in self.old) }
         ensures disk { Accounts IsDiskFault (D.counts disk.old).faults (D.counts disk.new).faults result }
         ensures kinds { (IsErrOf result WorkspaceFault.File → ⊥) × (IsErrOf result WorkspaceFault.Clock → ⊥) }
     {
@@ -82,7 +84,10 @@ impl<R: TreeRep, S: TreeRep> Workspace<R, S> {
     }
 
     /// Loads the tree of a file as a source. A load that is refused changes nothing. Costs the file, and what it gives.
-    pub(super) fn load<D: Disk, F: Files>(
+    ///
+    /// A crash at any moment leaves the history before or after it. After an error what stands isn't said; where the file
+    /// failed, the disk is as it was.
+    pub fn load<D: Disk, F: Files>(
         &mut self,
         alloc: Global,
         load: Load,
@@ -96,6 +101,7 @@ impl<R: TreeRep, S: TreeRep> Workspace<R, S> {
             → TurnsAs R.contents S.contents (λ r. Some r) terms (turn_of (setting t terms) s (says (Stmt.Load load))) s s.moments self.old self.new
             (known_disk D.Disk disk.old) (known_disk D.Disk disk.new) result }
         ensures stays { OnOk result (IsUsable R.contents S.contents (known_disk D.Disk disk.new) self.new) }
+        ensures version { version_in (db_in self.new) ≡ version_in (db_in self.old) }
         ensures reads { (terms : Terms) (s : Session) → Stands R.contents S.contents terms self.old s
             → Reads IsFileFault (statement_reads s (Stmt.Load load)) (known_files F.Files files.old) (known_files F.Files files.new) result }
         ensures read { HasReadSome (known_files F.Files files.old) (known_files F.Files files.new) }

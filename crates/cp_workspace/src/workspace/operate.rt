@@ -32,8 +32,9 @@ impl<R: TreeRep, S: TreeRep> Workspace<R, S> {
         }
     }
 
-    /// Runs an operation in the open transaction, or in one that it begins.
-    pub(super) fn operate(&mut self, alloc: Global, op: Op) -> Result<Option<Reply>, AllocError>
+    /// Runs an operation in the open transaction, or in one that it begins. Replies only where it is refused. Costs as the
+    /// operation. After an error what stands isn't said.
+    pub fn operate(&mut self, alloc: Global, op: Op) -> Result<Option<Reply>, AllocError>
         requires workspace { IsWorkspace R.contents S.contents self.old }
         requires written { IsWritten op }
         ensures turned { IfOk result (λ r. (t : FileTable) (terms : Terms) (s : Session) → Stands R.contents S.contents terms self.old s

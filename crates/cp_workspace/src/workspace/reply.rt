@@ -8,7 +8,7 @@ ghost use Rattle.cp_workspace.specs.Disks.{known_disk};
 ghost use Rattle.cp_workspace.specs.Loads.{text_reads, cut_reads};
 ghost use Rattle.cp_workspace.specs.Files.{known_files, HasReadSome, IsTable, Reads, UsesFiles};
 ghost use Rattle.cp_workspace.specs.Faults.{IsFileFault, IsDiskFault, IsClockFault};
-ghost use Rattle.cp_workspace.specs.Workspaces.{Stands, IsWorkspace, IsUsable, HasTurned, Turned};
+ghost use Rattle.cp_workspace.specs.Workspaces.{Stands, IsWorkspace, IsUsable, HasStamps, HasTurned, Turned};
 
 use crate::fault::WorkspaceFault;
 use crate::text::read;
@@ -45,10 +45,12 @@ impl<R: TreeRep, S: TreeRep> Workspace<R, S> {
         clock: &mut K,
     ) -> Result<Option<Reply>, WorkspaceFault>
         requires usable { IsUsable R.contents S.contents (known_disk D.Disk disk.old) self.old }
+        requires stamps { HasStamps self.old }
         ensures turned { HasTurned R.contents S.contents (λ r. r) (λ t terms s. turn_of (setting t terms) s (reading text.now))
             (λ t. IsTable t (known_files F.Files files.old) (known_files F.Files files.new)) self.old self.new
             (known_disk D.Disk disk.old) (known_disk D.Disk disk.new) (K.left clock.old) (K.left clock.new) result }
         ensures stays { OnOk result (IsUsable R.contents S.contents (known_disk D.Disk disk.new) self.new) }
+        ensures stamps { OnOk result (HasStamps self.new) }
         ensures reads { (terms : Terms) (s : Session) → Stands R.contents S.contents terms self.old s
             → Reads IsFileFault (text_reads s (reading text.now)) (known_files F.Files files.old) (known_files F.Files files.new) result }
         ensures read { HasReadSome (known_files F.Files files.old) (known_files F.Files files.new) }
@@ -78,10 +80,12 @@ impl<R: TreeRep, S: TreeRep> Workspace<R, S> {
         clock: &mut K,
     ) -> Result<Option<Reply>, WorkspaceFault>
         requires usable { IsUsable R.contents S.contents (known_disk D.Disk disk.old) self.old }
+        requires stamps { HasStamps self.old }
         ensures turned { HasTurned R.contents S.contents (λ r. r) (λ t terms s. turn (setting t terms) s cut)
             (λ t. IsTable t (known_files F.Files files.old) (known_files F.Files files.new)) self.old self.new
             (known_disk D.Disk disk.old) (known_disk D.Disk disk.new) (K.left clock.old) (K.left clock.new) result }
         ensures stays { OnOk result (IsUsable R.contents S.contents (known_disk D.Disk disk.new) self.new) }
+        ensures stamps { OnOk result (HasStamps self.new) }
         ensures reads { (terms : Terms) (s : Session) → Stands R.contents S.contents terms self.old s
             → Reads IsFileFault (cut_reads s cut) (known_files F.Files files.old) (known_files F.Files files.new) result }
         ensures read { HasReadSome (known_files F.Files files.old) (known_files F.Files files.new) }

@@ -40,7 +40,7 @@ impl<R: TreeRep, S: TreeRep> Workspace<R, S> {
     }
 
     /// What stands at and below a place of T or of a source. Costs the rows' bytes.
-    pub(super) fn show(&self, alloc: Global, place: Loc) -> Result<Reply, AllocError>
+    pub fn show(&self, alloc: Global, place: Loc) -> Result<Reply, AllocError>
         ensures { IfOk result (λ r. (t : FileTable) (terms : Terms) (s : Session) → Stands R.contents S.contents terms self.now s
             → Turned R.contents S.contents terms (turn_of (setting t terms) s (says (Stmt.Show place))) self.now (Some r)) }
     {

@@ -3,7 +3,6 @@ use Rattle.cp_workspace.specs.Disks.{known_disk}
 use Rattle.cp_workspace.specs.Files.{known_files}
 use Rattle.cp_program.specs.Job.{start_given, start_reads}
 use Rattle.cp_program.specs.Outside.{known_output, Outside}
-use Rattle.cp_program.specs.Starts.{start_asked}
 use Rattle.cp_program.specs.Begins.{StoreMade}
 use Rattle.cp_program.specs.Story.{Made}
 use Rattle.cp_program.proofs.Made.{made-said, made-stopped}
@@ -17,9 +16,9 @@ returns-in-Ok-clause-made g c = λ i k.
     let p = known_output g.O.Sink c.end_with.new.output in
     let v = known_disk g.D.Disk c.args.disk.now in
     let w = known_disk g.D.Disk c.make.new.disk in
-    let n = start_reads (start_asked c.args.start) in
-    made-said c.args.kind (λ t. start_given t (start_asked c.args.start)) n i k f h o p v w c.in-Ok.reply c.end_with.result
-    (subst (StoreMade c.args.kind (λ t. start_given t (start_asked c.args.start)) n f h v w) c.in-Ok.is c.make.ensures.made) c.end_with.ensures.said
+    let n = start_reads c.args.start in
+    made-said c.args.kind (λ t. start_given t c.args.start) n i k f h o p v w c.in-Ok.reply c.end_with.result
+    (subst (StoreMade c.args.kind (λ t. start_given t c.args.start) n f h v w) c.in-Ok.is c.make.ensures.made) c.end_with.ensures.said
 
 pub returns-in-Err-clause-made : goal.returns-in-Err-clause-made
 returns-in-Err-clause-made g c = λ i k.
@@ -29,9 +28,9 @@ returns-in-Err-clause-made g c = λ i k.
     let p = known_output g.O.Sink c.stopped.new.output in
     let v = known_disk g.D.Disk c.args.disk.now in
     let w = known_disk g.D.Disk c.make.new.disk in
-    let n = start_reads (start_asked c.args.start) in
+    let n = start_reads c.args.start in
     let b : Outside = record { input = i; files = f; clock = k; output = o } in
     let a : Outside = record { input = i; files = h; clock = k; output = p } in
-    subst (λ e. Made c.args.kind (λ t. start_given t (start_asked c.args.start)) n b a v w e) (sym c.stopped.ensures.end)
-    (made-stopped c.args.kind (λ t. start_given t (start_asked c.args.start)) n i k f h o p v w c.in-Err.stop
-    (subst (StoreMade c.args.kind (λ t. start_given t (start_asked c.args.start)) n f h v w) c.in-Err.is c.make.ensures.made) c.stopped.ensures.wrote)
+    subst (λ e. Made c.args.kind (λ t. start_given t c.args.start) n b a v w e) (sym c.stopped.ensures.end)
+    (made-stopped c.args.kind (λ t. start_given t c.args.start) n i k f h o p v w c.in-Err.stop
+    (subst (StoreMade c.args.kind (λ t. start_given t c.args.start) n f h v w) c.in-Err.is c.make.ensures.made) c.stopped.ensures.wrote)

@@ -5,7 +5,6 @@ use Rattle.cp_workspace.specs.Disks.{known_disk}
 use Rattle.cp_workspace.specs.Fetched.{Gives}
 use Rattle.cp_workspace.specs.Files.{known_files}
 use Rattle.cp_program.specs.Job.{start_given, start_reads}
-use Rattle.cp_program.specs.Starts.{start_asked}
 use Rattle.cp_program.specs.Begins.{StoreMade}
 use Rattle.cp_program.proofs.Made.{made-refused, made-created, files-unblamed, stops-of}
 use Rattle.cp_program.proofs.init.make.Goals as goal
@@ -18,9 +17,9 @@ returns-in-Ok-clause-made g c =
     let m = known_disk g.D.Disk c.vacant.new.disk in
     let w = known_disk g.D.Disk c.create.new.disk in
     let yes : IsTrue v.known → IsVacant v.view.content = λ known. (c.in_ok-vacant.ensures.vacant known).0 c.if-not-branch.false in
-    made-created c.args.kind (λ t. start_given t (start_asked c.args.start)) (start_reads (start_asked c.args.start)) f h v m c.vacant.ensures.rests yes w c.create.result g.R.TreeRep.contents c.in-Ok.tree
+    made-created c.args.kind (λ t. start_given t c.args.start) (start_reads c.args.start) f h v m c.vacant.ensures.rests yes w c.create.result g.R.TreeRep.contents c.in-Ok.tree
     (λ known. c.create.ensures.created known (subst IsVacant (sym (c.vacant.ensures.rests known).content) (yes known))) c.create.ensures.crash (stops-of c.create.result c.create.ensures.kinds)
-    (λ t told. subst (Gives g.R.TreeRep.contents (start_given t (start_asked c.args.start))) c.in-Ok.is (c.in_ok-tree.ensures.gives t told))
+    (λ t told. subst (Gives g.R.TreeRep.contents (start_given t c.args.start)) c.in-Ok.is (c.in_ok-tree.ensures.gives t told))
 
 pub returns-in-Ok-clause-used : goal.returns-in-Ok-clause-used
 returns-in-Ok-clause-used g c = files-unblamed (known_files g.F.Files c.args.files.now) (known_files g.F.Files c.start_tree.new.files) c.create.result c.create.ensures.kinds c.in_ok-tree.ensures.used.same c.in_ok-tree.ensures.used.account.steady
@@ -31,7 +30,7 @@ returns-in-Err-clause-made g c =
     let h = known_files g.F.Files c.start_tree.new.files in
     let v = known_disk g.D.Disk c.args.disk.now in
     let m = known_disk g.D.Disk c.vacant.new.disk in
-    let k = start_reads (start_asked c.args.start) in
-    subst (λ r. StoreMade c.args.kind (λ t. start_given t (start_asked c.args.start)) k f h v m (Ok r)) (sym c.refused-in-Err.ensures)
-    (made-refused c.args.kind (λ t. start_given t (start_asked c.args.start)) k f h v m c.vacant.ensures.rests (λ known. (c.in_ok-vacant.ensures.vacant known).0 c.if-not-branch.false) c.in-Err.why g.R.TreeRep.contents
-    (λ t told. subst (Gives g.R.TreeRep.contents (start_given t (start_asked c.args.start))) c.in-Err.is (c.in_ok-tree.ensures.gives t told)))
+    let k = start_reads c.args.start in
+    subst (λ r. StoreMade c.args.kind (λ t. start_given t c.args.start) k f h v m (Ok r)) (sym c.refused-in-Err.ensures)
+    (made-refused c.args.kind (λ t. start_given t c.args.start) k f h v m c.vacant.ensures.rests (λ known. (c.in_ok-vacant.ensures.vacant known).0 c.if-not-branch.false) c.in-Err.why g.R.TreeRep.contents
+    (λ t told. subst (Gives g.R.TreeRep.contents (start_given t c.args.start)) c.in-Err.is (c.in_ok-tree.ensures.gives t told)))

@@ -6,7 +6,6 @@ use Rattle.cp_reply.specs.Lines.{lines}
 use Rattle.cp_reply.specs.declared.reply.Reply.{Reply}
 use Rattle.cp_program.specs.Job.{start_given, start_reads, is_refusal, refused_start}
 use Rattle.cp_program.specs.Outside.{known_input, known_clock, known_output, known_outside}
-use Rattle.cp_program.specs.Starts.{start_asked}
 use Rattle.cp_program.specs.Story.{SaidLine, Ran, HasCauses}
 use Rattle.cp_program.specs.Begins.{Begun, sure_disk}
 use Rattle.cp_program.specs.Turns.{MayGoOn}
@@ -18,24 +17,24 @@ use Rattle.cp_program.proofs.scratch.scratch.Goals as goal
 pub returns-in_default-clause-ran : goal.returns-in_default-clause-ran
 returns-in_default-clause-ran g c =
     let f = known_files g.F.Files c.args.files.now in
-    let given : FileTable → FetchedFile = λ t. start_given t (start_asked c.args.start) in
+    let given : FileTable → FetchedFile = λ t. start_given t c.args.start in
     let i = known_input g.I.Source c.args.input.now in
     let k = known_clock g.K.Clock c.args.clock.now in
     let o = known_output g.O.Sink c.args.output.now in
     let p = known_output g.O.Sink c.out_of_memory.new.output in
-    let n = start_reads (start_asked c.args.start) in
+    let n = start_reads c.args.start in
     let P : End → Type 0 = λ e. Ran c.args.kind given n (parts i f k o) (parts i f k p) e in
     subst P (sym c.out_of_memory.ensures.end) (ran-out c.args.kind given n i f f k o p c.out_of_memory.ensures.wrote)
 
 pub returns-in_default-new-clause-ran : goal.returns-in_default-new-clause-ran
 returns-in_default-new-clause-ran g c =
     let f = known_files g.F.Files c.args.files.now in
-    let given : FileTable → FetchedFile = λ t. start_given t (start_asked c.args.start) in
+    let given : FileTable → FetchedFile = λ t. start_given t c.args.start in
     let i = known_input g.I.Source c.args.input.now in
     let k = known_clock g.K.Clock c.args.clock.now in
     let o = known_output g.O.Sink c.args.output.now in
     let p = known_output g.O.Sink c.out_of_memory-in_default-new.new.output in
-    let n = start_reads (start_asked c.args.start) in
+    let n = start_reads c.args.start in
     let P : End → Type 0 = λ e. Ran c.args.kind given n (parts i f k o) (parts i f k p) e in
     subst P (sym c.out_of_memory-in_default-new.ensures.end) (ran-out c.args.kind given n i f f k o p c.out_of_memory-in_default-new.ensures.wrote)
 
@@ -43,14 +42,14 @@ pub returns-in-Ok-Ok-clause-ran : goal.returns-in-Ok-Ok-clause-ran
 returns-in-Ok-Ok-clause-ran g c =
     let view = g.R.TreeRep.contents in
     let source_view = g.S.TreeRep.contents in
-    let given : FileTable → FetchedFile = λ t. start_given t (start_asked c.args.start) in
+    let given : FileTable → FetchedFile = λ t. start_given t c.args.start in
     let i = known_input g.I.Source c.args.input.now in
     let f = known_files g.F.Files c.args.files.now in
     let fb = known_files g.F.Files c.begin.new.files in
     let k = known_clock g.K.Clock c.args.clock.now in
     let o = known_output g.O.Sink c.args.output.now in
     let v = sure_disk c.begin.new.disk in
-    ran-begun view source_view c.args.kind given (start_reads (start_asked c.args.start)) c.in-Ok-Ok.session i f fb k o
+    ran-begun view source_view c.args.kind given (start_reads c.args.start) c.in-Ok-Ok.session i f fb k o
     (known_outside g.F.Files g.K.Clock g.I.Source g.O.Sink c.turns.new.files c.turns.new.clock c.turns.new.input c.turns.new.output) v (sure_disk c.turns.new.disk) c.turns.result
     c.in-Ok-Ok.ensures.used.same c.in-Ok-Ok.ensures.reads c.turns.ensures.read
     (subst (λ r. IfOk r (λ x. MayGoOn view source_view v x × (x.refused ≡ false))) c.in-Ok-Ok.field-0-is c.in-Ok-Ok.ensures.goes_on).1
@@ -60,12 +59,12 @@ pub returns-in-Ok-Err-clause-ran : goal.returns-in-Ok-Err-clause-ran
 returns-in-Ok-Err-clause-ran g c =
     let view = g.R.TreeRep.contents in
     let source_view = g.S.TreeRep.contents in
-    let given : FileTable → FetchedFile = λ t. start_given t (start_asked c.args.start) in
+    let given : FileTable → FetchedFile = λ t. start_given t c.args.start in
     let v = sure_disk c.begin.new.disk in
     let o = known_output g.O.Sink c.args.output.now in
     let p = known_output g.O.Sink c.end_with.new.output in
     let P : Reply → Type 0 = λ r. SaidLine (lines r) (is_refusal r) o p c.end_with.result in
-    ran-refused c.args.kind given (start_reads (start_asked c.args.start)) (known_input g.I.Source c.args.input.now) (known_files g.F.Files c.args.files.now) (known_files g.F.Files c.begin.new.files) (known_clock g.K.Clock c.args.clock.now) o p
+    ran-refused c.args.kind given (start_reads c.args.start) (known_input g.I.Source c.args.input.now) (known_files g.F.Files c.args.files.now) (known_files g.F.Files c.begin.new.files) (known_clock g.K.Clock c.args.clock.now) o p
     view source_view v c.in-Ok-Err.why c.end_with.result c.in-Ok-Err.ensures.reads
     (λ t w. subst (Begun view source_view v c.args.kind (given t)) c.in-Ok-Err.field-0-is (c.in-Ok-Err.ensures.begun t w)) (subst P c.refused_start.ensures c.end_with.ensures.said)
 
@@ -79,8 +78,8 @@ returns-in-Ok-Err-clause-causes g c =
 
 pub returns-clause-ran : goal.returns-clause-ran
 returns-clause-ran g c =
-    let given : FileTable → FetchedFile = λ t. start_given t (start_asked c.args.start) in
-    let n = start_reads (start_asked c.args.start) in
+    let given : FileTable → FetchedFile = λ t. start_given t c.args.start in
+    let n = start_reads c.args.start in
     let i = known_input g.I.Source c.args.input.now in
     let f = known_files g.F.Files c.args.files.now in
     let fb = known_files g.F.Files c.begin.new.files in

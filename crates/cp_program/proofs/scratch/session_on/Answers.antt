@@ -14,6 +14,6 @@ returns-clause-follows g c =
 
 pub returns-clause-goes_on : goal.returns-clause-goes_on
 returns-clause-goes_on g c = (
-  scratch-goes_on g.R.TreeRep.contents g.S.TreeRep.contents c.in_ok-db.db c.new.result c.new-2.result (sure_disk c.new_db.new.disk) c.new.ensures.same c.new-2.ensures.cutter c.new-2.ensures.workspace c.new.ensures.workspace c.in_ok-db.ensures.ready,
+  scratch-goes_on g.R.TreeRep.contents g.S.TreeRep.contents c.in_ok-db.db c.new.result c.new-2.result (sure_disk c.new_db.new.disk) c.new.ensures.same c.new-2.ensures.cutter c.new-2.ensures.workspace c.new.ensures.workspace c.in_ok-db.ensures.ready c.in_ok-db.ensures.made.0,
   c.new-2.ensures.refused,
 )

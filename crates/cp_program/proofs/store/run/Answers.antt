@@ -21,8 +21,8 @@ returns-in_default-clause-ran g c =
     let v = known_disk g.D.Disk c.args.disk.now in
     let b : Outside = record { input = i; files = f; clock = k; output = o } in
     let a : Outside = record { input = i; files = f; clock = k; output = p } in
-    subst (λ e. RanOn c.args.curator.now b a v v e) (sym c.out_of_memory.ensures.end)
-    (ran-early-on c.args.curator.now i f k o p v v how.Memory (inr (inr refl)) c.out_of_memory.ensures.wrote (λ known at h. absurd (cc)) (λ known never. same-rests v.view) (λ known h store. rests-leave h v v (same-rests v.view)))
+    subst (λ e. RanOn c.args.curator b a v v e) (sym c.out_of_memory.ensures.end)
+    (ran-early-on c.args.curator i f k o p v v how.Memory (inr (inr refl)) c.out_of_memory.ensures.wrote (λ known at h. absurd (cc)) (λ known never. same-rests v.view) (λ known h store. rests-leave h v v (same-rests v.view)))
 
 pub returns-in_default-clause-causes : goal.returns-in_default-clause-causes
 returns-in_default-clause-causes g c =
@@ -47,10 +47,10 @@ returns-in-Ok-begin-clause-ran g c =
     let v = known_disk g.D.Disk c.args.disk.now in
     let m = known_disk g.D.Disk c.begin.new.disk in
     let w = known_disk g.D.Disk c.turns.new.disk in
-    ran-on view source_view c.args.curator.now c.in-Ok-begin.session
+    ran-on view source_view c.args.curator c.in-Ok-begin.session
     (known_outside g.F.Files g.K.Clock g.I.Source g.O.Sink c.args.files.now c.args.clock.now c.args.input.now c.args.output.now)
     (known_outside g.F.Files g.K.Clock g.I.Source g.O.Sink c.turns.new.files c.turns.new.clock c.turns.new.input c.turns.new.output) v m w c.turns.result
-    c.in-Ok-begin.ensures.goes_on.1 (λ known. known) (λ known. subst (BegunOn view source_view c.args.curator.now v m) c.in-Ok-begin.is (c.begin.ensures.begun known)) c.begin.ensures.leaves c.turns.ensures.ran
+    c.in-Ok-begin.ensures.goes_on.1 (λ known. known) (λ known. subst (BegunOn view source_view c.args.curator v m) c.in-Ok-begin.is (c.begin.ensures.begun known)) c.begin.ensures.leaves c.turns.ensures.ran
 
 pub returns-in-Ok-begin-clause-disk : goal.returns-in-Ok-begin-clause-disk
 returns-in-Ok-begin-clause-disk g c =
@@ -72,11 +72,11 @@ returns-clause-ran g c =
     let stop = c.in-Err.stop in
     let kind = c.in-Err.ensures.kinds in
     let early = stop-early o p stop kind c.stopped.ensures.wrote in
-    let begun : IsTrue v.known → BegunOn view source_view c.args.curator.now v m (Err stop) = λ known. subst (BegunOn view source_view c.args.curator.now v m) c.in-Err.is (c.begin.ensures.begun known) in
+    let begun : IsTrue v.known → BegunOn view source_view c.args.curator v m (Err stop) = λ known. subst (BegunOn view source_view c.args.curator v m) c.in-Err.is (c.begin.ensures.begun known) in
     let b : Outside = record { input = i; files = f; clock = k; output = o } in
     let a : Outside = record { input = i; files = f; clock = k; output = p } in
-    subst (λ e. RanOn c.args.curator.now b a v m e) (sym c.stopped.ensures.end)
-    (ran-early-on c.args.curator.now i f k o p v m (end_of_stop stop) early.0 early.1 (λ known at h. none-stopped view source_view c.args.curator.now v m stop kind at h (begun known)) (λ known never. never-stopped view source_view c.args.curator.now v m stop kind never (begun known)) c.begin.ensures.leaves)
+    subst (λ e. RanOn c.args.curator b a v m e) (sym c.stopped.ensures.end)
+    (ran-early-on c.args.curator i f k o p v m (end_of_stop stop) early.0 early.1 (λ known at h. none-stopped view source_view c.args.curator v m stop kind at h (begun known)) (λ known never. never-stopped view source_view c.args.curator v m stop kind never (begun known)) c.begin.ensures.leaves)
 
 pub returns-clause-causes : goal.returns-clause-causes
 returns-clause-causes g c =

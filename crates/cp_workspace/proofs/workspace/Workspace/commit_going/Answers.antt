@@ -55,7 +55,7 @@ returns-in-Ok-clause-stays g c =
     let h = c.requires.usable.workspace.stands in
     let made = c.in-Ok.ensures.committed (txn.going c.requires.going.0) c.requires.going.1 false h.0 h.1 in
     record {
-      workspace = workspace-added g.R.TreeRep.contents g.S.TreeRep.contents c.args.self.now (record c.args.self.now { db = c.commit.new.self }) c.requires.taken c.requires.usable.workspace (_, made.3.stands) c.commit.ensures.version (made-unspent c.commit.new.self.spent c.in-Ok.tids c.in-Ok.ensures.spent.0);
+      workspace = workspace-added g.R.TreeRep.contents g.S.TreeRep.contents c.args.self.now (record c.args.self.now { db = c.commit.new.self }) c.requires.taken c.requires.usable.workspace (_, made.3.stands) (made-unspent c.commit.new.self.spent c.in-Ok.tids c.in-Ok.ensures.spent.0);
       ready = c.in-Ok.ensures.ready;
     }
 

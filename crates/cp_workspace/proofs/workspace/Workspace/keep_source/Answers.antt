@@ -30,7 +30,7 @@ returns-in-Ok-clause-stays g c =
     let h = c.requires.usable.workspace.stands in
     record {
       workspace = workspace-added g.R.TreeRep.contents g.S.TreeRep.contents c.args.self.now (record c.args.self.now { db = c.load.new.self }) c.requires.may.closed c.requires.usable.workspace
-          (_, (c.in-Ok.ensures.loaded false h.0 h.1).1.stands) c.load.ensures.version (kept-unspent c.load.new.self.spent tt c.in-Ok.ensures.spent.0);
+          (_, (c.in-Ok.ensures.loaded false h.0 h.1).1.stands) (kept-unspent c.load.new.self.spent tt c.in-Ok.ensures.spent.0);
       ready = c.in-Ok.ensures.ready;
     }
 

@@ -1,0 +1,219 @@
+-- Calls that answer from a store, and leave it as it is.
+use Rattle.std.proofs.Common.{◌≡◌, ℕ, List, [], Bool, true, false, Ok, Err, inl, inr, refl, sym, ap, subst, append-nil, arith}
+use Rattle.std.specs.Prelude.{IsTrue, IfErr, Result, ◌≤◌}
+use Rattle.std.specs.List.{flat_map, list_any}
+use Rattle.std.specs.declared.option.Option.{Option}
+use Rattle.std.specs.declared.option.Option.TheVariants.{Some}
+use Rattle.cp_outside.specs.Causes.{Accounts}
+use Rattle.cp_outside.specs.FileReads.{FileTable}
+use Rattle.cp_model.specs.Tree.{Tree}
+use Rattle.cp_model.specs.History.{Entry}
+use Rattle.cp_disk.specs.Views.{Rests}
+use Rattle.cp_file.specs.Stands.{Opens}
+use Rattle.cp_model.specs.declared.answer.LogLine.{LogLine}
+use Rattle.cp_db.specs.Log.{LogsAs}
+use Rattle.cp_db.specs.declared.fault.OpenFault.{OpenFault}
+use Rattle.cp_db.specs.declared.fault.OpenFault.TheVariants as opens
+use Rattle.cp_lang.specs.declared.syntax_tree.Stmt.{Stmt}
+use Rattle.cp_reply.specs.Lines.{lines}
+use Rattle.cp_reply.specs.declared.reply.Reply.{Reply}
+use Rattle.cp_reply.specs.declared.reply.Reply.TheVariants as reply
+use Rattle.cp_session.specs.Session.{Session, says, turn_of, with_reply, replies_to_statements}
+use Rattle.cp_workspace.specs.Texts.{Terms, setting}
+use Rattle.cp_workspace.specs.Disks.{KnownDisk}
+use Rattle.cp_workspace.specs.Files.{KnownFiles}
+use Rattle.cp_workspace.specs.Workspaces.{Stands, Turned, opened_session}
+use Rattle.cp_workspace.specs.declared.workspace.Workspace.{Workspace}
+use Rattle.cp_program.specs.Job.{Report, is_refusal}
+use Rattle.cp_program.specs.Outside.{KnownInput, KnownClock, KnownOutput, Outside}
+use Rattle.cp_program.specs.Story.{SaidLine, HasCauses, DiskCauses, result_of, store_terms}
+use Rattle.cp_program.specs.Alone.{statement_report}
+use Rattle.cp_program.specs.Answering.{no_files, answer_report, log_report, Answered}
+use Rattle.cp_program.specs.Begins.{IsOpeningStop, OpenedAlone, AnsweredAs, GaveAnswer}
+use Rattle.cp_program.specs.Turns.{IsDiskStop, TellsStop, end_of_stop}
+use Rattle.cp_program.specs.declared.end.End.{End}
+use Rattle.cp_program.specs.declared.end.End.TheVariants as how
+use Rattle.cp_program.specs.declared.stop.Stop.{Stop}
+use Rattle.cp_program.specs.declared.stop.Stop.TheVariants.{Output, Full, File, Disk, NoStore, Clock, Memory}
+use Rattle.cp_program.proofs.Opened.{stop-early, stop-disk, causes-early-end, early-not-long}
+use Rattle.cp_program.proofs.Plays.{or-false}
+
+-- ---- one statement
+
+-- the lines of one reply
+one-reply : (o : Option Reply) (y : Reply) → Some y ≡ o → (lines y ≡ flat_map lines (with_reply o [])) × (is_refusal y ≡ list_any is_refusal (with_reply o []))
+one-reply o y is = subst (λ z. (lines y ≡ flat_map lines (with_reply z [])) × (is_refusal y ≡ list_any is_refusal (with_reply z []))) is (sym (append-nil (lines y)), or-false (is_refusal y))
+
+-- the report of a statement that got this reply
+pub statement-said : (files : FileTable) (terms : Terms) (s : Session) (x : Stmt) (y : Reply) → Some y ≡ (turn_of (setting files terms) s (says x)).reply
+    → (lines y ≡ (statement_report files terms s x).out) × (is_refusal y ≡ (statement_report files terms s x).refused)
+unfolding replies_to_statements
+statement-said files terms s x y is = one-reply (turn_of (setting files terms) s (says x)).reply y is
+
+-- ---- what a store answers
+
+-- a statement was run on the workspace that was opened
+pub answered-statement : {R S : Type 0} (view : R → Tree) (source_view : S → Tree) (v m : KnownDisk) (old new : Workspace R S) (x : Stmt) (y : Reply) → OpenedAlone view source_view v m (Ok old)
+    → ((t : FileTable) (terms : Terms) (s : Session) → Stands view source_view terms old s → Turned view source_view terms (turn_of (setting t terms) s (says x)) new (Some y))
+    → AnsweredAs true (answer_report x) v (Ok y)
+answered-statement view source_view v m old new x y o f = (
+  o.0,
+  λ h store. statement-said no_files (store_terms h v.view.content []) (opened_session h []) x y (f no_files (store_terms h v.view.content []) (opened_session h []) (o.1 h [] store).0).0,
+)
+
+-- none was opened
+pub answered-not : {R S : Type 0} (view : R → Tree) (source_view : S → Tree) (right : Bool) (report : List Entry → List ℕ → Report) (v m : KnownDisk) (stop : Stop) → OpenedAlone {R = R} {S = S} view source_view v m (Err stop) → AnsweredAs right report v (Err stop)
+answered-not view source_view right report v m Output o = tt
+answered-not view source_view right report v m Full o = tt
+answered-not view source_view right report v m File o = tt
+answered-not view source_view right report v m Disk o = tt
+answered-not view source_view right report v m (NoStore at) o = o
+answered-not view source_view right report v m Clock o = tt
+answered-not view source_view right report v m Memory o = tt
+
+-- the commits of a store were listed
+pub answered-log : (v : KnownDisk) (commits : List LogLine) → LogsAs v.view.content (Ok commits) → AnsweredAs false log_report v (Ok (reply.Logged commits))
+answered-log v commits o = (o.0, λ h store. (ap (λ z. lines (reply.Logged z)) (o.1 h store), refl))
+
+-- they weren't
+pub answered-fault : (v : KnownDisk) (fault : OpenFault) (stop : Stop) → (fault ≡ opens.Disk → stop ≡ Disk) × (fault ≡ opens.Memory → stop ≡ Memory) × ((at : ℕ) → fault ≡ opens.NoStore at → stop ≡ NoStore at)
+    → LogsAs v.view.content (Err fault) → AnsweredAs false log_report v (Err stop)
+answered-fault v opens.Disk stop becomes o = subst (λ s. AnsweredAs false log_report v (Err s)) (sym (becomes.0 refl)) tt
+answered-fault v opens.Memory stop becomes o = subst (λ s. AnsweredAs false log_report v (Err s)) (sym (becomes.1 refl)) tt
+answered-fault v (opens.NoStore at) stop becomes o = subst (λ s. AnsweredAs false log_report v (Err s)) (sym (becomes.2 at refl)) o
+
+-- ---- ends of calls that say one line
+
+-- how such a call ends
+said-is : (P : End → Type 0) (line : List ℕ) (flag : Bool) (o p : KnownOutput) (e : End) → SaidLine line flag o p e → P how.Done → P how.Refused → P how.Output → P how.Memory → P e
+said-is P line flag o p how.Done s d r u m = d
+said-is P line flag o p how.Refused s d r u m = r
+said-is P line flag o p how.Usage s d r u m = absurd s
+said-is P line flag o p how.Input s d r u m = absurd s
+said-is P line flag o p how.File s d r u m = absurd s
+said-is P line flag o p how.Output s d r u m = u
+said-is P line flag o p how.Disk s d r u m = absurd s
+said-is P line flag o p (how.NoStore at) s d r u m = absurd s
+said-is P line flag o p how.Memory s d r u m = m
+said-is P line flag o p how.TooLong s d r u m = absurd s
+said-is P line flag o p how.Clock s d r u m = absurd s
+
+-- such an end is none of these
+pub said-short : (line : List ℕ) (flag : Bool) (o p : KnownOutput) (e : End) → SaidLine line flag o p e → e ≡ how.TooLong → ⊥
+said-short line flag o p e s = said-is (λ z. z ≡ how.TooLong → ⊥) line flag o p e s (λ h. absurd (cc)) (λ h. absurd (cc)) (λ h. absurd (cc)) (λ h. absurd (cc))
+
+pub said-fitting : (line : List ℕ) (flag : Bool) (o p : KnownOutput) (e : End) → SaidLine line flag o p e → e ≡ how.Usage → ⊥
+said-fitting line flag o p e s = said-is (λ z. z ≡ how.Usage → ⊥) line flag o p e s (λ h. absurd (cc)) (λ h. absurd (cc)) (λ h. absurd (cc)) (λ h. absurd (cc))
+
+pub said-opened : (line : List ℕ) (flag : Bool) (o p : KnownOutput) (e : End) (at : ℕ) → SaidLine line flag o p e → e ≡ how.NoStore at → ⊥
+said-opened line flag o p e at s = said-is (λ z. z ≡ how.NoStore at → ⊥) line flag o p e s (λ h. absurd (cc)) (λ h. absurd (cc)) (λ h. absurd (cc)) (λ h. absurd (cc))
+
+-- it blames nothing but the output
+pub said-quiet : (d : End) (n m : ℕ) (line : List ℕ) (flag : Bool) (o p : KnownOutput) (e : End) → SaidLine line flag o p e → m ≡ n → (how.Output ≡ d → ⊥) → (how.Memory ≡ d → ⊥) → Accounts (λ z. z ≡ d) n m (result_of e)
+said-quiet d n m line flag o p e s same nu nm = said-is (λ z. Accounts (λ y. y ≡ d) n m (result_of z)) line flag o p e s
+    (record { later = omega (arith, same); blamed = tt; steady = same })
+    (record { later = omega (arith, same); blamed = tt; steady = same })
+    (record { later = omega (arith, same); blamed = λ h. absurd (nu h); steady = tt })
+    (record { later = omega (arith, same); blamed = λ h. absurd (nm h); steady = tt })
+
+-- the causes of such an end
+pub causes-said : (i : KnownInput) (f g : KnownFiles) (k : KnownClock) (o p : KnownOutput) (line : List ℕ) (flag : Bool) (e : End) → g.found ≡ f.found → g.faults ≡ f.faults → SaidLine line flag o p e
+    → Accounts (λ z. z ≡ how.Output) o.faults p.faults (result_of e)
+    → HasCauses (record { input = i; files = f; clock = k; output = o }) (record { input = i; files = g; clock = k; output = p }) e
+causes-said i f g k o p line flag e found same s cause = record {
+  input = said-quiet how.Input i.faults i.faults line flag o p e s refl (λ h. absurd (cc)) (λ h. absurd (cc));
+  world = record {
+    same = found;
+    files = said-quiet how.File f.faults g.faults line flag o p e s same (λ h. absurd (cc)) (λ h. absurd (cc));
+    clock = said-quiet how.Clock k.faults k.faults line flag o p e s refl (λ h. absurd (cc)) (λ h. absurd (cc));
+    output = cause;
+  };
+}
+
+-- and the disk's account
+pub disk-said : (v w : KnownDisk) (line : List ℕ) (flag : Bool) (o p : KnownOutput) (e : End) → w.counts.faults ≡ v.counts.faults → SaidLine line flag o p e → DiskCauses v w e
+disk-said v w line flag o p e same s = said-quiet how.Disk v.counts.faults w.counts.faults line flag o p e s same (λ h. absurd (cc)) (λ h. absurd (cc))
+
+-- the same of a line that is the same
+pub said-as : (line other : List ℕ) (flag refused : Bool) (o p : KnownOutput) (e : End) → line ≡ other → flag ≡ refused → SaidLine line flag o p e → SaidLine other refused o p e
+said-as line other flag refused o p e a b s = subst (λ z. SaidLine other z o p e) b (subst (λ z. SaidLine z flag o p e) a s)
+
+-- ---- calls that answer
+
+module _ (right : Bool) (report : List Entry → List ℕ → Report) (i : KnownInput) (f : KnownFiles) (k : KnownClock) (o p : KnownOutput) (v w : KnownDisk) where
+  abbrev b : Outside
+  b = record { input = i; files = f; clock = k; output = o }
+
+  abbrev a : Outside
+  a = record { input = i; files = f; clock = k; output = p }
+
+  -- what isn't opened is no store
+  none-at : (stop : Stop) (at : ℕ) → end_of_stop stop ≡ how.NoStore at → AnsweredAs right report v (Err stop) → Opens v.view.content → ⊥
+  none-at Output at h n = absurd (cc)
+  none-at Full at h n = absurd (cc)
+  none-at File at h n = absurd (cc)
+  none-at Disk at h n = absurd (cc)
+  none-at (NoStore m) at h n = n
+  none-at Clock at h n = absurd (cc)
+  none-at Memory at h n = absurd (cc)
+
+  -- the answer was written
+  answered-line : (y : Reply) (e : End) → (IsTrue v.known → AnsweredAs right report v (Ok y)) → (IsTrue v.known → Rests v.view w.view) → SaidLine (lines y) (is_refusal y) o p e → Answered right report b a v w e
+  answered-line y e answered rests s = record {
+    input = refl;
+    files = refl;
+    clock = refl;
+    ended = inr (record { out = lines y; refused = is_refusal y; reads = 0; history = [] }, s);
+    rests = rests;
+    no_store = λ known at h. absurd (said-opened (lines y) (is_refusal y) o p e at s h);
+    unopened = λ known never. absurd (never (answered known).0);
+    did = λ known h store. (let x = (answered known).1 h store in inr (said-as (lines y) (report h v.view.content).out (is_refusal y) (report h v.view.content).refused o p e x.0 x.1 s));
+  }
+
+  -- the call was stopped
+  answered-early : (stop : Stop) → IsOpeningStop stop → (IsTrue v.known → AnsweredAs right report v (Err stop)) → (IsTrue v.known → Rests v.view w.view) → TellsStop o p stop → Answered right report b a v w (end_of_stop stop)
+  answered-early stop kind none rests tells = (let early = stop-early o p stop kind tells in record {
+    input = refl;
+    files = refl;
+    clock = refl;
+    ended = inl early;
+    rests = rests;
+    no_store = λ known at h. (early, none-at stop at h (none known));
+    unopened = λ known never. early;
+    did = λ known h store. inl early;
+  })
+
+  -- what came of the answer
+  pub answered-end : (r : Result Reply Stop) (e : End) → IfErr r IsOpeningStop → (IsTrue v.known → AnsweredAs right report v r) → (IsTrue v.known → Rests v.view w.view) → GaveAnswer r o p e → Answered right report b a v w e
+  answered-end (Ok y) e kind answered rests gave = answered-line y e answered rests gave
+  answered-end (Err stop) e kind answered rests gave = subst (Answered right report b a v w) (sym gave.0) (answered-early stop kind answered rests gave.1)
+
+-- the causes of its end
+pub causes-answer : (i : KnownInput) (f : KnownFiles) (k : KnownClock) (o p : KnownOutput) (r : Result Reply Stop) (e : End) → IfErr r IsOpeningStop → GaveAnswer r o p e → Accounts (λ z. z ≡ how.Output) o.faults p.faults (result_of e)
+    → HasCauses (record { input = i; files = f; clock = k; output = o }) (record { input = i; files = f; clock = k; output = p }) e
+causes-answer i f k o p (Ok y) e kind gave cause = causes-said i f f k o p (lines y) (is_refusal y) e refl refl gave cause
+causes-answer i f k o p (Err stop) e kind gave cause =
+    subst (HasCauses (record { input = i; files = f; clock = k; output = o }) (record { input = i; files = f; clock = k; output = p })) (sym gave.0)
+    (causes-early-end i f k o p (end_of_stop stop) (stop-early o p stop kind gave.1).0 cause.later)
+
+-- the disk's account of it
+pub disk-answer : (v w : KnownDisk) (o p : KnownOutput) (r : Result Reply Stop) (e : End) → IfErr r IsOpeningStop → GaveAnswer r o p e → Accounts IsDiskStop v.counts.faults w.counts.faults r → DiskCauses v w e
+disk-answer v w o p (Ok y) e kind gave cause = disk-said v w (lines y) (is_refusal y) o p e cause.steady gave
+disk-answer v w o p (Err stop) e kind gave cause = subst (λ z. DiskCauses v w z) (sym gave.0) (stop-disk v w stop kind cause.later cause.blamed)
+
+-- it takes no input, so not too much came
+pub short-answer : (o p : KnownOutput) (r : Result Reply Stop) (e : End) → IfErr r IsOpeningStop → GaveAnswer r o p e → e ≡ how.TooLong → ⊥
+short-answer o p (Ok y) e kind gave = said-short (lines y) (is_refusal y) o p e gave
+short-answer o p (Err stop) e kind gave = subst (λ z. z ≡ how.TooLong → ⊥) (sym gave.0) (early-not-long (end_of_stop stop) (stop-early o p stop kind gave.1).0)
+
+-- ---- the last line
+
+-- the output's account where a call was stopped that opened no store
+pub stopped-output : (n m : ℕ) (stop : Stop) → IsOpeningStop stop → n ≤ m → Accounts (λ z. z ≡ how.Output) n m (result_of (end_of_stop stop))
+stopped-output n m Output kind le = elim kind [ inl e ↦ absurd (cc) | inr l ↦ elim l [ inl x ↦ (let y = x.1 in absurd (cc)) | inr e ↦ absurd (cc) ] ]
+stopped-output n m Full kind le = record { later = le; blamed = λ h. absurd (cc); steady = tt }
+stopped-output n m File kind le = record { later = le; blamed = λ h. absurd (cc); steady = tt }
+stopped-output n m Disk kind le = record { later = le; blamed = λ h. absurd (cc); steady = tt }
+stopped-output n m (NoStore at) kind le = record { later = le; blamed = λ h. absurd (cc); steady = tt }
+stopped-output n m Clock kind le = record { later = le; blamed = λ h. absurd (cc); steady = tt }
+stopped-output n m Memory kind le = record { later = le; blamed = λ h. absurd (cc); steady = tt }

@@ -1,0 +1,146 @@
+-- One call: what its end says, and what it has to do with the words.
+use Rattle.cp_program.specs.declared.limits.TheConstants.{INPUT_MAX}
+use Rattle.std.proofs.Common.{◌≡◌, ℕ, ◌+◌, ◌≤◌, ◌<◌, List, [], length, Bool, false, refl, inl, inr, sym, ap, subst, ◌∙◌, arith}
+use Rattle.std.proofs.lemmas.List.{length-append}
+use Rattle.std.specs.Prelude.{⊤, ◌⊎◌, ◌↔◌, IsTrue}
+use Rattle.std.specs.Io.KnownBytes.{Consumes}
+use Rattle.std.specs.declared.option.Option.{Option}
+use Rattle.std.specs.declared.option.Option.TheVariants.{None, Some}
+use Rattle.cp_file.specs.Stands.{Opens}
+use Rattle.cp_words.specs.declared.command.Command.{Command}
+use Rattle.cp_words.specs.declared.command.Command.TheVariants as words
+use Rattle.cp_workspace.specs.Files.{KnownFiles}
+use Rattle.cp_workspace.specs.Disks.{KnownDisk}
+use Rattle.cp_program.specs.Texts.{usage_text, memory_line}
+use Rattle.cp_program.specs.Outside.{KnownInput, KnownClock, KnownOutput, Outside}
+use Rattle.cp_program.specs.Story.{WritesLast, SaidLine, EndedEarly, IsEarly, IsFaultless, HasCauses, DiskCauses}
+use Rattle.cp_program.specs.Answering.{SaidReport, Answered}
+use Rattle.cp_program.specs.Calls.{DidCommand, RanAs, HasStore, HasItsStore, HasOpenStore, IsShort, Called}
+use Rattle.cp_program.specs.Job.{Report}
+use Rattle.cp_program.specs.Ends.{code_of}
+use Rattle.cp_program.specs.declared.end.End.{End}
+use Rattle.cp_program.specs.declared.end.End.TheVariants as how
+use Rattle.cp_program.proofs.Runs.{parts}
+use Rattle.cp_program.proofs.Opened.{same-rests, early-not-usage, causes-early-end, out-disk}
+use Rattle.cp_program.proofs.Whole.{disk-still}
+
+-- more came than a call takes, so that it isn't known that so little would come
+pub too-short : (l m : Option (List ℕ)) (taken : List ℕ) (e : End) → Consumes l m taken → (e ≡ how.TooLong) ↔ (INPUT_MAX < length taken) → e ≡ how.TooLong → IsShort l → ⊥
+too-short None m taken e t much h s = s
+too-short (Some all) None taken e t much h s = t
+too-short (Some all) (Some rest) taken e t much h s =
+    let n : length all ≡ length taken + length rest = ap length t ∙ length-append taken rest in
+    absurd (omega (arith, much.0 h, n, s))
+
+-- a line that is said doesn't end the call with the usage
+said-not-usage : (line : List ℕ) (refused : Bool) (o p : KnownOutput) (e : End) → SaidLine line refused o p e → e ≡ how.Usage → ⊥
+said-not-usage line refused o p e s h = subst (SaidLine line refused o p) h s
+
+-- nor as no store
+said-not-none : (line : List ℕ) (refused : Bool) (o p : KnownOutput) (e : End) → SaidLine line refused o p e → (at : ℕ) → e ≡ how.NoStore at → ⊥
+said-not-none line refused o p e s at h = subst (SaidLine line refused o p) h s
+
+-- an answer from a store doesn't end with the usage
+answered-fits : (before now : Outside) (e : End) → EndedEarly before now e ⊎ ((r : Report) × SaidReport r before now e) → e ≡ how.Usage → ⊥
+answered-fits before now e (inl early) h = early-not-usage e early.0 h
+answered-fits before now e (inr said) h = said-not-usage said.0.out said.0.refused before.output now.output e said.1 h
+
+-- with words that fit the call doesn't end with the usage
+fits : (x : Command) (before now : Outside) (v w : KnownDisk) (e : End) → DidCommand x before now v w e → e ≡ how.Usage → ⊥
+fits (words.Scratch k s) before now v w e r = r.running.fitting
+fits (words.Init k s) before now v w e r = r.running.fitting
+fits (words.Run curator) before now v w e r = r.fitting
+fits (words.Commit file curator) before now v w e r = r.fitting
+fits (words.Load l) before now v w e r = r.fitting
+fits (words.Ask q) before now v w e r = answered-fits before now e r.ended
+fits (words.Show p) before now v w e r = answered-fits before now e r.ended
+fits (words.Generate seed count k) before now v w e r = absurd r
+fits words.Log before now v w e r = answered-fits before now e r.ended
+
+-- where there is a store, if there is to be one, it is found
+opens : (x : Command) (before now : Outside) (v w : KnownDisk) (e : End) → DidCommand x before now v w e → HasItsStore x v → (at : ℕ) → e ≡ how.NoStore at → ⊥
+opens (words.Scratch k s) before now v w e r has at h = r.running.opened at h
+opens (words.Init k s) before now v w e r has at h = r.running.opened at h
+opens (words.Run curator) before now v w e r has at h = (r.no_store has.0 at h).2 has.1
+opens (words.Commit file curator) before now v w e r has at h = (r.no_store has.0 at h).2 has.1
+opens (words.Load l) before now v w e r has at h = (r.no_store has.0 at h).2 has.1
+opens (words.Ask q) before now v w e r has at h = (r.no_store has.0 at h).1 has.1
+opens (words.Show p) before now v w e r has at h = (r.no_store has.0 at h).1 has.1
+opens (words.Generate seed count k) before now v w e r has at h = absurd r
+opens words.Log before now v w e r has at h = (r.no_store has.0 at h).1 has.1
+
+-- where nothing failed and little came, the call ends with an answer
+complete : (x : Command) (before now : Outside) (v w : KnownDisk) (e : End) → DidCommand x before now v w e → HasCauses before now e → DiskCauses v w e → (e ≡ how.TooLong → IsShort before.input.left → ⊥)
+    → HasItsStore x v → IsShort before.input.left → IsFaultless before now v w → (e ≡ how.Done) ⊎ (e ≡ how.Refused) ⊎ (e ≡ how.Memory)
+complete x before now v w how.Done r c d few has short calm = inl refl
+complete x before now v w how.Refused r c d few has short calm = inr (inl refl)
+complete x before now v w how.Usage r c d few has short calm = absurd (fits x before now v w how.Usage r refl)
+complete x before now v w how.Input r c d few has short calm = absurd (calm.input (c.input.blamed refl))
+complete x before now v w how.File r c d few has short calm = absurd (calm.files (c.world.files.blamed refl))
+complete x before now v w how.Output r c d few has short calm = absurd (calm.output (c.world.output.blamed refl))
+complete x before now v w how.Disk r c d few has short calm = absurd (calm.disk (d.blamed refl))
+complete x before now v w (how.NoStore at) r c d few has short calm = absurd (opens x before now v w (how.NoStore at) r has at refl)
+complete x before now v w how.Memory r c d few has short calm = inr (inr refl)
+complete x before now v w how.TooLong r c d few has short calm = absurd (few refl short)
+complete x before now v w how.Clock r c d few has short calm = absurd (calm.clock (c.world.clock.blamed refl))
+
+-- a call with words that fit
+pub called : (x : Command) (before now : Outside) (v w : KnownDisk) (e : End) (code : ℕ) → code ≡ code_of e → DidCommand x before now v w e → HasCauses before now e → DiskCauses v w e → (e ≡ how.TooLong → IsShort before.input.left → ⊥) → Called (Some x) before now v w code
+called x before now v w e code n r c d few = record {
+  end = e;
+  number = n;
+  ran = inr r;
+  complete = λ has short calm. complete x before now v w e r c d few has short calm;
+  causes = c;
+  disk = d;
+}
+
+-- a call with other words
+pub called-usage : (i : KnownInput) (f : KnownFiles) (k : KnownClock) (o p : KnownOutput) (v : KnownDisk) (code : ℕ) → code ≡ 2 → WritesLast o p [] usage_text → o.faults ≤ p.faults → Called None (parts i f k o) (parts i f k p) v v code
+called-usage i f k o p v code n w later = record {
+  end = how.Usage;
+  number = n;
+  ran = inr (record { usage = refl; input = refl; files = refl; clock = refl; wrote = w });
+  complete = λ has short calm. absurd has;
+  causes = record {
+    input = record { later = omega arith; blamed = λ e. absurd (cc); steady = tt };
+    world = record {
+      same = refl;
+      files = record { later = omega arith; blamed = λ e. absurd (cc); steady = tt };
+      clock = record { later = omega arith; blamed = λ e. absurd (cc); steady = tt };
+      output = record { later = later; blamed = λ e. absurd (cc); steady = tt };
+    };
+  };
+  disk = disk-still v how.Usage (λ e. absurd (cc));
+}
+
+-- a call whose words took too much memory
+pub called-out : (o : Option Command) (i : KnownInput) (f : KnownFiles) (k : KnownClock) (o1 o2 : KnownOutput) (v : KnownDisk) (code : ℕ) → code ≡ 7 → WritesLast o1 o2 [] memory_line → o1.faults ≤ o2.faults → Called o (parts i f k o1) (parts i f k o2) v v code
+called-out o i f k o1 o2 v code n w later = record {
+  end = how.Memory;
+  number = n;
+  ran = inl (record { memory = refl; input = refl; files = refl; clock = refl; wrote = w; rests = same-rests v.view });
+  complete = λ has short calm. inr (inr refl);
+  causes = causes-early-end i f k o1 o2 how.Memory (inr (inr refl)) later;
+  disk = out-disk v;
+}
+
+-- ---- numbers
+
+-- the usage alone has the number 2
+pub usage_number : (e : End) → code_of e ≡ 2 → e ≡ how.Usage
+usage_number how.Done h = absurd (cc)
+usage_number how.Refused h = absurd (cc)
+usage_number how.Usage h = refl
+usage_number how.Input h = absurd (cc)
+usage_number how.File h = absurd (cc)
+usage_number how.Output h = absurd (cc)
+usage_number how.Disk h = absurd (cc)
+usage_number (how.NoStore at) h = absurd (cc)
+usage_number how.Memory h = absurd (cc)
+usage_number how.TooLong h = absurd (cc)
+usage_number how.Clock h = absurd (cc)
+
+-- so words that fit don't have it
+pub fitting-number : (x : Command) (before now : Outside) (v w : KnownDisk) (e : End) (code : ℕ) → code ≡ code_of e → DidCommand x before now v w e → code ≡ 2 → ⊥
+fitting-number x before now v w e code n r h = fits x before now v w e r (usage_number e (sym n ∙ h))

@@ -1,0 +1,27 @@
+use Rattle.std.specs.Prelude.{false}
+use Rattle.cp_workspace.specs.Disks.{known_disk}
+use Rattle.cp_program.specs.Answering.{log_report}
+use Rattle.cp_program.specs.Outside.{known_output}
+use Rattle.cp_program.proofs.Answered.{answered-end, causes-answer, disk-answer, short-answer}
+use Rattle.cp_program.proofs.answer.list_commits.Goals as goal
+
+pub returns-clause-ran : goal.returns-clause-ran
+returns-clause-ran g c = λ i f k.
+    let met = c.commits_in-answer.ensures in
+    answered-end false log_report i f k (known_output g.O.Sink c.args.output.now) (known_output g.O.Sink c.give_answer.new.output)
+    (known_disk g.D.Disk c.args.disk.now) (known_disk g.D.Disk c.commits_in-answer.new.disk) c.commits_in-answer.result c.give_answer.result met.kinds met.answered met.rests c.give_answer.ensures.gave
+
+pub returns-clause-causes : goal.returns-clause-causes
+returns-clause-causes g c = λ i f k.
+    let kinds = c.commits_in-answer.ensures.kinds in
+    causes-answer i f k (known_output g.O.Sink c.args.output.now) (known_output g.O.Sink c.give_answer.new.output) c.commits_in-answer.result c.give_answer.result kinds c.give_answer.ensures.gave (c.give_answer.ensures.cause kinds)
+
+pub returns-clause-disk : goal.returns-clause-disk
+returns-clause-disk g c =
+    let met = c.commits_in-answer.ensures in
+    disk-answer (known_disk g.D.Disk c.args.disk.now) (known_disk g.D.Disk c.commits_in-answer.new.disk) (known_output g.O.Sink c.args.output.now) (known_output g.O.Sink c.give_answer.new.output)
+    c.commits_in-answer.result c.give_answer.result met.kinds c.give_answer.ensures.gave met.cause
+
+pub returns-clause-short : goal.returns-clause-short
+returns-clause-short g c =
+    short-answer (known_output g.O.Sink c.args.output.now) (known_output g.O.Sink c.give_answer.new.output) c.commits_in-answer.result c.give_answer.result c.commits_in-answer.ensures.kinds c.give_answer.ensures.gave

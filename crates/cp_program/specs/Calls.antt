@@ -1,0 +1,129 @@
+-- One call of the program: its words, what was done for them, and how it ended.
+use Rattle.cp_program.specs.declared.limits.TheConstants.{INPUT_MAX}
+use Rattle.std.specs.Prelude.{◌≡◌, ◌⊎◌, ℕ, ◌≤◌, List, [], length, Bool, true, false, IsTrue, if◌then◌else◌, ⊤}
+use Rattle.std.specs.declared.option.Option.{Option}
+use Rattle.std.specs.declared.option.Option.TheVariants.{None, Some}
+use Rattle.cp_disk.specs.Views.{Rests}
+use Rattle.cp_file.specs.Stands.{Opens}
+use Rattle.cp_lang.specs.declared.syntax_tree.Stmt.TheVariants as stmt
+use Rattle.cp_words.specs.declared.command.Command.{Command}
+use Rattle.cp_words.specs.declared.command.Command.TheVariants as words
+use Rattle.cp_workspace.specs.Disks.{KnownDisk}
+use Rattle.cp_program.specs.Texts.{usage_text, memory_line}
+use Rattle.cp_program.specs.Job.{start_given, start_reads}
+use Rattle.cp_program.specs.Outside.{Outside}
+use Rattle.cp_program.specs.Ends.{code_of}
+use Rattle.cp_program.specs.Story.{WritesLast, Ran, RanOn, Made, HasCauses, DiskCauses, IsFaultless}
+use Rattle.cp_program.specs.Alone.{Loaded}
+use Rattle.cp_program.specs.Answering.{Answered, answer_report, log_report}
+use Rattle.cp_program.specs.Scripts.{Committed}
+use Rattle.cp_program.specs.declared.end.End.{End}
+use Rattle.cp_program.specs.declared.end.End.TheVariants as how
+
+-- ---- what a call did
+
+-- With words that fit no row the usage was written, and nothing else was done.
+pub record GaveUsage (before now : Outside) (end : End) : Type 0 where
+  pub usage : end ≡ how.Usage
+  pub input : now.input ≡ before.input
+  pub files : now.files ≡ before.files
+  pub clock : now.clock ≡ before.clock
+  pub wrote : WritesLast before.output now.output [] usage_text
+
+-- Memory ran out while the words were read: the last line was written, and nothing else was done.
+pub record RanOut (before now : Outside) (v w : KnownDisk) (end : End) : Type 0 where
+  pub memory : end ≡ how.Memory
+  pub input : now.input ≡ before.input
+  pub files : now.files ≡ before.files
+  pub clock : now.clock ≡ before.clock
+  pub wrote : WritesLast before.output now.output [] memory_line
+  pub rests : Rests v.view w.view
+
+-- the commands that are built: not yet the run of a drawn script, whose words fit no row until then
+abbrev pub is_built : Command → Bool
+is_built (words.Scratch k from) = true
+is_built (words.Init k from) = true
+is_built (words.Run curator) = true
+is_built (words.Commit file curator) = true
+is_built (words.Load l) = true
+is_built (words.Ask q) = true
+is_built (words.Show p) = true
+is_built (words.Generate seed count k) = false
+is_built words.Log = true
+
+-- what is asked for, if it is built
+abbrev pub built : Option Command → Option Command
+built None = None
+built (Some x) = if is_built x then Some x else None
+
+-- What was done for a command.
+abbrev pub DidCommand : Command → Outside → Outside → KnownDisk → KnownDisk → End → Type 0
+DidCommand (words.Scratch k from) before now v w end = Ran k (λ files. start_given files from) (start_reads from) before now end
+DidCommand (words.Init k from) before now v w end = Made k (λ files. start_given files from) (start_reads from) before now v w end
+DidCommand (words.Run curator) before now v w end = RanOn curator before now v w end
+DidCommand (words.Commit file curator) before now v w end = Committed file curator before now v w end
+DidCommand (words.Load l) before now v w end = Loaded l before now v w end
+DidCommand (words.Ask q) before now v w end = Answered true (answer_report (stmt.Ask q)) before now v w end
+DidCommand (words.Show p) before now v w end = Answered true (answer_report (stmt.Show p)) before now v w end
+DidCommand (words.Generate seed count k) before now v w end = ⊥
+DidCommand words.Log before now v w end = Answered false log_report before now v w end
+
+-- What was done for the words: for their command, or, where they fit no row, the usage was given.
+abbrev pub RanAs : Option Command → Outside → Outside → KnownDisk → KnownDisk → End → Type 0
+RanAs None before now v w end = GaveUsage before now end
+RanAs (Some x) before now v w end = DidCommand x before now v w end
+
+-- The command asks for nothing of the disk.
+abbrev pub LeavesDisk : Command → Type 0
+LeavesDisk (words.Scratch k from) = ⊤
+LeavesDisk (words.Init k from) = ⊥
+LeavesDisk (words.Run curator) = ⊥
+LeavesDisk (words.Commit file curator) = ⊥
+LeavesDisk (words.Load l) = ⊥
+LeavesDisk (words.Ask q) = ⊥
+LeavesDisk (words.Show p) = ⊥
+LeavesDisk (words.Generate seed count k) = ⊤
+LeavesDisk words.Log = ⊥
+
+-- The words ask for nothing of the disk.
+abbrev pub NeedsNoDisk : Option Command → Type 0
+NeedsNoDisk None = ⊤
+NeedsNoDisk (Some x) = LeavesDisk x
+
+-- ---- completeness
+
+-- At most so many bytes are known to come.
+abbrev pub IsShort : Option (List ℕ) → Type 0
+IsShort None = ⊥
+IsShort (Some all) = length all ≤ INPUT_MAX
+
+-- The disk is known to hold a store that opens.
+abbrev pub HasOpenStore : KnownDisk → Type 0
+HasOpenStore v = IsTrue v.known × Opens v.view.content
+
+-- The command needs no store, or there is one.
+abbrev pub HasItsStore : Command → KnownDisk → Type 0
+HasItsStore (words.Scratch k from) v = ⊤
+HasItsStore (words.Init k from) v = ⊤
+HasItsStore (words.Run curator) v = HasOpenStore v
+HasItsStore (words.Commit file curator) v = HasOpenStore v
+HasItsStore (words.Load l) v = HasOpenStore v
+HasItsStore (words.Ask q) v = HasOpenStore v
+HasItsStore (words.Show p) v = HasOpenStore v
+HasItsStore (words.Generate seed count k) v = ⊤
+HasItsStore words.Log v = HasOpenStore v
+
+-- What the words ask for needs no store, or the disk is known to hold one that opens.
+abbrev pub HasStore : Option Command → KnownDisk → Type 0
+HasStore None v = ⊥
+HasStore (Some x) v = HasItsStore x v
+
+-- One call of the program: it ended in some way, whose number the status is, and what it did and the causes are those of this end.
+pub record Called (asked : Option Command) (before now : Outside) (v w : KnownDisk) (code : ℕ) : Type 0 where
+  pub end : End
+  pub number : code ≡ code_of end
+  pub ran : RanOut before now v w end ⊎ RanAs asked before now v w end
+  -- where the words fit, the store opens if there is to be one, nothing failed and not too much comes, the end is an answer, or memory ran out
+  pub complete : HasStore asked v → IsShort before.input.left → IsFaultless before now v w → (end ≡ how.Done) ⊎ (end ≡ how.Refused) ⊎ (end ≡ how.Memory)
+  pub causes : HasCauses before now end
+  pub disk : DiskCauses v w end

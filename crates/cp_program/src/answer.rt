@@ -1,0 +1,140 @@
+//! Answers from a store that is left as it is: queries, what stands at a place, and its commits.
+ghost use Rattle.std.specs.Prelude.{◌≡◌, true, false, IsTrue, IfErr};
+ghost use Rattle.cp_outside.specs.Causes.{Accounts};
+ghost use Rattle.cp_disk.specs.Views.{Rests};
+ghost use Rattle.cp_lang.specs.declared.syntax_tree.Stmt.TheVariants as stmt;
+ghost use Rattle.cp_workspace.specs.Disks.{known_disk};
+ghost use Rattle.cp_workspace.specs.Files.{KnownFiles};
+ghost use Rattle.cp_program.specs.Answering.{Answered, answer_report, log_report};
+ghost use Rattle.cp_program.specs.Begins.{AnsweredAs, GaveAnswer, IsOpeningStop};
+ghost use Rattle.cp_program.specs.Outside.{KnownInput, KnownClock, known_output};
+ghost use Rattle.cp_program.specs.Story.{HasCauses, DiskCauses, result_of};
+ghost use Rattle.cp_program.specs.Turns.{IsDiskStop};
+
+use crate::end::End;
+use crate::load::open_workspace;
+use crate::start::end_with;
+use crate::stop::Stop;
+use crate::tell::stopped;
+use cp_db::log_of;
+use cp_disk::Disk;
+use cp_model::Query;
+use cp_outside::Sink;
+use cp_path::Loc;
+use cp_reply::Reply;
+use cp_tree::TreeRep;
+use std::alloc::Global;
+
+/// What a store replies to a query.
+fn reply_to_query<R: TreeRep, S: TreeRep, D: Disk>(
+    alloc: Global,
+    query: Query,
+    disk: &mut D,
+) -> Result<Reply, Stop>
+    ensures answered { IsTrue D.is_known → AnsweredAs true (answer_report (stmt.Ask query)) (known_disk D.Disk disk.old) result }
+    ensures rests { IsTrue D.is_known → Rests (D.view disk.old) (D.view disk.new) }
+    ensures cause { Accounts IsDiskStop (D.counts disk.old).faults (D.counts disk.new).faults result }
+    ensures kinds { IfErr result IsOpeningStop }
+{
+    let mut workspace = open_workspace::<R, S, D>(alloc, disk)?;
+    Ok(workspace.ask(alloc, query)?)
+}
+
+/// What stands at and below a place of a store.
+fn reply_to_show<R: TreeRep, S: TreeRep, D: Disk>(
+    alloc: Global,
+    place: Loc,
+    disk: &mut D,
+) -> Result<Reply, Stop>
+    ensures answered { IsTrue D.is_known → AnsweredAs true (answer_report (stmt.Show place)) (known_disk D.Disk disk.old) result }
+    ensures rests { IsTrue D.is_known → Rests (D.view disk.old) (D.view disk.new) }
+    ensures cause { Accounts IsDiskStop (D.counts disk.old).faults (D.counts disk.new).faults result }
+    ensures kinds { IfErr result IsOpeningStop }
+{
+    let workspace = open_workspace::<R, S, D>(alloc, disk)?;
+    Ok(workspace.show(alloc, place)?)
+}
+
+/// The commits of a store.
+fn commits_in<R: TreeRep, S: TreeRep, D: Disk>(alloc: Global, disk: &mut D) -> Result<Reply, Stop>
+    ensures answered { IsTrue D.is_known → AnsweredAs false log_report (known_disk D.Disk disk.old) result }
+    ensures rests { IsTrue D.is_known → Rests (D.view disk.old) (D.view disk.new) }
+    ensures cause { Accounts IsDiskStop (D.counts disk.old).faults (D.counts disk.new).faults result }
+    ensures kinds { IfErr result IsOpeningStop }
+{
+    let commits = log_of::<R, S, D>(alloc, disk)?;
+    Ok(Reply::Logged { commits })
+}
+
+/// Writes an answer, or the last line of what stopped the call.
+fn give_answer<O: Sink>(alloc: Global, answer: Result<Reply, Stop>, output: &mut O) -> End
+    ensures gave { GaveAnswer answer (known_output O.Sink output.old) (known_output O.Sink output.new) result }
+    ensures cause { IfErr answer IsOpeningStop → Accounts (λ e. e ≡ End.Output) (O.faults output.old) (O.faults output.new) (result_of result) }
+{
+    match answer {
+        Ok(reply) => end_with(alloc, &reply, output),
+        Err(stop) => stopped(output, stop),
+    }
+}
+
+/// Answers a query from a store. Costs the opening, and the query.
+pub(crate) fn ask<R: TreeRep, S: TreeRep, D: Disk, O: Sink>(
+    alloc: Global,
+    query: Query,
+    disk: &mut D,
+    output: &mut O,
+) -> End
+    ensures ran { (i : KnownInput) (f : KnownFiles) (k : KnownClock) → Answered true (answer_report (stmt.Ask query))
+        (record { input = i; files = f; clock = k; output = known_output O.Sink output.old })
+        (record { input = i; files = f; clock = k; output = known_output O.Sink output.new })
+        (known_disk D.Disk disk.old) (known_disk D.Disk disk.new) result }
+    ensures causes { (i : KnownInput) (f : KnownFiles) (k : KnownClock) → HasCauses
+        (record { input = i; files = f; clock = k; output = known_output O.Sink output.old })
+        (record { input = i; files = f; clock = k; output = known_output O.Sink output.new }) result }
+    ensures disk { DiskCauses (known_disk D.Disk disk.old) (known_disk D.Disk disk.new) result }
+    ensures short { result ≡ End.TooLong → ⊥ }
+{
+    let answer = reply_to_query::<R, S, D>(alloc, query, disk);
+    give_answer(alloc, answer, output)
+}
+
+/// Writes what stands at and below a place of a store. Costs the opening, and the rows' bytes.
+pub(crate) fn show<R: TreeRep, S: TreeRep, D: Disk, O: Sink>(
+    alloc: Global,
+    place: Loc,
+    disk: &mut D,
+    output: &mut O,
+) -> End
+    ensures ran { (i : KnownInput) (f : KnownFiles) (k : KnownClock) → Answered true (answer_report (stmt.Show place))
+        (record { input = i; files = f; clock = k; output = known_output O.Sink output.old })
+        (record { input = i; files = f; clock = k; output = known_output O.Sink output.new })
+        (known_disk D.Disk disk.old) (known_disk D.Disk disk.new) result }
+    ensures causes { (i : KnownInput) (f : KnownFiles) (k : KnownClock) → HasCauses
+        (record { input = i; files = f; clock = k; output = known_output O.Sink output.old })
+        (record { input = i; files = f; clock = k; output = known_output O.Sink output.new }) result }
+    ensures disk { DiskCauses (known_disk D.Disk disk.old) (known_disk D.Disk disk.new) result }
+    ensures short { result ≡ End.TooLong → ⊥ }
+{
+    let answer = reply_to_show::<R, S, D>(alloc, place, disk);
+    give_answer(alloc, answer, output)
+}
+
+/// Lists the commits of a store. Costs each entry once, and keeps no operation.
+pub(crate) fn list_commits<R: TreeRep, S: TreeRep, D: Disk, O: Sink>(
+    alloc: Global,
+    disk: &mut D,
+    output: &mut O,
+) -> End
+    ensures ran { (i : KnownInput) (f : KnownFiles) (k : KnownClock) → Answered false log_report
+        (record { input = i; files = f; clock = k; output = known_output O.Sink output.old })
+        (record { input = i; files = f; clock = k; output = known_output O.Sink output.new })
+        (known_disk D.Disk disk.old) (known_disk D.Disk disk.new) result }
+    ensures causes { (i : KnownInput) (f : KnownFiles) (k : KnownClock) → HasCauses
+        (record { input = i; files = f; clock = k; output = known_output O.Sink output.old })
+        (record { input = i; files = f; clock = k; output = known_output O.Sink output.new }) result }
+    ensures disk { DiskCauses (known_disk D.Disk disk.old) (known_disk D.Disk disk.new) result }
+    ensures short { result ≡ End.TooLong → ⊥ }
+{
+    let answer = commits_in::<R, S, D>(alloc, disk);
+    give_answer(alloc, answer, output)
+}

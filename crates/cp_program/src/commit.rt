@@ -1,0 +1,100 @@
+//! The statements of a file, run on a store and committed.
+ghost use Rattle.std.specs.Prelude.{◌≡◌, ◌<◌, ◌≤◌, length};
+ghost use Rattle.cp_workspace.specs.Disks.{known_disk};
+ghost use Rattle.cp_workspace.specs.Files.{known_files, HasReadSome};
+ghost use Rattle.cp_program.specs.Outside.{KnownInput, known_clock, known_output, known_world};
+ghost use Rattle.cp_program.specs.Scripts.{Committed};
+ghost use Rattle.cp_program.specs.Story.{HasCauses, WorldCauses, DiskCauses};
+ghost use Rattle.cp_program.specs.Turns.{MayGoOn, RanScript};
+
+use crate::end::End;
+use crate::interpreter::Interpreter;
+use crate::limits::PIECE_MAX;
+use crate::script::read_script;
+use crate::session::turns;
+use crate::start::end_with;
+use crate::stop::Stop;
+use crate::store::begin;
+use crate::tell::{out_of_memory, stopped};
+use cp_clock::Clock;
+use cp_disk::Disk;
+use cp_outside::{Files, Sink};
+use cp_path::{Label, Text};
+use cp_reply::{Of, Reply, Why};
+use cp_tree::TreeRep;
+use std::alloc::Global;
+
+/// The refusal of a commit file.
+fn refused(why: Why) -> Reply
+    ensures { result ≡ Reply.Refused Of.Commit why }
+{
+    Reply::Refused {
+        of: Of::Commit,
+        why,
+    }
+}
+
+/// Runs the script of a commit file in a session, or says why there is none.
+fn play_file<R: TreeRep, S: TreeRep, D: Disk, F: Files, K: Clock, O: Sink>(
+    alloc: Global,
+    session: &mut Interpreter<R, S>,
+    piece: &mut [u8],
+    file: &str,
+    disk: &mut D,
+    files: &mut F,
+    clock: &mut K,
+    output: &mut O,
+) -> End
+    requires goes_on { MayGoOn R.contents S.contents (known_disk D.Disk disk.old) session.old }
+    requires room { 0 < length piece.old }
+    requires bounded { length piece.old ≤ PIECE_MAX }
+    ensures ran { RanScript R.contents S.contents session.old file.now
+        (known_world F.Files K.Clock O.Sink files.old clock.old output.old) (known_world F.Files K.Clock O.Sink files.new clock.new output.new)
+        (known_disk D.Disk disk.old) (known_disk D.Disk disk.new) result }
+    ensures causes { WorldCauses (known_world F.Files K.Clock O.Sink files.old clock.old output.old) (known_world F.Files K.Clock O.Sink files.new clock.new output.new) result }
+    ensures disk { DiskCauses (known_disk D.Disk disk.old) (known_disk D.Disk disk.new) result }
+    ensures read { HasReadSome (known_files F.Files files.old) (known_files F.Files files.new) }
+{
+    match read_script(alloc, file, files) {
+        Ok(Ok(mut script)) => turns(session, piece, disk, files, clock, &mut script, output),
+        Ok(Err(why)) => end_with(alloc, &refused(why), output),
+        Err(fault) => stopped(output, Stop::from(fault)),
+    }
+}
+
+/// Runs the statements of a file on a store, which is opened before the file is read, and then a `commit`.
+pub(crate) fn commit<R: TreeRep, S: TreeRep, D: Disk, F: Files, K: Clock, O: Sink>(
+    alloc: Global,
+    file: Text,
+    curator: Label,
+    disk: &mut D,
+    files: &mut F,
+    clock: &mut K,
+    output: &mut O,
+) -> End
+    ensures ran { (i : KnownInput) → Committed file curator
+        (record { input = i; files = known_files F.Files files.old; clock = known_clock K.Clock clock.old; output = known_output O.Sink output.old })
+        (record { input = i; files = known_files F.Files files.new; clock = known_clock K.Clock clock.new; output = known_output O.Sink output.new })
+        (known_disk D.Disk disk.old) (known_disk D.Disk disk.new) result }
+    ensures causes { (i : KnownInput) → HasCauses
+        (record { input = i; files = known_files F.Files files.old; clock = known_clock K.Clock clock.old; output = known_output O.Sink output.old })
+        (record { input = i; files = known_files F.Files files.new; clock = known_clock K.Clock clock.new; output = known_output O.Sink output.new }) result }
+    ensures disk { DiskCauses (known_disk D.Disk disk.old) (known_disk D.Disk disk.new) result }
+{
+    let Ok(mut piece) = vec![in alloc; 0u8; PIECE_MAX] else {
+        return out_of_memory(output);
+    };
+    match begin::<R, S, D>(alloc, curator, disk) {
+        Ok(mut session) => play_file(
+            alloc,
+            &mut session,
+            &mut piece,
+            file.as_str(),
+            disk,
+            files,
+            clock,
+            output,
+        ),
+        Err(stop) => stopped(output, stop),
+    }
+}

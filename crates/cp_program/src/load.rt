@@ -1,0 +1,83 @@
+//! A source that is loaded into a store.
+ghost use Rattle.std.specs.Prelude.{◌≡◌, false, IsTrue, IfOk, IfErr};
+ghost use Rattle.cp_outside.specs.Causes.{Accounts};
+ghost use Rattle.cp_disk.specs.Views.{Rests};
+ghost use Rattle.cp_model.specs.Place.{label_eq, target};
+ghost use Rattle.cp_workspace.specs.Disks.{known_disk};
+ghost use Rattle.cp_workspace.specs.Files.{known_files, HasReadSome, UsesFiles};
+ghost use Rattle.cp_workspace.specs.Workspaces.{IsUsable};
+ghost use Rattle.cp_program.specs.Alone.{Loaded};
+ghost use Rattle.cp_program.specs.Begins.{OpenedAlone, IsOpeningStop, LoadedAs};
+ghost use Rattle.cp_program.specs.Outside.{KnownInput, KnownClock, known_output};
+ghost use Rattle.cp_program.specs.Story.{HasCauses, DiskCauses};
+ghost use Rattle.cp_program.specs.Turns.{IsDiskStop, IsFileStop};
+
+use crate::end::End;
+use crate::start::{end_with, no_curator};
+use crate::stop::Stop;
+use crate::tell::stopped;
+use cp_db::Db;
+use cp_disk::Disk;
+use cp_lang::Load;
+use cp_outside::{Files, Sink};
+use cp_reply::Reply;
+use cp_tree::TreeRep;
+use cp_workspace::Workspace;
+use std::alloc::Global;
+
+/// Opens a store for calls that commit nothing: a file of version 1 stays one.
+pub(crate) fn open_workspace<R: TreeRep, S: TreeRep, D: Disk>(
+    alloc: Global,
+    disk: &mut D,
+) -> Result<Workspace<R, S>, Stop>
+    ensures opened { IsTrue D.is_known → OpenedAlone R.contents S.contents (known_disk D.Disk disk.old) (known_disk D.Disk disk.new) result }
+    ensures rests { IsTrue D.is_known → Rests (D.view disk.old) (D.view disk.new) }
+    ensures usable { IfOk result (λ d. IsUsable R.contents S.contents (known_disk D.Disk disk.new) d) }
+    ensures cause { Accounts IsDiskStop (D.counts disk.old).faults (D.counts disk.new).faults result }
+    ensures kinds { IfErr result IsOpeningStop }
+{
+    let curator = no_curator(alloc)?;
+    let db = Db::open_on(alloc, disk)?;
+    Ok(Workspace::new(db, curator))
+}
+
+/// Loads a source into a store, and replies that it did, or why not.
+fn reply_to_load<R: TreeRep, S: TreeRep, D: Disk, F: Files>(
+    alloc: Global,
+    source: Load,
+    disk: &mut D,
+    files: &mut F,
+) -> Result<Reply, Stop>
+    requires other { label_eq source.name target ≡ false }
+    ensures loaded { LoadedAs source (known_files F.Files files.old) (known_files F.Files files.new) (known_disk D.Disk disk.old) (known_disk D.Disk disk.new) result }
+    ensures used { UsesFiles IsFileStop (known_files F.Files files.old) (known_files F.Files files.new) result }
+    ensures read { HasReadSome (known_files F.Files files.old) (known_files F.Files files.new) }
+    ensures cause { Accounts IsDiskStop (D.counts disk.old).faults (D.counts disk.new).faults result }
+{
+    let mut workspace = open_workspace::<R, S, D>(alloc, disk)?;
+    Ok(workspace.load(alloc, source, disk, files)?)
+}
+
+/// Loads a source into a store, and says so, or why not.
+pub(crate) fn load<R: TreeRep, S: TreeRep, D: Disk, F: Files, O: Sink>(
+    alloc: Global,
+    source: Load,
+    disk: &mut D,
+    files: &mut F,
+    output: &mut O,
+) -> End
+    requires other { label_eq source.name target ≡ false }
+    ensures ran { (i : KnownInput) (k : KnownClock) → Loaded source
+        (record { input = i; files = known_files F.Files files.old; clock = k; output = known_output O.Sink output.old })
+        (record { input = i; files = known_files F.Files files.new; clock = k; output = known_output O.Sink output.new })
+        (known_disk D.Disk disk.old) (known_disk D.Disk disk.new) result }
+    ensures causes { (i : KnownInput) (k : KnownClock) → HasCauses
+        (record { input = i; files = known_files F.Files files.old; clock = k; output = known_output O.Sink output.old })
+        (record { input = i; files = known_files F.Files files.new; clock = k; output = known_output O.Sink output.new }) result }
+    ensures disk { DiskCauses (known_disk D.Disk disk.old) (known_disk D.Disk disk.new) result }
+{
+    match reply_to_load::<R, S, D, F>(alloc, source, disk, files) {
+        Ok(reply) => end_with(alloc, &reply, output),
+        Err(stop) => stopped(output, stop),
+    }
+}
