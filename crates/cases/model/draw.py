@@ -426,4 +426,5 @@ def main():
         print("ends 0")
 
 
-main()
+if __name__ == "__main__":
+    main()

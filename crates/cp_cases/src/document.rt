@@ -3,10 +3,18 @@
 //! Examples stand in blocks that are indented by four spaces. After `< ` comes the whole input of a call of `scratch n`, and
 //! the lines below it are its output. After `$ bin/cpdb ` come the words of a session: of the lines of this block and of all
 //! later ones, those that end in a semicolon go in, and all others come out. The status is 1 where a line refuses something.
-//! A session whose first word is `run` goes on in the case of the call before it, whose store it opens.
+//! A session whose first word is `run`, `commit`, `load`, `query` or `log` goes on in the case of the call before it, whose
+//! store it opens. The clock tells `FIRST_MOMENT` in the first call of a case and a minute more in each later one, and a
+//! second more at each further commit of a call, of which it tells three.
 
 use crate::sheet::{Case, Part, Sheet};
 use std::alloc::{AllocError, Global};
+
+/// When the clock begins, in seconds since 1970-01-01 00:00 UTC: 2026-11-29 00:00 UTC.
+const FIRST_MOMENT: u64 = 1_795_910_400;
+
+/// The parts of a whole call: its words, the clock, the input, the output, and how it ends.
+const PARTS_OF_CALL: usize = 5;
 
 /// What the lines of a block belong to.
 #[derive(Clone, Copy, PartialEq, Eq)]
@@ -23,12 +31,34 @@ struct Line<'a> {
     text: &'a str,
 }
 
-/// Adds a call with these words to a case, with no input and no output yet.
+/// The moments that the clock tells in the call of a case with this number, from 0.
+fn moments_of(alloc: Global, number: usize) -> Result<String, AllocError> {
+    let minutes = (number as u64).saturating_mul(60);
+    let first = FIRST_MOMENT.saturating_add(minutes);
+    let second = first.saturating_add(1);
+    let third = second.saturating_add(1);
+    format!(in alloc; "{first} {second} {third}")
+}
+
+/// Adds a call with these words to a case whose calls before it are whole, with no input and no output yet.
 fn add_call(alloc: Global, case: &mut Case, line: Line<'_>, words: &str) -> Result<(), AllocError> {
-    for (key, rest) in [("words", words), ("in", "-"), ("out", "")] {
-        case.parts.push(Part::new(alloc, line.number, key, rest)?)?;
-    }
+    let moments = moments_of(alloc, case.parts.len() / PARTS_OF_CALL)?;
+    let clock = Part::new(alloc, line.number, "clock", moments.as_str())?;
+    case.parts
+        .push(Part::new(alloc, line.number, "words", words)?)?;
+    case.parts.push(clock)?;
+    case.parts.push(Part::new(alloc, line.number, "in", "-")?)?;
+    case.parts.push(Part::new(alloc, line.number, "out", "")?)?;
     Ok(())
+}
+
+/// Whether a session with these words opens the store of the call before it.
+fn opens_store(words: &str) -> bool {
+    let (command, _) = words.split_once(' ').unwrap_or((words, ""));
+    match command {
+        "run" | "commit" | "load" | "query" | "log" => true,
+        _ => false,
+    }
 }
 
 /// A case of one call with these words, over the real files, with no input and no output yet.
@@ -46,7 +76,7 @@ fn begin_session(
     line: Line<'_>,
     words: &str,
 ) -> Result<(), AllocError> {
-    if let (true, Some(case)) = (words.starts_with("run "), cases.last_mut()) {
+    if let (true, Some(case)) = (opens_store(words), cases.last_mut()) {
         add_status(alloc, case)?;
         return add_call(alloc, case, line, words);
     }

@@ -2,17 +2,37 @@
 
 use std::alloc::{AllocError, Global};
 
-/// The words of a line: what stands in quotation marks is one, and so is each run without white space elsewhere.
+/// Adds a piece of a line to its words, or to the word in quotation marks that has begun; gives that which hasn't ended.
+fn add_piece(
+    alloc: Global,
+    words: &mut Vec<String>,
+    begun: Option<String>,
+    piece: &str,
+) -> Result<Option<String>, AllocError> {
+    let word = match begun {
+        Some(front) => format!(in alloc; "{front} {piece}")?,
+        None => piece.to_string(alloc)?,
+    };
+    let Some(inside) = word.as_str().strip_prefix("\"") else {
+        if !word.as_str().is_empty() {
+            words.push(word)?;
+        }
+        return Ok(None);
+    };
+    if let Some(whole) = inside.strip_suffix("\"") {
+        words.push(whole.to_string(alloc)?)?;
+        return Ok(None);
+    }
+    Ok(Some(word))
+}
+
+/// The words of a line, between spaces. One that begins with a quotation mark reaches to the next that ends a word, so that
+/// it may have spaces in it, and other quotation marks.
 pub fn words_of(alloc: Global, line: &str) -> Result<Vec<String>, AllocError> {
     let mut words = Vec::new(alloc);
-    for (number, piece) in line.split('"').enumerate() {
-        if number % 2 == 1 {
-            words.push(piece.to_string(alloc)?)?;
-            continue;
-        }
-        for word in piece.split_whitespace() {
-            words.push(word.to_string(alloc)?)?;
-        }
+    let mut begun = None;
+    for piece in line.split(' ') {
+        begun = add_piece(alloc, &mut words, begun, piece)?;
     }
     Ok(words)
 }
