@@ -15,7 +15,7 @@ import os
 import re
 import sys
 
-from draw import brought, carrying_themselves, below, full_rows, loses_child, reduced_rows
+from draw import aged, brought, carrying_themselves, below, full_rows, loses_child, reduced_rows
 from gen import gen
 
 USAGE = """usage: cpdb scratch KIND [JSON]
@@ -443,20 +443,7 @@ class Store:
         self.tid += 1
         rows = full_rows(self.tree, work) if self.kind in ("n", "t") else reduced_rows(self.tree, work)
         self.records += [(self.tid, *row) for row in rows]
-        after = {}
-        for path, (content, origin) in work.items():
-            if origin is None:
-                past = [("born", self.tid)]
-            elif origin[0] != "T":
-                past = [("copied", self.tid, origin)]
-            elif origin[1:] != path:
-                past = self.tree[origin[1:]][1] + [("copied", self.tid, origin)]
-            elif loses_child(self.tree, work, path):
-                past = self.tree[path][1] + [("lost", self.tid)]
-            else:
-                past = self.tree[path][1]
-            after[path] = (content, past)
-        self.tree = after
+        self.tree = aged(self.tree, work, self.tid)
 
     def answer(self, verb, place):
         path, past = place[1:], None

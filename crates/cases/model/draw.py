@@ -21,6 +21,24 @@ def below(tree, place):
     return {path: tree[path] for path in tree if path[: len(place)] == place}
 
 
+def aged(tree, work, tid):
+    """The tree to which a step with this Tid leads, by what the places carry at its end."""
+    after = {}
+    for path, (content, origin) in work.items():
+        if origin is None:
+            past = [("born", tid)]
+        elif origin[0] != "T":
+            past = [("copied", tid, origin)]
+        elif origin[1:] != path:
+            past = tree[origin[1:]][1] + [("copied", tid, origin)]
+        elif loses_child(tree, work, path):
+            past = tree[path][1] + [("lost", tid)]
+        else:
+            past = tree[path][1]
+        after[path] = (content, past)
+    return after
+
+
 class Session:
     """The committed tree with the pasts of its places, the records of all steps, the source, and the open transaction."""
 
@@ -82,20 +100,7 @@ class Session:
         self.now += 1
         rows = full_rows(self.tree, work) if self.kind in ("n", "t") else reduced_rows(self.tree, work)
         self.records += [(self.now,) + row for row in rows]
-        after = {}
-        for path, (content, origin) in work.items():
-            if origin is None:
-                past = [("born", self.now)]
-            elif origin[0] != "T":
-                past = [("copied", self.now, origin)]
-            elif origin[1:] != path:
-                past = self.tree[origin[1:]][1] + [("copied", self.now, origin)]
-            elif loses_child(self.tree, work, path):
-                past = self.tree[path][1] + [("lost", self.now)]
-            else:
-                past = self.tree[path][1]
-            after[path] = (content, past)
-        self.tree = after
+        self.tree = aged(self.tree, work, self.now)
 
     def trace(self, path):
         segments, at, high = [], ("T",) + path, self.now
