@@ -1,22 +1,17 @@
 -- What open siblings say of their value.
-use Rattle.std.proofs.Common.{◌≡◌, ℕ, true, List, [], ◌∷◌, ◌++◌, length, sym, ap, subst, ◌∙◌, append_assoc, arith, Option, Some, None, Result, Ok, Err, IfOk}
+use Rattle.std.proofs.Common.{◌≡◌, ℕ, [], ◌∷◌, ◌++◌, sym, ap, subst, ◌∙◌, append_assoc, Option, Some, None, Result, Ok, Err, IfOk}
 use Rattle.std.specs.FinMap.Entries.{find, put}
 use Rattle.std.specs.declared.cmp.Ordering.TheVariants.{Less, Equal, Greater}
 use Rattle.cp_path.specs.Text.{text_cmp}
-use Rattle.cp_model.specs.Place.{Label, Path, child}
-use Rattle.cp_model.specs.Keyed.{get, entries, len}
-use Rattle.cp_model.specs.Subtrees.{with_subtree, is_there}
-use Rattle.cp_model.specs.declared.row.Content.TheVariants.{Node}
-use Rattle.cp_model.specs.Tree.{Tree, IsRooted, IsTree, weight}
+use Rattle.cp_model.specs.Place.{Label}
+use Rattle.cp_model.specs.Keyed.{entries}
+use Rattle.cp_model.specs.Subtrees.{with_subtree}
+use Rattle.cp_model.specs.Tree.{Tree, IsRooted}
 use Rattle.cp_model.specs.declared.row.Content.{Content}
 use Rattle.cp_tree.specs.Good.{IsGood}
-use Rattle.cp_tree.specs.Rows.{single, root_entries, reach_of}
-use Rattle.cp_tree.specs.declared.reach.Reach.{Reach}
-use Rattle.cp_tree.proofs.Built.{entries-single}
-use Rattle.cp_tree.proofs.GoodLemmas.{rooted-branch, sub_below, get_nothing}
-use Rattle.cp_tree.proofs.Answering.{sub-child, sub-replaced}
-use Rattle.cp_tree.specs.Branch.{branch, sub, without_child}
-use Rattle.cp_tree.proofs.BranchLemmas.{label_same, get-sub, sub-root}
+use Rattle.cp_tree.proofs.GoodLemmas.{rooted-branch}
+use Rattle.cp_tree.specs.Branch.{branch, without_child}
+use Rattle.cp_tree.proofs.BranchLemmas.{label_same}
 use Rattle.cp_tree_share.specs.Siblings.{Edges, siblings_of, AreBalanced, IsFork}
 use Rattle.cp_tree_share.specs.Parts.{IsFull}
 use Rattle.cp_tree.specs.Sums.{AreChildren}
@@ -101,8 +96,3 @@ none_some x e = absurd (cc)
 -- a child put under a label that is known by another name
 pub child_as : (m : Tree) (a b : Label) (n k w : Tree) → a ≡ b → n ≡ k → w ≡ with_subtree (b ∷ []) (entries k) m → with_subtree (a ∷ []) (entries n) m ≡ w
 child_as m a b n k w l e h = ap (λ z. with_subtree (z ∷ []) (entries n) m) l ∙ ap (λ z. with_subtree (b ∷ []) (entries z) m) e ∙ sym h
-
--- a leaf put at a row's place
-pub row_is : (root leaf : Tree) (path parent : Path) (a b : Label) (c d : Content) → path ≡ parent ++ a ∷ [] → b ≡ a → leaf ≡ single d → d ≡ c → with_subtree (child parent b) (entries leaf) root ≡ with_subtree path (root_entries c) root
-row_is root leaf path parent a b c d p l s e =
-    ap (λ z. with_subtree (child parent z) (entries leaf) root) l ∙ ap (λ z. with_subtree z (entries leaf) root) (sym p) ∙ ap (λ z. with_subtree path z root) (ap entries s ∙ entries-single d ∙ ap root_entries e)

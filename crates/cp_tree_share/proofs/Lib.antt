@@ -1,1 +1,4 @@
+mod Apart
 mod At
+mod Halved
+mod Read

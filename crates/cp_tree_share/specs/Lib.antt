@@ -1,4 +1,5 @@
 pub mod Falls
 pub mod Nodes
 pub mod Parts
+pub mod Reading
 pub mod Siblings

@@ -3,6 +3,7 @@ ghost use Rattle.cp_model.specs.Keyed.{len};
 ghost use Rattle.cp_tree.specs.Sums.{AreChildren};
 ghost use Rattle.cp_tree_share.specs.Siblings.{Near, Settles};
 ghost use Rattle.cp_tree_share.specs.Parts.{ArePartsOf};
+ghost use Rattle.cp_tree_share.specs.Reading.{HaveSiblings, AreTaken, IsLow};
 
 use crate::forest::{Entry, Forest, Fork, Open};
 use std::alloc::{AllocError, Global};
@@ -55,6 +56,30 @@ impl Forest {
         Ok(Forest {
             open: Open::Full(Rc::new(alloc, fork)?),
         })
+    }
+
+    /// Takes the last so many of the entries, and makes the forest of these siblings by halving. Costs them.
+    pub(crate) fn of_last(
+        alloc: Global,
+        entries: &mut Vec<Entry>,
+        count: usize,
+    ) -> Result<Forest, AllocError>
+        requires { HaveSiblings count entries.old.items }
+        ensures edges { IfOk result (λ t. AreTaken count entries.old.items t.0 entries.new.items) }
+        ensures low { IfOk result (λ t. IsLow count t.1) }
+    {
+        if count == 0 {
+            return Ok(Forest::new());
+        }
+        let after = (count - 1) / 2;
+        let right = Forest::of_last(alloc, entries, after)?;
+        match entries.pop() {
+            None => unreachable!(),
+            Some(middle) => {
+                let left = Forest::of_last(alloc, entries, count - 1 - after)?;
+                Forest::fork(alloc, left, middle, right)
+            }
+        }
     }
 
     /// Rotates where the left side is two levels higher.

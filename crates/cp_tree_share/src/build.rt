@@ -1,36 +1,88 @@
-ghost use Rattle.std.specs.Prelude.{◌≡◌, ◌<◌, ◌≤◌, IfOk, length};
-ghost use Rattle.std.specs.declared.option.Option.TheVariants.{Some};
-ghost use Rattle.cp_model.specs.Place.{Label, Path, child};
-ghost use Rattle.cp_model.specs.Keyed.{get};
-ghost use Rattle.cp_model.specs.Subtrees.{with_subtree};
-ghost use Rattle.cp_model.specs.Tree.{IsRooted, text_bytes};
+ghost use Rattle.std.specs.Prelude.{◌≡◌, ◌≤◌, IfOk};
 ghost use Rattle.cp_model.specs.History.{IsLiteral};
-ghost use Rattle.cp_model.specs.declared.row.Content.TheVariants.{Node};
-ghost use Rattle.cp_tree.specs.Rows.{entries_in, root_entries, tree_of_rows};
+ghost use Rattle.cp_model.specs.Tree.{text_bytes};
+ghost use Rattle.cp_tree.specs.Rows.{entries_in, tree_of_rows};
 ghost use Rattle.cp_tree.specs.Sums.{IsSmall};
+ghost use Rattle.cp_tree_share.specs.Reading.{AreShort, HaveEdges, HaveTree, HaveEdge, AreRead, IsRead, IsEdgeRead};
 
-use crate::forest::ShareNode;
-use cp_model::Row;
+use crate::forest::{Entry, Forest, ShareNode};
+use cp_model::{Content, Row};
 use cp_path::TEXT_MAX;
 use cp_shared::{SharedContent, SharedLabel};
 use std::alloc::{AllocError, Global};
 
-/// Makes the tree with one row more, whose parent is there. Costs the way to it.
-fn add_row(alloc: Global, root: &ShareNode, row: &Row) -> Result<ShareNode, AllocError>
-    requires deep { 0 < length row.now.path }
-    requires parent { (p : Path) (a : Label) → row.now.path ≡ child p a → get root.now p ≡ Some Node }
-    requires text { text_bytes row.now.content ≤ TEXT_MAX }
-    requires small { IsSmall (with_subtree row.now.path (root_entries row.now.content) root.now) }
-    ensures { IfOk result (λ t. t ≡ with_subtree row.now.path (root_entries row.now.content) root.now) }
+/// Reads the edges below a place of this many labels, and puts them behind the entries. Gives the rows after them. Costs
+/// the rows that it reads; its calls nest once for each label of a path. After an error the entries are of no use.
+#[cycle(reading)]
+fn read_edges<'a>(
+    alloc: Global,
+    depth: usize,
+    rows: &'a [Row],
+    entries: &mut Vec<Entry>,
+) -> Result<&'a [Row], AllocError>
+    requires edges { HaveEdges depth rows.now }
+    requires texts { AreShort rows.now }
+    ensures { IfOk result (λ left. AreRead depth rows.now entries.old.items entries.new.items left.now) }
 {
-    let leaf = ShareNode::leaf(SharedContent::of(alloc, &row.content)?);
-    match row.path.labels().split_last() {
+    let mut left = rows;
+    while let Some((row, after)) = left.split_first() {
+        if row.path.labels().len() <= depth {
+            break;
+        }
+        left = read_edge(alloc, row, after, entries)?;
+    }
+    Ok(left)
+}
+
+/// Reads the edge that leads to this row, and puts it behind the entries. Gives the rows after its tree.
+#[cycle(reading)]
+fn read_edge<'a>(
+    alloc: Global,
+    row: &Row,
+    rows: &'a [Row],
+    entries: &mut Vec<Entry>,
+) -> Result<&'a [Row], AllocError>
+    requires edge { HaveEdge row.now rows.now }
+    requires text { text_bytes row.now.content ≤ TEXT_MAX }
+    requires texts { AreShort rows.now }
+    ensures { IfOk result (λ left. IsEdgeRead row.now rows.now entries.old.items entries.new.items left.now) }
+{
+    let labels = row.path.labels();
+    let (node, left) = read_node(alloc, labels.len(), &row.content, rows, entries)?;
+    match labels.split_last() {
         None => unreachable!(),
-        Some((label, parent)) => root.put(alloc, parent, SharedLabel::of(alloc, label)?, leaf),
+        Some((label, _)) => {
+            let label = SharedLabel::of(alloc, label)?;
+            entries.push(Entry { label, node })?;
+            Ok(left)
+        }
     }
 }
 
-/// Builds the tree of these rows, which come in order. Costs the way to each.
+/// Reads the tree of this root, at a place of this many labels; the rows are those after the root's. Gives the rows after
+/// the tree. The entries are edges that wait for their siblings, and are afterwards what they were.
+#[cycle(reading)]
+fn read_node<'a>(
+    alloc: Global,
+    depth: usize,
+    root: &Content,
+    rows: &'a [Row],
+    entries: &mut Vec<Entry>,
+) -> Result<(ShareNode, &'a [Row]), AllocError>
+    requires tree { HaveTree depth root.now rows.now }
+    requires text { text_bytes root.now ≤ TEXT_MAX }
+    requires texts { AreShort rows.now }
+    ensures tree { IfOk result (λ r. IsRead depth root.now rows.now r.0 r.1.now) }
+    ensures same_entries { IfOk result (λ _. entries.new.items ≡ entries.old.items) }
+{
+    let before = entries.len();
+    let left = read_edges(alloc, depth, rows, entries)?;
+    let children = Forest::of_last(alloc, entries, entries.len() - before)?;
+    let content = SharedContent::of(alloc, root)?;
+    Ok((ShareNode { content, children }, left))
+}
+
+/// Builds the tree of these rows, which come in order. Costs the rows, each of which is read once.
 pub(crate) fn build(alloc: Global, rows: &[Row]) -> Result<ShareNode, AllocError>
     requires rows { IsLiteral (entries_in rows.now) }
     requires small { IsSmall (tree_of_rows rows.now) }
@@ -39,10 +91,8 @@ pub(crate) fn build(alloc: Global, rows: &[Row]) -> Result<ShareNode, AllocError
     match rows.split_first() {
         None => unreachable!(),
         Some((first, rest)) => {
-            let mut root = ShareNode::leaf(SharedContent::of(alloc, &first.content)?);
-            for row in rest {
-                root = add_row(alloc, &root, row)?;
-            }
+            let mut entries = Vec::new(alloc);
+            let (root, _) = read_node(alloc, 0, &first.content, rest, &mut entries)?;
             Ok(root)
         }
     }

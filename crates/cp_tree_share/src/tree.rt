@@ -129,7 +129,7 @@ impl TreeRep for ShareTree {
         self.put_child(alloc, place.labels(), label, leaf)
     }
 
-    /// Adds a whole tree below a node. Costs its rows, each the way to it in that tree, and then one change.
+    /// Adds a whole tree below a node. Costs its rows, and then one change.
     fn insert_rows(
         &mut self,
         alloc: Global,
@@ -146,7 +146,7 @@ impl TreeRep for ShareTree {
         Ok(())
     }
 
-    /// Replaces the subtree at the place. Costs the rows, each the way to it in their tree, and then one change.
+    /// Replaces the subtree at the place. Costs the rows, and then one change.
     fn put_rows(&mut self, alloc: Global, place: &Path, rows: &[Row]) -> Result<(), AllocError> {
         let new = build(alloc, rows)?;
         self.put_at(alloc, place.labels(), new)

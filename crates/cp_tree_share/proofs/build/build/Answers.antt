@@ -1,32 +1,20 @@
-use Rattle.std.proofs.Common.{arith}
-use Rattle.cp_tree.proofs.Building.{no_rows, begun_build, row_deep, row_parent, row_built, built_all}
+use Rattle.cp_tree.proofs.Building.{no_rows}
+use Rattle.cp_tree.proofs.FewRows.{first_text}
 use Rattle.cp_tree.proofs.Found.{no_length}
-use Rattle.cp_tree.proofs.FewRows.{small_row, first_text, row_text}
+use Rattle.cp_tree_share.proofs.Read.{have_whole, all_short, whole_read}
 use Rattle.cp_tree_share.proofs.build.build.Goals as goal
 
 pub unreachable-requires : goal.unreachable-requires
 unreachable-requires c = no_rows _ (no_length _ c.in-None.ensures.cases) c.requires.rows
 
-pub of-requires : goal.of-requires
-of-requires c = first_text _ _ _ c.in-Some.ensures.cases.0 c.requires.rows
+pub read_node-requires-clause-tree : goal.read_node-requires-clause-tree
+read_node-requires-clause-tree c = have_whole _ _ _ c.in-Some.ensures.cases.0 c.requires.rows c.requires.small
 
-pub loop-row-init : goal.loop-row-init
-loop-row-init c = begun_build _ _ _ c.in-Some.ensures.cases.0 c.requires.rows _ _ c.leaf-root.ensures.tree c.in_ok-of-in-Some.ensures
+pub read_node-requires-clause-text : goal.read_node-requires-clause-text
+read_node-requires-clause-text c = first_text _ _ _ c.in-Some.ensures.cases.0 c.requires.rows
 
-pub add_row-requires-clause-deep : goal.add_row-requires-clause-deep
-add_row-requires-clause-deep c = row_deep _ _ _ c.in-Some.ensures.cases.0 c.requires.rows c.loop-row.row-index c.row-item.result c.loop-row-test.true c.row-item.is
-
-pub add_row-requires-clause-parent : goal.add_row-requires-clause-parent
-add_row-requires-clause-parent c = row_parent _ _ _ c.in-Some.ensures.cases.0 c.requires.rows c.loop-row.row-index c.row-item.result c.loop-row-test.true c.row-item.is _ c.loop-row.invariant
-
-pub add_row-requires-clause-text : goal.add_row-requires-clause-text
-add_row-requires-clause-text c = row_text _ _ _ c.in-Some.ensures.cases.0 c.requires.rows c.loop-row.row-index c.row-item.result c.loop-row-test.true c.row-item.is
-
-pub add_row-requires-clause-small : goal.add_row-requires-clause-small
-add_row-requires-clause-small c = small_row _ _ _ c.in-Some.ensures.cases.0 c.requires.rows c.loop-row.row-index c.row-item.result c.loop-row-test.true c.row-item.is _ c.loop-row.invariant c.requires.small
-
-pub loop-row-preserved : goal.loop-row-preserved
-loop-row-preserved c = row_built _ _ _ c.in-Some.ensures.cases.0 c.requires.rows c.loop-row.row-index c.row-item.result c.loop-row-test.true c.row-item.is _ c.loop-row.invariant _ c.in_ok-root-in-Some.ensures
+pub read_node-requires-clause-texts : goal.read_node-requires-clause-texts
+read_node-requires-clause-texts c = all_short _ _ _ c.in-Some.ensures.cases.0 c.requires.rows
 
 pub returns : goal.returns
-returns c = built_all _ _ _ c.in-Some.ensures.cases.0 c.requires.rows c.loop-row.row-index _ (omega (arith, c.loop-row-test.false)) c.loop-row.invariant
+returns c = whole_read _ _ _ c.in-Some.ensures.cases.0 c.requires.rows c.requires.small _ _ c.in_ok-root-in-Some.ensures.tree
