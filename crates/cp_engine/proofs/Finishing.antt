@@ -1,5 +1,6 @@
 -- The end of a transaction.
-use Rattle.std.specs.Prelude.{ℕ, ◌+◌, ◌≤◌, ◌<◌, ◌≡◌, ◌^◌, List, length, Ok, Err}
+use Rattle.cp_model.specs.declared.limits.TheConstants.{ENTRY_MAX}
+use Rattle.std.specs.Prelude.{ℕ, ◌+◌, ◌≤◌, ◌<◌, ◌≡◌, List, length, Ok, Err}
 use Rattle.std.proofs.Common.{sym, ap, ◌∙◌, arith}
 use Rattle.std.specs.declared.option.Option.TheVariants.{Some}
 use Rattle.cp_model.specs.Tree.{Tree, Source}
@@ -7,15 +8,16 @@ use Rattle.cp_model.specs.History.{steps_of}
 use Rattle.cp_model.specs.declared.kind.Kind.{Kind}
 use Rattle.cp_model.specs.declared.op.Op.{Op}
 use Rattle.cp_model.specs.declared.record.Record.{Record}
-use Rattle.cp_record.specs.Bytes.{commit_length}
+use Rattle.cp_record.specs.Bytes.{records_bytes, commit_length}
 use Rattle.cp_overlay.specs.Seen.{seen}
 use Rattle.cp_engine.specs.Passed.{records_of}
-use Rattle.cp_engine.specs.Transactions.{Progress, going, failed, IsGoing, Stands, Packs, Finishes}
+use Rattle.cp_engine.specs.Transactions.{Progress, going, failed, IsGoing, Stands, Packs, PacksNothing, AreGivenUp, Finishes}
 use Rattle.cp_engine.specs.declared.state.Failure.{Failure}
 use Rattle.cp_engine.specs.declared.txn.Txn.{Txn}
 use Rattle.cp_engine.specs.declared.txn.Step.{Step}
-use Rattle.cp_engine.specs.declared.fault.FinishFault.TheVariants.{TooLarge}
-use Rattle.cp_engine.proofs.Going.{packed-going}
+use Rattle.cp_engine.specs.declared.fault.FinishFault.{FinishFault}
+use Rattle.cp_engine.specs.declared.fault.FinishFault.TheVariants.{Empty, Failed, TooLarge, Memory}
+use Rattle.cp_engine.proofs.Going.{packed-going, large-going}
 
 -- what is packed of a transaction that hasn't failed and holds some operations, with the bytes of the commit
 pub record IsPacked {R : Type 0} (view : R → Tree) (x : Txn R) (tid size : ℕ) (rs : List Record) : Type 0 where
@@ -25,17 +27,41 @@ pub record IsPacked {R : Type 0} (view : R → Tree) (x : Txn R) (tid size : ℕ
   pub packs : Packs x.kind x.rows (seen x.overlay) (view x.start) (view x.tree) tid rs
   pub bytes : size ≡ commit_length x.ops rs
 
+-- a commit takes the bytes of its records and more
+commit-over : (ops : List Op) (rs : List Record) → length (records_bytes rs) ≤ commit_length ops rs
+unfolding commit_length
+commit-over ops rs = omega arith
+
+-- a transaction that hasn't failed and holds some operations, but of which nothing can be packed
+pub record IsUnpacked {R : Type 0} (x : Txn R) (f : FinishFault) : Type 0 where
+  pub sound : (f : Failure) → x.failure ≡ Some f → ⊥
+  pub some : 1 ≤ length x.ops
+  pub nothing : PacksNothing x.kind x.rows f
+
+module _ {R : Type 0} (view : R → Tree) (x : Txn R) (k : Kind) (ss : List Source) (t : Tree) (n : ℕ) where
+  -- with records that were given up it is over each limit of a commit
+  large : (ops : List Op) (limit : ℕ) → limit ≤ ENTRY_MAX → IsGoing view x k ss t n ops → AreGivenUp x.kind x.rows → limit < commit_length ops (records_of k ss t n ops)
+  large ops limit l g u = omega (arith, l, large-going view ss x k t n ops g u, commit-over ops (records_of k ss t n ops))
+
+  -- it makes nothing, for that cause
+  pub finishes-unpacked : (f : FinishFault) → IsUnpacked x f → (p : Progress) (limit : ℕ) → limit ≤ ENTRY_MAX → Stands view x k ss t n p → Finishes view k ss t n p limit (Err f)
+  finishes-unpacked f h (failed j c) limit l g = absurd (h.sound _ g.failure)
+  finishes-unpacked Empty h (going ops) limit l g = absurd h.nothing
+  finishes-unpacked (Failed j c) h (going ops) limit l g = absurd h.nothing
+  finishes-unpacked TooLarge h (going ops) limit l g = let some = h.some in (omega (arith, some, ap length g.held), large ops limit l g h.nothing)
+  finishes-unpacked Memory h (going ops) limit l g = let some = h.some in omega (arith, some, ap length g.held)
+
 module _ {R : Type 0} (view : R → Tree) (x : Txn R) (tid size : ℕ) (rs : List Record) (h : IsPacked view x tid size rs) (k : Kind) (ss : List Source) (t : Tree) (n : ℕ) where
   size_is : (ops : List Op) → IsGoing view x k ss t n ops → size ≡ commit_length ops (records_of k ss t n ops)
   size_is ops g = h.bytes ∙ ap (λ os. commit_length os rs) g.held ∙ ap (commit_length ops) (packed-going view ss x k t n tid ops rs h.first g h.packs)
 
   -- one over the limit makes nothing
-  pub finishes-large : (p : Progress) (limit : ℕ) → limit < size → size < 2 ^ 64 → Stands view x k ss t n p → Finishes view k ss t n p limit (Err TooLarge)
-  finishes-large (going ops) limit l b g =
+  pub finishes-large : (p : Progress) (limit : ℕ) → limit < size → Stands view x k ss t n p → Finishes view k ss t n p limit (Err TooLarge)
+  finishes-large (going ops) limit l g =
       let bytes = size_is ops g in
       let some = h.some in
-      (omega (arith, some, ap length g.held), omega (arith, l, bytes), omega (arith, b, bytes))
-  finishes-large (failed j c) limit l b g = h.sound _ g.failure
+      (omega (arith, some, ap length g.held), omega (arith, l, bytes))
+  finishes-large (failed j c) limit l g = h.sound _ g.failure
 
   -- one within it makes its step
   pub finishes-step : (p : Progress) (limit : ℕ) (st : Step R) → size ≤ limit → st.ops ≡ x.ops → view st.tree ≡ view x.tree → st.rows ≡ rs → ((ops : List Op) → length ops ≡ length x.ops → st.tids ≡ length (steps_of x.kind ops)) →

@@ -1,5 +1,5 @@
 -- What each call does to a transaction.
-use Rattle.cp_model.specs.declared.limits.TheConstants.{OPS_MAX}
+use Rattle.cp_model.specs.declared.limits.TheConstants.{ENTRY_MAX, OPS_MAX}
 use Rattle.std.specs.Prelude.{ℕ, ◌+◌, ◌≤◌, ◌<◌, ◌≡◌, ◌^◌, List, [], ◌∷◌, ◌++◌, length}
 use Rattle.std.proofs.Common.{sym, ap, subst, ◌∙◌, arith, length-append}
 use Rattle.std.proofs.lemmas.List.Sums.{fold-append}
@@ -20,6 +20,7 @@ use Rattle.cp_model.proofs.Folds.{then-accepted}
 use Rattle.cp_model.proofs.Histories.{trees-sources}
 use Rattle.cp_model.proofs.Kept.{closed-step}
 use Rattle.cp_model.proofs.Origins.{sound-step}
+use Rattle.cp_record.specs.Bytes.{records_bytes}
 use Rattle.cp_overlay.specs.Kept.{Kept}
 use Rattle.cp_overlay.specs.Kept as overlay
 use Rattle.cp_overlay.specs.Seen.{seen}
@@ -27,9 +28,11 @@ use Rattle.cp_engine.specs.Passed.{Stage, stage_after, next_stage, AllAccepted, 
 use Rattle.cp_engine.specs.RowsAlone.{op_rows, top_rows}
 use Rattle.cp_engine.proofs.RowsAloneLemmas.{rows-alone}
 use Rattle.cp_engine.proofs.TopRows.{reduced-alone}
+use Rattle.cp_engine.proofs.KeptRecords.{held-kept, given-up-kept}
 use Rattle.cp_engine.proofs.Linked.{passed-snoc, pass-tree, accepted-step, accepted-snoc, written-snoc, passed-next, tree-passed}
-use Rattle.cp_engine.specs.Held.{Appended}
-use Rattle.cp_engine.specs.Transactions.{Keeps, Adds, Packs, IsGoing}
+use Rattle.cp_engine.specs.Held.{AreKept, AreKeptBehind}
+use Rattle.cp_engine.specs.Transactions.{Keeps, Adds, Packs, AreGivenUp, IsGoing}
+use Rattle.cp_engine.specs.declared.kept.StepRecords.{StepRecords}
 use Rattle.cp_engine.specs.declared.txn.Txn.{Txn}
 
 -- the rows of an operation in each kind
@@ -75,7 +78,7 @@ same-end : (j k : ℕ) (v w : Working) → done j v ≡ done k w → v ≡ w
 same-end j k v w e = cc
 
 -- nothing is kept where nothing is held
-kept-begun : (k : Kind) (rows : List Record) (o : Kept) (ss : List Source) (t : Tree) (n : ℕ) → rows ≡ [] → ((t : Tree) → overlay.Stands o t (open_tree t)) → Keeps k rows o ss t n []
+kept-begun : (k : Kind) (rows : StepRecords) (o : Kept) (ss : List Source) (t : Tree) (n : ℕ) → AreKept rows [] → ((t : Tree) → overlay.Stands o t (open_tree t)) → Keeps k rows o ss t n []
 unfolding stage_after step
 kept-begun kind.N rows o ss t n e h = e
 kept-begun kind.T rows o ss t n e h = λ w d. subst (overlay.Stands o t) (same-end 0 0 (open_tree t) w d) (h t)
@@ -92,14 +95,14 @@ record IsNext (k : Kind) (ss : List Source) (t : Tree) (n : ℕ) (ops : List Op)
   accept : refusal ss (stage_after k ss t n ops).tree op ≡ None
 
 -- one operation more in a step of its own
-records-more : (k : Kind) (rows more : List Record) (ss : List Source) (t : Tree) (n : ℕ) (ops : List Op) (op : Op) → IsNext k ss t n ops op → rows ≡ (stage_after k ss t n ops).records →
-    Appended rows more (with_tid (stage_after k ss t n ops).next (rows_in k ss (stage_after k ss t n ops).tree op)) → more ≡ (stage_after k ss t n (ops ++ op ∷ [])).records
+records-more : (k : Kind) (rows more : StepRecords) (ss : List Source) (t : Tree) (n : ℕ) (ops : List Op) (op : Op) → IsNext k ss t n ops op → AreKept rows (stage_after k ss t n ops).records →
+    AreKeptBehind rows more (with_tid (stage_after k ss t n ops).next (rows_in k ss (stage_after k ss t n ops).tree op)) → AreKept more (stage_after k ss t n (ops ++ op ∷ [])).records
 records-more k rows more ss t n ops op h e a =
     let p = stage_after k ss t n ops in
-    a.is
-    ∙ ap (λ rs. rs ++ with_tid p.next (rows_in k ss p.tree op)) e
-    ∙ sym (pass-records k ss p op (trees-sources ss h.sources) (tree-passed k ss t n ops h.start (trees-sources ss h.sources) h.written h.accepted) h.more h.accept)
-    ∙ ap (λ q. q.records) (sym (passed-snoc k ss t n ops op))
+    subst (AreKept more)
+    (sym (pass-records k ss p op (trees-sources ss h.sources) (tree-passed k ss t n ops h.start (trees-sources ss h.sources) h.written h.accepted) h.more h.accept)
+    ∙ ap (λ q. q.records) (sym (passed-snoc k ss t n ops op)))
+    (a p.records e)
 
 -- one operation more in the open step
 stands-more : (k : Kind) (o later : Kept) (ss : List Source) (t : Tree) (n : ℕ) (ops : List Op) (op : Op) → IsNext k ss t n ops op → ((w : Working) → step t ss ops ≡ done (length ops) w → overlay.Stands o t w) →
@@ -112,7 +115,7 @@ stands-more k o later ss t n ops op h e a v d =
     (a x.0 (working-done ss t ops (length ops) x.0 h.start h.sources h.written x.1) none (e x.0 x.1))
 
 -- one operation more is kept
-kept-more : (k : Kind) (rows more : List Record) (o later : Kept) (ss : List Source) (t : Tree) (n : ℕ) (ops : List Op) (op : Op) → IsNext k ss t n ops op → Keeps k rows o ss t n ops →
+kept-more : (k : Kind) (rows more : StepRecords) (o later : Kept) (ss : List Source) (t : Tree) (n : ℕ) (ops : List Op) (op : Op) → IsNext k ss t n ops op → Keeps k rows o ss t n ops →
     Adds k rows o more later ss t (stage_after k ss t n ops).tree (stage_after k ss t n ops).next op → Keeps k more later ss t n (ops ++ op ∷ [])
 kept-more kind.N rows more o later ss t n ops op h e a = records-more kind.N rows more ss t n ops op h e a
 kept-more kind.T rows more o later ss t n ops op h e a = stands-more kind.T o later ss t n ops op h e a
@@ -127,18 +130,25 @@ packed-step k rs o ss t n ops h s w a e p =
     p x.0 (working-done ss t ops (length ops) x.0 h s w x.1) (e x.0 x.1) x.2 ∙ ap (outcome_records k t n) (sym x.1)
 
 -- what is packed are the records of the steps
-packed-kept : (k : Kind) (rows rs : List Record) (o : Kept) (ss : List Source) (t : Tree) (n : ℕ) (ops : List Op) → IsTree t → AreSources ss → AreWritten ops → AllAccepted ss t ops → Keeps k rows o ss t n ops →
+packed-kept : (k : Kind) (rows : StepRecords) (rs : List Record) (o : Kept) (ss : List Source) (t : Tree) (n : ℕ) (ops : List Op) → IsTree t → AreSources ss → AreWritten ops → AllAccepted ss t ops → Keeps k rows o ss t n ops →
     Packs k rows o t (stage_after k ss t n ops).tree n rs → rs ≡ records_of k ss t n ops
-packed-kept kind.N rows rs o ss t n ops h s w a e p = p ∙ e
+packed-kept kind.N rows rs o ss t n ops h s w a e p = held-kept rows rs _ p e
 packed-kept kind.T rows rs o ss t n ops h s w a e p = packed-step kind.T rs o ss t n ops h s w a e p
-packed-kept kind.H rows rs o ss t n ops h s w a e p = p ∙ e
+packed-kept kind.H rows rs o ss t n ops h s w a e p = held-kept rows rs _ p e
 packed-kept kind.HT rows rs o ss t n ops h s w a e p = packed-step kind.HT rs o ss t n ops h s w a e p
+
+-- where they were given up, the records of the steps take more bytes than an entry may have
+large-kept : (k : Kind) (rows : StepRecords) (o : Kept) (ss : List Source) (t : Tree) (n : ℕ) (ops : List Op) → AreGivenUp k rows → Keeps k rows o ss t n ops → ENTRY_MAX < length (records_bytes (records_of k ss t n ops))
+large-kept kind.N rows o ss t n ops g e = given-up-kept rows _ g e
+large-kept kind.T rows o ss t n ops g e = absurd g
+large-kept kind.H rows o ss t n ops g e = given-up-kept rows _ g e
+large-kept kind.HT rows o ss t n ops g e = absurd g
 
 -- ---- transactions
 
 module _ {R : Type 0} (view : R → Tree) (ss : List Source) where
   -- a transaction that has just begun
-  pub going-begun : (x : Txn R) (k : Kind) (t : Tree) (n : ℕ) → IsTree t → AreSources ss → n ≤ 2 ^ 63 → x.ops ≡ [] → x.first ≡ n → view x.tree ≡ t → x.kind ≡ k → view x.start ≡ t → x.rows ≡ [] → ((t : Tree) → overlay.Stands (seen x.overlay) t (open_tree t)) →
+  pub going-begun : (x : Txn R) (k : Kind) (t : Tree) (n : ℕ) → IsTree t → AreSources ss → n ≤ 2 ^ 63 → x.ops ≡ [] → x.first ≡ n → view x.tree ≡ t → x.kind ≡ k → view x.start ≡ t → AreKept x.rows [] → ((t : Tree) → overlay.Stands (seen x.overlay) t (open_tree t)) →
       x.failure ≡ None → IsGoing view x k ss t n []
   unfolding stage_after
   going-begun x k t n h s u o f e i a r v l = record {
@@ -216,3 +226,7 @@ module _ {R : Type 0} (view : R → Tree) (ss : List Source) where
       (subst (λ a. Packs x.kind x.rows (seen x.overlay) a (stage_after k ss t n ops).tree n rs) h.begun
       (subst (λ u. Packs x.kind x.rows (seen x.overlay) (view x.start) u n rs) h.tree
       (subst (λ m. Packs x.kind x.rows (seen x.overlay) (view x.start) (view x.tree) m rs) number r))))
+
+  -- where its records were given up, they take more bytes than an entry may have
+  pub large-going : (x : Txn R) (k : Kind) (t : Tree) (n : ℕ) (ops : List Op) → IsGoing view x k ss t n ops → AreGivenUp x.kind x.rows → ENTRY_MAX < length (records_bytes (records_of k ss t n ops))
+  large-going x k t n ops h g = large-kept k x.rows (seen x.overlay) ss t n ops (subst (λ d. AreGivenUp d x.rows) h.kind g) h.kept

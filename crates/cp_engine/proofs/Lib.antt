@@ -10,6 +10,7 @@ pub mod OpRows
 mod Finishing
 mod Followed
 pub mod Going
+mod KeptRecords
 pub mod Loading
 mod Replayed
 pub mod Linked

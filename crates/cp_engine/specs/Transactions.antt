@@ -16,9 +16,11 @@ use Rattle.cp_record.specs.Bytes.{commit_length}
 use Rattle.cp_overlay.specs.Kept.{Kept}
 use Rattle.cp_overlay.specs.Kept as overlay
 use Rattle.cp_overlay.specs.Seen.{seen}
-use Rattle.cp_engine.specs.Held.{Appended}
+use Rattle.cp_engine.specs.Held.{AreKept, AreKeptBehind}
 use Rattle.cp_engine.specs.RowsAlone.{op_rows, top_rows}
 use Rattle.cp_engine.specs.Passed.{stage_after, records_of, refusal_behind, AllAccepted}
+use Rattle.cp_engine.specs.declared.kept.StepRecords.{StepRecords}
+use Rattle.cp_engine.specs.declared.kept.StepRecords.TheVariants.{Held, GivenUp}
 use Rattle.cp_engine.specs.declared.txn.Txn.{Txn}
 use Rattle.cp_engine.specs.declared.txn.Step.{Step}
 use Rattle.cp_engine.specs.declared.state.TxnState.{TxnState}
@@ -48,28 +50,42 @@ abbrev pub held_count : Progress → ℕ
 held_count (going ops) = length ops
 held_count (failed n c) = n - 1
 
--- what is kept of the operations that are held: the records of their steps, where each is a step of its own; else the effects of
--- the one step that they are
-abbrev pub Keeps : Kind → List Record → Kept → List Source → Tree → ℕ → List Op → Type 0
-Keeps kind.N rows o ss t n ops = rows ≡ (stage_after kind.N ss t n ops).records
+-- what is kept of the operations that are held: the records of their steps, where each is a step of its own and an entry can hold
+-- them; else the effects of the one step that they are
+abbrev pub Keeps : Kind → StepRecords → Kept → List Source → Tree → ℕ → List Op → Type 0
+Keeps kind.N rows o ss t n ops = AreKept rows (stage_after kind.N ss t n ops).records
 Keeps kind.T rows o ss t n ops = (w : Working) → step t ss ops ≡ done (length ops) w → overlay.Stands o t w
-Keeps kind.H rows o ss t n ops = rows ≡ (stage_after kind.H ss t n ops).records
+Keeps kind.H rows o ss t n ops = AreKept rows (stage_after kind.H ss t n ops).records
 Keeps kind.HT rows o ss t n ops = (w : Working) → step t ss ops ≡ done (length ops) w → overlay.Stands o t w
 
--- what is kept after one operation more, on the tree t of a step that began on the tree a: its records are behind the others,
+-- what is kept after one operation more, on the tree t of a step that began on the tree a: its records are kept behind the others,
 -- or the overlay has followed it
-abbrev pub Adds : Kind → List Record → Kept → List Record → Kept → List Source → Tree → Tree → ℕ → Op → Type 0
-Adds kind.N rows o more later ss a t n op = Appended rows more (with_tid n (op_rows ss t op))
+abbrev pub Adds : Kind → StepRecords → Kept → StepRecords → Kept → List Source → Tree → Tree → ℕ → Op → Type 0
+Adds kind.N rows o more later ss a t n op = AreKeptBehind rows more (with_tid n (op_rows ss t op))
 Adds kind.T rows o more later ss a t n op = overlay.Follows ss a o later op
-Adds kind.H rows o more later ss a t n op = Appended rows more (with_tid n (top_rows op))
+Adds kind.H rows o more later ss a t n op = AreKeptBehind rows more (with_tid n (top_rows op))
 Adds kind.HT rows o more later ss a t n op = overlay.Follows ss a o later op
 
--- the records of a commit, from what is kept: those of the steps, or those of the one step from the tree a to the tree t
-abbrev pub Packs : Kind → List Record → Kept → Tree → Tree → ℕ → List Record → Type 0
-Packs kind.N rows o a t n rs = rs ≡ rows
+-- the records of a commit, from what is kept: those of the steps, all of them, or those of the one step from the tree a to the tree t
+abbrev pub Packs : Kind → StepRecords → Kept → Tree → Tree → ℕ → List Record → Type 0
+Packs kind.N rows o a t n rs = rows ≡ Held rs
 Packs kind.T rows o a t n rs = (w : Working) → overlay.IsWorking w → overlay.Stands o a w → contents w ≡ t → rs ≡ with_tid n (rows_of kind.T a w)
-Packs kind.H rows o a t n rs = rs ≡ rows
+Packs kind.H rows o a t n rs = rows ≡ Held rs
 Packs kind.HT rows o a t n rs = (w : Working) → overlay.IsWorking w → overlay.Stands o a w → contents w ≡ t → rs ≡ with_tid n (rows_of kind.HT a w)
+
+-- the records of the steps were given up
+abbrev pub AreGivenUp : Kind → StepRecords → Type 0
+AreGivenUp kind.N rows = rows ≡ GivenUp
+AreGivenUp kind.T rows = ⊥
+AreGivenUp kind.H rows = rows ≡ GivenUp
+AreGivenUp kind.HT rows = ⊥
+
+-- why there are no records of a commit: they were given up, or there was no memory for them
+abbrev pub PacksNothing : Kind → StepRecords → FinishFault → Type 0
+PacksNothing k rows unfinished.Empty = ⊥
+PacksNothing k rows (unfinished.Failed j c) = ⊥
+PacksNothing k rows unfinished.TooLarge = AreGivenUp k rows
+PacksNothing k rows unfinished.Memory = ⊤
 
 -- the transaction holds these operations of a kind, which lead from the tree t with these sources, the first with the Tid n
 pub record IsGoing {R : Type 0} (view : R → Tree) (x : Txn R) (k : Kind) (ss : List Source) (t : Tree) (n : ℕ) (ops : List Op) : Type 0 where
@@ -124,7 +140,7 @@ abbrev pub Finishes : {R : Type 0} → (R → Tree) → Kind → List Source →
 Finishes view k ss t n (going ops) limit (Ok x) = IsStep view k ss t n ops limit x
 Finishes view k ss t n (going ops) limit (Err unfinished.Empty) = ops ≡ []
 Finishes view k ss t n (going ops) limit (Err (unfinished.Failed j c)) = ⊥
-Finishes view k ss t n (going ops) limit (Err unfinished.TooLarge) = (1 ≤ length ops) × (limit < commit_length ops (records_of k ss t n ops)) × (commit_length ops (records_of k ss t n ops) < 2 ^ 64)
+Finishes view k ss t n (going ops) limit (Err unfinished.TooLarge) = (1 ≤ length ops) × (limit < commit_length ops (records_of k ss t n ops))
 Finishes view k ss t n (going ops) limit (Err unfinished.Memory) = 1 ≤ length ops
 Finishes view k ss t n (failed i c) limit (Ok x) = ⊥
 Finishes view k ss t n (failed i c) limit (Err unfinished.Empty) = ⊥

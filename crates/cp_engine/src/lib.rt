@@ -7,6 +7,7 @@ mod copy;
 mod fault;
 mod follow;
 mod held;
+mod kept;
 mod replaying;
 mod rows;
 mod sources;

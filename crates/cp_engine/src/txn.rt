@@ -1,4 +1,4 @@
-ghost use Rattle.std.specs.Prelude.{◌≡◌, ◌==◌, ◌≤◌, ◌<◌, ◌+◌, ◌^◌, ℕ, List, [], ◌∷◌, ◌++◌, length, if◌then◌else◌, IfOk, OnOk, OnErr};
+ghost use Rattle.std.specs.Prelude.{◌≡◌, ◌==◌, ◌≤◌, ◌<◌, ◌+◌, ◌^◌, ℕ, List, [], ◌∷◌, ◌++◌, length, if◌then◌else◌, IfOk, IfErr, OnOk, OnErr};
 ghost use Rattle.std.specs.declared.option.Option.TheVariants.{None, Some};
 ghost use Rattle.cp_model.specs.Laws.{AreSources};
 ghost use Rattle.cp_model.specs.Tree.{Tree, Source, refusal, tree_after};
@@ -11,24 +11,25 @@ ghost use Rattle.cp_record.specs.Bytes.{commit_length};
 ghost use Rattle.cp_overlay.specs.Seen.{seen};
 ghost use Rattle.cp_engine.specs.Loaded.{sources_in};
 ghost use Rattle.cp_engine.specs.Passed.{stage_after};
-ghost use Rattle.cp_engine.specs.Transactions.{Progress, going, IsFailed, Stands, Applies, Adds, Packs, Finishes, IsGoing, state_of, after_unread, held_count};
+ghost use Rattle.cp_engine.specs.Transactions.{Progress, going, IsFailed, Stands, Applies, Adds, Packs, PacksNothing, Finishes, IsGoing, state_of, after_unread, held_count};
 
-use crate::change::{record_op, record_top};
 use crate::checks::check;
 use crate::copy::copy_op;
 use crate::fault::{ApplyFault, FinishFault};
 use crate::follow::follow_op;
 use crate::held::{FirstTid, HeldOps};
+use crate::kept::{StepRecords, keep_op, keep_top};
 use crate::sources::Sources;
 use crate::state::{Failure, TxnState};
-use cp_model::{Cause, Kind, OPS_MAX, Op, OpList, RecordList, Refusal};
+use cp_model::{Cause, ENTRY_MAX, Kind, OPS_MAX, Op, OpList, RecordList, Refusal};
 use cp_overlay::Overlay;
 use cp_record::PackedRecords;
 use cp_tree::TreeRep;
 use std::alloc::{AllocError, Global};
 
 /// Operations on a working tree of their own. In the kinds n and h each of them is a step with a Tid of its own, whose records
-/// are kept. In the kinds t and ht they are one step, whose effects an overlay keeps.
+/// are kept. Once these take more bytes than an entry may have, no commit can be made of them, and none are kept any more. In
+/// the kinds t and ht the operations are one step, whose effects an overlay keeps.
 #[derive(Drop)]
 pub struct Txn<R: TreeRep> {
     kind: Kind,
@@ -37,8 +38,7 @@ pub struct Txn<R: TreeRep> {
     tree: R,
     first: FirstTid,
     ops: HeldOps,
-    /// Those of the steps that are done.
-    rows: PackedRecords,
+    rows: StepRecords,
     /// That of the open step.
     overlay: Overlay,
     failure: Option<Failure>,
@@ -65,14 +65,15 @@ impl<R: TreeRep> Txn<R> {
             tree: tree.copy(alloc)?,
             first: FirstTid::new(first),
             ops: HeldOps::new(alloc),
-            rows: PackedRecords::new(alloc),
+            rows: StepRecords::new(alloc),
             overlay: Overlay::new(alloc),
             failure: None,
         })
     }
 
     /// Applies the operation with these sources, unless it is refused; a refusal fails the transaction. Costs its check,
-    /// its change of the tree and its records, of which the kind h has at most one.
+    /// its change of the tree and, as long as the records of the transaction take no more bytes than an entry may have, its
+    /// own ones, of which the kind h has at most one.
     pub fn apply<S: TreeRep>(
         &mut self,
         alloc: Global,
@@ -148,8 +149,8 @@ impl<R: TreeRep> Txn<R> {
         ensures err { OnErr result ((R.contents self.new.tree ≡ R.contents self.old.tree) × (self.new.rows ≡ self.old.rows) × (seen self.new.overlay ≡ seen self.old.overlay)) }
     {
         match self.kind {
-            Kind::N => record_op(alloc, &mut self.rows, tid, &mut self.tree, sources, op),
-            Kind::H => record_top(alloc, &mut self.rows, tid, &mut self.tree, sources, op),
+            Kind::N => keep_op(alloc, &mut self.rows, tid, &mut self.tree, sources, op),
+            Kind::H => keep_top(alloc, &mut self.rows, tid, &mut self.tree, sources, op),
             Kind::T | Kind::HT => {
                 follow_op(
                     alloc,
@@ -202,8 +203,10 @@ impl<R: TreeRep> Txn<R> {
     }
 
     /// Ends the transaction with what it makes, whose bytes in a commit are at most `limit`. The transaction is given up
-    /// where it makes nothing. Costs the bytes of its records; in the kinds t and ht also what the overlay's net effect costs.
+    /// where it makes nothing. Costs the bytes of its records, if they are still kept; in the kinds t and ht also what
+    /// the overlay's net effect costs.
     pub fn finish(self, alloc: Global, limit: u64) -> Result<Step<R>, FinishFault>
+        requires within { limit ≤ ENTRY_MAX }
         ensures { (k : KindValue) (ss : List Source) (t : Tree) (n : ℕ) (p : Progress) → Stands R.contents self k ss t n p → Finishes R.contents k ss t n p limit result }
     {
         if let Some(failure) = self.failure {
@@ -246,29 +249,34 @@ impl<R: TreeRep> Txn<R> {
     }
 }
 
-/// The records of a commit, whose first step has the Tid `first`: those that are kept, or those of the overlay's net effect
-/// between the two trees.
+/// The records of a commit, whose first step has the Tid `first`: those of the steps, unless they were given up, or those
+/// of the overlay's net effect between the two trees.
 fn pack<R: TreeRep>(
     alloc: Global,
     kind: Kind,
-    rows: PackedRecords,
+    rows: StepRecords,
     overlay: &Overlay,
     start: &R,
     tree: &R,
     first: u64,
-) -> Result<PackedRecords, AllocError>
-    ensures { IfOk result (λ rs. Packs kind rows (seen overlay.now) (R.contents start.now) (R.contents tree.now) first rs) }
+) -> Result<PackedRecords, FinishFault>
+    ensures ok { IfOk result (λ rs. Packs kind rows (seen overlay.now) (R.contents start.now) (R.contents tree.now) first rs) }
+    ensures err { IfErr result (PacksNothing kind rows) }
 {
     match kind {
-        Kind::N | Kind::H => Ok(rows),
-        Kind::T | Kind::HT => overlay.net(alloc, start, tree, kind, first),
+        Kind::N | Kind::H => {
+            match rows {
+                StepRecords::Held(held) => Ok(held),
+                StepRecords::GivenUp => Err(FinishFault::TooLarge),
+            }
+        }
+        Kind::T | Kind::HT => Ok(overlay.net(alloc, start, tree, kind, first)?),
     }
 }
 
 /// The bytes of the commit. Costs the places of its operations.
 fn commit_length(ops: &HeldOps, rows: &PackedRecords) -> u64
-    ensures length { result ≡ commit_length ops.now rows.now }
-    ensures fits { result < 2 ^ 64 }
+    ensures { result ≡ commit_length ops.now rows.now }
 {
     9 + ops.bytes() + rows.len() as u64
 }

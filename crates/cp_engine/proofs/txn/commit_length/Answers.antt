@@ -2,6 +2,6 @@ use Rattle.std.proofs.Common.{arith}
 use Rattle.cp_record.specs.Bytes.{commit_length}
 use Rattle.cp_engine.proofs.txn.commit_length.Goals as goal
 
-pub returns-clause-length : goal.returns-clause-length
+pub returns : goal.returns
 unfolding commit_length
-returns-clause-length c = omega (arith, c.len.ensures.bytes, c.bytes.ensures.sum)
+returns c = omega (arith, c.len.ensures.bytes, c.bytes.ensures.sum)
