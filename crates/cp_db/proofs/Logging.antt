@@ -1,23 +1,31 @@
--- The log of a history, and what is kept where one entry more is replayed and its records are forgotten.
-use Rattle.std.specs.Prelude.{ℕ, ◌≡◌, ◌+◌, ◌++◌, false, List, [], ◌∷◌, map, fold, is_some, refl}
+-- The log of a history, and what a walk keeps that replays one entry more.
+use Rattle.std.specs.Prelude.{ℕ, ◌≡◌, ◌≤◌, ◌+◌, ◌++◌, Bool, true, false, List, [], ◌∷◌, fold, refl}
 use Rattle.std.proofs.Common.{sym, ap, subst, ◌∙◌, append-nil}
 use Rattle.std.specs.List.{flat_map}
-use Rattle.std.specs.declared.option.Option.{Option}
 use Rattle.std.specs.declared.option.Option.TheVariants.{None, Some}
 use Rattle.std.proofs.lemmas.List.Concat.{flat_map-append}
 use Rattle.cp_model.specs.declared.answer.LogLine.{LogLine}
 use Rattle.cp_model.specs.declared.kind.Kind.{Kind}
+use Rattle.cp_model.specs.declared.literal.Literal.{Literal}
+use Rattle.cp_model.specs.declared.op.Op.{Op}
+use Rattle.cp_model.specs.declared.record.Record.{Record}
+use Rattle.cp_model.specs.declared.stamp.Stamp.{Stamp}
 use Rattle.cp_model.specs.Tree.{Tree}
 use Rattle.cp_model.specs.History.{Entry as History, State, start as begun, load as loaded, commit as made, start_state, after_commit, after_load, replay, then_entry, IsLegal, IsLegalFrom, log_of, log_after, log_line}
 use Rattle.cp_engine.specs.Loaded.{sources_in}
 use Rattle.cp_engine.proofs.Committed.{committed, commit-accepted}
-use Rattle.cp_frame.specs.Entries.{WrittenEntry, start, load, commit, stamped}
-use Rattle.cp_file.specs.Items.{Item, an_entry, a_checkpoint, AllStand, CanStand, after_item, entry_meant, entries_in, records_in}
-use Rattle.cp_file.proofs.Standing.{replayed-items, stand-append, stand-split}
-use Rattle.cp_db.specs.Committed.{HasForgotten, HasReplayed, HasTaken}
-use Rattle.cp_db.specs.Log.{HasLogged, lines_in}
+use Rattle.cp_frame.specs.Entries.{WrittenEntry, IsEntry, start, load, commit, stamped}
+use Rattle.cp_frame.specs.Sound.{IsSoundBatch, IsSoundSource}
+use Rattle.cp_frame.specs.declared.entry.Entry.TheVariants as entry
+use Rattle.cp_file.specs.Items.{Item, an_entry, a_checkpoint, CanStand, entry_meant, entries_in}
+use Rattle.cp_db.specs.Committed.{HasTaken, HoldsBatch, IsReplayed, LoadsSource, ReplaysCommit}
+use Rattle.cp_db.specs.Log.{CanLog, HasLogged, committed_of}
 use Rattle.cp_db.specs.declared.committed.Committed.{Committed}
+use Rattle.cp_db.specs.declared.limits.TheConstants.{TIDS_MAX}
 use Rattle.cp_db.specs.declared.log.LogWalk.{LogWalk}
+use Rattle.cp_db.proofs.OpeningItems.{checkpoint_taken}
+use Rattle.cp_db.proofs.Taking.{refused-source, taken-source}
+use Rattle.cp_db.proofs.TakingCommits.{refused-commit, taken-commit}
 
 -- ---- the log of one entry more
 
@@ -40,166 +48,79 @@ log-snoc (begun k t ∷ es) s e legal is = log_more (start_state k t) s es e leg
 log-snoc (loaded n t ∷ es) s e legal is = absurd legal.0
 log-snoc (made r os ∷ es) s e legal is = absurd legal.0
 
--- a line that there is comes after the others
-pub one-line : (before after : List LogLine) (o : Option LogLine) (l : LogLine) → after ≡ before ++ l ∷ [] → o ≡ Some l → after ≡ before ++ lines_in o
-one-line before after o l pushed is = pushed ∙ ap (λ (p : Option LogLine). before ++ lines_in p) (sym is)
-
--- and where there is none they are the same
-pub no-line : (before : List LogLine) (o : Option LogLine) → ((l : LogLine) → o ≡ Some l → ⊥) → before ≡ before ++ lines_in o
-no-line before None none = sym (append-nil before)
-no-line before (Some l) none = absurd (none l refl)
-
--- ---- items without their records
-
--- the entry without its records
-abbrev bare_entry : WrittenEntry → WrittenEntry
-bare_entry (start k t) = start k t
-bare_entry (load n t) = load n t
-bare_entry (commit b) = commit (record b { records = [] })
-bare_entry (stamped s b) = stamped s (record b { records = [] })
-
--- the item without its records
-abbrev pub bare : Item → Item
-bare (an_entry w) = an_entry (bare_entry w)
-bare (a_checkpoint body) = a_checkpoint body
-
-same_meant : (w : WrittenEntry) → entry_meant (bare_entry w) ≡ entry_meant w
-same_meant (start k t) = refl
-same_meant (load n t) = refl
-same_meant (commit b) = refl
-same_meant (stamped s b) = refl
-
-same_entries : (i : Item) → entries_in (bare i) ≡ entries_in i
-same_entries (an_entry w) = ap (λ (e : History). e ∷ []) (same_meant w)
-same_entries (a_checkpoint body) = refl
-
-same_history : (items : List Item) → flat_map entries_in (map bare items) ≡ flat_map entries_in items
-same_history [] = refl
-same_history (i ∷ is) = λ k. same_entries i k ++ same_history is k
-
-none_in : (i : Item) → records_in (bare i) ≡ []
-none_in (an_entry (start k t)) = refl
-none_in (an_entry (load n t)) = refl
-none_in (an_entry (commit b)) = refl
-none_in (an_entry (stamped s b)) = refl
-none_in (a_checkpoint body) = refl
-
-no_records : (items : List Item) → flat_map records_in (map bare items) ≡ []
-no_records [] = refl
-no_records (i ∷ is) = λ k. none_in i k ++ no_records is k
-
-same_after : (o : Option State) (i : Item) → after_item o (bare i) ≡ after_item o i
-same_after o (an_entry w) = ap (then_entry o) (same_meant w)
-same_after o (a_checkpoint body) = refl
-
-bare_can : (o : Option State) (i : Item) → CanStand false o i → CanStand false o (bare i)
-bare_can o (a_checkpoint body) can = can
-bare_can None (an_entry (start k t)) can = can
-bare_can None (an_entry (load n t)) can = absurd can.0
-bare_can None (an_entry (commit b)) can = absurd can.0
-bare_can None (an_entry (stamped r b)) can = absurd can.0
-bare_can (Some s) (an_entry (start k t)) can = absurd can.0
-bare_can (Some s) (an_entry (load n t)) can = can
-bare_can (Some s) (an_entry (commit b)) can = (can.0, record { tids = tt; all = λ f. cc })
-bare_can (Some s) (an_entry (stamped r b)) can = (can.0, record { tids = tt; all = λ f. cc })
-
-bare_stand : (o : Option State) (items : List Item) → AllStand false o items → AllStand false o (map bare items)
-bare_stand o [] all = tt
-bare_stand o (i ∷ is) all = (bare_can o i all.0, subst (λ (p : Option State). AllStand false p (map bare is)) (sym (same_after o i)) (bare_stand (after_item o i) is all.1))
-
--- they lead where the items lead
-same_reached : (items : List Item) → fold after_item None (map bare items) ≡ fold after_item None items
-same_reached items = sym (replayed-items (map bare items)) ∙ ap replay (same_history items) ∙ replayed-items items
-
-stand_after : (items : List Item) (j : Item) → AllStand false None (map bare items ++ j ∷ []) → AllStand false None items → AllStand false None (items ++ j ∷ [])
-stand_after items j all before =
-    let last = (stand-split false None (map bare items) (j ∷ []) all).1 in
-    stand-append false None items (j ∷ []) before (subst (λ (o : Option State). AllStand false o (j ∷ [])) (same_reached items) last)
-
-same_more : (items : List Item) (j : Item) → flat_map entries_in (map bare items ++ j ∷ []) ≡ flat_map entries_in (items ++ j ∷ [])
-same_more items j =
-    flat_map-append entries_in (map bare items) (j ∷ [])
-    ∙ ap (λ (h : List History). h ++ flat_map entries_in (j ∷ [])) (same_history items)
-    ∙ sym (flat_map-append entries_in items (j ∷ []))
-
--- ---- what is kept
-
 module _ {R S : Type 0} (view : R → Tree) (source_view : S → Tree) where
-  -- what was replayed is so without the records
-  forgotten : (c m : Committed R S) (h : List History) → HasForgotten c m → HasReplayed view source_view false c h → HasReplayed view source_view false m h
-  forgotten c m h f z = record {
-    state = z.state;
-    replayed = z.replayed;
-    legal = z.legal;
-    kind = f.kind ∙ z.kind;
-    sources = ap (sources_in source_view) f.sources ∙ z.sources;
-    bounded = z.bounded;
-    tree = ap view f.tree ∙ z.tree;
-    rows = λ r. absurd (cc r);
-    upto = f.upto ∙ z.upto;
-    commits = f.commits ∙ z.commits;
-    tids = z.tids;
-    few = z.few;
-  }
-
-  module _ (w : LogWalk R S) (items : List Item) (g : HasLogged view source_view w items) where
-    -- a walk has taken the items without their records
-    pub logged-taken : HasTaken view source_view w.committed (map bare items)
-    logged-taken = record {
-      stand = bare_stand None items g.stand;
-      replayed = subst (HasReplayed view source_view false w.committed) (sym (same_history items)) g.replayed;
-      kept = g.none ∙ sym (no_records items);
-    }
-
-    -- what may follow these may follow the items
-    pub refused-same : (x : WrittenEntry) → (CanStand false (replay (flat_map entries_in (map bare items))) (an_entry x) → ⊥) → CanStand false (replay (flat_map entries_in items)) (an_entry x) → ⊥
-    refused-same x refused can = refused (subst (λ (h : List History). CanStand false (replay h) (an_entry x)) (sym (same_history items)) can)
-
-    -- an entry that was taken, of which the records are forgotten and the line kept
-    pub logged-more : (n : LogWalk R S) (m : Committed R S) (x : WrittenEntry) (line : Option LogLine) → HasTaken view source_view m (map bare items ++ an_entry x ∷ []) → HasForgotten m n.committed
-        → lines_in line ≡ log_after w.committed.store.kind w.committed.store.rows.upto (entry_meant x ∷ []) → n.lines ≡ w.lines ++ lines_in line → HasLogged view source_view n (items ++ an_entry x ∷ [])
-    logged-more n m x line t f is kept = record {
-      stand = stand_after items (an_entry x) t.stand g.stand;
-      replayed = forgotten m n.committed _ f (subst (HasReplayed view source_view false m) (same_more items (an_entry x)) t.replayed);
-      none = f.none;
-      lines =
-          kept
-          ∙ (λ k. g.lines k ++ (is ∙ (λ j. log_after (g.replayed.kind j) (g.replayed.upto j) (entry_meant x ∷ []))) k)
-          ∙ sym (log-snoc (flat_map entries_in items) g.replayed.state (entry_meant x) g.replayed.legal g.replayed.replayed)
-          ∙ ap log_of (sym (flat_map-append entries_in items (an_entry x ∷ [])));
-    }
-
-    -- a checkpoint adds nothing
-    pub checkpoint-logged : (body : List ℕ) → HasLogged view source_view w (items ++ a_checkpoint body ∷ [])
-    checkpoint-logged body = record {
-      stand = stand-append false None items (a_checkpoint body ∷ []) g.stand (ap is_some (sym (replayed-items items) ∙ g.replayed.replayed), tt);
-      replayed = subst (HasReplayed view source_view false w.committed) (sym same) g.replayed;
-      none = g.none;
-      lines = g.lines ∙ ap log_of (sym same);
-    }
-      where
-        same : flat_map entries_in (items ++ a_checkpoint body ∷ []) ≡ flat_map entries_in items
-        same = flat_map-append entries_in items (a_checkpoint body ∷ []) ∙ append-nil (flat_map entries_in items)
+  -- ---- the start
 
   -- a walk that begins has the start alone
-  pub logged-first : (c : Committed R S) (w : LogWalk R S) (i : Item) → HasTaken view source_view c (i ∷ []) → w.committed ≡ c → w.lines ≡ [] → HasLogged view source_view w (i ∷ [])
+  pub logged-first : (c : Committed R S) (w : LogWalk R S) (i : Item) → HasTaken view source_view c (i ∷ []) → committed_of w c.commits c.store.rows.list ≡ c → w.lines ≡ [] → HasLogged view source_view w (i ∷ [])
   logged-first c w i t same lines = record {
-    stand = t.stand;
-    replayed = subst (λ (x : Committed R S). HasReplayed view source_view false x (flat_map entries_in (i ∷ []))) (sym same) t.replayed;
-    none = ap (λ (x : Committed R S). x.store.rows.list) same ∙ t.kept ∙ no_record i t.stand.0;
+    commits = c.commits;
+    records = c.store.rows.list;
+    taken = subst (λ (x : Committed R S). HasTaken view source_view x (i ∷ [])) (sym same) t;
     lines = lines ∙ sym (no_line i t.stand.0);
   }
     where
-      no_record : (j : Item) → CanStand false None j → flat_map records_in (j ∷ []) ≡ []
-      no_record (an_entry (start k u)) can = refl
-      no_record (an_entry (load n u)) can = absurd can.0
-      no_record (an_entry (commit b)) can = absurd can.0
-      no_record (an_entry (stamped r b)) can = absurd can.0
-      no_record (a_checkpoint body) can = refl
-
       no_line : (j : Item) → CanStand false None j → log_of (flat_map entries_in (j ∷ [])) ≡ []
       no_line (an_entry (start k u)) can = refl
       no_line (an_entry (load n u)) can = absurd can.0
       no_line (an_entry (commit b)) can = absurd can.0
       no_line (an_entry (stamped r b)) can = absurd can.0
       no_line (a_checkpoint body) can = refl
+
+  module _ (w : LogWalk R S) (items : List Item) (g : HasLogged view source_view w items) where
+    -- ---- an item more
+
+    -- a checkpoint adds nothing
+    pub checkpoint-logged : (body : List ℕ) → HasLogged view source_view w (items ++ a_checkpoint body ∷ [])
+    checkpoint-logged body = record {
+      commits = g.commits;
+      records = g.records;
+      taken = checkpoint_taken view source_view (committed_of w g.commits g.records) items g.taken body;
+      lines = g.lines ∙ ap log_of (sym (flat_map-append entries_in items (a_checkpoint body ∷ []) ∙ append-nil (flat_map entries_in items)));
+    }
+
+    module _ (n : LogWalk R S) (x : WrittenEntry) where
+      -- an entry adds its line
+      lines_more : n.lines ≡ w.lines ++ log_after w.kind w.last (entry_meant x ∷ []) → n.lines ≡ log_of (flat_map entries_in (items ++ an_entry x ∷ []))
+      lines_more kept =
+          let z = g.taken.replayed in
+          kept
+          ∙ (λ k. g.lines k ++ log_after (z.kind k) (z.upto k) (entry_meant x ∷ []))
+          ∙ sym (log-snoc (flat_map entries_in items) z.state (entry_meant x) z.legal z.replayed)
+          ∙ ap log_of (sym (flat_map-append entries_in items (an_entry x ∷ [])))
+
+      -- a source that was loaded is in the history of the log, or may not follow
+      pub logs-source : (name : List ℕ) (l : Literal) (b : Bool) → IsEntry (entry.Load name l) x → IsSoundSource name l → LoadsSource (sources_in source_view w.sources) (sources_in source_view n.sources) name l b
+          → n.tree ≡ w.tree → n.kind ≡ w.kind → n.last ≡ w.last → n.lines ≡ w.lines → CanLog view source_view items x n b
+      logs-source name l true is sound loads tree kind last lines = record {
+        commits = g.commits;
+        records = g.records;
+        taken = taken-source view source_view (committed_of w g.commits g.records) (committed_of n g.commits g.records) items g.taken name l x is sound loads tree (λ j. record { kind = kind j; rows = record { list = g.records; upto = last j } }) refl;
+        lines = lines_more (lines ∙ sym (ap (λ ls. w.lines ++ ls) (none x is) ∙ append-nil w.lines));
+      }
+        where
+          none : (y : WrittenEntry) → IsEntry (entry.Load name l) y → log_after w.kind w.last (entry_meant y ∷ []) ≡ []
+          none (start k u) is = absurd is
+          none (load m u) is = refl
+          none (commit b) is = absurd is
+          none (stamped r b) is = absurd is
+      logs-source name l false is sound loads tree kind last lines = refused-source view source_view (committed_of w g.commits g.records) (committed_of n g.commits g.records) items g.taken name l x (sources_in source_view n.sources) is loads
+
+      module _ (os : List Op) (rs : List Record) (holds : HoldsBatch x os rs) where
+        -- a commit may not follow where it may not be replayed
+        pub refused-same : (u : Tree) → ReplaysCommit (sources_in source_view w.sources) (view w.tree) u w.kind w.last os rs None → CanLog view source_view items x n false
+        refused-same u none = refused-commit view source_view (committed_of w g.commits g.records) items g.taken x os rs holds none
+
+        -- and is in the log where it has been, without its records
+        pub logged-commit : (u : R) (trees : Bool) (tids : ℕ) (stamp : Stamp) (line : LogLine) → IsSoundBatch trees os rs → IsReplayed (sources_in source_view w.sources) (view w.tree) (view u) w.kind w.last os rs tids → entry_meant x ≡ made stamp os
+            → n.tree ≡ u → n.sources ≡ w.sources → n.kind ≡ w.kind → n.last ≡ w.last + tids → n.last ≤ TIDS_MAX → line ≡ log_line w.kind w.last stamp os → n.lines ≡ w.lines ++ line ∷ [] → HasLogged view source_view n (items ++ an_entry x ∷ [])
+        logged-commit u trees tids stamp line sound is means tree sources kind last few same lines =
+            let old = committed_of w g.commits g.records in
+            let new = committed_of n (g.commits + 1) (g.records ++ rs) in
+            record {
+              commits = g.commits + 1;
+              records = g.records ++ rs;
+              taken = taken-commit view source_view old items g.taken x os rs holds new u trees sound tids is
+                  (record { tree = tree; sources = sources; kind = kind; rows = refl; upto = last; commits = refl; few = few });
+              lines = lines_more (lines ∙ ap (λ (l : LogLine). w.lines ++ l ∷ []) same ∙ ap (λ (e : History). w.lines ++ log_after w.kind w.last (e ∷ [])) (sym means));
+            }

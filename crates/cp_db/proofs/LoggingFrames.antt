@@ -18,7 +18,7 @@ use Rattle.cp_file.specs.Items.{Item, an_entry, AreHeld, IsOfVersion, entries_in
 use Rattle.cp_file.specs.Stands.{IsStore}
 use Rattle.cp_file.proofs.Images.{one_history, parts-store}
 use Rattle.cp_file.proofs.Standing.{held-append, stops-here}
-use Rattle.cp_db.specs.Log.{CanLog, HasLogged, LogsAs, LogsFrameAs, TellsLogAs}
+use Rattle.cp_db.specs.Log.{CanLog, HasLogged, LogsAs, LogsFrameAs, TellsLogAs, committed_of}
 use Rattle.cp_db.specs.Opening.{StartsAs, open_slot}
 use Rattle.cp_db.specs.declared.committed.Committed.{Committed}
 use Rattle.cp_db.specs.declared.log.LogWalk.{LogWalk}
@@ -40,7 +40,7 @@ module _ {R S : Type 0} (view : R → Tree) (source_view : S → Tree) where
     pub logged : HasLogged view source_view w items
 
   -- the first frame, which holds the start
-  pub come_first : (v : ℕ) (fs : List Frame) (c : Committed R S) (w : LogWalk R S) → StartsAs view source_view v fs (Ok c) → w.committed ≡ c → w.lines ≡ [] → HasCome v fs 1 w
+  pub come_first : (v : ℕ) (fs : List Frame) (c : Committed R S) (w : LogWalk R S) → StartsAs view source_view v fs (Ok c) → committed_of w c.commits c.store.rows.list ≡ c → w.lines ≡ [] → HasCome v fs 1 w
   come_first v fs c w (f, rest, i, are, held, taken) same lines = record {
     items = i ∷ [];
     held = subst (λ (l : List Frame). AreHeld v (take 1 l) (i ∷ [])) (sym are) (held, tt);
@@ -89,6 +89,6 @@ module _ {R S : Type 0} (view : R → Tree) (source_view : S → Tree) where
           header = has;
           says = sym said ∙ closed_is hd closed;
           clean = clean_of (frames_of (drop HEADER_SIZE c)).clean _ j.broken walked.broken whole;
-          tell = record { items = items; held = held; stand = logged.stand; are = refl };
+          tell = record { items = items; held = held; stand = logged.taken.stand; are = refl };
           some = some;
         })

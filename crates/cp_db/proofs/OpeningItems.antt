@@ -22,7 +22,7 @@ use Rattle.cp_frame.specs.declared.entry.Entry.TheVariants as entry
 use Rattle.cp_file.specs.Items.{Item, an_entry, a_checkpoint, IsHeld, IsOfVersion, AreHeld, CanStand, AllStand, Tell, after_item, entries_in, records_in}
 use Rattle.cp_file.proofs.Standing.{held-append, replayed-items, stand-append, stops-here}
 use Rattle.cp_db.specs.Committed.{HasReplayed, HasTaken, CanTake}
-use Rattle.cp_db.specs.Opening.{ReplaysAs, SpellsAs, StartsAs, TellsAs}
+use Rattle.cp_db.specs.Opening.{RefusesAs, ReplaysAs, SpellsAs, StartsAs, TellsAs}
 use Rattle.cp_db.specs.declared.committed.Committed.{Committed}
 use Rattle.cp_db.specs.declared.fault.OpenFault.{OpenFault}
 use Rattle.cp_db.specs.declared.fault.OpenFault.TheVariants.{NoStore, Disk, Memory}
@@ -77,6 +77,26 @@ other_entry_first v f rest h e w tag reads is other =
 -- what holds of an error holds where a `?` passes it on
 pub passed : {T E : Type 0} (P : Result T E → Type 0) (r : Result T E) (e : E) → (y : E) × (r ≡ Err y) × (y ≡ e) → P (Err e) → P r
 passed P r e p h = subst P (sym p.1) (subst (λ y. P (Err y)) (sym p.2) h)
+
+-- ---- a frame that holds nothing that may follow
+
+module _ (v : ℕ) (f : Frame) (items : List Item) (tag : f.tag ≡ ENTRY) where
+  -- where the frame spells no entry, nothing may follow
+  pub unspelled_here : (e : OpenFault) → SpellsAs f (Err e) → RefusesAs v f items e
+  unspelled_here (NoStore at) none = λ i held can. holds_none v f i tag none held
+  unspelled_here Disk none = tt
+  unspelled_here Memory none = tt
+
+  module _ (w : WrittenEntry) (reads : Reads entry_format f.body w []) (at : ℕ) where
+    -- nor where it is of another version
+    pub other_version_here : (IsOfVersion v w → ⊥) → RefusesAs v f items (NoStore at)
+    other_version_here other = λ i held can. other (holds_entry v f w i tag reads held).1
+
+    -- nor where it may not follow
+    pub refused_here : (CanStand false (replay (flat_map entries_in items)) (an_entry w) → ⊥) → RefusesAs v f items (NoStore at)
+    refused_here refused = λ i held can. refused (subst (CanStand false (replay (flat_map entries_in items))) (holds_entry v f w i tag reads held).0 can)
+
+-- ---- what has been taken
 
 -- a start may stand in a file of any version
 start_allowed : (v : ℕ) (k : Kind) (l : Literal) (w : WrittenEntry) → IsEntry (entry.Start k l) w → IsOfVersion v w
@@ -133,25 +153,9 @@ module _ {R S : Type 0} (view : R → Tree) (source_view : S → Tree) where
       kept = t.kept ∙ sym (no_record_more body);
     }
 
-  module _ (v : ℕ) (f : Frame) (items : List Item) (tag : f.tag ≡ ENTRY) where
-    -- where the frame spells no entry, nothing may follow
-    pub unspelled_here : (new : Committed R S) (e : OpenFault) → SpellsAs f (Err e) → ReplaysAs view source_view v f items new (Err e)
-    unspelled_here new (NoStore at) none = λ i held can. holds_none v f i tag none held
-    unspelled_here new Disk none = tt
-    unspelled_here new Memory none = tt
-
-    module _ (w : WrittenEntry) (reads : Reads entry_format f.body w []) where
-      -- nor where it is of another version
-      pub other_version_here : (new : Committed R S) (n : ℕ) → (IsOfVersion v w → ⊥) → ReplaysAs view source_view v f items new (Err (NoStore n))
-      other_version_here new n other = λ i held can. other (holds_entry v f w i tag reads held).1
-
-      -- nor where it may not follow
-      pub refused_here : (new : Committed R S) (n : ℕ) → CanTake view source_view items w new false → ReplaysAs view source_view v f items new (Err (NoStore n))
-      refused_here new n refused = λ i held can. refused (subst (CanStand false (replay (flat_map entries_in items))) (holds_entry v f w i tag reads held).0 can)
-
-      -- else it has been taken
-      pub taken_here : (new : Committed R S) → IsOfVersion v w → CanTake view source_view items w new true → ReplaysAs view source_view v f items new (Ok tt)
-      taken_here new allowed taken = (an_entry w, record { tag = tag; body = reads; allowed = allowed }, taken)
+  -- an entry that may follow has been taken
+  pub taken_here : (v : ℕ) (f : Frame) (items : List Item) (w : WrittenEntry) (new : Committed R S) → f.tag ≡ ENTRY → Reads entry_format f.body w [] → IsOfVersion v w → CanTake view source_view items w new true → ReplaysAs view source_view v f items new (Ok tt)
+  taken_here v f items w new tag reads allowed taken = (an_entry w, record { tag = tag; body = reads; allowed = allowed }, taken)
 
   -- ---- all frames
 

@@ -1,5 +1,5 @@
 -- What a database keeps in memory where one entry more is replayed.
-use Rattle.std.specs.Prelude.{ℕ, ◌≡◌, ◌≤◌, ◌<◌, ◌+◌, ◌++◌, Bool, true, false, List, [], ◌∷◌, length, is_some, refl}
+use Rattle.std.specs.Prelude.{ℕ, ◌≡◌, ◌≤◌, ◌+◌, ◌++◌, Bool, true, false, List, [], ◌∷◌, length, is_some, refl}
 use Rattle.std.proofs.Common.{sym, ap, subst, ◌∙◌, arith, length-append, append-nil}
 use Rattle.std.specs.List.{flat_map}
 use Rattle.std.specs.declared.option.Option.{Option}
@@ -30,7 +30,7 @@ use Rattle.cp_frame.specs.declared.entry.Entry.TheVariants as entry
 use Rattle.cp_engine.specs.Loaded.{sources_in}
 use Rattle.cp_file.specs.Items.{Item, an_entry, CanStand, entry_meant, entries_in, records_in, records_with}
 use Rattle.cp_file.proofs.Standing.{replayed-items, stand-append}
-use Rattle.cp_db.specs.Committed.{HasReplayed, HasTaken}
+use Rattle.cp_db.specs.Committed.{CanTake, HasReplayed, HasTaken, IsLoaded, LoadsSource}
 use Rattle.cp_db.specs.declared.committed.Committed.{Committed}
 
 -- nothing is found where what is looked up gives nothing
@@ -71,12 +71,6 @@ module _ {R S : Type 0} (view : R → Tree) (source_view : S → Tree) where
     nodes = (nodes ∙ ap len z.tree ∙ len-mapped (λ _ (x : Aged). x.content) z.state.tree) i;
     sources = (sources ∙ ap length z.sources) i;
   }
-
-  -- there are few sources where there aren't as many as there may be
-  pub few-sources : (c : Committed R S) (items : List Item) → HasTaken view source_view c items → (length (sources_in source_view c.sources) ≡ SOURCES_MAX → ⊥) → length (sources_in source_view c.sources) < SOURCES_MAX
-  few-sources c items old other =
-      let bound = subst (λ (ss : List Source). length ss ≤ SOURCES_MAX) (sym old.replayed.sources) old.replayed.bounded in
-      omega (arith, bound, other)
 
   module _ (c m : Committed R S) where
     -- ---- one entry more
@@ -120,24 +114,44 @@ module _ {R S : Type 0} (view : R → Tree) (source_view : S → Tree) where
       s = old.replayed.state
 
       -- a sound source may be loaded where its name is no other's and there are few
-      can_load : IsSoundSource n l → text_eq n target ≡ false → is_some (source (sources_in source_view c.sources) n) ≡ false → length (sources_in source_view c.sources) < SOURCES_MAX → CanLoad s n (from_entries (literal_rows l))
-      can_load sound other fresh few = record {
-        loadable = record { name = sound.name; other = other; tree = sound.tree; places = sound.places };
-        fresh = ap (λ (ss : List Source). is_some (source ss n)) (sym old.replayed.sources) ∙ fresh;
-        few = subst (λ k. k + 1 ≤ SOURCES_MAX) (ap length old.replayed.sources) (omega (arith, few));
-      }
+      can_load : (more : List Source) → IsSoundSource n l → IsLoaded (sources_in source_view c.sources) more n l → CanLoad s n (from_entries (literal_rows l))
+      can_load more sound is =
+          let few = is.few in
+          record {
+            loadable = record { name = sound.name; other = is.other; tree = sound.tree; places = sound.places };
+            fresh = ap (λ (ss : List Source). is_some (source ss n)) (sym old.replayed.sources) ∙ is.fresh;
+            few = subst (λ k. k + 1 ≤ SOURCES_MAX) (ap length old.replayed.sources) (omega (arith, few));
+          }
 
       -- it has been taken
-      pub taken-source : (w : WrittenEntry) (u : Tree) → IsEntry (entry.Load n l) w → IsSoundSource n l → text_eq n target ≡ false → is_some (source (sources_in source_view c.sources) n) ≡ false → length (sources_in source_view c.sources) < SOURCES_MAX
-          → u ≡ from_entries (literal_rows l) → m.tree ≡ c.tree → m.store ≡ c.store → m.commits ≡ c.commits → sources_in source_view m.sources ≡ sources_in source_view c.sources ++ record { name = n; tree = u } ∷ [] → HasTaken view source_view m (items ++ an_entry w ∷ [])
-      taken-source (written.start k t) u is sound other fresh few same tree store counted added = absurd is
-      taken-source (written.load i t) u is sound other fresh few same tree store counted added =
-          let can = can_load sound other fresh few in
-          let loaded : sources_in source_view m.sources ≡ sources_in source_view c.sources ++ record { name = n; tree = from_entries (literal_rows l) } ∷ [] = added ∙ ap (λ v. sources_in source_view c.sources ++ record { name = n; tree = v } ∷ []) same in
+      pub taken-source : (w : WrittenEntry) → IsEntry (entry.Load n l) w → IsSoundSource n l → IsLoaded (sources_in source_view c.sources) (sources_in source_view m.sources) n l
+          → m.tree ≡ c.tree → m.store ≡ c.store → m.commits ≡ c.commits → HasTaken view source_view m (items ++ an_entry w ∷ [])
+      taken-source (written.start k t) is sound loaded tree store counted = absurd is
+      taken-source (written.load i t) is sound loaded tree store counted =
+          let can = can_load (sources_in source_view m.sources) sound loaded in
           let means : load i (from_entries (rows_of t)) ≡ load n (from_entries (literal_rows l)) = λ j. load (is.0 j) (from_entries (is.1 j)) in
           taken-more items (written.load i t) old
           (subst (CanFollow (Some s)) (sym means) can, tt)
-          (subst (λ e. HasReplayed view source_view false m (flat_map entries_in items ++ e ∷ [])) (sym means) (replayed-loaded false (flat_map entries_in items) n (from_entries (literal_rows l)) old.replayed can tree store counted loaded))
+          (subst (λ e. HasReplayed view source_view false m (flat_map entries_in items ++ e ∷ [])) (sym means) (replayed-loaded false (flat_map entries_in items) n (from_entries (literal_rows l)) old.replayed can tree store counted loaded.added))
           (ap (λ s. s.rows.list) store ∙ sym (append-nil c.store.rows.list))
-      taken-source (written.commit b) u is sound other fresh few same tree store counted added = absurd is
-      taken-source (written.stamped r b) u is sound other fresh few same tree store counted added = absurd is
+      taken-source (written.commit b) is sound loaded tree store counted = absurd is
+      taken-source (written.stamped r b) is sound loaded tree store counted = absurd is
+
+      -- one that may not be loaded may not follow
+      pub refused-source : (w : WrittenEntry) (more : List Source) → IsEntry (entry.Load n l) w → LoadsSource (sources_in source_view c.sources) more n l false → CanStand false (replay (flat_map entries_in items)) (an_entry w) → ⊥
+      refused-source (written.start k t) more is none can = absurd is
+      refused-source (written.load i t) more is none can =
+          let may : CanLoad s i (from_entries (rows_of t)) = subst (λ (o : Option State). CanFollow o (load i (from_entries (rows_of t)))) old.replayed.replayed can.0 in
+          let few = subst (λ k. k + 1 ≤ SOURCES_MAX) (sym (ap length old.replayed.sources)) may.few in
+          none
+          (subst (λ (j : List ℕ). text_eq j target ≡ false) is.0 may.loadable.other)
+          (subst (λ (j : List ℕ). is_some (source (sources_in source_view c.sources) j) ≡ false) is.0 (ap (λ (ss : List Source). is_some (source ss i)) old.replayed.sources ∙ may.fresh))
+          (omega (arith, few))
+      refused-source (written.commit b) more is none can = absurd is
+      refused-source (written.stamped r b) more is none can = absurd is
+
+      -- a source that was loaded has been taken, or may not follow
+      pub takes-source : (w : WrittenEntry) (b : Bool) → IsEntry (entry.Load n l) w → IsSoundSource n l → LoadsSource (sources_in source_view c.sources) (sources_in source_view m.sources) n l b
+          → m.tree ≡ c.tree → m.store ≡ c.store → m.commits ≡ c.commits → CanTake view source_view items w m b
+      takes-source w true is sound loaded tree store counted = taken-source w is sound loaded tree store counted
+      takes-source w false is sound none tree store counted = refused-source w (sources_in source_view m.sources) is none

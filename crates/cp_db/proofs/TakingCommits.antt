@@ -1,5 +1,5 @@
 -- A commit that is replayed after others, or that may not follow them.
-use Rattle.std.specs.Prelude.{ℕ, ◌≡◌, ◌≤◌, ◌+◌, ◌++◌, Bool, false, IsTrue, List, [], ◌∷◌, length}
+use Rattle.std.specs.Prelude.{ℕ, ◌≡◌, ◌≤◌, ◌+◌, ◌++◌, Bool, false, IsTrue, List, [], ◌∷◌, length, refl}
 use Rattle.std.proofs.Common.{sym, ap, subst, ◌∙◌, arith}
 use Rattle.std.specs.List.{flat_map}
 use Rattle.std.specs.declared.option.Option.{Option}
@@ -11,7 +11,7 @@ use Rattle.cp_model.specs.declared.record.Record.{Record}
 use Rattle.cp_model.specs.declared.stamp.Stamp.{Stamp}
 use Rattle.cp_model.specs.Past.{tree_of}
 use Rattle.cp_model.specs.Tree.{Tree, Source}
-use Rattle.cp_model.specs.History.{Entry, State, commit, AreWritten, CanCommit, CanFollow, after_commit, replay, steps_of, then_entry}
+use Rattle.cp_model.specs.History.{Entry, State, commit, CanCommit, CanFollow, after_commit, replay, steps_of, then_entry}
 use Rattle.cp_model.proofs.Histories.{replay-snoc, legal-snoc}
 use Rattle.cp_frame.specs.Entries as written
 use Rattle.cp_frame.specs.Entries.{Batch, WrittenEntry, IsBatchOf, IsEntry}
@@ -21,7 +21,7 @@ use Rattle.cp_engine.specs.Loaded.{sources_in}
 use Rattle.cp_engine.specs.Passed.{stage_after, records_of, AllAccepted}
 use Rattle.cp_engine.proofs.Committed.{committed, can-commit, commit-accepted}
 use Rattle.cp_file.specs.Items.{Item, an_entry, CanStand, HasRecords, entry_meant, entries_in, records_with, ops_in, no_stamp}
-use Rattle.cp_db.specs.Committed.{HasReplayed, HasTaken, HasKept, HoldsBatch, TidsLieBetween}
+use Rattle.cp_db.specs.Committed.{HasReplayed, HasTaken, HasKept, HoldsBatch, IsReplayed, ReplaysCommit, TidsLieBetween}
 use Rattle.cp_db.specs.declared.committed.Committed.{Committed}
 use Rattle.cp_db.specs.declared.limits.TheConstants.{TIDS_MAX}
 use Rattle.cp_db.proofs.Taking.{taken-more}
@@ -47,6 +47,19 @@ holds-stamped stamp os rs (written.start k t) is = absurd is
 holds-stamped stamp os rs (written.load n t) is = absurd is
 holds-stamped stamp os rs (written.commit b) is = absurd is
 holds-stamped stamp os rs (written.stamped r b) is = is.1
+
+-- what is written of it means a commit of these operations, with its stamp or with none
+pub means-commit : (os : List Op) (rs : List Record) (w : WrittenEntry) → IsEntry (entry.Commit os rs) w → entry_meant w ≡ commit no_stamp os
+means-commit os rs (written.start k t) is = absurd is
+means-commit os rs (written.load n t) is = absurd is
+means-commit os rs (written.commit b) is = ap (commit no_stamp) is.ops
+means-commit os rs (written.stamped r b) is = absurd is
+
+pub means-stamped : (stamp : Stamp) (os : List Op) (rs : List Record) (w : WrittenEntry) → IsEntry (entry.Stamped stamp os rs) w → entry_meant w ≡ commit stamp os
+means-stamped stamp os rs (written.start k t) is = absurd is
+means-stamped stamp os rs (written.load n t) is = absurd is
+means-stamped stamp os rs (written.commit b) is = absurd is
+means-stamped stamp os rs (written.stamped r b) is = λ j. commit (is.0 j) (is.1.ops j)
 
 -- it may stand after a state where the operations may be committed and the records have Tids of theirs
 abbrev MayStand : State → List Op → List Record → Type 0
@@ -76,6 +89,12 @@ can_when s (written.start k t) os rs h m = absurd h
 can_when s (written.load n t) os rs h m = absurd h
 can_when s (written.commit b) os rs h m = may_as s b os rs h m
 can_when s (written.stamped r b) os rs h m = may_as s b os rs h m
+
+-- what was replayed of the same kind after the same Tid, with the same result
+pub replays-same : (ss : List Source) (old new : Tree) (os : List Op) (rs : List Record) {j k : Kind} {m n : ℕ} {o p : Option ℕ} → j ≡ k → m ≡ n → o ≡ p → ReplaysCommit ss old new j m os rs o → ReplaysCommit ss old new k n os rs p
+replays-same ss old new os rs {j} {k} {m} {n} {o} {p} e f g r =
+    subst (λ (x : Kind). ReplaysCommit ss old new x n os rs p) e
+    (subst (λ (x : ℕ). ReplaysCommit ss old new j x os rs p) f (subst (λ (x : Option ℕ). ReplaysCommit ss old new j m os rs x) g r))
 
 -- ---- what is kept of a commit
 
@@ -135,33 +154,33 @@ module _ {R S : Type 0} (view : R → Tree) (source_view : S → Tree) (c : Comm
   stands_so : CanStand false (replay (flat_map entries_in items)) (an_entry w) → CanStand false (Some s) (an_entry w)
   stands_so can = subst (λ (o : Option State). CanStand false o (an_entry w)) old.replayed.replayed can
 
-  -- a commit may not follow where a record has none of the Tids
-  pub refused-tids : (tids : ℕ) → tids ≡ length (steps_of c.store.kind os) → (TidsLieBetween c.store.rows.upto (c.store.rows.upto + tids) rs → ⊥) → CanStand false (replay (flat_map entries_in items)) (an_entry w) → ⊥
-  refused-tids tids e none can = none (tids_of tids e (stands_so can))
+  -- a commit may not follow where a record has none of the Tids, or an operation isn't accepted
+  pub refused-commit : (TidsLieBetween c.store.rows.upto (c.store.rows.upto + length (steps_of c.store.kind os)) rs → AllAccepted (sources_in source_view c.sources) (view c.tree) os → ⊥) → CanStand false (replay (flat_map entries_in items)) (an_entry w) → ⊥
+  refused-commit none can =
+      let so = stands_so can in
+      none (tids_of (length (steps_of c.store.kind os)) refl so) (accepted_here (commit-accepted s os (may_when s w os rs holds so).0))
 
-  -- nor where an operation isn't accepted
-  pub refused-ops : (AllAccepted (sources_in source_view c.sources) (view c.tree) os → ⊥) → CanStand false (replay (flat_map entries_in items)) (an_entry w) → ⊥
-  refused-ops none can = none (accepted_here (commit-accepted s os (may_when s w os rs holds (stands_so can)).0))
-
-  module _ (m : Committed R S) (u : R) (trees : Bool) (sound : IsSoundBatch trees os rs) (are_written : AreWritten os) (accepted : AllAccepted (sources_in source_view c.sources) (view c.tree) os) where
+  module _ (m : Committed R S) (u : R) (trees : Bool) (sound : IsSoundBatch trees os rs) (tids : ℕ) (is : IsReplayed (sources_in source_view c.sources) (view c.tree) (view u) c.store.kind c.store.rows.upto os rs tids) where
     can_commit : CanCommit s os
-    can_commit = can-commit s os sound.some sound.few are_written (accepted_after accepted)
+    can_commit = can-commit s os sound.some sound.few is.written (accepted_after is.accepted)
 
     -- the tree after the operations is that of the commit
-    tree_kept : view u ≡ (stage_after s.kind (sources_in source_view c.sources) (view c.tree) (s.now + 1) os).tree → m.tree ≡ u → view m.tree ≡ (stage_after s.kind s.sources (tree_of s.tree) (s.now + 1) os).tree
-    tree_kept e same = ap view same ∙ e ∙ ap (λ (ss : List Source). (stage_after s.kind ss (view c.tree) (s.now + 1) os).tree) old.replayed.sources ∙ ap (λ t. (stage_after s.kind s.sources t (s.now + 1) os).tree) old.replayed.tree
+    tree_kept : m.tree ≡ u → view m.tree ≡ (stage_after s.kind s.sources (tree_of s.tree) (s.now + 1) os).tree
+    tree_kept same =
+        ap view same ∙ is.tree s.kind (s.now + 1)
+        ∙ ap (λ (ss : List Source). (stage_after s.kind ss (view c.tree) (s.now + 1) os).tree) old.replayed.sources
+        ∙ ap (λ t. (stage_after s.kind s.sources t (s.now + 1) os).tree) old.replayed.tree
 
     -- the commit has been taken
-    pub taken-commit : (tids : ℕ) → tids ≡ length (steps_of c.store.kind os) → TidsLieBetween c.store.rows.upto (c.store.rows.upto + tids) rs
-        → ((k : Kind) (n : ℕ) → view u ≡ (stage_after k (sources_in source_view c.sources) (view c.tree) n os).tree) → HasKept (record c { tree = u }) m tids rs → HasTaken view source_view m (items ++ an_entry w ∷ [])
-    taken-commit tids e lie tree kept =
-        let is = commit_of w os rs holds in
-        let low = subst (λ n. TidsLieBetween n (c.store.rows.upto + tids) rs) old.replayed.upto lie in
-        let between = subst (λ n. TidsLieBetween s.now n rs) (last_tid tids e sound.some (accepted_after accepted)) low in
+    pub taken-commit : HasKept (record c { tree = u }) m tids rs → HasTaken view source_view m (items ++ an_entry w ∷ [])
+    taken-commit kept =
+        let meant = commit_of w os rs holds in
+        let low = subst (λ n. TidsLieBetween n (c.store.rows.upto + tids) rs) old.replayed.upto is.between in
+        let between = subst (λ n. TidsLieBetween s.now n rs) (last_tid tids is.counted sound.some (accepted_after is.accepted)) low in
         let can = can_when s w os rs holds (can_commit, record { tids = between; all = λ f. cc }) in
-        let steps = e ∙ ap (λ (k : Kind). length (steps_of k os)) old.replayed.kind in
+        let steps = is.counted ∙ ap (λ (k : Kind). length (steps_of k os)) old.replayed.kind in
         let replayed =
-        replayed-committed view source_view c m false (flat_map entries_in items) is.stamp os old.replayed can_commit (tree_kept (tree s.kind (s.now + 1)) kept.tree) kept.sources kept.kind (λ f. cc)
+        replayed-committed view source_view c m false (flat_map entries_in items) meant.stamp os old.replayed can_commit (tree_kept kept.tree) kept.sources kept.kind (λ f. cc)
         (kept.upto ∙ ap (λ n. c.store.rows.upto + n) steps) kept.commits kept.few in
-        taken-more view source_view c m items w old can (subst (λ (x : Entry). HasReplayed view source_view false m (flat_map entries_in items ++ x ∷ [])) (sym is.means) replayed)
-        (kept.rows ∙ ap (λ (x : List Record). c.store.rows.list ++ x) (sym is.records))
+        taken-more view source_view c m items w old can (subst (λ (x : Entry). HasReplayed view source_view false m (flat_map entries_in items ++ x ∷ [])) (sym meant.means) replayed)
+        (kept.rows ∙ ap (λ (x : List Record). c.store.rows.list ++ x) (sym meant.records))

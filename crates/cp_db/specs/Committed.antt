@@ -1,16 +1,24 @@
 -- What a database keeps in memory of its history.
-use Rattle.std.specs.Prelude.{ℕ, ◌≡◌, ◌≤◌, ◌<◌, ◌+◌, ◌++◌, Bool, true, false, IsTrue, List, [], ◌∷◌, length}
+use Rattle.std.specs.Prelude.{ℕ, ◌≡◌, ◌≤◌, ◌<◌, ◌+◌, ◌++◌, Bool, true, false, IsTrue, List, [], ◌∷◌, length, is_some}
 use Rattle.std.specs.List.{AllByRecursion, flat_map}
+use Rattle.std.specs.declared.option.Option.{Option}
 use Rattle.std.specs.declared.option.Option.TheVariants.{Some, None}
-use Rattle.cp_model.specs.Tree.{Tree}
+use Rattle.cp_path.specs.Text.{text_eq}
+use Rattle.cp_model.specs.Keyed.{from_entries}
+use Rattle.cp_model.specs.Literals.{literal_rows}
+use Rattle.cp_model.specs.Place.{target}
+use Rattle.cp_model.specs.Tree.{Tree, Source, source}
 use Rattle.cp_model.specs.Past.{tree_of}
+use Rattle.cp_model.specs.declared.kind.Kind.{Kind}
 use Rattle.cp_model.specs.declared.limits.TheConstants.{SOURCES_MAX}
-use Rattle.cp_model.specs.History.{Entry, State, IsLegal, replay}
+use Rattle.cp_model.specs.declared.literal.Literal.{Literal}
+use Rattle.cp_model.specs.History.{Entry, State, AreWritten, IsLegal, replay, steps_of}
 use Rattle.cp_model.specs.declared.op.Op.{Op}
 use Rattle.cp_model.specs.declared.record.Record.{Record}
 use Rattle.cp_frame.specs.Entries as written
 use Rattle.cp_frame.specs.Entries.{WrittenEntry, IsBatchOf}
 use Rattle.cp_engine.specs.Loaded.{sources_in}
+use Rattle.cp_engine.specs.Passed.{stage_after, AllAccepted}
 use Rattle.cp_file.specs.Items.{Item, an_entry, AllStand, CanStand, entries_in, records_in}
 use Rattle.cp_db.specs.declared.committed.Committed.{Committed}
 use Rattle.cp_db.specs.declared.limits.TheConstants.{TIDS_MAX}
@@ -42,6 +50,31 @@ pub record HasTaken {R S : Type 0} (view : R → Tree) (source_view : S → Tree
 abbrev pub TidsLieBetween : ℕ → ℕ → List Record → Type 0
 TidsLieBetween low high rs = AllByRecursion (λ r. (low < r.tid) × (r.tid ≤ high)) rs
 
+-- under a free name, among few sources, the tree was added behind the others
+pub record IsLoaded (old new : List Source) (n : List ℕ) (l : Literal) : Type 0 where
+  pub other : text_eq n target ≡ false
+  pub fresh : is_some (source old n) ≡ false
+  pub few : length old < SOURCES_MAX
+  pub added : new ≡ old ++ record { name = n; tree = from_entries (literal_rows l) } ∷ []
+
+-- the tree was loaded as a source, or may not be
+abbrev pub LoadsSource : List Source → List Source → List ℕ → Literal → Bool → Type 0
+LoadsSource old new n l true = IsLoaded old new n l
+LoadsSource old new n l false = text_eq n target ≡ false → is_some (source old n) ≡ false → length old < SOURCES_MAX → ⊥
+
+-- the operations are accepted and lead from the old tree to the new one, and each record has one of their Tids, so many after the last
+pub record IsReplayed (ss : List Source) (old new : Tree) (k : Kind) (last : ℕ) (os : List Op) (rs : List Record) (tids : ℕ) : Type 0 where
+  pub written : AreWritten os
+  pub accepted : AllAccepted ss old os
+  pub tree : (j : Kind) (n : ℕ) → new ≡ (stage_after j ss old n os).tree
+  pub counted : tids ≡ length (steps_of k os)
+  pub between : TidsLieBetween last (last + tids) rs
+
+-- the commit was replayed and has so many Tids, or may not follow
+abbrev pub ReplaysCommit : List Source → Tree → Tree → Kind → ℕ → List Op → List Record → Option ℕ → Type 0
+ReplaysCommit ss old new k last os rs (Some tids) = IsReplayed ss old new k last os rs tids
+ReplaysCommit ss old new k last os rs None = TidsLieBetween last (last + length (steps_of k os)) rs → AllAccepted ss old os → ⊥
+
 -- the records were kept behind the others, as those of a commit with so many Tids; all else is the same
 pub record HasKept {R S : Type 0} (old new : Committed R S) (tids : ℕ) (rs : List Record) : Type 0 where
   pub tree : new.tree ≡ old.tree
@@ -51,15 +84,6 @@ pub record HasKept {R S : Type 0} (old new : Committed R S) (tids : ℕ) (rs : L
   pub upto : new.store.rows.upto ≡ old.store.rows.upto + tids
   pub commits : new.commits ≡ old.commits + 1
   pub few : new.store.rows.upto ≤ TIDS_MAX
-
--- the records were forgotten; all else is the same
-pub record HasForgotten {R S : Type 0} (old new : Committed R S) : Type 0 where
-  pub tree : new.tree ≡ old.tree
-  pub sources : new.sources ≡ old.sources
-  pub kind : new.store.kind ≡ old.store.kind
-  pub none : new.store.rows.list ≡ []
-  pub upto : new.store.rows.upto ≡ old.store.rows.upto
-  pub commits : new.commits ≡ old.commits
 
 -- these operations and records are written so
 abbrev pub HoldsBatch : WrittenEntry → List Op → List Record → Type 0

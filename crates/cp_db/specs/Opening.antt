@@ -63,13 +63,16 @@ StartsAs view source_view version fs (Err (NoStore at)) = (h : List History) →
 StartsAs view source_view version fs (Err Disk) = ⊤
 StartsAs view source_view version fs (Err Memory) = ⊤
 
+-- the frame holds nothing that may follow these items
+abbrev pub RefusesAs : ℕ → Frame → List Item → OpenFault → Type 0
+RefusesAs version f items (NoStore at) = (i : Item) → IsHeld version f i → CanStand false (replay (flat_map entries_in items)) i → ⊥
+RefusesAs version f items Disk = ⊤
+RefusesAs version f items Memory = ⊤
+
 -- what the frame holds has been taken after these items, or it holds nothing that may follow them
 abbrev pub ReplaysAs : {R S : Type 0} → (R → Tree) → (S → Tree) → ℕ → Frame → List Item → Committed R S → Result ⊤ OpenFault → Type 0
 ReplaysAs view source_view version f items new (Ok x) = (i : Item) × IsHeld version f i × HasTaken view source_view new (items ++ i ∷ [])
-ReplaysAs view source_view version f items new (Err (NoStore at)) =
-    (i : Item) → IsHeld version f i → CanStand false (replay (flat_map entries_in items)) i → ⊥
-ReplaysAs view source_view version f items new (Err Disk) = ⊤
-ReplaysAs view source_view version f items new (Err Memory) = ⊤
+ReplaysAs view source_view version f items new (Err e) = RefusesAs version f items e
 
 -- what all frames hold has been taken; or they tell no history
 abbrev pub TellsAs : {R S : Type 0} → (R → Tree) → (S → Tree) → ℕ → List Frame → Result (Committed R S) OpenFault → Type 0

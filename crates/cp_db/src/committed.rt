@@ -1,15 +1,16 @@
 //! What a history leads to, in memory.
-ghost use Rattle.std.specs.Prelude.{◌≡◌, ◌≤◌, ◌+◌, ◌∷◌, ◌↔◌, [], true, false, Bool, IsTrue, List, IfOk, OnOk};
+ghost use Rattle.std.specs.Prelude.{◌≡◌, ◌≤◌, ◌+◌, ◌∷◌, ◌↔◌, [], true, false, Bool, IsTrue, List, length, IfOk, OnOk};
 ghost use Rattle.std.specs.List.{AllByRecursion};
 ghost use Rattle.cp_model.specs.Answers.{stats};
 ghost use Rattle.cp_model.specs.History.{Entry as HistoryEntry, start, AreWritten};
-ghost use Rattle.cp_model.specs.declared.limits.TheConstants.{OPS_MAX};
+ghost use Rattle.cp_model.specs.declared.limits.TheConstants.{OPS_MAX, SOURCES_MAX};
 ghost use Rattle.cp_store.specs.Changes.{AreNext};
 ghost use Rattle.cp_db.specs.declared.limits.TheConstants.{TIDS_MAX};
 ghost use Rattle.cp_frame.specs.Entries.{WrittenEntry, IsEntry};
-ghost use Rattle.cp_frame.specs.Sound.{IsSoundEntry, IsSoundBatch, IsSoundOp};
+ghost use Rattle.cp_frame.specs.Sound.{IsSoundEntry, IsSoundBatch, IsSoundOp, IsSoundSource};
+ghost use Rattle.cp_engine.specs.Loaded.{sources_in};
 ghost use Rattle.cp_file.specs.Items.{Item};
-ghost use Rattle.cp_db.specs.Committed.{HasReplayed, HasTaken, TidsLieBetween, HasForgotten, HasKept, CanTake, HoldsBatch};
+ghost use Rattle.cp_db.specs.Committed.{HasReplayed, HasTaken, TidsLieBetween, HasKept, CanTake, HoldsBatch, LoadsSource, ReplaysCommit};
 
 use crate::limits::TIDS_MAX;
 use cp_engine::{Sources, replay, steps_of};
@@ -55,6 +56,54 @@ fn look_at_labels(ops: &[Op])
     }
 }
 
+/// Keeps a tree as a source, if one may be loaded under the name; says whether it may.
+pub(crate) fn load_source<S: TreeRep>(
+    alloc: Global,
+    sources: &mut Sources<S>,
+    name: Name,
+    literal: &Literal,
+) -> Result<bool, AllocError>
+    requires sound { IsSoundSource name literal.now }
+    requires few { length (sources_in S.contents sources.old) ≤ SOURCES_MAX }
+    ensures loaded { IfOk result (LoadsSource (sources_in S.contents sources.old)
+        (sources_in S.contents sources.new) name literal.now) }
+{
+    if name.is_target() || sources.get(&name).is_some() || sources.len() == SOURCES_MAX {
+        return Ok(false);
+    }
+    let tree = tree_of::<S>(alloc, literal)?;
+    sources.add(name, tree)?;
+    Ok(true)
+}
+
+/// Applies the operations of a commit after the Tid `last`, if each is accepted and each record has one of the commit's
+/// Tids; gives the number of these Tids, `None` where it isn't so. Of the records it looks at nothing else. After `None`,
+/// and after an error, what the tree holds isn't said. Costs the operations and a comparison for each record.
+pub(crate) fn replay_commit<R: TreeRep, S: TreeRep>(
+    alloc: Global,
+    kind: Kind,
+    last: u64,
+    tree: &mut R,
+    sources: &Sources<S>,
+    ops: &OpList,
+    records: &RecordList,
+) -> Result<Option<u64>, AllocError>
+    requires few { last ≤ TIDS_MAX }
+    requires sound { (trees : Bool) × IsSoundBatch trees ops.now records.now }
+    ensures replayed { IfOk result (ReplaysCommit (sources_in S.contents sources.now)
+        (R.contents tree.old) (R.contents tree.new) kind last ops.now records.now) }
+{
+    let tids = steps_of(kind, ops.items.len() as u32);
+    if !tids_lie_between(&records.items, last, last + tids) {
+        return Ok(None);
+    }
+    look_at_labels(&ops.items);
+    if !replay(alloc, tree, sources, &ops.items)? {
+        return Ok(None);
+    }
+    Ok(Some(tids))
+}
+
 impl<R: TreeRep, S: TreeRep> Committed<R, S> {
     /// A tree without sources and without rows.
     pub(crate) fn start(alloc: Global, kind: Kind, tree: R) -> Result<Committed<R, S>, AllocError>
@@ -86,30 +135,6 @@ impl<R: TreeRep, S: TreeRep> Committed<R, S> {
         }
     }
 
-    /// Keeps a tree as a source, if one may be loaded under the name; says whether it may.
-    fn take_source(
-        &mut self,
-        alloc: Global,
-        name: Name,
-        literal: &Literal,
-    ) -> Result<bool, AllocError>
-        requires sound { IsSoundEntry (Entry.Load name literal.now) }
-        requires replayed { (items : List Item) × HasTaken R.contents S.contents self.old items }
-        ensures taken { (items : List Item) (w : WrittenEntry)
-            → HasTaken R.contents S.contents self.old items → IsEntry (Entry.Load name literal.now) w
-            → IfOk result (CanTake R.contents S.contents items w self.new) }
-    {
-        if name.is_target()
-            || self.sources.get(&name).is_some()
-            || self.sources.len() == SOURCES_MAX
-        {
-            return Ok(false);
-        }
-        let tree = tree_of::<S>(alloc, literal)?;
-        self.sources.add(name, tree)?;
-        Ok(true)
-    }
-
     /// Keeps the records of the next commit, which has so many Tids. After an error what is kept isn't said.
     pub(crate) fn keep_records(
         &mut self,
@@ -134,16 +159,7 @@ impl<R: TreeRep, S: TreeRep> Committed<R, S> {
         }
     }
 
-    /// Gives up the records, and keeps the last Tid.
-    pub(crate) fn forget_records(&mut self, alloc: Global) -> Result<(), AllocError>
-        ensures forgotten { OnOk result (HasForgotten self.old self.new) }
-    {
-        self.store = KindStore::new(alloc, self.store.kind(), self.store.upto())?;
-        Ok(())
-    }
-
-    /// Applies the operations of a commit and keeps its records, if the operations are accepted and each record has one of
-    /// its Tids; says whether that is so. Costs the operations and the records.
+    /// Replays a commit and keeps its records, if it may follow; says whether it may.
     fn take_commit(
         &mut self,
         alloc: Global,
@@ -156,15 +172,20 @@ impl<R: TreeRep, S: TreeRep> Committed<R, S> {
             → HasTaken R.contents S.contents self.old items → HoldsBatch w ops.now records.now
             → IfOk result (CanTake R.contents S.contents items w self.new) }
     {
-        let low = self.store.upto();
-        let tids = steps_of(self.store.kind(), ops.items.len() as u32);
-        if !tids_lie_between(&records.items, low, low + tids) {
+        let kind = self.store.kind();
+        let last = self.store.upto();
+        let replayed = replay_commit(
+            alloc,
+            kind,
+            last,
+            &mut self.tree,
+            &self.sources,
+            ops,
+            records,
+        )?;
+        let Some(tids) = replayed else {
             return Ok(false);
-        }
-        look_at_labels(&ops.items);
-        if !replay(alloc, &mut self.tree, &self.sources, &ops.items)? {
-            return Ok(false);
-        }
+        };
         self.keep_records(alloc, tids, &records.items)?;
         Ok(true)
     }
@@ -180,7 +201,7 @@ impl<R: TreeRep, S: TreeRep> Committed<R, S> {
     {
         match entry {
             Entry::Start { .. } => Ok(false),
-            Entry::Load { name, tree } => self.take_source(alloc, name, &tree),
+            Entry::Load { name, tree } => load_source(alloc, &mut self.sources, name, &tree),
             Entry::Commit { ops, records } => self.take_commit(alloc, &ops, &records),
             Entry::Stamped { ops, records, .. } => self.take_commit(alloc, &ops, &records),
         }

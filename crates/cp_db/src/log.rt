@@ -1,38 +1,43 @@
 //! The log of a file: a line for each commit of its history.
-ghost use Rattle.std.specs.Prelude.{◌≡◌, ◌≤◌, ◌<◌, ◌∷◌, [], IsTrue, List, ℕ, length, IfOk, IfErr, OnOk, Some};
+ghost use Rattle.std.specs.Prelude.{◌≡◌, ◌≤◌, ◌<◌, ◌∷◌, [], Bool, IsTrue, List, ℕ, length, IfOk, IfErr, OnOk, Some};
 ghost use Rattle.std.specs.List.{slice_get};
 ghost use Rattle.cp_outside.specs.Causes.{Accounts};
-ghost use Rattle.cp_model.specs.History.{log_after, log_line};
+ghost use Rattle.cp_model.specs.History.{commit, log_line};
 ghost use Rattle.cp_model.specs.declared.limits.TheConstants.{OPS_MAX};
 ghost use Rattle.cp_disk.specs.Views.{Rests};
 ghost use Rattle.cp_journal.specs.Frames.{Frame};
 ghost use Rattle.cp_journal.specs.Journals.{Lists};
 ghost use Rattle.cp_journal.specs.declared.frame.TheConstants.{ENTRY};
 ghost use Rattle.cp_frame.specs.Entries.{WrittenEntry, IsEntry};
-ghost use Rattle.cp_frame.specs.Sound.{IsSoundEntry};
-ghost use Rattle.cp_file.specs.Items.{Item, entry_meant};
+ghost use Rattle.cp_frame.specs.Sound.{IsSoundEntry, IsSoundBatch};
+ghost use Rattle.cp_file.specs.Items.{Item, entry_meant, no_stamp};
+ghost use Rattle.cp_db.specs.Committed.{HoldsBatch};
 ghost use Rattle.cp_db.specs.Opening.{IsOpenDisk};
-ghost use Rattle.cp_db.specs.Log.{CanLog, HasLogged, LogsAs, LogsFrameAs, TellsLogAs, lines_in};
+ghost use Rattle.cp_db.specs.Log.{CanLog, HasLogged, LogsAs, LogsFrameAs, TellsLogAs, committed_of};
 ghost use Rattle.cp_db.specs.declared.limits.TheConstants.{TIDS_MAX};
 
-use crate::committed::Committed;
+use crate::committed::{Committed, load_source, replay_commit};
 use crate::fault::OpenFault;
+use crate::limits::TIDS_MAX;
 use crate::opening::{entry_in, is_of_version, open_slot, version_of};
 use cp_disk::Disk;
-use cp_engine::steps_of;
+use cp_engine::{Sources, steps_of};
 use cp_frame::Entry;
 use cp_journal::{ENTRY, HEADER_SIZE, Journal};
-use cp_model::{Kind, LogLine, LogList, OpList, Stamp};
+use cp_model::{Kind, LogLine, LogList, OpList, RecordList, Stamp};
 use cp_path::Label;
 use cp_store::ProvStore;
 use cp_tree::TreeRep;
 use std::alloc::{AllocError, Global};
 
-/// A walk over a history that makes its log: what the entries up to now lead to, without records, and the lines of their
-/// commits.
+/// A walk over a history that makes its log: the tree, the sources and the last Tid to which the entries up to now lead, the
+/// kind, and the lines of their commits. It keeps no records.
 #[derive(Drop)]
 pub(crate) struct LogWalk<R: TreeRep, S: TreeRep> {
-    pub(crate) committed: Committed<R, S>,
+    pub(crate) tree: R,
+    pub(crate) sources: Sources<S>,
+    pub(crate) kind: Kind,
+    pub(crate) last: u64,
     pub(crate) lines: LogList,
 }
 
@@ -52,48 +57,32 @@ fn commit_line(kind: Kind, last: u64, stamp: Stamp, ops: &OpList) -> LogLine
     }
 }
 
-/// The line of an entry after the Tid `last`, if it is a commit. One without a stamp has the empty label and the moment 0.
-fn entry_line(
-    alloc: Global,
-    kind: Kind,
-    last: u64,
-    entry: &Entry,
-) -> Result<Option<LogLine>, AllocError>
-    requires few { last ≤ TIDS_MAX }
-    requires sound { IsSoundEntry entry.now }
-    ensures { (w : WrittenEntry) → IsEntry entry.now w
-        → IfOk result (λ o. lines_in o ≡ log_after kind last (entry_meant w ∷ [])) }
+/// The stamp of a commit that was written without one.
+fn no_stamp(alloc: Global) -> Result<Stamp, AllocError>
+    ensures { IfOk result (λ stamp. stamp ≡ no_stamp) }
 {
-    match entry {
-        Entry::Start { .. } | Entry::Load { .. } => Ok(None),
-        Entry::Commit { ops, .. } => {
-            let stamp = Stamp {
-                curator: Label::copy_of(alloc, "")?,
-                moment: 0,
-            };
-            Ok(Some(commit_line(kind, last, stamp, ops)))
-        }
-        Entry::Stamped { stamp, ops, .. } => {
-            Ok(Some(commit_line(kind, last, stamp.clone()?, ops)))
-        }
-    }
+    let curator = Label::copy_of(alloc, "")?;
+    Ok(Stamp { curator, moment: 0 })
 }
 
 impl<R: TreeRep, S: TreeRep> LogWalk<R, S> {
     /// A walk that has come past the start.
-    fn begin(alloc: Global, committed: Committed<R, S>) -> LogWalk<R, S>
-        ensures committed { result.committed ≡ committed }
+    fn begin(alloc: Global, first: Committed<R, S>) -> LogWalk<R, S>
+        ensures first { committed_of result first.commits first.store.rows.list ≡ first }
         ensures lines { result.lines ≡ [] }
     {
         LogWalk {
-            committed,
+            kind: first.store.kind(),
+            last: first.store.upto(),
+            tree: first.tree,
+            sources: first.sources,
             lines: LogList {
                 items: Vec::new(alloc),
             },
         }
     }
 
-    /// Replays an entry, if it may follow those before it, forgets its records and keeps its line; says whether it may.
+    /// Replays an entry, if it may follow those before it, and keeps the line of a commit; says whether it may.
     fn add(&mut self, alloc: Global, entry: Entry) -> Result<bool, AllocError>
         requires sound { IsSoundEntry entry }
         requires logged { (items : List Item) × HasLogged R.contents S.contents self.old items }
@@ -101,16 +90,55 @@ impl<R: TreeRep, S: TreeRep> LogWalk<R, S> {
             → HasLogged R.contents S.contents self.old items → IsEntry entry w
             → IfOk result (CanLog R.contents S.contents items w self.new) }
     {
-        let kind = self.committed.store.kind();
-        let last = self.committed.store.upto();
-        let line = entry_line(alloc, kind, last, &entry)?;
-        if !self.committed.take(alloc, entry)? {
+        match entry {
+            Entry::Start { .. } => Ok(false),
+            Entry::Load { name, tree } => load_source(alloc, &mut self.sources, name, &tree),
+            Entry::Commit { ops, records } => {
+                let stamp = no_stamp(alloc)?;
+                self.add_commit(alloc, stamp, &ops, &records)
+            }
+            Entry::Stamped {
+                stamp,
+                ops,
+                records,
+            } => self.add_commit(alloc, stamp, &ops, &records),
+        }
+    }
+
+    /// Replays a commit, if it may follow what is before it, and keeps its line; says whether it may. Costs its operations and
+    /// a comparison for each record.
+    fn add_commit(
+        &mut self,
+        alloc: Global,
+        stamp: Stamp,
+        ops: &OpList,
+        records: &RecordList,
+    ) -> Result<bool, AllocError>
+        requires sound { (trees : Bool) × IsSoundBatch trees ops.now records.now }
+        requires logged { (items : List Item) × HasLogged R.contents S.contents self.old items }
+        ensures added { (items : List Item) (w : WrittenEntry)
+            → HasLogged R.contents S.contents self.old items → HoldsBatch w ops.now records.now
+            → entry_meant w ≡ commit stamp ops.now
+            → IfOk result (CanLog R.contents S.contents items w self.new) }
+    {
+        let line = commit_line(self.kind, self.last, stamp, ops);
+        let replayed = replay_commit(
+            alloc,
+            self.kind,
+            self.last,
+            &mut self.tree,
+            &self.sources,
+            ops,
+            records,
+        )?;
+        let Some(tids) = replayed else {
             return Ok(false);
+        };
+        if self.last + tids > TIDS_MAX {
+            return Err(AllocError);
         }
-        self.committed.forget_records(alloc)?;
-        if let Some(line) = line {
-            self.lines.items.push(line)?;
-        }
+        self.last += tids;
+        self.lines.items.push(line)?;
         Ok(true)
     }
 
@@ -194,8 +222,9 @@ impl<R: TreeRep, S: TreeRep> LogWalk<R, S> {
 }
 
 /// The commits of the history in a file, in their order. Replays its entries as an opening does, and refuses the same
-/// files; but it forgets the records of each, so that beside the tree and the sources it keeps one entry at a time and a
-/// line for each commit. Begins with a sync, writes nothing, and reads each frame once.
+/// files; but it keeps no records, so that beside the tree and the sources it has one entry at a time in memory and a line
+/// for each commit. Begins with a sync, writes nothing, and reads each frame once. Costs the bytes of the file and the
+/// operations; of a record it compares the Tid, once it is read.
 pub fn log_of<R: TreeRep, S: TreeRep, D: Disk>(
     alloc: Global,
     disk: &mut D,

@@ -1,46 +1,36 @@
-use Rattle.std.proofs.Common.{[], ◌∷◌, map, sym, subst, ◌∙◌}
-use Rattle.cp_model.specs.History.{log_after}
-use Rattle.cp_file.specs.Items.{entry_meant}
-use Rattle.cp_db.specs.Committed.{CanTake}
-use Rattle.cp_db.specs.Log.{HasLogged}
-use Rattle.cp_db.proofs.Logging.{bare, logged-more, logged-taken, no-line, one-line, refused-same}
+use Rattle.std.proofs.Common.{refl, sym, ap, subst, ◌∙◌}
+use Rattle.std.proofs.lemmas.Result.{IfOk-weaker}
+use Rattle.cp_model.specs.History.{commit}
+use Rattle.cp_frame.specs.Entries.{IsEntry}
+use Rattle.cp_frame.specs.Sound.{IsSoundEntry}
+use Rattle.cp_db.proofs.Logging.{logs-source}
+use Rattle.cp_db.proofs.TakingCommits.{holds-commit, holds-stamped, means-commit, means-stamped}
 use Rattle.cp_db.proofs.log.LogWalk.add.Goals as goal
 
-pub take-requires-clause-replayed : goal.take-requires-clause-replayed
-take-requires-clause-replayed g c =
-    let view = g.R.TreeRep.contents in
-    let source_view = g.S.TreeRep.contents in
-    let t = c.requires.logged in
-    (map bare t.0, logged-taken view source_view _ t.0 (subst (λ w. HasLogged view source_view w t.0) (sym c.self.view_is) t.1))
-
-pub returns-then-not-branch : goal.returns-then-not-branch
-returns-then-not-branch g c = record {
+pub returns-in-Load : goal.returns-in-Load
+returns-in-Load g c = record {
   added = λ items w logged is.
-      let view = g.R.TreeRep.contents in
-      let source_view = g.S.TreeRep.contents in
-      let here = subst (λ w. HasLogged view source_view w items) (sym c.self.view_is) logged in
-      refused-same view source_view _ items here w
-      (subst (CanTake view source_view (map bare items) w c.take.new.self) c.if-not-branch.true (c.in_ok-take.ensures.taken (map bare items) w (logged-taken view source_view _ items here) is));
+      let here = c.args.self.now in
+      IfOk-weaker c.load_source.result _ _
+      (λ b loads. logs-source g.R.TreeRep.contents g.S.TreeRep.contents here items logged (record here { sources = c.load_source.new.sources }) w c.in-Load.name c.in-Load.tree b
+      (subst (λ e. IsEntry e w) c.in-Load.is is) (subst IsSoundEntry c.in-Load.is c.requires.sound) loads refl refl refl refl)
+      c.load_source.ensures.loaded;
 }
 
-pub returns-in_ok-push : goal.returns-in_ok-push
-returns-in_ok-push g c = record {
+pub returns-in-Commit : goal.returns-in-Commit
+returns-in-Commit g c = record {
   added = λ items w logged is.
-      let view = g.R.TreeRep.contents in
-      let source_view = g.S.TreeRep.contents in
-      let here = subst (λ w. HasLogged view source_view w items) (sym c.self.view_is) logged in
-      let taken = subst (CanTake view source_view (map bare items) w c.take.new.self) c.if-not-branch.false (c.in_ok-take.ensures.taken (map bare items) w (logged-taken view source_view _ items here) is) in
-      logged-more view source_view _ items here _ c.take.new.self w c.in_ok-line.line taken c.in_ok-forget_records.ensures.forgotten
-      (c.in_ok-line.ensures w is ∙ (λ k. log_after (c.kind-kind.ensures k) (c.upto-last.ensures k) (entry_meant w ∷ []))) (one-line _ _ c.in_ok-line.line c.in-Some.line c.in_ok-push.ensures.items c.in-Some.is);
+      let ops = c.in-Commit.ops in
+      let records = c.in-Commit.records in
+      let entry = subst (λ e. IsEntry e w) c.in-Commit.is is in
+      c.add_commit.ensures.added items w logged (holds-commit ops records w entry) (means-commit ops records w entry ∙ ap (λ s. commit s ops) (sym c.in_ok-stamp-in-Commit.ensures));
 }
 
-pub returns-in_default : goal.returns-in_default
-returns-in_default g c = record {
+pub returns : goal.returns
+returns g c = record {
   added = λ items w logged is.
-      let view = g.R.TreeRep.contents in
-      let source_view = g.S.TreeRep.contents in
-      let here = subst (λ w. HasLogged view source_view w items) (sym c.self.view_is) logged in
-      let taken = subst (CanTake view source_view (map bare items) w c.take.new.self) c.if-not-branch.false (c.in_ok-take.ensures.taken (map bare items) w (logged-taken view source_view _ items here) is) in
-      logged-more view source_view _ items here _ c.take.new.self w c.in_ok-line.line taken c.in_ok-forget_records.ensures.forgotten
-      (c.in_ok-line.ensures w is ∙ (λ k. log_after (c.kind-kind.ensures k) (c.upto-last.ensures k) (entry_meant w ∷ []))) (no-line _ c.in_ok-line.line c.in_default.not-Some);
+      let ops = c.in-Stamped.ops in
+      let records = c.in-Stamped.records in
+      let entry = subst (λ e. IsEntry e w) c.in-Stamped.is is in
+      c.add_commit-in-Stamped.ensures.added items w logged (holds-stamped c.in-Stamped.stamp ops records w entry) (means-stamped c.in-Stamped.stamp ops records w entry);
 }

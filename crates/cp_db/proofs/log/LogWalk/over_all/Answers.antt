@@ -25,8 +25,8 @@ loop-n-init g c =
     record {
       some = omega arith;
       within = first.some;
-      come = λ known from fs lists. come_first view source_view c.args.version fs c.in_ok-first.first c.begin-walk.result (first.started known from c.args.version fs lists) walk.committed walk.lines;
-      logged = (first.taken.0 ∷ [], logged-first view source_view c.in_ok-first.first c.begin-walk.result first.taken.0 first.taken.1 walk.committed walk.lines);
+      come = λ known from fs lists. come_first view source_view c.args.version fs c.in_ok-first.first c.begin-walk.result (first.started known from c.args.version fs lists) walk.first walk.lines;
+      logged = (first.taken.0 ∷ [], logged-first view source_view c.in_ok-first.first c.begin-walk.result first.taken.0 first.taken.1 walk.first walk.lines);
       rests = first.rests;
       steady = first.cause.steady;
     }
