@@ -77,7 +77,7 @@ impl<R: TreeRep, S: TreeRep> Workspace<R, S> {
     /// A commit wants a file of version 2, and alone asks the clock. A crash at any moment leaves the history before the
     /// statement or after it, and once the reply is given, that after it. What stands after an error isn't said: the file
     /// is opened again. Where a source file or the clock failed, the disk is as it was.
-    pub fn run<D: Disk, F: Files, K: Clock>(
+    fn run<D: Disk, F: Files, K: Clock>(
         &mut self,
         alloc: Global,
         statement: Stmt,
