@@ -3,8 +3,8 @@
 _cpdb() {
     local words= files=+o
     case $COMP_CWORD:${COMP_WORDS[1]-} in
-    1:*) words='scratch init run commit load query log' ;;
-    2:scratch | 3:init) words='n t h ht' ;;
+    1:*) words='scratch init run commit load query gen log' ;;
+    2:scratch | 3:init | 4:gen) words='n t h ht' ;;
     4:load) words='json csv' ;;
     3:query) words='records show stats' ;;
     [23]:commit | [24]:init | [25]:load | 3:scratch | 2:run | 2:query | 2:log) files=-o ;;

@@ -15,9 +15,10 @@ complete -c cpdb -n __fish_is_first_token -a run -d 'Run statements on a store'
 complete -c cpdb -n __fish_is_first_token -a commit -d 'Run a file of statements on a store, and commit'
 complete -c cpdb -n __fish_is_first_token -a load -d 'Load a source into a store'
 complete -c cpdb -n __fish_is_first_token -a query -d 'Answer one statement from a store'
+complete -c cpdb -n __fish_is_first_token -a gen -d 'Run a generated workload in memory'
 complete -c cpdb -n __fish_is_first_token -a log -d 'List the commits of a store'
 
-set -l at_kind '__cpdb_at 2 scratch; or __cpdb_at 3 init'
+set -l at_kind '__cpdb_at 2 scratch; or __cpdb_at 3 init; or __cpdb_at 4 gen'
 complete -c cpdb -n $at_kind -a n -d Naive
 complete -c cpdb -n $at_kind -a t -d Transactional
 complete -c cpdb -n $at_kind -a h -d Hierarchical

@@ -28,7 +28,8 @@ use Rattle.cp_program.specs.Job.{Report, is_refusal}
 use Rattle.cp_program.specs.Outside.{KnownInput, KnownClock, KnownOutput, Outside}
 use Rattle.cp_program.specs.Story.{SaidLine, HasCauses, DiskCauses, result_of, store_terms}
 use Rattle.cp_program.specs.Alone.{statement_report}
-use Rattle.cp_program.specs.Answering.{no_files, answer_report, log_report, Answered}
+use Rattle.cp_scratch.specs.Sessions.{no_files}
+use Rattle.cp_program.specs.Answering.{answer_report, log_report, Answered}
 use Rattle.cp_program.specs.Begins.{IsOpeningStop, OpenedAlone, AnsweredAs, GaveAnswer}
 use Rattle.cp_program.specs.Turns.{IsDiskStop, TellsStop, end_of_stop}
 use Rattle.cp_program.specs.declared.end.End.{End}
@@ -107,6 +108,9 @@ said-fitting line flag o p e s = said-is (λ z. z ≡ how.Usage → ⊥) line fl
 
 pub said-opened : (line : List ℕ) (flag : Bool) (o p : KnownOutput) (e : End) (at : ℕ) → SaidLine line flag o p e → e ≡ how.NoStore at → ⊥
 said-opened line flag o p e at s = said-is (λ z. z ≡ how.NoStore at → ⊥) line flag o p e s (λ h. absurd (cc)) (λ h. absurd (cc)) (λ h. absurd (cc)) (λ h. absurd (cc))
+
+pub said-not-disk : (line : List ℕ) (flag : Bool) (o p : KnownOutput) (e : End) → SaidLine line flag o p e → e ≡ how.Disk → ⊥
+said-not-disk line flag o p e s = said-is (λ z. z ≡ how.Disk → ⊥) line flag o p e s (λ h. absurd (cc)) (λ h. absurd (cc)) (λ h. absurd (cc)) (λ h. absurd (cc))
 
 -- it blames nothing but the output
 pub said-quiet : (d : End) (n m : ℕ) (line : List ℕ) (flag : Bool) (o p : KnownOutput) (e : End) → SaidLine line flag o p e → m ≡ n → (how.Output ≡ d → ⊥) → (how.Memory ≡ d → ⊥) → Accounts (λ z. z ≡ d) n m (result_of e)

@@ -2,20 +2,21 @@
 use Rattle.cp_program.specs.declared.limits.TheConstants.{INPUT_MAX}
 use Rattle.std.proofs.Common.{◌≡◌, ℕ, ◌+◌, ◌≤◌, ◌<◌, List, [], length, Bool, false, refl, inl, inr, sym, ap, subst, ◌∙◌, arith}
 use Rattle.std.proofs.lemmas.List.{length-append}
-use Rattle.std.specs.Prelude.{⊤, ◌⊎◌, ◌↔◌, IsTrue}
+use Rattle.std.specs.Prelude.{◌⊎◌, ◌↔◌}
 use Rattle.std.specs.Io.KnownBytes.{Consumes}
 use Rattle.std.specs.declared.option.Option.{Option}
 use Rattle.std.specs.declared.option.Option.TheVariants.{None, Some}
-use Rattle.cp_file.specs.Stands.{Opens}
 use Rattle.cp_words.specs.declared.command.Command.{Command}
 use Rattle.cp_words.specs.declared.command.Command.TheVariants as words
 use Rattle.cp_workspace.specs.Files.{KnownFiles}
 use Rattle.cp_workspace.specs.Disks.{KnownDisk}
 use Rattle.cp_program.specs.Texts.{usage_text, memory_line}
 use Rattle.cp_program.specs.Outside.{KnownInput, KnownClock, KnownOutput, Outside}
-use Rattle.cp_program.specs.Story.{WritesLast, SaidLine, EndedEarly, IsEarly, IsFaultless, HasCauses, DiskCauses}
-use Rattle.cp_program.specs.Answering.{SaidReport, Answered}
-use Rattle.cp_program.specs.Calls.{DidCommand, RanAs, HasStore, HasItsStore, HasOpenStore, IsShort, Called}
+use Rattle.cp_program.specs.Story.{WritesLast, SaidLine, EndedEarly, IsFaultless, HasCauses, DiskCauses}
+use Rattle.cp_model.specs.declared.kind.Kind.{Kind}
+use Rattle.cp_reply.specs.Lines.{lines}
+use Rattle.cp_program.specs.Answering.{SaidReport, Generated}
+use Rattle.cp_program.specs.Calls.{DidCommand, HasItsStore, IsShort, Called}
 use Rattle.cp_program.specs.Job.{Report}
 use Rattle.cp_program.specs.Ends.{code_of}
 use Rattle.cp_program.specs.declared.end.End.{End}
@@ -45,6 +46,10 @@ answered-fits : (before now : Outside) (e : End) → EndedEarly before now e ⊎
 answered-fits before now e (inl early) h = early-not-usage e early.0 h
 answered-fits before now e (inr said) h = said-not-usage said.0.out said.0.refused before.output now.output e said.1 h
 
+-- nor does a run of a workload end so
+generated-not : (k : Kind) (seed count : ℕ) (before now : Outside) (e d : End) → Generated k seed count before now e → (how.Memory ≡ d → ⊥) → ((line : List ℕ) → SaidLine line false before.output now.output e → e ≡ d → ⊥) → e ≡ d → ⊥
+generated-not k seed count before now e d r memory said h = elim r.said [ inl out ↦ memory (sym out.0 ∙ h) | inr line ↦ said (lines line.0) line.2 h ]
+
 -- with words that fit the call doesn't end with the usage
 fits : (x : Command) (before now : Outside) (v w : KnownDisk) (e : End) → DidCommand x before now v w e → e ≡ how.Usage → ⊥
 fits (words.Scratch k s) before now v w e r = r.running.fitting
@@ -54,7 +59,7 @@ fits (words.Commit file curator) before now v w e r = r.fitting
 fits (words.Load l) before now v w e r = r.fitting
 fits (words.Ask q) before now v w e r = answered-fits before now e r.ended
 fits (words.Show p) before now v w e r = answered-fits before now e r.ended
-fits (words.Generate seed count k) before now v w e r = absurd r
+fits (words.Generate seed count k) before now v w e r = generated-not k seed count before now e how.Usage r (λ h. absurd (cc)) (λ line said h. said-not-usage line false before.output now.output e said h)
 fits words.Log before now v w e r = answered-fits before now e r.ended
 
 -- where there is a store, if there is to be one, it is found
@@ -66,7 +71,7 @@ opens (words.Commit file curator) before now v w e r has at h = (r.no_store has.
 opens (words.Load l) before now v w e r has at h = (r.no_store has.0 at h).2 has.1
 opens (words.Ask q) before now v w e r has at h = (r.no_store has.0 at h).1 has.1
 opens (words.Show p) before now v w e r has at h = (r.no_store has.0 at h).1 has.1
-opens (words.Generate seed count k) before now v w e r has at h = absurd r
+opens (words.Generate seed count k) before now v w e r has at h = generated-not k seed count before now e (how.NoStore at) r (λ g. absurd (cc)) (λ line said g. said-not-none line false before.output now.output e said at g) h
 opens words.Log before now v w e r has at h = (r.no_store has.0 at h).1 has.1
 
 -- where nothing failed and little came, the call ends with an answer

@@ -1,11 +1,8 @@
 -- A run of the program is the session's job, from its start on.
-use Rattle.cp_program.specs.declared.limits.TheConstants.{INPUT_MAX}
-use Rattle.std.proofs.Common.{◌≡◌, ℕ, ◌+◌, ◌≤◌, ◌<◌, List, [], length, Bool, true, false, Ok, Err, refl, inl, inr, sym, ap, subst, ◌∙◌, ◌++◌, ◌∷◌, arith}
-use Rattle.std.proofs.lemmas.List.{length-append}
-use Rattle.std.specs.Prelude.{⊤, ◌⊎◌, ◌↔◌, OnOk, IfErr, Result}
-use Rattle.std.specs.Io.KnownBytes.{Consumes, IsAtEnd}
+use Rattle.std.proofs.Common.{◌≡◌, ℕ, ◌+◌, ◌≤◌, List, [], Bool, true, false, Ok, Err, refl, inl, inr, sym, ap, subst, ◌∙◌, ◌++◌, ◌∷◌, arith}
+use Rattle.std.specs.Prelude.{⊤, ◌⊎◌, OnOk, IfErr, Result}
+use Rattle.std.specs.Io.KnownBytes.{IsAtEnd}
 use Rattle.std.specs.declared.option.Option.{Option}
-use Rattle.std.specs.declared.option.Option.TheVariants.{None, Some}
 use Rattle.std.proofs.KnownBytes.{Consumes-nil}
 use Rattle.cp_outside.specs.Causes.{Accounts, Rose}
 use Rattle.cp_outside.specs.FileReads.{FileTable}
@@ -34,12 +31,12 @@ use Rattle.cp_workspace.specs.Faults.{IsFailedFile}
 use Rattle.cp_workspace.proofs.ReadCounts.{read-sum, table-first, table-second}
 use Rattle.cp_workspace.proofs.Standing.{on-ok}
 use Rattle.cp_program.specs.Texts.{file_line, memory_line}
-use Rattle.cp_program.specs.Job.{job_so_far, job, scratch_terms, scratch_session, refused_start}
+use Rattle.cp_scratch.specs.Sessions.{scratch_session, scratch_terms}
+use Rattle.cp_program.specs.Job.{job_so_far, job, refused_start}
 use Rattle.cp_program.specs.Outside.{KnownInput, KnownClock, KnownOutput, Outside}
 use Rattle.cp_program.specs.Play.{begun, plays, plays_all}
 use Rattle.cp_program.specs.Story.{WritesLast, SaidLine, Leaving, left_on, unseen, AllDone, OutputStopped, StoppedInside, Did, DidFrom, work_on, IsRunning, Ran, HasCauses, DiskCauses, result_of}
 use Rattle.cp_program.specs.Begins.{Begun}
-use Rattle.cp_program.specs.Ends.{code_of}
 use Rattle.cp_program.specs.Turns.{Follows, MayGoOn, work_from, RanFrom, TellsStop, end_of_stop}
 use Rattle.cp_program.specs.declared.interpreter.Interpreter.{Interpreter}
 use Rattle.cp_program.specs.declared.end.End.{End}

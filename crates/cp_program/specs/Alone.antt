@@ -1,5 +1,5 @@
 -- Calls that hand a session one statement: what it replies, and what a load of a source into a store did.
-use Rattle.std.specs.Prelude.{◌≡◌, ◌⊎◌, ℕ, ◌≤◌, List, [], ◌∷◌, Bool, true, false, IsTrue}
+use Rattle.std.specs.Prelude.{◌≡◌, ◌⊎◌, ℕ, ◌≤◌, List, [], ◌∷◌, true, false, IsTrue}
 use Rattle.std.specs.List.{flat_map, list_any}
 use Rattle.cp_outside.specs.FileReads.{FileTable}
 use Rattle.cp_model.specs.History.{Entry}

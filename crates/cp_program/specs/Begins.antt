@@ -2,11 +2,9 @@
 use Rattle.std.specs.Prelude.{◌≡◌, ◌⊎◌, ℕ, ◌≤◌, List, [], ◌∷◌, Bool, true, IsTrue, Result, Ok, Err, IfErr, ⊤}
 use Rattle.cp_model.specs.Keyed.{len}
 use Rattle.cp_model.specs.Tree.{Tree}
-use Rattle.std.specs.declared.option.Option.TheVariants.{Some}
-use Rattle.cp_model.specs.History.{Entry, State, start}
+use Rattle.cp_model.specs.History.{Entry, start}
 use Rattle.cp_model.specs.declared.kind.Kind.{Kind}
 use Rattle.cp_outside.specs.FileReads.{FileTable}
-use Rattle.cp_disk.specs.MemoryDisks.{SureState, sure_view, sure_counts}
 use Rattle.cp_disk.specs.Views.{Rests, Keeps}
 use Rattle.cp_journal.specs.NewStores.{IsVacant}
 use Rattle.cp_file.specs.Stands.{IsStore, Opens, StandsFor}
@@ -21,14 +19,14 @@ use Rattle.cp_reply.specs.declared.reply.Why.{Why}
 use Rattle.cp_reply.specs.declared.reply.Why.TheVariants as why
 use Rattle.cp_reply.specs.declared.reply.Reply.{Reply}
 use Rattle.cp_reply.specs.declared.reply.Reply.TheVariants as reply
-use Rattle.cp_session.specs.Session.{Session, FetchedFile, gives, withholds}
-use Rattle.cp_workspace.specs.Texts.{Terms}
+use Rattle.cp_session.specs.Session.{FetchedFile, gives, withholds}
 use Rattle.cp_workspace.specs.Disks.{KnownDisk}
 use Rattle.cp_workspace.specs.Files.{KnownFiles, HasRead, IsTable}
 use Rattle.cp_workspace.specs.Workspaces as workspace
 use Rattle.cp_workspace.specs.Workspaces.{HoldsFile, opened_session}
 use Rattle.cp_workspace.specs.declared.workspace.Workspace.{Workspace}
-use Rattle.cp_program.specs.Job.{Report, is_refusal, scratch_terms, scratch_session}
+use Rattle.cp_scratch.specs.Sessions.{scratch_session, scratch_terms}
+use Rattle.cp_program.specs.Job.{Report, is_refusal}
 use Rattle.cp_program.specs.Outside.{KnownOutput}
 use Rattle.cp_program.specs.Play.{begun}
 use Rattle.cp_program.specs.Story.{frames_end, left_on, store_terms, SaidLine, LeavesStart}
@@ -41,10 +39,6 @@ use Rattle.cp_program.specs.declared.stop.Stop.{Stop}
 use Rattle.cp_program.specs.declared.stop.Stop.TheVariants.{Output, Full, File, Disk, NoStore, Clock, Memory}
 
 -- ---- in memory
-
--- a disk in memory, which never fails
-abbrev pub sure_disk : SureState → KnownDisk
-sure_disk s = record { known = true; view = sure_view s; counts = sure_counts s }
 
 -- the session on the tree that is given, or why none is
 abbrev pub Begun : {R S : Type 0} → (R → Tree) → (S → Tree) → KnownDisk → Kind → FetchedFile → Result (Interpreter R S) Why → Type 0

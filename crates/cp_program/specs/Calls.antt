@@ -1,6 +1,6 @@
 -- One call of the program: its words, what was done for them, and how it ended.
 use Rattle.cp_program.specs.declared.limits.TheConstants.{INPUT_MAX}
-use Rattle.std.specs.Prelude.{◌≡◌, ◌⊎◌, ℕ, ◌≤◌, List, [], length, Bool, true, false, IsTrue, if◌then◌else◌, ⊤}
+use Rattle.std.specs.Prelude.{◌≡◌, ◌⊎◌, ℕ, ◌≤◌, List, [], length, true, false, IsTrue, ⊤}
 use Rattle.std.specs.declared.option.Option.{Option}
 use Rattle.std.specs.declared.option.Option.TheVariants.{None, Some}
 use Rattle.cp_disk.specs.Views.{Rests}
@@ -15,7 +15,7 @@ use Rattle.cp_program.specs.Outside.{Outside}
 use Rattle.cp_program.specs.Ends.{code_of}
 use Rattle.cp_program.specs.Story.{WritesLast, Ran, RanOn, Made, HasCauses, DiskCauses, IsFaultless}
 use Rattle.cp_program.specs.Alone.{Loaded}
-use Rattle.cp_program.specs.Answering.{Answered, answer_report, log_report}
+use Rattle.cp_program.specs.Answering.{Answered, Generated, answer_report, log_report}
 use Rattle.cp_program.specs.Scripts.{Committed}
 use Rattle.cp_program.specs.declared.end.End.{End}
 use Rattle.cp_program.specs.declared.end.End.TheVariants as how
@@ -39,23 +39,6 @@ pub record RanOut (before now : Outside) (v w : KnownDisk) (end : End) : Type 0 
   pub wrote : WritesLast before.output now.output [] memory_line
   pub rests : Rests v.view w.view
 
--- the commands that are built: not yet the run of a drawn script, whose words fit no row until then
-abbrev pub is_built : Command → Bool
-is_built (words.Scratch k from) = true
-is_built (words.Init k from) = true
-is_built (words.Run curator) = true
-is_built (words.Commit file curator) = true
-is_built (words.Load l) = true
-is_built (words.Ask q) = true
-is_built (words.Show p) = true
-is_built (words.Generate seed count k) = false
-is_built words.Log = true
-
--- what is asked for, if it is built
-abbrev pub built : Option Command → Option Command
-built None = None
-built (Some x) = if is_built x then Some x else None
-
 -- What was done for a command.
 abbrev pub DidCommand : Command → Outside → Outside → KnownDisk → KnownDisk → End → Type 0
 DidCommand (words.Scratch k from) before now v w end = Ran k (λ files. start_given files from) (start_reads from) before now end
@@ -65,7 +48,7 @@ DidCommand (words.Commit file curator) before now v w end = Committed file curat
 DidCommand (words.Load l) before now v w end = Loaded l before now v w end
 DidCommand (words.Ask q) before now v w end = Answered true (answer_report (stmt.Ask q)) before now v w end
 DidCommand (words.Show p) before now v w end = Answered true (answer_report (stmt.Show p)) before now v w end
-DidCommand (words.Generate seed count k) before now v w end = ⊥
+DidCommand (words.Generate seed count k) before now v w end = Generated k seed count before now end
 DidCommand words.Log before now v w end = Answered false log_report before now v w end
 
 -- What was done for the words: for their command, or, where they fit no row, the usage was given.

@@ -2,11 +2,7 @@
 use Rattle.std.specs.Prelude.{ℕ, ◌+◌, List, [], ◌∷◌, Bool, true, false}
 use Rattle.std.specs.List.{flat_map, list_any}
 use Rattle.cp_model.specs.Place.{target}
-use Rattle.cp_model.specs.Keyed as keyed
-use Rattle.cp_model.specs.Tree.{Tree}
-use Rattle.cp_model.specs.History.{Entry, start}
-use Rattle.cp_model.specs.declared.row.Content.TheVariants.{Node}
-use Rattle.cp_model.specs.declared.kind.Kind.{Kind}
+use Rattle.cp_model.specs.History.{Entry}
 use Rattle.cp_model.specs.declared.query.Form.TheVariants.{Json}
 use Rattle.cp_lang.specs.Cuts.{cuts_in, cuts_of}
 use Rattle.cp_lang.specs.declared.cut.Cut.{Cut}
@@ -18,20 +14,14 @@ use Rattle.cp_reply.specs.declared.reply.Reply.{Reply}
 use Rattle.cp_reply.specs.declared.reply.Reply.TheVariants as reply
 use Rattle.cp_session.specs.Session.{Setting, FetchedFile, gives, Session, turn, replies_to, session_after}
 use Rattle.cp_outside.specs.FileReads.{FileTable}
-use Rattle.cp_journal.specs.declared.limits.TheConstants.{HEADER_SIZE, FRAME_HEAD}
-use Rattle.cp_file.specs.Sizes.{start_size}
 use Rattle.cp_workspace.specs.Texts.{Terms, setting}
 use Rattle.cp_workspace.specs.Fetching.{fetch}
 use Rattle.cp_workspace.specs.Loads.{cut_reads}
-use Rattle.cp_workspace.specs.Workspaces.{opened_session}
+use Rattle.cp_scratch.specs.Sessions.{empty_tree}
 use Rattle.cp_words.specs.declared.command.Start.{Start}
 use Rattle.cp_words.specs.declared.command.Start.TheVariants.{Alone, TreeIn}
 
 -- ---- starts
-
--- a root alone
-abbrev pub empty_tree : Tree
-empty_tree = keyed.from_entries (([], Node) ∷ [])
 
 -- the tree of a JSON file, as if it were loaded under the name T
 abbrev pub start_load : List ℕ → Load
@@ -46,13 +36,6 @@ start_given files (TreeIn file) = fetch files (start_load file)
 abbrev pub start_reads : Start → ℕ
 start_reads Alone = 0
 start_reads (TreeIn file) = 1
-
--- a session in memory on a history of its own: its commits have no curator
-abbrev pub scratch_terms : Kind → Tree → Terms
-scratch_terms k t = record { ends = record { entries = start k t ∷ []; at = HEADER_SIZE + FRAME_HEAD + start_size t }; curator = [] }
-
-abbrev pub scratch_session : Kind → Tree → List ℕ → Session
-scratch_session k t moments = opened_session (start k t ∷ []) moments
 
 -- ---- reports
 

@@ -1,8 +1,6 @@
 -- What a call did to the outside, by how it ended.
 use Rattle.cp_program.specs.declared.limits.TheConstants.{INPUT_MAX, PIECE_MAX}
 use Rattle.std.specs.Prelude.{◌≡◌, ◌⊎◌, ◌↔◌, ℕ, ◌≤◌, ◌<◌, ◌+◌, List, [], ◌∷◌, ◌++◌, length, take, drop, Bool, true, false, IsTrue, Result, Ok, Err, ⊤, OnOk}
-use Rattle.std.specs.declared.option.Option.{Option}
-use Rattle.std.specs.declared.option.Option.TheVariants.{None, Some}
 use Rattle.std.specs.Io.KnownBytes.{Appends, Consumes, IsAtEnd}
 use Rattle.cp_outside.specs.Causes.{Accounts, Rose}
 use Rattle.cp_outside.specs.FileReads.{FileTable}
@@ -28,9 +26,9 @@ use Rattle.cp_workspace.specs.Files.{HasRead, IsTable}
 use Rattle.cp_workspace.specs.Disks.{KnownDisk}
 use Rattle.cp_workspace.specs.Workspaces.{opened_session}
 use Rattle.cp_program.specs.Texts.{input_line, file_line, disk_line, no_store_line, memory_line, too_long_line, clock_line}
-use Rattle.cp_program.specs.Job.{Report, start_given, start_reads, scratch_terms, scratch_session, job_so_far, job, refused_start}
+use Rattle.cp_scratch.specs.Sessions.{scratch_session, scratch_terms}
+use Rattle.cp_program.specs.Job.{Report, job_so_far, job, refused_start}
 use Rattle.cp_program.specs.Outside.{KnownOutput, World, Outside, world_of}
-use Rattle.cp_program.specs.Ends.{code_of}
 use Rattle.cp_program.specs.declared.end.End.{End}
 use Rattle.cp_program.specs.declared.end.End.TheVariants as how
 

@@ -72,7 +72,7 @@ fn give_answer<O: Sink>(alloc: Global, answer: Result<Reply, Stop>, output: &mut
     ensures cause { IfErr answer IsOpeningStop → Accounts (λ e. e ≡ End.Output) (O.faults output.old) (O.faults output.new) (result_of result) }
 {
     match answer {
-        Ok(reply) => end_with(alloc, &reply, output),
+        Ok(reply) => end_with(alloc, reply, output),
         Err(stop) => stopped(output, stop),
     }
 }

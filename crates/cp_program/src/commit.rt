@@ -57,7 +57,7 @@ fn play_file<R: TreeRep, S: TreeRep, D: Disk, F: Files, K: Clock, O: Sink>(
 {
     match read_script(alloc, file, files) {
         Ok(Ok(mut script)) => turns(session, piece, disk, files, clock, &mut script, output),
-        Ok(Err(why)) => end_with(alloc, &refused(why), output),
+        Ok(Err(why)) => end_with(alloc, refused(why), output),
         Err(fault) => stopped(output, Stop::from(fault)),
     }
 }

@@ -95,7 +95,7 @@ pub(crate) fn init<R: TreeRep, D: Disk, F: Files, O: Sink>(
     ensures short { result ≡ End.TooLong → ⊥ }
 {
     match make::<R, D, F>(alloc, kind, start, disk, files) {
-        Ok(reply) => end_with(alloc, &reply, output),
+        Ok(reply) => end_with(alloc, reply, output),
         Err(stop) => stopped(output, stop),
     }
 }

@@ -11,7 +11,7 @@ ghost use Rattle.cp_program.specs.Play.{plays, after_play};
 ghost use Rattle.cp_program.specs.Turns.{MayGoOn, SendsOut, Went, WasFed, RanLast, Uses, UsesOutput, IsOpenedStop, cuts_play, after_cuts};
 
 use crate::stop::Stop;
-use crate::tell::tell;
+use crate::tell::{give_up, is_refusal, tell};
 use cp_clock::Clock;
 use cp_disk::Disk;
 use cp_lang::{Cut, Cutter};
@@ -32,15 +32,6 @@ pub(crate) struct Interpreter<R: TreeRep, S: TreeRep> {
     text: Vec<u8>,
     /// Whether a refusal was written.
     refused: bool,
-}
-
-fn is_refusal(reply: &Reply) -> bool
-    ensures { result ≡ is_refusal reply.now }
-{
-    match reply {
-        Reply::Refused { .. } => true,
-        _ => false,
-    }
 }
 
 impl<R: TreeRep, S: TreeRep> Interpreter<R, S> {
@@ -67,15 +58,18 @@ impl<R: TreeRep, S: TreeRep> Interpreter<R, S> {
     }
 
     /// Writes the lines of a reply, and notes whether it is a refusal.
-    fn say<O: Sink>(&mut self, reply: &Reply, output: &mut O) -> Result<(), Stop>
-        ensures went { SendsOut (lines reply.now) (O.contents output.old) (O.contents output.new) result }
+    fn say<O: Sink>(&mut self, reply: Reply, output: &mut O) -> Result<(), Stop>
+        ensures went { SendsOut (lines reply) (O.contents output.old) (O.contents output.new) result }
         ensures held { OnOk result (self.new.cutter ≡ self.old.cutter) }
         ensures workspace { OnOk result (self.new.workspace ≡ self.old.workspace) }
-        ensures refused { OnOk result (self.new.refused ≡ (self.old.refused || is_refusal reply.now)) }
+        ensures refused { OnOk result (self.new.refused ≡ (self.old.refused || is_refusal reply)) }
         ensures used { UsesOutput (known_output O.Sink output.old) (known_output O.Sink output.new) result }
     {
-        tell(self.alloc, reply, &mut self.text, output)?;
-        self.refused = self.refused || is_refusal(reply);
+        let told = tell(self.alloc, &reply, &mut self.text, output);
+        let refused = is_refusal(&reply);
+        give_up(reply);
+        told?;
+        self.refused = self.refused || refused;
         Ok(())
     }
 
@@ -104,7 +98,7 @@ impl<R: TreeRep, S: TreeRep> Interpreter<R, S> {
             .workspace
             .reply_to(self.alloc, cut, disk, files, clock)?
         {
-            Some(reply) => self.say(&reply, output),
+            Some(reply) => self.say(reply, output),
             None => Ok(()),
         }
     }

@@ -5,6 +5,7 @@
 mod answer;
 mod commit;
 mod end;
+mod generate;
 mod init;
 mod interpreter;
 mod limits;

@@ -77,7 +77,7 @@ pub(crate) fn load<R: TreeRep, S: TreeRep, D: Disk, F: Files, O: Sink>(
     ensures disk { DiskCauses (known_disk D.Disk disk.old) (known_disk D.Disk disk.new) result }
 {
     match reply_to_load::<R, S, D, F>(alloc, source, disk, files) {
-        Ok(reply) => end_with(alloc, &reply, output),
+        Ok(reply) => end_with(alloc, reply, output),
         Err(stop) => stopped(output, stop),
     }
 }

@@ -1,5 +1,5 @@
 //! A call: its words, what they ask for, and its end.
-ghost use Rattle.std.specs.Prelude.{◌≡◌, ◌⊎◌, ◌≤◌, [], true, map, string_bytes};
+ghost use Rattle.std.specs.Prelude.{◌≡◌, ◌⊎◌, ◌≤◌, [], map, string_bytes};
 ghost use Rattle.std.specs.declared.option.Option.TheVariants.{None, Some};
 ghost use Rattle.cp_words.specs.Commands.{command_of, IsWrittenCommand};
 ghost use Rattle.cp_workspace.specs.Disks.{known_disk};
@@ -7,11 +7,12 @@ ghost use Rattle.cp_program.specs.Texts.{usage_text};
 ghost use Rattle.cp_program.specs.Ends.{code_of};
 ghost use Rattle.cp_program.specs.Outside.{known_output, known_outside};
 ghost use Rattle.cp_program.specs.Story.{WritesLast, HasCauses, DiskCauses};
-ghost use Rattle.cp_program.specs.Calls.{built, is_built, DidCommand, LeavesDisk, NeedsNoDisk, IsShort, Called};
+ghost use Rattle.cp_program.specs.Calls.{DidCommand, LeavesDisk, NeedsNoDisk, IsShort, Called};
 
 use crate::answer::{ask, list_commits, show};
 use crate::commit::commit;
 use crate::end::{End, Status};
+use crate::generate::generate;
 use crate::init::init;
 use crate::load::load;
 use crate::scratch::scratch;
@@ -38,7 +39,6 @@ fn run_command<R: TreeRep, S: TreeRep, D: Disk, F: Files, K: Clock, I: Source, O
     output: &mut O,
 ) -> End
     requires written { IsWrittenCommand command }
-    requires built { is_built command ≡ true }
     ensures ran { DidCommand command
         (known_outside F.Files K.Clock I.Source O.Sink files.old clock.old input.old output.old)
         (known_outside F.Files K.Clock I.Source O.Sink files.new clock.new input.new output.new)
@@ -66,16 +66,11 @@ fn run_command<R: TreeRep, S: TreeRep, D: Disk, F: Files, K: Clock, I: Source, O
         Command::Load(source) => load::<R, S, D, F, O>(alloc, source, disk, files, output),
         Command::Ask(query) => ask::<R, S, D, O>(alloc, query, disk, output),
         Command::Show(place) => show::<R, S, D, O>(alloc, place, disk, output),
-        Command::Generate { .. } => unreachable!(),
+        Command::Generate { seed, count, kind } => {
+            generate::<R, S, O>(alloc, seed, count, kind, output)
+        }
         Command::Log => list_commits::<R, S, D, O>(alloc, disk, output),
     }
-}
-
-/// Whether a command is built: not yet the run of a drawn script.
-fn is_built(command: &Command) -> bool
-    ensures { result ≡ is_built command.now }
-{
-    !matches!(command, Command::Generate { .. })
 }
 
 /// Writes the usage.
@@ -102,7 +97,7 @@ fn status_of(end: End) -> Status
 /// end comes, and its lines are written before the next is run; one that is refused doesn't end the session. Of the input's
 /// bytes no more are kept than a piece and the text of one statement, which has at most 1,048,576 bytes; of a source file no
 /// more than 67,108,864 are read, and none are kept once it is loaded. A start tree that is refused has one line, and then
-/// no input is read. A session in memory and words that fit no row make no call on the disk.
+/// no input is read. A session or a workload in memory and words that fit no row make no call on the disk.
 ///
 /// Status 0 says that all was done, 1 that all was done and some line is a refusal, 2 that the words fit no row, 3 that
 /// the input or a file failed, 4 that the output failed, 5 that the disk failed, 6 that the file is no store, 7 that memory
@@ -119,13 +114,13 @@ pub fn run_cpdb<R: TreeRep, S: TreeRep, D: Disk, F: Files, K: Clock, I: Source, 
     input: &mut I,
     output: &mut O,
 ) -> Status
-    ensures call { Called (built (command_of (map string_bytes words.now)))
+    ensures call { Called (command_of (map string_bytes words.now))
         (known_outside F.Files K.Clock I.Source O.Sink files.old clock.old input.old output.old)
         (known_outside F.Files K.Clock I.Source O.Sink files.new clock.new input.new output.new)
         (known_disk D.Disk disk.old) (known_disk D.Disk disk.new) result.code }
-    ensures usage { result.code ≡ 2 → built (command_of (map string_bytes words.now)) ≡ None }
-    ensures unfitting { built (command_of (map string_bytes words.now)) ≡ None → (result.code ≡ 2) ⊎ (result.code ≡ 7) }
-    ensures untouched { NeedsNoDisk (built (command_of (map string_bytes words.now))) → disk.new ≡ disk.old }
+    ensures usage { result.code ≡ 2 → command_of (map string_bytes words.now) ≡ None }
+    ensures unfitting { command_of (map string_bytes words.now) ≡ None → (result.code ≡ 2) ⊎ (result.code ≡ 7) }
+    ensures untouched { NeedsNoDisk (command_of (map string_bytes words.now)) → disk.new ≡ disk.old }
 {
     let Ok(asked) = command_of(alloc, words) else {
         return status_of(out_of_memory(output));
@@ -133,9 +128,6 @@ pub fn run_cpdb<R: TreeRep, S: TreeRep, D: Disk, F: Files, K: Clock, I: Source, 
     let Some(command) = asked else {
         return status_of(give_usage(output));
     };
-    if !is_built(&command) {
-        return status_of(give_usage(output));
-    }
     let end = run_command::<R, S, D, F, K, I, O>(alloc, command, disk, files, clock, input, output);
     status_of(end)
 }

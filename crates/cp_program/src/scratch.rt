@@ -10,8 +10,9 @@ ghost use Rattle.cp_db.specs.Databases as database;
 ghost use Rattle.cp_db.specs.Databases.{IsKept, IsReady, end_in, is_spent, version_in};
 ghost use Rattle.cp_workspace.specs.Faults.{IsFailedFile};
 ghost use Rattle.cp_workspace.specs.Files.{known_files, IsTable, Reads, UsesFiles};
-ghost use Rattle.cp_program.specs.Begins.{Begun, sure_disk};
-ghost use Rattle.cp_program.specs.Job.{start_given, start_reads, scratch_terms, scratch_session};
+ghost use Rattle.cp_scratch.specs.Sessions.{scratch_session, scratch_terms, sure_disk};
+ghost use Rattle.cp_program.specs.Begins.{Begun};
+ghost use Rattle.cp_program.specs.Job.{start_given, start_reads};
 ghost use Rattle.cp_program.specs.Outside.{known_outside};
 ghost use Rattle.cp_program.specs.Story.{Ran, HasCauses};
 ghost use Rattle.cp_program.specs.Play.{begun};
@@ -25,36 +26,15 @@ use crate::start::{end_with, no_curator, start_tree};
 use crate::stop::Stop;
 use crate::tell::{out_of_memory, stopped};
 use cp_clock::Clock;
-use cp_db::{Db, InitFault};
 use cp_disk::SureDisk;
 use cp_model::Kind;
 use cp_outside::{Files, FilesFault, Sink, Source};
 use cp_reply::{Of, Reply, Why};
+use cp_scratch::new_db;
 use cp_tree::TreeRep;
 use cp_words::Start;
 use cp_workspace::Workspace;
 use std::alloc::{AllocError, Global};
-
-/// A database of a kind on this tree, in memory.
-pub(crate) fn new_db<R: TreeRep, S: TreeRep>(
-    alloc: Global,
-    kind: Kind,
-    tree: R,
-    disk: &mut SureDisk,
-) -> Result<Db<R, S>, AllocError>
-    requires vacant { IsVacant (sure_view disk.old).content }
-    ensures stands { IfOk result (λ d. (right : Bool) → database.Stands R.contents S.contents right d (start kind (R.contents tree) ∷ [])) }
-    ensures kept { IfOk result (λ d. IsKept true d (start kind (R.contents tree) ∷ []) (sure_view disk.new)) }
-    ensures made { IfOk result (λ d. (version_in d ≡ 2) × (is_spent d ≡ false)
-        × (end_in d ≡ HEADER_SIZE + FRAME_HEAD + start_size (R.contents tree))) }
-    ensures ready { IfOk result (λ d. IsReady d (sure_view disk.new)) }
-{
-    match Db::init(alloc, disk, kind, tree) {
-        Ok(db) => Ok(db),
-        Err(InitFault::Exists | InitFault::Disk) => unreachable!(),
-        Err(InitFault::Memory) => Err(AllocError),
-    }
-}
 
 /// A session of a kind on this tree.
 fn session_on<R: TreeRep, S: TreeRep>(
@@ -138,7 +118,7 @@ pub(crate) fn scratch<R: TreeRep, S: TreeRep, F: Files, K: Clock, I: Source, O: 
             input,
             output,
         ),
-        Ok(Err(why)) => end_with(alloc, &refused_start(why), output),
+        Ok(Err(why)) => end_with(alloc, refused_start(why), output),
         Err(fault) => stopped(output, Stop::from(fault)),
     }
 }

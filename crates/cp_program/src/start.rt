@@ -13,7 +13,7 @@ ghost use Rattle.cp_program.specs.Turns.{SendsOut, UsesOutput};
 
 use crate::end::End;
 use crate::stop::Stop;
-use crate::tell::{stopped, tell};
+use crate::tell::{give_up, is_refusal, stopped, tell};
 use cp_model::{Content, Form};
 use cp_outside::{Files, FilesFault, Sink};
 use cp_path::{Label, Name};
@@ -53,12 +53,6 @@ pub(crate) fn no_curator(alloc: Global) -> Result<Label, AllocError>
     }
 }
 
-fn is_refusal(reply: &Reply) -> bool
-    ensures { result ≡ is_refusal reply.now }
-{
-    matches!(reply, Reply::Refused { .. })
-}
-
 /// Writes the lines of a reply that stands alone.
 fn tell_alone<O: Sink>(alloc: Global, reply: &Reply, output: &mut O) -> Result<(), Stop>
     ensures went { SendsOut (lines reply.now) (O.contents output.old) (O.contents output.new) result }
@@ -69,12 +63,15 @@ fn tell_alone<O: Sink>(alloc: Global, reply: &Reply, output: &mut O) -> Result<(
 }
 
 /// Writes the lines of a reply with which a call ends.
-pub(crate) fn end_with<O: Sink>(alloc: Global, reply: &Reply, output: &mut O) -> End
-    ensures said { SaidLine (lines reply.now) (is_refusal reply.now) (known_output O.Sink output.old) (known_output O.Sink output.new) result }
+pub(crate) fn end_with<O: Sink>(alloc: Global, reply: Reply, output: &mut O) -> End
+    ensures said { SaidLine (lines reply) (is_refusal reply) (known_output O.Sink output.old) (known_output O.Sink output.new) result }
     ensures cause { Accounts (λ e. e ≡ End.Output) (O.faults output.old) (O.faults output.new) (result_of result) }
 {
-    match tell_alone(alloc, reply, output) {
-        Ok(()) if is_refusal(reply) => End::Refused,
+    let told = tell_alone(alloc, &reply, output);
+    let refused = is_refusal(&reply);
+    give_up(reply);
+    match told {
+        Ok(()) if refused => End::Refused,
         Ok(()) => End::Done,
         Err(stop) => stopped(output, stop),
     }

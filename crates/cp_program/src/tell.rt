@@ -1,6 +1,7 @@
 //! Lines that go to the output: replies, and the last line of a call that doesn't end with one.
 ghost use Rattle.std.specs.Prelude.{◌≡◌, ◌≤◌, []};
 ghost use Rattle.cp_reply.specs.Lines.{lines};
+ghost use Rattle.cp_program.specs.Job.{is_refusal};
 ghost use Rattle.cp_program.specs.Texts.{memory_line, no_store_line};
 ghost use Rattle.cp_program.specs.Outside.{known_output};
 ghost use Rattle.cp_program.specs.Story.{WritesLast};
@@ -12,6 +13,16 @@ use cp_outside::{Sink, write_all};
 use cp_reply::{Reply, lines};
 use itoa::Buffer;
 use std::alloc::Global;
+
+/// Gives up a reply that was written. It is taken apart here and nowhere else.
+pub(crate) fn give_up(_reply: Reply) {}
+
+/// Whether a reply refuses something.
+pub(crate) fn is_refusal(reply: &Reply) -> bool
+    ensures { result ≡ is_refusal reply.now }
+{
+    matches!(reply, Reply::Refused { .. })
+}
 
 /// Writes the lines of a reply, by way of `text`, whose old contents are dropped.
 pub(crate) fn tell<O: Sink>(

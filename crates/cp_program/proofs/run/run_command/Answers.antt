@@ -91,3 +91,13 @@ returns-in-Commit-clause-short g c = λ h s. (c.commit.ensures.ran (known_input 
 
 pub returns-in-Load-clause-short : goal.returns-in-Load-clause-short
 returns-in-Load-clause-short g c = λ h s. (c.load.ensures.ran (known_input g.I.Source c.args.input.now) (known_clock g.K.Clock c.args.clock.now)).short h
+
+pub returns-in-Generate-clause-ran : goal.returns-in-Generate-clause-ran
+returns-in-Generate-clause-ran g c =
+    let before = known_outside g.F.Files g.K.Clock g.I.Source g.O.Sink c.args.files.now c.args.clock.now c.args.input.now c.args.output.now in
+    let now = known_outside g.F.Files g.K.Clock g.I.Source g.O.Sink c.args.files.now c.args.clock.now c.args.input.now c.generate.new.output in
+    let v = known_disk g.D.Disk c.args.disk.now in
+    subst (λ (a : Command). DidCommand a before now v v c.generate.result) (sym c.in-Generate.is) (c.generate.ensures.ran (known_input g.I.Source c.args.input.now) (known_files g.F.Files c.args.files.now) (known_clock g.K.Clock c.args.clock.now))
+
+pub returns-in-Generate-clause-causes : goal.returns-in-Generate-clause-causes
+returns-in-Generate-clause-causes g c = c.generate.ensures.causes (known_input g.I.Source c.args.input.now) (known_files g.F.Files c.args.files.now) (known_clock g.K.Clock c.args.clock.now)

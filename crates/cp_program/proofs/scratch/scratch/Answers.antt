@@ -7,7 +7,8 @@ use Rattle.cp_reply.specs.declared.reply.Reply.{Reply}
 use Rattle.cp_program.specs.Job.{start_given, start_reads, is_refusal, refused_start}
 use Rattle.cp_program.specs.Outside.{known_input, known_clock, known_output, known_outside}
 use Rattle.cp_program.specs.Story.{SaidLine, Ran, HasCauses}
-use Rattle.cp_program.specs.Begins.{Begun, sure_disk}
+use Rattle.cp_scratch.specs.Sessions.{sure_disk}
+use Rattle.cp_program.specs.Begins.{Begun}
 use Rattle.cp_program.specs.Turns.{MayGoOn}
 use Rattle.cp_program.specs.declared.end.End.{End}
 use Rattle.cp_program.proofs.Runs.{parts}
