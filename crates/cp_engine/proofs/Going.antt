@@ -7,8 +7,6 @@ use Rattle.std.specs.declared.option.Option.TheVariants.{None}
 use Rattle.cp_model.specs.Tree.{Tree, Source, IsTree, refusal, tree_after}
 use Rattle.cp_model.specs.Laws.{AreSources, AreTrees, Sound}
 use Rattle.cp_model.specs.Step.{Working, contents, open_tree, apply_op, done, then_op, step}
-use Rattle.cp_model.specs.Place.{Path}
-use Rattle.cp_model.specs.declared.record.RowMark.{RowMark as Mark}
 use Rattle.cp_model.specs.History.{IsWritten, AreWritten, rows_of, with_tid}
 use Rattle.cp_model.specs.declared.kind.Kind.{Kind}
 use Rattle.cp_model.specs.declared.kind.Kind.TheVariants as kind
@@ -25,7 +23,7 @@ use Rattle.cp_overlay.specs.Kept.{Kept}
 use Rattle.cp_overlay.specs.Kept as overlay
 use Rattle.cp_overlay.specs.Seen.{seen}
 use Rattle.cp_engine.specs.Passed.{Stage, stage_after, next_stage, AllAccepted, outcome_records, records_of}
-use Rattle.cp_engine.specs.RowsAlone.{op_rows, top_rows}
+use Rattle.cp_engine.specs.RowsAlone.{rows_in}
 use Rattle.cp_engine.proofs.RowsAloneLemmas.{rows-alone}
 use Rattle.cp_engine.proofs.TopRows.{reduced-alone}
 use Rattle.cp_engine.proofs.KeptRecords.{held-kept, given-up-kept}
@@ -35,13 +33,7 @@ use Rattle.cp_engine.specs.Transactions.{Keeps, Adds, Packs, AreGivenUp, IsGoing
 use Rattle.cp_engine.specs.declared.kept.StepRecords.{StepRecords}
 use Rattle.cp_engine.specs.declared.txn.Txn.{Txn}
 
--- the rows of an operation in each kind
-abbrev rows_in : Kind → List Source → Tree → Op → List (Path × Mark)
-rows_in kind.N ss t op = op_rows ss t op
-rows_in kind.T ss t op = op_rows ss t op
-rows_in kind.H ss t op = top_rows op
-rows_in kind.HT ss t op = top_rows op
-
+-- the rows that a kind keeps of an operation are the operation's rows
 rows-in : (k : Kind) (ss : List Source) (t : Tree) (op : Op) → AreTrees ss → IsTree t → IsWritten op → refusal ss t op ≡ None → rows_of k t (apply_op ss (open_tree t) op) ≡ rows_in k ss t op
 rows-in kind.N ss t op r h w n = rows-alone ss t op h w n
 rows-in kind.T ss t op r h w n = rows-alone ss t op h w n
@@ -49,7 +41,7 @@ rows-in kind.H ss t op r h w n = reduced-alone ss t op r h w n
 rows-in kind.HT ss t op r h w n = reduced-alone ss t op r h w n
 
 -- the records of one accepted operation more
-pass-records : (k : Kind) (ss : List Source) (x : Stage) (op : Op) → AreTrees ss → IsTree x.tree → IsWritten op → refusal ss x.tree op ≡ None → (next_stage k ss x op).records ≡ x.records ++ with_tid x.next (rows_in k ss x.tree op)
+pub pass-records : (k : Kind) (ss : List Source) (x : Stage) (op : Op) → AreTrees ss → IsTree x.tree → IsWritten op → refusal ss x.tree op ≡ None → (next_stage k ss x op).records ≡ x.records ++ with_tid x.next (rows_in k ss x.tree op)
 unfolding next_stage
 pass-records k ss x op r h w n = ap (λ rows. x.records ++ with_tid x.next rows) (rows-in k ss x.tree op r h w n)
 
@@ -77,22 +69,27 @@ step-snoc ss t ops op k w e n =
 same-end : (j k : ℕ) (v w : Working) → done j v ≡ done k w → v ≡ w
 same-end j k v w e = cc
 
+-- an overlay that stands for a tree before any operation stands where none is done
+pub stands-begun : (o : Kept) (ss : List Source) (t : Tree) → ((t : Tree) → overlay.Stands o t (open_tree t)) → (w : Working) → step t ss [] ≡ done 0 w → overlay.Stands o t w
+unfolding step
+stands-begun o ss t h w d = subst (overlay.Stands o t) (same-end 0 0 (open_tree t) w d) (h t)
+
 -- nothing is kept where nothing is held
 kept-begun : (k : Kind) (rows : StepRecords) (o : Kept) (ss : List Source) (t : Tree) (n : ℕ) → AreKept rows [] → ((t : Tree) → overlay.Stands o t (open_tree t)) → Keeps k rows o ss t n []
-unfolding stage_after step
+unfolding stage_after
 kept-begun kind.N rows o ss t n e h = e
-kept-begun kind.T rows o ss t n e h = λ w d. subst (overlay.Stands o t) (same-end 0 0 (open_tree t) w d) (h t)
+kept-begun kind.T rows o ss t n e h = stands-begun o ss t h
 kept-begun kind.H rows o ss t n e h = e
-kept-begun kind.HT rows o ss t n e h = λ w d. subst (overlay.Stands o t) (same-end 0 0 (open_tree t) w d) (h t)
+kept-begun kind.HT rows o ss t n e h = stands-begun o ss t h
 
 -- what holds of a transaction's tree and operations, where one operation more is accepted
-record IsNext (k : Kind) (ss : List Source) (t : Tree) (n : ℕ) (ops : List Op) (op : Op) : Type 0 where
-  start : IsTree t
-  sources : AreSources ss
-  written : AreWritten ops
-  accepted : AllAccepted ss t ops
-  more : IsWritten op
-  accept : refusal ss (stage_after k ss t n ops).tree op ≡ None
+pub record IsNext (k : Kind) (ss : List Source) (t : Tree) (n : ℕ) (ops : List Op) (op : Op) : Type 0 where
+  pub start : IsTree t
+  pub sources : AreSources ss
+  pub written : AreWritten ops
+  pub accepted : AllAccepted ss t ops
+  pub more : IsWritten op
+  pub accept : refusal ss (stage_after k ss t n ops).tree op ≡ None
 
 -- one operation more in a step of its own
 records-more : (k : Kind) (rows more : StepRecords) (ss : List Source) (t : Tree) (n : ℕ) (ops : List Op) (op : Op) → IsNext k ss t n ops op → AreKept rows (stage_after k ss t n ops).records →
@@ -105,7 +102,7 @@ records-more k rows more ss t n ops op h e a =
     (a p.records e)
 
 -- one operation more in the open step
-stands-more : (k : Kind) (o later : Kept) (ss : List Source) (t : Tree) (n : ℕ) (ops : List Op) (op : Op) → IsNext k ss t n ops op → ((w : Working) → step t ss ops ≡ done (length ops) w → overlay.Stands o t w) →
+pub stands-more : (k : Kind) (o later : Kept) (ss : List Source) (t : Tree) (n : ℕ) (ops : List Op) (op : Op) → IsNext k ss t n ops op → ((w : Working) → step t ss ops ≡ done (length ops) w → overlay.Stands o t w) →
     overlay.Follows ss t o later op → (v : Working) → step t ss (ops ++ op ∷ []) ≡ done (length (ops ++ op ∷ [])) v → overlay.Stands later t v
 stands-more k o later ss t n ops op h e a v d =
     let x = accepted-step k ss t n ops h.accepted in
@@ -123,7 +120,7 @@ kept-more kind.H rows more o later ss t n ops op h e a = records-more kind.H row
 kept-more kind.HT rows more o later ss t n ops op h e a = stands-more kind.HT o later ss t n ops op h e a
 
 -- what is packed of the open step are its records
-packed-step : (k : Kind) (rs : List Record) (o : Kept) (ss : List Source) (t : Tree) (n : ℕ) (ops : List Op) → IsTree t → AreSources ss → AreWritten ops → AllAccepted ss t ops → ((w : Working) → step t ss ops ≡ done (length ops) w → overlay.Stands o t w) →
+pub packed-step : (k : Kind) (rs : List Record) (o : Kept) (ss : List Source) (t : Tree) (n : ℕ) (ops : List Op) → IsTree t → AreSources ss → AreWritten ops → AllAccepted ss t ops → ((w : Working) → step t ss ops ≡ done (length ops) w → overlay.Stands o t w) →
     ((w : Working) → overlay.IsWorking w → overlay.Stands o t w → contents w ≡ (stage_after k ss t n ops).tree → rs ≡ with_tid n (rows_of k t w)) → rs ≡ outcome_records k t n (step t ss ops)
 packed-step k rs o ss t n ops h s w a e p =
     let x = accepted-step k ss t n ops a in

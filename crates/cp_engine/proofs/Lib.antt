@@ -15,6 +15,7 @@ pub mod Loading
 mod Replayed
 pub mod Linked
 pub mod LoadedLemmas
+mod RecordingLemmas
 pub mod Rising
 pub mod RowsAloneLemmas
 pub mod Stepped

@@ -27,7 +27,7 @@ take_next (o ∷ ops) zero op h e = ap (λ x. x ∷ []) (sym e)
 take_next (o ∷ ops) (suc i) op h e = ap (λ os. o ∷ os) (take_next ops i op (omega arith) e)
 
 -- one more of them
-take_more : (ops : List Op) (i : ℕ) (op : Op) → i < length ops → op ≡ get_or ops i op → take (i + 1) ops ≡ take i ops ++ op ∷ []
+pub take_more : (ops : List Op) (i : ℕ) (op : Op) → i < length ops → op ≡ get_or ops i op → take (i + 1) ops ≡ take i ops ++ op ∷ []
 take_more ops i op h e = let n : i + 1 ≡ suc i = omega arith in ap (λ n. take n ops) n ∙ take_next ops i op h e
 
 accepted_at : (k : Kind) (ss : List Source) (x : Stage) (ops : List Op) (i : ℕ) (op : Op) → i < length ops → op ≡ get_or ops i op → AllAccepted ss x.tree ops → refusal ss (fold (next_stage k ss) x (take i ops)).tree op ≡ None

@@ -5,4 +5,5 @@ pub mod RowsAlone
 pub mod Copies
 pub mod Held
 pub mod Loaded
+pub mod Recording
 pub mod Transactions

@@ -1,6 +1,8 @@
 -- The rows of a step of one operation, in full and reduced.
 use Rattle.std.specs.Prelude.{◌<◌, List, [], ◌∷◌, ◌++◌, length, map, if◌then◌else◌, ⊤}
 use Rattle.cp_path.specs.declared.limits.TheConstants.{LABELS_MAX}
+use Rattle.cp_model.specs.declared.kind.Kind.{Kind}
+use Rattle.cp_model.specs.declared.kind.Kind.TheVariants as kind
 use Rattle.cp_model.specs.declared.op.Op.{Op}
 use Rattle.cp_model.specs.declared.op.Op.TheVariants.{Ins, Del, Copy}
 use Rattle.cp_model.specs.Place.{Path, place_eq, child, below_place}
@@ -25,6 +27,13 @@ unfoldable pub top_rows : Op → List (Path × Mark)
 top_rows (Ins p a l) = (child p.path a, I) ∷ []
 top_rows (Del a p) = (child p.path a, D) ∷ []
 top_rows (Copy q p) = if place_eq q p then [] else (p.path, C q) ∷ []
+
+-- the rows of one operation in each kind
+abbrev pub rows_in : Kind → List Source → Tree → Op → List (Path × Mark)
+rows_in kind.N ss t op = op_rows ss t op
+rows_in kind.T ss t op = op_rows ss t op
+rows_in kind.H ss t op = top_rows op
+rows_in kind.HT ss t op = top_rows op
 
 -- there may be one label more below the place of an insertion or a deletion
 abbrev pub HasRoom : Op → Type 0

@@ -16,7 +16,7 @@ use std::alloc::{AllocError, Global};
 
 /// Lets the overlay follow an operation of a step that began on the tree `start`. After an error it is as it was. Costs
 /// the origins that are kept at and below the operation's places.
-fn follow<R: TreeRep>(
+pub(crate) fn follow<R: TreeRep>(
     alloc: Global,
     overlay: &mut Overlay,
     start: &R,

@@ -8,6 +8,7 @@ mod fault;
 mod follow;
 mod held;
 mod kept;
+mod recording;
 mod replaying;
 mod rows;
 mod sources;
@@ -16,6 +17,7 @@ mod txn;
 
 pub use checks::check;
 pub use fault::{ApplyFault, FinishFault};
+pub use recording::replay_recording;
 pub use replaying::replay;
 pub use sources::Sources;
 pub use state::TxnState;
