@@ -1,5 +1,5 @@
 -- Operations replayed with the records of their steps.
-use Rattle.std.specs.Prelude.{ℕ, ◌+◌, ◌≤◌, ◌<◌, ◌≡◌, List, [], ◌∷◌, ◌++◌, length, get_or, take, refl}
+use Rattle.std.specs.Prelude.{ℕ, ◌+◌, ◌≤◌, ◌<◌, ◌≡◌, List, [], ◌∷◌, ◌++◌, length, get_or, take}
 use Rattle.std.proofs.Common.{sym, ap, subst, ◌∙◌, arith}
 use Rattle.std.proofs.lemmas.List.{take_all, length-take-le}
 use Rattle.std.specs.declared.option.Option.TheVariants.{None}
@@ -14,7 +14,7 @@ use Rattle.cp_model.specs.declared.record.Record.{Record}
 use Rattle.cp_overlay.specs.Kept.{Kept}
 use Rattle.cp_overlay.specs.Kept as overlay
 use Rattle.cp_engine.specs.Held.{Appended}
-use Rattle.cp_engine.specs.Passed.{Stage, stage_after, next_stage, outcome_records, AllAccepted}
+use Rattle.cp_engine.specs.Passed.{Stage, stage_after, outcome_records, AllAccepted}
 use Rattle.cp_engine.specs.Recording.{AreRecorded}
 use Rattle.cp_engine.specs.RowsAlone.{rows_in}
 use Rattle.cp_engine.proofs.Going.{IsNext, pass-records, stands-begun, stands-more, packed-step}
