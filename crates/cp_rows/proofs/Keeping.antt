@@ -115,8 +115,8 @@ module _ (full : List (List Record)) (last : List Record) (count upto : ℕ) (m 
     pub joined-row : all_records full2 last3 ≡ all_records full last ++ r ∷ []
     joined-row = ap (all_records full2) is ∙ joined-more full2 last2 (r ∷ []) ∙ ap (λ l. l ++ r ∷ []) same
 
-    pub stored-more : (s : Step) (n : Index) (k : Lost) (loss : Option (Vec ℕ)) → length last2 < BLOCK_LEN → r.tid ≤ upto → list_all (λ s. goes_before s r) (all_records full last) ≡ true → s ≡ at_row r count
-        → option_map (λ v. v.items) loss ≡ option_map (flat_map counted_bytes) (loser r) → StepNoted m n (flat_map counted_bytes r.loc.path) s → LossNoted l k (is_at_loser loss) r.tid → IsStored full2 last3 (count + 1) upto n k
+    pub stored-more : (s : Step) (n : Index) (k : Lost) (loss : Option (List ℕ)) → length last2 < BLOCK_LEN → r.tid ≤ upto → list_all (λ s. goes_before s r) (all_records full last) ≡ true → s ≡ at_row r count
+        → loss ≡ option_map (flat_map counted_bytes) (loser r) → StepNoted m n (flat_map counted_bytes r.loc.path) s → LossNoted l k (is_at_loser loss) r.tid → IsStored full2 last3 (count + 1) upto n k
     stored-more s n k loss room up before e key note gone =
         let size : length last3 ≡ length last2 + 1 = ap length is ∙ length-append last2 (r ∷ []) in
         let total : length (all_records full2 last3) ≡ length (all_records full last) + 1 = ap length joined-row ∙ length-append (all_records full last) (r ∷ []) in

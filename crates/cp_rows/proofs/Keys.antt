@@ -1,5 +1,6 @@
 -- Keys of places: which are the same, and which begin with which.
-use Rattle.std.proofs.Common.{ℕ, suc, ◌+◌, ◌≡◌, Bool, true, false, cond, ◌&&◌, refl, sym, ap, ◌∙◌, append_assoc, append-nil, length-append, arith}
+use Rattle.std.proofs.Common.{ℕ, suc, ◌+◌, ◌-◌, ◌≡◌, Bool, true, false, cond, ◌&&◌, refl, sym, ap, ◌∙◌, append_assoc, append-nil, length-append, take, arith}
+use Rattle.std.proofs.Math.Seq.{take-append_seam}
 use Rattle.std.proofs.lemmas.Bool.Decides.{nat_tests}
 use Rattle.std.proofs.lemmas.Grind.{flat_map-append}
 use Rattle.std.specs.Prelude.{List, [], ◌∷◌, ◌++◌, length, nat_lt, ◌==◌, is_some}
@@ -39,6 +40,18 @@ key_eq p q =
                 absurd (cc)
           ] refl
     ] refl
+
+-- ---- the key of the place above
+
+-- a key without its last label
+pub key-above : (p above : Path) (a : Label) (key text : List ℕ) → p ≡ above ++ a ∷ [] → key ≡ flat_map counted_bytes p → text ≡ a → take (length key - length text - 1) key ≡ flat_map counted_bytes above
+key-above p above a key text is e t =
+    let whole : key ≡ flat_map counted_bytes above ++ counted_bytes a =
+    e ∙ ap (λ (q : Path). flat_map counted_bytes q) is ∙ flat_map-append counted_bytes above (a ∷ []) ∙ ap (λ l. flat_map counted_bytes above ++ l) (append-nil (counted_bytes a)) in
+    let long : length key ≡ length (flat_map counted_bytes above) + suc (length a) = ap length whole ∙ length-append (flat_map counted_bytes above) (counted_bytes a) in
+    let label : length text ≡ length a = ap length t in
+    let size : length key - length text - 1 ≡ length (flat_map counted_bytes above) = omega (arith, long, label) in
+    ap (λ n. take n key) size ∙ ap (λ (l : List ℕ). take (length (flat_map counted_bytes above)) l) whole ∙ take-append_seam (flat_map counted_bytes above) (counted_bytes a)
 
 -- ---- a key that begins with another
 

@@ -5,7 +5,6 @@ use Rattle.std.proofs.lemmas.Bool.Decides.{nat_tests}
 use Rattle.std.proofs.lemmas.List.Folds.{list_any-append}
 use Rattle.std.proofs.lemmas.List.Elements.{filter_map-append}
 use Rattle.std.specs.Prelude.{List, [], ◌∷◌, ◌++◌, length, map, filter, ◌==◌, ◌&&◌, ◌||◌, nat_lt, if◌then◌else◌}
-use Rattle.std.specs.Global.{Vec}
 use Rattle.std.specs.Option.{option_map, option_copied, option_eq}
 use Rattle.std.specs.Borrow.{Bor}
 use Rattle.std.specs.List.{list_all, list_any, filter_map, cons_option, flat_map, slice_get, slice_range, AllByRecursion}
@@ -179,11 +178,11 @@ pub loser_gone : (r : Record) (above : Path) (a : Label) → r.op ≡ op.D → r
 loser_gone r above a e is = ap (λ o. if is_D (mark_by o r.src) then parent r.loc.path else None) e ∙ ap parent is ∙ parent-snoc above a
 
 -- the loser's key, seen from the key of a place
-at_loser : (k : Option (Vec ℕ)) (o : Option Path) (p : Path) → option_map (λ v. v.items) k ≡ option_map (flat_map counted_bytes) o → is_at_loser k (flat_map counted_bytes p) ≡ is_place o p
+at_loser : (k : Option (List ℕ)) (o : Option Path) (p : Path) → k ≡ option_map (flat_map counted_bytes) o → is_at_loser k (flat_map counted_bytes p) ≡ is_place o p
 at_loser None None p e = refl
 at_loser None (Some q) p e = absurd (cc)
 at_loser (Some v) None p e = absurd (cc)
-at_loser (Some v) (Some q) p e = let same : v.items ≡ flat_map counted_bytes q = cc in ap (text_eq (flat_map counted_bytes p)) same ∙ key_eq p q
+at_loser (Some v) (Some q) p e = let same : v ≡ flat_map counted_bytes q = cc in ap (text_eq (flat_map counted_bytes p)) same ∙ key_eq p q
 
 -- what passes in a step, with a row more
 any_more : (f : Path × Mark → Bool) (rs : List Record) (r : Record) (t : ℕ) → list_any f (rows_at (rs ++ r ∷ []) t) ≡ (list_any f (rows_at rs t) || ((r.tid == t) && f (r.loc.path, mark_by r.op r.src)))
@@ -214,8 +213,8 @@ unfolding rows_at
 losses-none p = record { rise = tt; all = λ t. refl }
 
 -- a row more, which all others go before: its loser has its step too
-pub losses-more : (rs : List Record) (r : Record) (k : Option (Vec ℕ)) (p : Path) (old new : List ℕ) → AreLosses rs p old → list_all (λ q. goes_before q r) rs ≡ true
-    → option_map (λ v. v.items) k ≡ option_map (flat_map counted_bytes) (loser r) → new ≡ (if is_at_loser k (flat_map counted_bytes p) then noted old r.tid else old) → AreLosses (rs ++ r ∷ []) p new
+pub losses-more : (rs : List Record) (r : Record) (k : Option (List ℕ)) (p : Path) (old new : List ℕ) → AreLosses rs p old → list_all (λ q. goes_before q r) rs ≡ true
+    → k ≡ option_map (flat_map counted_bytes) (loser r) → new ≡ (if is_at_loser k (flat_map counted_bytes p) then noted old r.tid else old) → AreLosses (rs ++ r ∷ []) p new
 losses-more rs r k p old new h before key e = subst (AreLosses (rs ++ r ∷ []) p) (sym e) (by_loser (is_at_loser k (flat_map counted_bytes p)) refl)
   where
     told : (b : Bool) → is_at_loser k (flat_map counted_bytes p) ≡ b → (t : ℕ) → loses (rs ++ r ∷ []) t p ≡ (list_any (λ u. u == t) old || ((r.tid == t) && b))

@@ -47,9 +47,9 @@ abbrev pub loser : Record → Option Path
 loser r = if is_D (mark_by r.op r.src) then parent r.loc.path else None
 
 -- the key is that of the loser, if there is one
-abbrev pub is_at_loser : Option (Vec ℕ) → List ℕ → Bool
+abbrev pub is_at_loser : Option (List ℕ) → List ℕ → Bool
 is_at_loser None key = false
-is_at_loser (Some loser) key = text_eq key loser.items
+is_at_loser (Some loser) key = text_eq key loser
 
 -- these are the steps of rows that say gone of a child of the place, rising
 pub record AreLosses (rs : List Record) (p : Path) (ts : List ℕ) : Type 0 where

@@ -1,12 +1,8 @@
 //! The steps of each place.
 ghost use Rattle.std.specs.Prelude.{◌≡◌, ◌≤◌, ◌<◌, List, OnOk, OnErr};
-ghost use Rattle.std.specs.List.{flat_map};
-ghost use Rattle.cp_path.specs.Encoding.{counted_bytes};
 ghost use Rattle.cp_rows.specs.Index.{steps_at, has_front, StepNoted, NothingNoted};
 ghost use Rattle.cp_rows.specs.Steps.{AreRising, IsNewest};
 
-use crate::key::key_of;
-use cp_path::Path;
 use std::alloc::{AllocError, Global};
 use std::collections::BTreeMap;
 
@@ -20,24 +16,24 @@ pub struct Step {
 /// The steps of each place in their order, by its key.
 pub(crate) type Index = BTreeMap<Vec<u8>, Vec<Step>>;
 
-/// Notes a step behind those of its place. Costs a logarithm of the places, and the place's bytes.
+/// Notes a step behind those of its place, whose key is this. Costs a logarithm of the places, and a copy of the key where
+/// it is a new one.
 pub(crate) fn note(
     index: &mut Index,
     alloc: Global,
-    place: &Path,
+    key: &[u8],
     step: Step,
 ) -> Result<(), AllocError>
-    ensures ok { OnOk result (StepNoted index.old index.new (flat_map counted_bytes place.now) step) }
+    ensures ok { OnOk result (StepNoted index.old index.new key.now step) }
     ensures err { OnErr result (NothingNoted index.old index.new) }
 {
-    let key = key_of(alloc, place.labels())?;
-    if let Some(steps) = index.get_mut(key.as_slice()) {
+    if let Some(steps) = index.get_mut(key) {
         steps.push(step)?;
         return Ok(());
     }
     let mut steps = Vec::with_capacity(alloc, 1)?;
     steps.push(step)?;
-    index.insert(key, steps)?;
+    index.insert(key.to_vec(alloc)?, steps)?;
     Ok(())
 }
 

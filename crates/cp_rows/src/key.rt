@@ -21,10 +21,20 @@ pub fn key_of(alloc: Global, labels: &[Label]) -> Result<Vec<u8>, AllocError>
     ensures { IfOk result (λ key. key.items ≡ flat_map counted_bytes labels.now) }
 {
     let mut key = Vec::with_capacity(alloc, size_of(labels))?;
-    for label in labels {
-        push_label(&mut key, label)?;
-    }
+    write_key(&mut key, labels)?;
     Ok(key)
+}
+
+/// Puts the key of a place in the place of what was there. Costs the labels' bytes, and memory only where there isn't room
+/// for them. After an error what is there isn't said.
+pub(crate) fn write_key(key: &mut Vec<u8>, labels: &[Label]) -> Result<(), AllocError>
+    ensures { OnOk result (key.new.items ≡ flat_map counted_bytes labels.now) }
+{
+    key.clear();
+    for label in labels {
+        push_label(key, label)?;
+    }
+    Ok(())
 }
 
 /// Goes one label further down. Costs its bytes.

@@ -15,7 +15,7 @@ ghost use Rattle.cp_rows.specs.Rows.{Rows, is_of, AreOrdered, IsKey, IsCountBefo
 
 use crate::blocks::{block_of, make_room};
 use crate::index::{Index, Step, has_front, newest, note, steps_at};
-use crate::key::{key_of, push_label};
+use crate::key::{key_of, push_label, write_key};
 use crate::lost::{Lost, between, forget_loss, lost_at, note_loss};
 use cp_model::{RecOp, Record, RecordList, RowMark, TidList};
 use cp_path::{Label, Loc, Path};
@@ -36,6 +36,8 @@ pub struct Rows {
     index: Index,
     lost: Lost,
     upto: u64,
+    /// Room for the key of the row that is being kept.
+    key: Vec<u8>,
 }
 
 impl Model for Rows {
@@ -63,6 +65,7 @@ impl Rows {
             index: BTreeMap::new(alloc),
             lost: BTreeMap::new(alloc),
             upto,
+            key: Vec::new(alloc),
         }
     }
 
@@ -100,7 +103,7 @@ impl Rows {
         let Some(count) = self.count.checked_add(1) else {
             return Err(AllocError);
         };
-        let loser = loser_of(alloc, row)?;
+        write_key(&mut self.key, row.loc.path.labels())?;
         make_room(&mut self.full, &mut self.last, self.count, alloc)?;
         let bytes = self.last.len();
         push(&mut self.last, alloc, row)?;
@@ -108,8 +111,9 @@ impl Rows {
             tid: row.tid,
             row: self.count,
         };
-        let place = &row.loc.path;
-        match note_both(&mut self.index, &mut self.lost, alloc, place, step, &loser) {
+        let key = self.key.as_slice();
+        let loser = loser_of(key, row);
+        match note_both(&mut self.index, &mut self.lost, alloc, key, step, loser) {
             Ok(()) => {
                 self.count = count;
                 Ok(())
@@ -245,42 +249,44 @@ impl Rows {
     }
 }
 
-/// The key of the place that lost a child, where a row says that one is gone. Costs the place's bytes.
-fn loser_of(alloc: Global, row: &Record) -> Result<Option<Vec<u8>>, AllocError>
-    ensures { IfOk result (λ k. option_map (λ v. v.items) k ≡ option_map (flat_map counted_bytes) (loser row.now)) }
+/// The key of the place that lost a child, where a row says that one is gone: the front of the key of the row's own place.
+fn loser_of<'a>(key: &'a [u8], row: &Record) -> Option<&'a [u8]>
+    requires { key.now ≡ flat_map counted_bytes row.now.loc.path }
+    ensures { option_map (λ k. k.now) result ≡ option_map (flat_map counted_bytes) (loser row.now) }
 {
     if row.op != RecOp::D {
-        return Ok(None);
+        return None;
     }
     match row.loc.path.labels().split_last() {
-        Some((_, above)) => Ok(Some(key_of(alloc, above)?)),
-        None => Ok(None),
+        Some((label, _)) => Some(&key[..key.len() - label.as_str().len() - 1]),
+        None => None,
     }
 }
 
-/// Notes a step of a place, and as one in which the loser lost a child, if there is one. After an error both are as they were.
+/// Notes a step of the place of the key, and as one in which the place of the other key lost a child, if there is one. After
+/// an error both are as they were.
 fn note_both(
     index: &mut Index,
     lost: &mut Lost,
     alloc: Global,
-    place: &Path,
+    key: &[u8],
     step: Step,
-    loser: &Option<Vec<u8>>,
+    loser: Option<&[u8]>,
 ) -> Result<(), AllocError>
-    ensures steps { OnOk result (StepNoted index.old index.new (flat_map counted_bytes place.now) step) }
-    ensures losses { OnOk result (LossNoted lost.old lost.new (is_at_loser loser.now) step.tid) }
+    ensures steps { OnOk result (StepNoted index.old index.new key.now step) }
+    ensures losses { OnOk result (LossNoted lost.old lost.new (is_at_loser (option_map (λ k. k.now) loser.entry)) step.tid) }
     ensures same_steps { OnErr result (NothingNoted index.old index.new) }
     ensures same_losses { OnErr result (NoLossNoted lost.old lost.new) }
 {
     let Some(loser) = loser else {
-        return note(index, alloc, place, step);
+        return note(index, alloc, key, step);
     };
-    let new = note_loss(lost, alloc, loser.as_slice(), step.tid)?;
-    match note(index, alloc, place, step) {
+    let new = note_loss(lost, alloc, loser, step.tid)?;
+    match note(index, alloc, key, step) {
         Ok(()) => Ok(()),
         Err(fault) => {
             if new {
-                forget_loss(lost, loser.as_slice());
+                forget_loss(lost, loser);
             }
             Err(fault)
         }

@@ -1,19 +1,15 @@
-use Rattle.std.proofs.Common.{◌++◌, ◌∷◌, [], ap, ◌∙◌}
-use Rattle.std.specs.List.{flat_map}
-use Rattle.std.specs.Map.{lookup}
-use Rattle.cp_path.specs.Encoding.{counted_bytes}
-use Rattle.cp_rows.specs.Index.{is_key}
+use Rattle.std.proofs.Common.{◌++◌, ◌∷◌, [], refl, ap, ◌∙◌}
 use Rattle.cp_rows.proofs.Noted.{on_err, noted-same, noted-inserted, noted-set, noted-kept}
 use Rattle.cp_rows.proofs.index.note.Goals as goal
 
 pub returns-in-Some-clause-ok : goal.returns-in-Some-clause-ok
 returns-in-Some-clause-ok c =
-    noted-set (λ l. l ++ c.args.step ∷ []) c.args.index.now (c.get_mut.follows.lender c.push.new.self) c.in-Some.steps.now c.push.new.self (flat_map counted_bytes c.args.place.now) c.as_slice.result.now
-    (c.as_slice.ensures.value ∙ c.in_ok-key.ensures ∙ ap (flat_map counted_bytes) c.labels.ensures.labels) c.in-Some.ensures.value (c.get_mut.follows.holds c.push.new.self).0 c.in_ok-push.ensures.items
+    noted-set (λ l. l ++ c.args.step ∷ []) c.args.index.now (c.get_mut.follows.lender c.push.new.self) c.in-Some.steps.now c.push.new.self c.args.key.now c.args.key.now
+    refl c.in-Some.ensures.value (c.get_mut.follows.holds c.push.new.self).0 c.in_ok-push.ensures.items
 
 pub returns-in_err-push-clause-err : goal.returns-in_err-push-clause-err
 returns-in_err-push-clause-err c =
-    on_err _ (noted-kept c.args.index.now (c.get_mut.follows.lender c.push.new.self) c.in-Some.steps.now c.push.new.self c.as_slice.result.now
+    on_err _ (noted-kept c.args.index.now (c.get_mut.follows.lender c.push.new.self) c.in-Some.steps.now c.push.new.self c.args.key.now
     c.in-Some.ensures.value (c.get_mut.follows.holds c.push.new.self).0 c.in_err-push.ensures.items)
 
 pub returns-in_err-insert-clause-err : goal.returns-in_err-insert-clause-err
@@ -21,7 +17,7 @@ returns-in_err-insert-clause-err c = on_err _ (noted-same c.args.index.now c.ins
 
 pub returns-clause-ok : goal.returns-clause-ok
 returns-clause-ok c =
-    noted-inserted (λ l. l ++ c.args.step ∷ []) _ c.args.index.now c.insert.new.self c.in_ok-key.key c.push-2.new.self (flat_map counted_bytes c.args.place.now) c.get_mut.follows.holds-at-none (c.in_ok-key.ensures ∙ ap (flat_map counted_bytes) c.labels.ensures.labels)
+    noted-inserted (λ l. l ++ c.args.step ∷ []) _ c.args.index.now c.insert.new.self c.in_ok-to_vec.field-0 c.push-2.new.self c.args.key.now c.get_mut.follows.holds-at-none (c.in_ok-to_vec.ensures.items_if_clones_equal (λ x y h. h))
     (c.in_ok-push-2.ensures.items ∙ ap (λ l. l ++ c.args.step ∷ []) c.in_ok-steps.ensures.items)
-    (c.in_default.ensures.value ∙ ap (λ k. lookup (is_key k) c.args.index.now.entries) (c.as_slice.ensures.value ∙ c.in_ok-key.ensures ∙ ap (flat_map counted_bytes) c.labels.ensures.labels))
+    c.in_default.ensures.value
     c.in_ok-insert.ensures.entries

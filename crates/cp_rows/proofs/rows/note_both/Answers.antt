@@ -1,6 +1,5 @@
-use Rattle.std.proofs.Common.{◌≡◌, ◌++◌, ◌∷◌, [], ℕ, List, sym, ap, subst, ◌∙◌}
+use Rattle.std.proofs.Common.{◌++◌, ◌∷◌, [], ap, ◌∙◌}
 use Rattle.std.specs.Prelude.{if◌then◌else◌}
-use Rattle.cp_path.specs.Text.{text_eq}
 use Rattle.cp_rows.specs.Lost.{lost_at}
 use Rattle.cp_rows.proofs.Losses.{loss_forgotten}
 use Rattle.cp_rows.proofs.rows.note_both.Goals as goal
@@ -8,9 +7,9 @@ use Rattle.cp_rows.proofs.rows.note_both.Goals as goal
 pub returns-then-new-clause-same_losses : goal.returns-then-new-clause-same_losses
 returns-then-new-clause-same_losses c =
     let m = c.args.lost.now in
-    let k = c.as_slice.result.now in
+    let k = c.in-Some.loser.now in
     let old = lost_at m k in
-    let same = c.as_slice-then-new.ensures.value ∙ sym c.as_slice.ensures.value in
-    loss_forgotten m c.note_loss.new.lost c.forget_loss.new.lost k c.args.step.tid c.in_ok-new.ensures.ok
+    loss_forgotten m c.note_loss.new.lost c.forget_loss.new.lost k c.args.step.tid
+    c.in_ok-new.ensures.ok
     (c.in_ok-new.ensures.new ∙ ap (λ b. if b then old ++ c.args.step.tid ∷ [] else old) c.if-new.true)
-    (subst (λ k. (ts : List ℕ) (t : ℕ) → lost_at c.note_loss.new.lost k ≡ ts ++ t ∷ [] → (j : List ℕ) → lost_at c.forget_loss.new.lost j ≡ (if text_eq j k then ts else lost_at c.note_loss.new.lost j)) same c.forget_loss.ensures)
+    c.forget_loss.ensures
