@@ -4,8 +4,8 @@ use Rattle.clap.specs.Words.{Text}
 use Rattle.clap.specs.declared.error.kind.ErrorKind.TheVariants.{MissingRequiredArgument}
 use Rattle.clap.specs.Walk.{nothing_held}
 use Rattle.clap.proofs.OnLiterals.{clap_on_literals}
-use Rattle.cp_words.specs.Commands.{scratch_of, init_of, run_of, commit_of, load_of, query_of, generate_of, log_of}
-use Rattle.cp_words.specs.Matches.{scratch_from, init_from, run_from, commit_from, load_from, query_from, generate_from, log_from}
+use Rattle.cp_words.specs.Commands.{scratch_of, init_of, run_of, commit_of, load_of, query_of, generate_of, log_of, verify_of}
+use Rattle.cp_words.specs.Matches.{scratch_from, init_from, run_from, commit_from, load_from, query_from, generate_from, log_from, verify_from}
 use Rattle.cp_words.proofs.Leaf.{ArePlain, Right, sub_at, leaf_faults, leaf_rows, no_words, one_more, too_many, then_stray, fits_by_walk, lacks, strays}
 
 pub scratch_right : (ws : List Text) → ArePlain ws → Right scratch_from (scratch_of ws) (leaf_faults (sub_at 0) ws) (leaf_rows (sub_at 0) ws)
@@ -142,3 +142,15 @@ log_right (a ∷ []) h =
 log_right (a ∷ b ∷ more) h =
     let s = sub_at 7 in
     strays log_from s (a ∷ b ∷ more) (then_stray s nothing_held _ 1 _ a (b ∷ more) h.0 refl refl (too_many s _ 2 b more h.1.0 refl refl))
+
+pub verify_right : (ws : List Text) → ArePlain ws → Right verify_from (verify_of ws) (leaf_faults (sub_at 8) ws) (leaf_rows (sub_at 8) ws)
+unfolding clap_on_literals
+verify_right [] h =
+    let s = sub_at 8 in
+    lacks verify_from MissingRequiredArgument [] s [] _ (no_words s nothing_held 1) refl
+verify_right (a ∷ []) h =
+    let s = sub_at 8 in
+    fits_by_walk verify_from (verify_of (a ∷ [])) s (a ∷ []) _ (one_more s nothing_held _ _ 1 _ a [] h.0 refl refl (no_words s _ _)) refl refl
+verify_right (a ∷ b ∷ more) h =
+    let s = sub_at 8 in
+    strays verify_from s (a ∷ b ∷ more) (then_stray s nothing_held _ 1 _ a (b ∷ more) h.0 refl refl (too_many s _ 2 b more h.1.0 refl refl))

@@ -11,7 +11,7 @@ use Rattle.cp_lang.specs.declared.syntax_tree.Stmt.{Stmt}
 use Rattle.cp_lang.specs.declared.syntax_tree.Stmt.TheVariants as stmt
 use Rattle.cp_lang.specs.declared.syntax_tree.StmtFault.{StmtFault}
 use Rattle.cp_words.specs.Operands.{is_operand, kind_named, curator_by, form_by, number_of, count_in, count_of}
-use Rattle.cp_words.specs.Commands.{start_by, load_by, generate_by, asked_in, asked_where_read, scratch_of, init_of, run_of, commit_of, load_of, query_of, generate_of, log_of, row_of, command_of, IsWrittenCommand}
+use Rattle.cp_words.specs.Commands.{start_by, load_by, generate_by, asked_in, asked_where_read, scratch_of, init_of, run_of, commit_of, load_of, query_of, generate_of, log_of, verify_of, row_of, command_of, IsWrittenCommand}
 use Rattle.cp_words.specs.declared.limits.TheConstants.{COUNT_MAX}
 use Rattle.cp_words.specs.declared.command.Command.{Command}
 use Rattle.cp_words.specs.declared.command.Command.TheVariants.{Scratch, Init, Run, Commit, Load, Generate}
@@ -121,13 +121,19 @@ log_written [] = tt
 log_written (a ∷ []) = tt
 log_written (a ∷ b ∷ ws) = tt
 
+verify_written : (ws : List (List ℕ)) → AreWritten (verify_of ws)
+verify_written [] = tt
+verify_written (a ∷ []) = tt
+verify_written (a ∷ b ∷ ws) = tt
+
 row_written : (ws : List (List ℕ)) → AreWritten (row_of ws)
 row_written [] = tt
 row_written (w ∷ ws) =
     either (bytes_eq (codes "scratch") w) _ _ (scratch_written ws) (either (bytes_eq (codes "init") w) _ _ (init_written ws)
     (either (bytes_eq (codes "run") w) _ _ (run_written ws) (either (bytes_eq (codes "commit") w) _ _ (commit_written ws)
     (either (bytes_eq (codes "load") w) _ _ (load_written ws) (either (bytes_eq (codes "query") w) _ _ (query_written ws)
-    (either (bytes_eq (codes "gen") w) _ _ (generate_written ws) (either (bytes_eq (codes "log") w) _ _ (log_written ws) tt)))))))
+    (either (bytes_eq (codes "gen") w) _ _ (generate_written ws) (either (bytes_eq (codes "log") w) _ _ (log_written ws)
+    (either (bytes_eq (codes "verify") w) _ _ (verify_written ws) tt))))))))
 
 pub command_written : (ws : List (List ℕ)) → AreWritten (command_of ws)
 command_written [] = tt

@@ -12,7 +12,7 @@ use Rattle.cp_words.specs.declared.limits.TheConstants.{COUNT_MAX}
 use Rattle.cp_words.specs.declared.command.Start.{Start}
 use Rattle.cp_words.specs.declared.command.Start.TheVariants.{Alone, TreeIn}
 use Rattle.cp_words.specs.declared.command.Command.{Command}
-use Rattle.cp_words.specs.declared.command.Command.TheVariants.{Scratch, Init, Run, Commit, Load, Ask, Show, Generate, Log}
+use Rattle.cp_words.specs.declared.command.Command.TheVariants.{Scratch, Init, Run, Commit, Load, Ask, Show, Generate, Log, Verify}
 
 -- ---- what the operands of a command ask for
 
@@ -109,6 +109,11 @@ abbrev pub log_of : List (List ℕ) → Option Command
 log_of (store ∷ []) = Some Log
 log_of operands = None
 
+-- `verify STORE`
+abbrev pub verify_of : List (List ℕ) → Option Command
+verify_of (store ∷ []) = Some Verify
+verify_of operands = None
+
 -- the command, and what its operands ask for
 abbrev pub row_of : List (List ℕ) → Option Command
 row_of [] = None
@@ -121,6 +126,7 @@ row_of (command ∷ operands) =
     else if bytes_eq (codes "query") command then query_of operands
     else if bytes_eq (codes "gen") command then generate_of operands
     else if bytes_eq (codes "log") command then log_of operands
+    else if bytes_eq (codes "verify") command then verify_of operands
     else None
 
 -- what the words ask for, the program's name first, if they fit a row and none after that name is empty or begins with `-`

@@ -4,7 +4,7 @@ use Rattle.std.specs.Str.{bytes_eq}
 use Rattle.clap.specs.Words.{Row, Text, first_of}
 use Rattle.cp_words.specs.Commands.{scratch_by, init_by, run_by, commit_by, load_by, query_by, generate_by}
 use Rattle.cp_words.specs.declared.command.Command.{Command}
-use Rattle.cp_words.specs.declared.command.Command.TheVariants.{Log}
+use Rattle.cp_words.specs.declared.command.Command.TheVariants.{Log, Verify}
 
 -- goes on with an operand, where it was found
 abbrev pub with_operand : Text → List Row → (Text → Option Command) → Option Command
@@ -45,6 +45,10 @@ generate_from rows =
 abbrev pub log_from : List Row → Option Command
 log_from rows = Some Log
 
+-- `verify` needs none
+abbrev pub verify_from : List Row → Option Command
+verify_from rows = Some Verify
+
 -- the command that was found, and its operands
 abbrev pub command_from : Option (Text × List Row) → Option Command
 command_from None = None
@@ -57,4 +61,5 @@ command_from (Some p) =
     else if bytes_eq p.0 (codes "query") then query_from p.1
     else if bytes_eq p.0 (codes "gen") then generate_from p.1
     else if bytes_eq p.0 (codes "log") then log_from p.1
+    else if bytes_eq p.0 (codes "verify") then verify_from p.1
     else None

@@ -43,6 +43,10 @@ generate_app = with_wanted (codes "KIND") (with_wanted (codes "COUNT") (with_wan
 abbrev pub log_app : App
 log_app = with_wanted (codes "STORE") (new_app (codes "log"))
 
+-- `verify STORE`
+abbrev pub verify_app : App
+verify_app = with_wanted (codes "STORE") (new_app (codes "verify"))
+
 -- the program, which has no help and wants a command
 abbrev pub top_app : App
 top_app =
@@ -55,7 +59,8 @@ with_sessions a = with_subcommand (with_subcommand (with_subcommand (with_subcom
 
 -- a program with the other commands
 abbrev pub with_others : App → App
-with_others a = with_subcommand (with_subcommand (with_subcommand (with_subcommand a load_app.top) query_app.top) generate_app.top) log_app.top
+with_others a =
+    with_subcommand (with_subcommand (with_subcommand (with_subcommand (with_subcommand a load_app.top) query_app.top) generate_app.top) log_app.top) verify_app.top
 
 -- the program with all commands
 abbrev pub whole : App

@@ -32,4 +32,6 @@ pub enum Command {
     Generate { seed: u64, count: u32, kind: Kind },
     /// The commits of the store.
     Log,
+    /// Whether the records of the store are those that its operations make.
+    Verify,
 }

@@ -116,6 +116,14 @@ fn log_command<'a>(alloc: Global) -> Result<Command<'a>, AllocError>
     with_wanted(alloc, bare, "STORE")
 }
 
+fn verify_command<'a>(alloc: Global) -> Result<Command<'a>, AllocError>
+    ensures shape { IfOk result (λ c. app_of c ≡ shape.verify_app) }
+    ensures local { IfOk result (λ c. (fields_of c).has_globals ≡ false) }
+{
+    let bare = Command::new(alloc, "verify");
+    with_wanted(alloc, bare, "STORE")
+}
+
 fn top<'a>(alloc: Global) -> Command<'a>
     ensures { app_of result ≡ shape.top_app }
 {
@@ -142,7 +150,8 @@ fn with_others<'a>(alloc: Global, program: Command<'a>) -> Result<Command<'a>, A
     let one = with_command(program, load_command(alloc)?)?;
     let two = with_command(one, query_command(alloc)?)?;
     let three = with_command(two, generate_command(alloc)?)?;
-    with_command(three, log_command(alloc)?)
+    let four = with_command(three, log_command(alloc)?)?;
+    with_command(four, verify_command(alloc)?)
 }
 
 /// All commands.

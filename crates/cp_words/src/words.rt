@@ -108,6 +108,7 @@ fn command_in(alloc: Global, matches: &ArgMatches<'_>) -> Result<Option<Command>
         "query" => query(alloc, operands),
         "gen" => generate(alloc, operands),
         "log" => Ok(Some(Command::Log)),
+        "verify" => Ok(Some(Command::Verify)),
         _ => Ok(None),
     }
 }
