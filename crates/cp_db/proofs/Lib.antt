@@ -6,8 +6,8 @@ mod TakingCommits
 mod OpeningFrames
 mod OpeningItems
 mod OpeningStores
-mod Logging
-mod LoggingFrames
+mod Walking
+mod WalkingFrames
 mod WritingStanding
 mod WritingFrames
 mod WritingLoads

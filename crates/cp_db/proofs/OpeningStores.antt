@@ -97,7 +97,7 @@ module _ (u v w x : View) (uv : Rests u v) (vw : Rests v w) (wx : Rests w x) (j 
 
 module _ (c : List ℕ) (has : HasHeader c) where
   -- a header has its length
-  head_long : length (take HEADER_SIZE c) ≡ HEADER_SIZE
+  pub head_long : length (take HEADER_SIZE c) ≡ HEADER_SIZE
   head_long = omega (arith, has.0, length-take HEADER_SIZE c)
 
   -- behind one a journal that describes the file is at rest

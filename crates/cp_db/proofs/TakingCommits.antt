@@ -29,10 +29,10 @@ use Rattle.cp_db.proofs.Taking.{taken-more}
 -- ---- what is written of a commit
 
 -- the entry means a commit of the operations, and the records are written with it
-record IsCommitOf (w : WrittenEntry) (os : List Op) (rs : List Record) : Type 0 where
-  stamp : Stamp
-  means : entry_meant w ≡ commit stamp os
-  records : records_with w ≡ rs
+pub record IsCommitOf (w : WrittenEntry) (os : List Op) (rs : List Record) : Type 0 where
+  pub stamp : Stamp
+  pub means : entry_meant w ≡ commit stamp os
+  pub records : records_with w ≡ rs
 
 -- a commit is written so
 pub holds-commit : (os : List Op) (rs : List Record) (w : WrittenEntry) → IsEntry (entry.Commit os rs) w → HoldsBatch w os rs
@@ -61,34 +61,34 @@ means-stamped stamp os rs (written.load n t) is = absurd is
 means-stamped stamp os rs (written.commit b) is = absurd is
 means-stamped stamp os rs (written.stamped r b) is = λ j. commit (is.0 j) (is.1.ops j)
 
--- it may stand after a state where the operations may be committed and the records have Tids of theirs
-abbrev MayStand : State → List Op → List Record → Type 0
-MayStand s os rs = CanCommit s os × HasRecords false s (after_commit s os) rs
+-- it may stand after a state where the operations may be committed and the records have Tids of theirs, or are theirs
+abbrev pub MayStand : Bool → State → List Op → List Record → Type 0
+MayStand right s os rs = CanCommit s os × HasRecords right s (after_commit s os) rs
 
-may_of : (s : State) (b : Batch) (os : List Op) (rs : List Record) → IsBatchOf b os rs → MayStand s (ops_in b) b.records → MayStand s os rs
-may_of s b os rs h m = subst (MayStand s os) h.records (subst (λ (o : List Op). MayStand s o b.records) h.ops m)
+may_of : (right : Bool) (s : State) (b : Batch) (os : List Op) (rs : List Record) → IsBatchOf b os rs → MayStand right s (ops_in b) b.records → MayStand right s os rs
+may_of right s b os rs h m = subst (MayStand right s os) h.records (subst (λ (o : List Op). MayStand right s o b.records) h.ops m)
 
-may_as : (s : State) (b : Batch) (os : List Op) (rs : List Record) → IsBatchOf b os rs → MayStand s os rs → MayStand s (ops_in b) b.records
-may_as s b os rs h m = subst (λ (o : List Op). MayStand s o b.records) (sym h.ops) (subst (MayStand s os) (sym h.records) m)
+may_as : (right : Bool) (s : State) (b : Batch) (os : List Op) (rs : List Record) → IsBatchOf b os rs → MayStand right s os rs → MayStand right s (ops_in b) b.records
+may_as right s b os rs h m = subst (λ (o : List Op). MayStand right s o b.records) (sym h.ops) (subst (MayStand right s os) (sym h.records) m)
 
-commit_of : (w : WrittenEntry) (os : List Op) (rs : List Record) → HoldsBatch w os rs → IsCommitOf w os rs
+pub commit_of : (w : WrittenEntry) (os : List Op) (rs : List Record) → HoldsBatch w os rs → IsCommitOf w os rs
 commit_of (written.start k t) os rs h = absurd h
 commit_of (written.load n t) os rs h = absurd h
 commit_of (written.commit b) os rs h = record { stamp = no_stamp; means = ap (commit no_stamp) h.ops; records = h.records }
 commit_of (written.stamped r b) os rs h = record { stamp = r; means = ap (commit r) h.ops; records = h.records }
 
 -- what may stand after a state, and only that
-may_when : (s : State) (w : WrittenEntry) (os : List Op) (rs : List Record) → HoldsBatch w os rs → CanStand false (Some s) (an_entry w) → MayStand s os rs
-may_when s (written.start k t) os rs h c = absurd h
-may_when s (written.load n t) os rs h c = absurd h
-may_when s (written.commit b) os rs h c = may_of s b os rs h c
-may_when s (written.stamped r b) os rs h c = may_of s b os rs h c
+pub may_when : (right : Bool) (s : State) (w : WrittenEntry) (os : List Op) (rs : List Record) → HoldsBatch w os rs → CanStand right (Some s) (an_entry w) → MayStand right s os rs
+may_when right s (written.start k t) os rs h c = absurd h
+may_when right s (written.load n t) os rs h c = absurd h
+may_when right s (written.commit b) os rs h c = may_of right s b os rs h c
+may_when right s (written.stamped r b) os rs h c = may_of right s b os rs h c
 
-can_when : (s : State) (w : WrittenEntry) (os : List Op) (rs : List Record) → HoldsBatch w os rs → MayStand s os rs → CanStand false (Some s) (an_entry w)
-can_when s (written.start k t) os rs h m = absurd h
-can_when s (written.load n t) os rs h m = absurd h
-can_when s (written.commit b) os rs h m = may_as s b os rs h m
-can_when s (written.stamped r b) os rs h m = may_as s b os rs h m
+pub can_when : (right : Bool) (s : State) (w : WrittenEntry) (os : List Op) (rs : List Record) → HoldsBatch w os rs → MayStand right s os rs → CanStand right (Some s) (an_entry w)
+can_when right s (written.start k t) os rs h m = absurd h
+can_when right s (written.load n t) os rs h m = absurd h
+can_when right s (written.commit b) os rs h m = may_as right s b os rs h m
+can_when right s (written.stamped r b) os rs h m = may_as right s b os rs h m
 
 -- what was replayed of the same kind after the same Tid, with the same result
 pub replays-same : (ss : List Source) (old new : Tree) (os : List Op) (rs : List Record) {j k : Kind} {m n : ℕ} {o p : Option ℕ} → j ≡ k → m ≡ n → o ≡ p → ReplaysCommit ss old new j m os rs o → ReplaysCommit ss old new k n os rs p
@@ -147,7 +147,7 @@ module _ {R S : Type 0} (view : R → Tree) (source_view : S → Tree) (c : Comm
   -- where it may stand, each record has one of the Tids
   tids_of : (tids : ℕ) → tids ≡ length (steps_of c.store.kind os) → CanStand false (Some s) (an_entry w) → TidsLieBetween c.store.rows.upto (c.store.rows.upto + tids) rs
   tids_of tids e can =
-      let may = may_when s w os rs holds can in
+      let may = may_when false s w os rs holds can in
       subst (λ n. TidsLieBetween n (c.store.rows.upto + tids) rs) (sym old.replayed.upto)
       (subst (λ n. TidsLieBetween s.now n rs) (sym (last_tid tids e may.0.some (commit-accepted s os may.0))) may.1.tids)
 
@@ -158,7 +158,7 @@ module _ {R S : Type 0} (view : R → Tree) (source_view : S → Tree) (c : Comm
   pub refused-commit : (TidsLieBetween c.store.rows.upto (c.store.rows.upto + length (steps_of c.store.kind os)) rs → AllAccepted (sources_in source_view c.sources) (view c.tree) os → ⊥) → CanStand false (replay (flat_map entries_in items)) (an_entry w) → ⊥
   refused-commit none can =
       let so = stands_so can in
-      none (tids_of (length (steps_of c.store.kind os)) refl so) (accepted_here (commit-accepted s os (may_when s w os rs holds so).0))
+      none (tids_of (length (steps_of c.store.kind os)) refl so) (accepted_here (commit-accepted s os (may_when false s w os rs holds so).0))
 
   module _ (m : Committed R S) (u : R) (trees : Bool) (sound : IsSoundBatch trees os rs) (tids : ℕ) (is : IsReplayed (sources_in source_view c.sources) (view c.tree) (view u) c.store.kind c.store.rows.upto os rs tids) where
     can_commit : CanCommit s os
@@ -177,7 +177,7 @@ module _ {R S : Type 0} (view : R → Tree) (source_view : S → Tree) (c : Comm
         let meant = commit_of w os rs holds in
         let low = subst (λ n. TidsLieBetween n (c.store.rows.upto + tids) rs) old.replayed.upto is.between in
         let between = subst (λ n. TidsLieBetween s.now n rs) (last_tid tids is.counted sound.some (accepted_after is.accepted)) low in
-        let can = can_when s w os rs holds (can_commit, record { tids = between; all = λ f. cc }) in
+        let can = can_when false s w os rs holds (can_commit, record { tids = between; all = λ f. cc }) in
         let steps = is.counted ∙ ap (λ (k : Kind). length (steps_of k os)) old.replayed.kind in
         let replayed =
         replayed-committed view source_view c m false (flat_map entries_in items) meant.stamp os old.replayed can_commit (tree_kept kept.tree) kept.sources kept.kind (λ f. cc)

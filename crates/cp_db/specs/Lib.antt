@@ -3,3 +3,5 @@ pub mod Databases
 pub mod Log
 pub mod Opening
 pub mod Writing
+pub mod Verify
+pub mod Walk

@@ -33,7 +33,7 @@ pub(crate) struct Committed<R: TreeRep, S: TreeRep> {
 }
 
 /// Whether each record has a Tid after `low` and up to `high`.
-fn tids_lie_between(records: &[Record], low: u64, high: u64) -> bool
+pub(crate) fn tids_lie_between(records: &[Record], low: u64, high: u64) -> bool
     ensures { IsTrue result ↔ TidsLieBetween low high records.now }
 {
     for record in records {
@@ -45,7 +45,7 @@ fn tids_lie_between(records: &[Record], low: u64, high: u64) -> bool
 }
 
 /// Does nothing. The text of a label says that it is short, as it has to be where its operation is applied.
-fn look_at_labels(ops: &[Op])
+pub(crate) fn look_at_labels(ops: &[Op])
     requires { (trees : Bool) × AllByRecursion (IsSoundOp trees) ops.now }
     ensures { AreWritten ops.now }
 {

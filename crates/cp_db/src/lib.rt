@@ -11,9 +11,12 @@ mod fault;
 mod limits;
 mod log;
 mod opening;
+mod verification;
+mod walk;
 mod writing;
 
 pub use database::{Db, Tids};
 pub use fault::{CommitFault, InitFault, OpenFault, WriteFault};
 pub use limits::TIDS_MAX;
 pub use log::log_of;
+pub use verification::verify;
