@@ -5,8 +5,8 @@
     calls.py --gen WORD ..   prints what `gen WORD ..` writes
 
 It knows all commands. Provenance comes from a replay over trees whose places carry their whole past (`draw.py`); a store is
-the list of what was committed and loaded, so no byte of a store file is looked at. Cases that are about such bytes, and
-calls of the outside that fail one after another, are passed over. So are the limits of trees.
+the list of what was committed and loaded, so no byte of a store file is looked at: `verify.py` plays the cases that are
+about such bytes. Calls of the outside that fail one after another are passed over. So are the limits of trees.
 """
 import csv
 import io
@@ -36,6 +36,8 @@ TRIGGERS = set(map(chr, range(0x21))) | set('";{}:,')
 ESCAPES = {'"': '\\"', "\\": "\\\\", "\b": "\\b", "\f": "\\f", "\n": "\\n", "\r": "\\r", "\t": "\\t"}
 STATEMENT_MAX = 1_048_576
 FILE_MAX = 67_108_864
+# The last stage of the program whose cases are played.
+STAGE = 10
 
 
 # Spellings.
@@ -622,7 +624,7 @@ def fit(words):
     match words:
         case ["scratch", kind] | ["scratch", kind, _] | ["init", _, kind] | ["init", _, kind, _]:
             return kind in KINDS
-        case ["run", _] | ["commit", _, _] | ["log", _]:
+        case ["run", _] | ["commit", _, _] | ["log", _] | ["verify", _]:
             return True
         case ["run", _, curator] | ["commit", _, _, curator]:
             return size(curator) <= 255
@@ -642,6 +644,8 @@ def fit(words):
 
 class World:
     """The stores, the files, and what one call meets and writes."""
+
+    PASSED_OVER = {"store", "bare", "cut", "change", "pieces", "room"}
 
     def __init__(self, folder=None):
         self.stores, self.files, self.folder = {}, {}, folder
@@ -672,6 +676,13 @@ class World:
         if len(data) > FILE_MAX:
             raise Refused("file too long")
         return data
+
+    def spoil(self, key, rest, text):
+        """A store gets other bytes."""
+
+    def differs(self, key, rest):
+        """What the bytes of the last store are other than the part says; None where they are that."""
+        return None
 
     def take_input(self):
         self.touch("input", 3)
@@ -726,6 +737,8 @@ class World:
             Session(store, "", self).take(("load", name, form, file, words[3] if len(words) > 3 else None))
         elif command == "query":
             Session(store, "", self).take(parse(words[0].encode()))
+        elif command == "verify":
+            self.lines.append("agrees %d" % len(store.records))
         else:
             for low, high, curator, moment, count in store.log:
                 tids = str(low) if low == high else "%d..%d" % (low, high)
@@ -742,7 +755,7 @@ class World:
             return
         try:
             self.call()
-            self.status = int(any(line.startswith("refused") for line in self.lines))
+            self.status = int(any(line.startswith(("refused", "differs")) for line in self.lines))
         except Ended as end:
             self.status = end.args[0]
             self.lines.append(end.args[1])
@@ -815,7 +828,7 @@ def sessions_of(path):
             cases.append((line, [("words", "scratch n", []), ("in", "-", [line[2:]]), ("out", "", [])], []))
         elif line.startswith("$ bin/cpdb "):
             block, words = "session", line[11:]
-            if words.split()[0] not in ("run", "commit", "load", "query", "log"):
+            if words.split()[0] not in ("run", "commit", "load", "query", "log", "verify"):
                 cases.append((line, [], []))
             moment = 1_795_910_400 + 60 * (len(cases[-1][1]) // 4)
             moments = "%d %d %d" % (moment, moment + 1, moment + 2)
@@ -839,13 +852,9 @@ def difference(found, wanted):
     return "%d bytes, wanted %d" % (len(found), len(wanted))
 
 
-SKIPPED = {"store", "bare", "cut", "change", "pieces", "room"}
-
-
-def play(parts, row, folder):
+def play(parts, row, world):
     """What differs, as a line; None where nothing does, and `skipped` where the case is passed over."""
-    world = World(folder)
-    if any(key in SKIPPED or (key == "since" and rest > "09" and len(rest) > 1) for key, rest, _ in parts):
+    if any(key in world.PASSED_OVER or (key == "since" and int(rest) > STAGE) for key, rest, _ in parts):
         return "skipped"
     for key, rest, lines in parts:
         rest, is_open = (rest[:-1].rstrip(" "), True) if rest == "-" or rest.endswith(" -") else (rest, False)
@@ -857,13 +866,16 @@ def play(parts, row, folder):
             world.begin(words_of(rest) if key == "words" else ["scratch", "n"])
         if key == "file":
             world.files[rest] = text
+        elif key in ("store", "cut", "change"):
+            world.make()
+            world.spoil(key, rest, text)
         elif key == "in":
             world.input = text
         elif key == "clock":
             world.moments = list(map(int, rest.split()))
         elif key == "fail":
             device, *numbers = rest.split()
-            if device == "output" and fit(world.words):
+            if device == "output" and fit(world.words) or device == "disk" and numbers != ["1"]:
                 return "skipped"
             world.fails[device] = list(map(int, numbers))
         elif key in ("out", "starts", "status", "ends", "left"):
@@ -875,10 +887,15 @@ def play(parts, row, folder):
                 return "status %d, wanted %s" % (world.status, rest)
             if key in ("left", "ends") and len(world.input) != (int(rest) if key == "left" else 0):
                 return "%d bytes are left" % len(world.input)
+        elif key in ("size", "bytes"):
+            world.make()
+            told = world.differs(key, rest)
+            if told:
+                return told
     return None
 
 
-def main():
+def main(world=World):
     if sys.argv[1:2] == ["--gen"]:
         print("\n".join(gen(int(sys.argv[2]), int(sys.argv[3]), sys.argv[4])))
         return
@@ -888,7 +905,7 @@ def main():
         folder = os.path.join(os.path.dirname(os.path.abspath(__file__)), "../data") if is_document else None
         for name, parts, rows in sessions_of(path) if is_document else cases_of(path):
             for row in rows or [None]:
-                told = play(parts, row, folder)
+                told = play(parts, row, world(folder))
                 passed, failed, skipped = passed + (not told), failed + (told not in (None, "skipped")), skipped + (told == "skipped")
                 if told and told != "skipped":
                     print("%s: %s%s: %s" % (path, name, ": " + row[:80] if row else "", told))
@@ -896,4 +913,5 @@ def main():
     sys.exit(failed > 0)
 
 
-main()
+if __name__ == "__main__":
+    main()

@@ -645,4 +645,5 @@ def main():
             out.write("\n".join(rows) + "\n")
 
 
-main()
+if __name__ == "__main__":
+    main()
