@@ -17,6 +17,7 @@ complete -c cpdb -n __fish_is_first_token -a load -d 'Load a source into a store
 complete -c cpdb -n __fish_is_first_token -a query -d 'Answer one statement from a store'
 complete -c cpdb -n __fish_is_first_token -a gen -d 'Run a generated workload in memory'
 complete -c cpdb -n __fish_is_first_token -a log -d 'List the commits of a store'
+complete -c cpdb -n __fish_is_first_token -a verify -d 'Compare the records of a store with a replay'
 
 set -l at_kind '__cpdb_at 2 scratch; or __cpdb_at 3 init; or __cpdb_at 4 gen'
 complete -c cpdb -n $at_kind -a n -d Naive
@@ -31,6 +32,6 @@ complete -c cpdb -n '__cpdb_at 3 query' -a records -d 'All records'
 complete -c cpdb -n '__cpdb_at 3 query' -a show -d 'The tree'
 complete -c cpdb -n '__cpdb_at 3 query' -a stats -d 'Numbers of the store'
 
-complete -c cpdb -n '__cpdb_at 2 init run commit load query log' -F
+complete -c cpdb -n '__cpdb_at 2 init run commit load query log verify' -F
 complete -c cpdb -n '__cpdb_at 3 scratch commit' -F
 complete -c cpdb -n '__cpdb_at 4 init; or __cpdb_at 5 load' -F
