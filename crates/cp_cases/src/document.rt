@@ -3,8 +3,8 @@
 //! Examples stand in blocks that are indented by four spaces. After `< ` comes the whole input of a call of `scratch n`, and
 //! the lines below it are its output. After `$ bin/cpdb ` come the words of a session: of the lines of this block and of all
 //! later ones, those that end in a semicolon go in, and all others come out. The status is 1 where a line refuses something.
-//! A session whose first word is `run`, `commit`, `load`, `query` or `log` goes on in the case of the call before it, whose
-//! store it opens. The clock tells `FIRST_MOMENT` in the first call of a case and a minute more in each later one, and a
+//! A session whose first word is `run`, `commit`, `load`, `query`, `log` or `verify` goes on in the case of the call before it,
+//! whose store it opens. The clock tells `FIRST_MOMENT` in the first call of a case and a minute more in each later one, and a
 //! second more at each further commit of a call, of which it tells three.
 
 use crate::sheet::{Case, Part, Sheet};
@@ -56,7 +56,7 @@ fn add_call(alloc: Global, case: &mut Case, line: Line<'_>, words: &str) -> Resu
 fn opens_store(words: &str) -> bool {
     let (command, _) = words.split_once(' ').unwrap_or((words, ""));
     match command {
-        "run" | "commit" | "load" | "query" | "log" => true,
+        "run" | "commit" | "load" | "query" | "log" | "verify" => true,
         _ => false,
     }
 }
