@@ -1,5 +1,6 @@
 -- What open siblings say of their value.
 use Rattle.std.proofs.Common.{◌≡◌, ℕ, [], ◌∷◌, ◌++◌, sym, ap, subst, ◌∙◌, append_assoc, Option, Some, None, Result, Ok, Err, IfOk}
+use Rattle.std.specs.Prelude.{OnOk, OnErr}
 use Rattle.std.specs.FinMap.Entries.{find, put}
 use Rattle.std.specs.declared.cmp.Ordering.TheVariants.{Less, Equal, Greater}
 use Rattle.cp_path.specs.Text.{text_cmp}
@@ -96,3 +97,8 @@ none_some x e = absurd (cc)
 -- a child put under a label that is known by another name
 pub child_as : (m : Tree) (a b : Label) (n k w : Tree) → a ≡ b → n ≡ k → w ≡ with_subtree (b ∷ []) (entries k) m → with_subtree (a ∷ []) (entries n) m ≡ w
 child_as m a b n k w l e h = ap (λ z. with_subtree (z ∷ []) (entries n) m) l ∙ ap (λ z. with_subtree (b ∷ []) (entries z) m) e ∙ sym h
+
+-- what holds after either outcome
+pub either_way : {A E X Y Z : Type 0} (r : Result A E) → OnOk r X → OnErr r Y → (X → Z) → (Y → Z) → Z
+either_way (Ok x) a b f g = f a
+either_way (Err x) a b f g = g b

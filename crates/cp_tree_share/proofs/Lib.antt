@@ -1,4 +1,5 @@
 mod Apart
 mod At
 mod Halved
+mod InPlace
 mod Read

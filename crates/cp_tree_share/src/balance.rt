@@ -1,8 +1,8 @@
 ghost use Rattle.std.specs.Prelude.{◌≡◌, ◌≤◌, ◌<◌, ◌+◌, ◌++◌, ◌∷◌, IfOk, max};
 ghost use Rattle.cp_model.specs.Keyed.{len};
 ghost use Rattle.cp_tree.specs.Sums.{AreChildren};
-ghost use Rattle.cp_tree_share.specs.Siblings.{Near, Settles};
-ghost use Rattle.cp_tree_share.specs.Parts.{ArePartsOf};
+ghost use Rattle.cp_tree_share.specs.Siblings.{Near, Settles, IsFork, fork_edges};
+ghost use Rattle.cp_tree_share.specs.Parts.{ArePartsOf, HasParts};
 ghost use Rattle.cp_tree_share.specs.Reading.{HaveSiblings, AreTaken, IsLow};
 
 use crate::forest::{Entry, Forest, Fork, Open};
@@ -14,6 +14,20 @@ use std::rc::Rc;
 pub(crate) enum Parts {
     Empty,
     At(Forest, Entry, Forest),
+}
+
+impl Fork {
+    /// Makes the height and the sums those of the parts.
+    pub(crate) fn settle(&mut self)
+        requires children { AreChildren (fork_edges self.old) }
+        requires near { Near 1 self.old.left.1 self.old.right.1 }
+        ensures fork { IsFork self.new }
+        ensures parts { HasParts self.new self.old.left self.old.entry self.old.right }
+    {
+        let (left, right) = (&self.left, &self.right);
+        self.height = left.height().max(right.height()) + 1;
+        self.sums = left.sums().beside(self.entry.sums().beside(right.sums()));
+    }
 }
 
 impl Forest {

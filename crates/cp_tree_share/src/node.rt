@@ -1,4 +1,4 @@
-ghost use Rattle.std.specs.Prelude.{◌≡◌, [], ◌∷◌, ◌++◌, map, true, IfOk, OnOk, IfSome, IfNone};
+ghost use Rattle.std.specs.Prelude.{◌≡◌, [], ◌∷◌, ◌++◌, map, true, IfOk, OnOk, OnErr, IfSome, IfNone};
 ghost use Rattle.std.specs.declared.option.Option.TheVariants.{Some, None};
 ghost use Rattle.cp_model.specs.Place.{child};
 ghost use Rattle.cp_model.specs.Keyed.{get, entries};
@@ -73,6 +73,48 @@ impl ShareNode {
         Ok(ShareNode { content, children })
     }
 
+    /// Puts this entry in the place of a child with its label, or beside the others. Costs a logarithm. After an error the
+    /// tree is as it was.
+    fn set_child(&mut self, alloc: Global, entry: Entry) -> Result<(), AllocError>
+        requires node { get self.old [] ≡ Some Node }
+        requires rooted { IsRooted entry.1 }
+        requires small { IsSmall (with_subtree (entry.0 ∷ []) (entries entry.1) self.old) }
+        ensures ok { OnOk result (self.new ≡ with_subtree (entry.0 ∷ []) (entries entry.1) self.old) }
+        ensures err { OnErr result (self.new ≡ self.old) }
+    {
+        self.children.set(alloc, entry)?;
+        Ok(())
+    }
+
+    /// Puts a new subtree at the label below the node at `place`, in the place of one that is there or beside the others.
+    /// Of the children of this node it makes nothing anew where a child is replaced that isn't shared. Costs the way down,
+    /// and a logarithm among siblings for each label of it. After an error the tree is as it was.
+    pub(crate) fn set(
+        &mut self,
+        alloc: Global,
+        place: &[Label],
+        label: SharedLabel,
+        new: ShareNode,
+    ) -> Result<(), AllocError>
+        requires node { get self.old place.now ≡ Some Node }
+        requires rooted { IsRooted new }
+        requires small { IsSmall (with_subtree (child place.now label) (entries new) self.old) }
+        ensures ok { OnOk result (self.new ≡ with_subtree (child place.now label) (entries new) self.old) }
+        ensures err { OnErr result (self.new ≡ self.old) }
+    {
+        match place.split_first() {
+            None => self.set_child(alloc, Entry { label, node: new }),
+            Some((first, rest)) => match self.children.find(first) {
+                Some(entry) => {
+                    let node = entry.node.put(alloc, rest, label, new)?;
+                    let label = entry.label.share()?;
+                    self.set_child(alloc, Entry { label, node })
+                }
+                None => unreachable!(),
+            },
+        }
+    }
+
     /// Makes the tree with a new subtree at the label below the node at `place`, in the place of one that is there or
     /// beside the others. Costs the way down, and a logarithm among siblings for each label of it.
     pub(crate) fn put(
@@ -125,6 +167,36 @@ impl ShareNode {
                     let node = entry.node.remove(alloc, rest, label)?;
                     let label = entry.label.share()?;
                     self.with_child(alloc, Entry { label, node })
+                }
+                None => unreachable!(),
+            },
+        }
+    }
+
+    /// Takes out what stands at the label below the place. Of the children of this node it makes nothing anew that isn't
+    /// shared, where their height stays. Costs the way down, and a logarithm among siblings for each label of it. After an
+    /// error the tree is as it was.
+    pub(crate) fn take_out(
+        &mut self,
+        alloc: Global,
+        place: &[Label],
+        label: &Label,
+    ) -> Result<(), AllocError>
+        requires there { is_there self.old (child place.now label.now) ≡ true }
+        requires small { IsSmall (without (child place.now label.now) self.old) }
+        ensures ok { OnOk result (self.new ≡ without (child place.now label.now) self.old) }
+        ensures err { OnErr result (self.new ≡ self.old) }
+    {
+        match place.split_first() {
+            None => {
+                self.children.take_out(alloc, label)?;
+                Ok(())
+            }
+            Some((first, rest)) => match self.children.find(first) {
+                Some(entry) => {
+                    let node = entry.node.remove(alloc, rest, label)?;
+                    let label = entry.label.share()?;
+                    self.set_child(alloc, Entry { label, node })
                 }
                 None => unreachable!(),
             },

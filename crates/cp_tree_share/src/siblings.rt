@@ -1,15 +1,17 @@
-ghost use Rattle.std.specs.Prelude.{◌≡◌, ◌≤◌, ◌+◌, ◌++◌, map, IfOk, OnOk, IfSome, IfNone};
+ghost use Rattle.std.specs.Prelude.{◌≡◌, ◌≤◌, ◌+◌, ◌++◌, map, IfOk, OnOk, OnErr, IfSome, IfNone};
 ghost use Rattle.std.specs.declared.option.Option.TheVariants.{Some, None};
 ghost use Rattle.std.specs.FinMap.Entries.{find, put};
 ghost use Rattle.cp_path.specs.Text.{text_cmp};
 ghost use Rattle.cp_tree.specs.Branch.{without_child};
 ghost use Rattle.cp_tree.specs.Sums.{AreChildren};
+ghost use Rattle.cp_tree_share.specs.Parts.{IsPutOrGivenBack, IsCutOrSame};
 
 use crate::balance::Parts;
 use crate::forest::{Entry, Forest, Fork, Open};
 use cp_path::Label;
 use std::alloc::{AllocError, Global};
 use std::cmp::Ordering;
+use std::rc::Rc;
 
 impl Forest {
     /// Finds the sibling with the label. Costs a logarithm.
@@ -54,6 +56,95 @@ impl Forest {
         }
     }
 
+    /// Puts the sibling in the place of one with its label, or beside the others, where that leaves the height as it is:
+    /// in place as far as nothing is shared. Gives it back otherwise, and has changed nothing. Costs a logarithm. After an
+    /// error the siblings are as they were.
+    fn place(&mut self, alloc: Global, entry: Entry) -> Result<Option<Entry>, AllocError>
+        requires { AreChildren (put text_cmp entry.0 entry.1 self.old.0) }
+        ensures ok { IfOk result (λ back. IsPutOrGivenBack self.old entry self.new back) }
+        ensures err { OnErr result (self.new ≡ self.old) }
+    {
+        let Open::Full(shared) = &mut self.open else {
+            return Ok(Some(entry));
+        };
+        let Some(fork) = Rc::get_mut(shared) else {
+            return self.place_anew(alloc, entry);
+        };
+        let even = fork.left.height() == fork.right.height();
+        match fork.entry.order_of_entry(&entry) {
+            Ordering::Less => {
+                let back = fork.left.place(alloc, entry)?;
+                match back {
+                    None => {
+                        fork.settle();
+                        Ok(None)
+                    }
+                    Some(entry) => self.place_unless(even, alloc, entry),
+                }
+            }
+            Ordering::Equal => {
+                fork.entry = entry;
+                fork.settle();
+                Ok(None)
+            }
+            Ordering::Greater => {
+                let back = fork.right.place(alloc, entry)?;
+                match back {
+                    None => {
+                        fork.settle();
+                        Ok(None)
+                    }
+                    Some(entry) => self.place_unless(even, alloc, entry),
+                }
+            }
+        }
+    }
+
+    /// The same where one of the two sides would grow: so do they as a whole, if the two are of one height.
+    fn place_unless(
+        &mut self,
+        even: bool,
+        alloc: Global,
+        entry: Entry,
+    ) -> Result<Option<Entry>, AllocError>
+        requires { AreChildren (put text_cmp entry.0 entry.1 self.old.0) }
+        ensures ok { IfOk result (λ back. IsPutOrGivenBack self.old entry self.new back) }
+        ensures err { OnErr result (self.new ≡ self.old) }
+    {
+        if even {
+            return Ok(Some(entry));
+        }
+        self.place_anew(alloc, entry)
+    }
+
+    /// The same with all on the way made anew.
+    fn place_anew(&mut self, alloc: Global, entry: Entry) -> Result<Option<Entry>, AllocError>
+        requires { AreChildren (put text_cmp entry.0 entry.1 self.old.0) }
+        ensures ok { IfOk result (λ back. IsPutOrGivenBack self.old entry self.new back) }
+        ensures err { OnErr result (self.new ≡ self.old) }
+    {
+        let kept = entry.share()?;
+        let changed = self.put(alloc, entry)?;
+        if changed.height() != self.height() {
+            return Ok(Some(kept));
+        }
+        *self = changed;
+        Ok(None)
+    }
+
+    /// Puts the sibling in the place of one with its label, or beside the others: in place as far as nothing is shared,
+    /// where the height stays. Costs a logarithm. After an error the siblings are as they were.
+    pub(crate) fn set(&mut self, alloc: Global, entry: Entry) -> Result<(), AllocError>
+        requires { AreChildren (put text_cmp entry.0 entry.1 self.old.0) }
+        ensures ok { OnOk result (self.new.0 ≡ put text_cmp entry.0 entry.1 self.old.0) }
+        ensures err { OnErr result (self.new ≡ self.old) }
+    {
+        if let Some(entry) = self.place(alloc, entry)? {
+            *self = self.put(alloc, entry)?;
+        }
+        Ok(())
+    }
+
     /// Takes out the sibling with the label. Costs a logarithm.
     pub(crate) fn remove(&self, alloc: Global, label: &Label) -> Result<Forest, AllocError>
         requires { AreChildren (without_child label.now self.now.0) }
@@ -75,6 +166,81 @@ impl Forest {
                 }
             },
         }
+    }
+
+    /// Takes out the sibling with the label, where that leaves the height as it is: in place as far as nothing is shared.
+    /// Says whether it has; otherwise nothing has changed. Costs a logarithm. After an error the siblings are as they were.
+    fn cut(&mut self, alloc: Global, label: &Label) -> Result<bool, AllocError>
+        requires { AreChildren (without_child label.now self.old.0) }
+        ensures ok { IfOk result (λ done. IsCutOrSame self.old label.now self.new done) }
+        ensures err { OnErr result (self.new ≡ self.old) }
+    {
+        let Open::Full(shared) = &mut self.open else {
+            return Ok(false);
+        };
+        let Some(fork) = Rc::get_mut(shared) else {
+            return self.cut_anew(alloc, label);
+        };
+        match fork.entry.order_of(label) {
+            Ordering::Less => {
+                let higher = fork.left.height() > fork.right.height();
+                let done = fork.left.cut(alloc, label)?;
+                if done {
+                    fork.settle();
+                    return Ok(true);
+                }
+                self.cut_unless(higher, alloc, label)
+            }
+            Ordering::Equal => self.cut_anew(alloc, label),
+            Ordering::Greater => {
+                let higher = fork.right.height() > fork.left.height();
+                let done = fork.right.cut(alloc, label)?;
+                if done {
+                    fork.settle();
+                    return Ok(true);
+                }
+                self.cut_unless(higher, alloc, label)
+            }
+        }
+    }
+
+    /// The same where one of the two sides would get lower: so do they as a whole, if it is the higher one.
+    fn cut_unless(&mut self, higher: bool, alloc: Global, label: &Label) -> Result<bool, AllocError>
+        requires { AreChildren (without_child label.now self.old.0) }
+        ensures ok { IfOk result (λ done. IsCutOrSame self.old label.now self.new done) }
+        ensures err { OnErr result (self.new ≡ self.old) }
+    {
+        if higher {
+            return Ok(false);
+        }
+        self.cut_anew(alloc, label)
+    }
+
+    /// The same with all on the way made anew.
+    fn cut_anew(&mut self, alloc: Global, label: &Label) -> Result<bool, AllocError>
+        requires { AreChildren (without_child label.now self.old.0) }
+        ensures ok { IfOk result (λ done. IsCutOrSame self.old label.now self.new done) }
+        ensures err { OnErr result (self.new ≡ self.old) }
+    {
+        let changed = self.remove(alloc, label)?;
+        if changed.height() != self.height() {
+            return Ok(false);
+        }
+        *self = changed;
+        Ok(true)
+    }
+
+    /// Takes out the sibling with the label: in place as far as nothing is shared, where the height stays. Costs a
+    /// logarithm. After an error the siblings are as they were.
+    pub(crate) fn take_out(&mut self, alloc: Global, label: &Label) -> Result<(), AllocError>
+        requires { AreChildren (without_child label.now self.old.0) }
+        ensures ok { OnOk result (self.new.0 ≡ without_child label.now self.old.0) }
+        ensures err { OnErr result (self.new ≡ self.old) }
+    {
+        if !self.cut(alloc, label)? {
+            *self = self.remove(alloc, label)?;
+        }
+        Ok(())
     }
 
     /// Adds the labels of the siblings, in order. Costs their bytes.

@@ -19,8 +19,8 @@ use std::alloc::{AllocError, Global};
 /// A tree whose nodes are shared: two copies hold what they have in common once.
 ///
 /// A copy costs the same for a tree of any size. A change makes the nodes on its way anew, and of the siblings of each
-/// a logarithm; all else stays shared. Dropping a copy frees what it alone holds. The number of places, the weight and
-/// the reach of each subtree are kept.
+/// a logarithm; all else stays shared. What isn't shared of those below the root changes in place. Dropping a copy frees
+/// what it alone holds. The number of places, the weight and the reach of each subtree are kept.
 #[derive(Drop)]
 pub struct ShareTree {
     root: ShareNode,
@@ -43,7 +43,7 @@ impl ShareTree {
         ensures err { OnErr result (self.new.root ≡ self.old.root) }
     {
         let label = SharedLabel::of(alloc, label)?;
-        self.root = self.root.put(alloc, place, label, new)?;
+        self.root.set(alloc, place, label, new)?;
         Ok(())
     }
 
@@ -142,7 +142,7 @@ impl TreeRep for ShareTree {
     }
 
     fn remove(&mut self, alloc: Global, place: &Path, label: &Label) -> Result<(), AllocError> {
-        self.root = self.root.remove(alloc, place.labels(), label)?;
+        self.root.take_out(alloc, place.labels(), label)?;
         Ok(())
     }
 
