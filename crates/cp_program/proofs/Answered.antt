@@ -1,5 +1,5 @@
 -- Calls that answer from a store, and leave it as it is.
-use Rattle.std.proofs.Common.{◌≡◌, ℕ, List, [], Bool, true, false, Ok, Err, inl, inr, refl, sym, ap, subst, append-nil, arith}
+use Rattle.std.proofs.Common.{◌≡◌, ℕ, List, [], Bool, Ok, Err, inl, inr, refl, sym, ap, subst, append-nil, arith}
 use Rattle.std.specs.Prelude.{IsTrue, IfErr, Result, ◌≤◌}
 use Rattle.std.specs.List.{flat_map, list_any}
 use Rattle.std.specs.declared.option.Option.{Option}
@@ -7,13 +7,12 @@ use Rattle.std.specs.declared.option.Option.TheVariants.{Some}
 use Rattle.cp_outside.specs.Causes.{Accounts}
 use Rattle.cp_outside.specs.FileReads.{FileTable}
 use Rattle.cp_model.specs.Tree.{Tree}
-use Rattle.cp_model.specs.History.{Entry}
 use Rattle.cp_disk.specs.Views.{Rests}
 use Rattle.cp_file.specs.Stands.{Opens}
 use Rattle.cp_model.specs.declared.answer.LogLine.{LogLine}
+use Rattle.cp_model.specs.declared.record.Verdict.{Verdict}
 use Rattle.cp_db.specs.Log.{LogsAs}
-use Rattle.cp_db.specs.declared.fault.OpenFault.{OpenFault}
-use Rattle.cp_db.specs.declared.fault.OpenFault.TheVariants as opens
+use Rattle.cp_db.specs.Verify.{VerifiesAs}
 use Rattle.cp_lang.specs.declared.syntax_tree.Stmt.{Stmt}
 use Rattle.cp_reply.specs.Lines.{lines}
 use Rattle.cp_reply.specs.declared.reply.Reply.{Reply}
@@ -24,12 +23,12 @@ use Rattle.cp_workspace.specs.Disks.{KnownDisk}
 use Rattle.cp_workspace.specs.Files.{KnownFiles}
 use Rattle.cp_workspace.specs.Workspaces.{Stands, Turned, opened_session}
 use Rattle.cp_workspace.specs.declared.workspace.Workspace.{Workspace}
-use Rattle.cp_program.specs.Job.{Report, is_refusal}
+use Rattle.cp_program.specs.Job.{is_refusal}
 use Rattle.cp_program.specs.Outside.{KnownInput, KnownClock, KnownOutput, Outside}
 use Rattle.cp_program.specs.Story.{SaidLine, HasCauses, DiskCauses, result_of, store_terms}
 use Rattle.cp_program.specs.Alone.{statement_report}
 use Rattle.cp_scratch.specs.Sessions.{no_files}
-use Rattle.cp_program.specs.Answering.{answer_report, log_report, Answered}
+use Rattle.cp_program.specs.Answering.{IsAnswerTo, IsLogOf, IsVerdictOn, Answered}
 use Rattle.cp_program.specs.Begins.{IsOpeningStop, OpenedAlone, AnsweredAs, GaveAnswer}
 use Rattle.cp_program.specs.Turns.{IsDiskStop, TellsStop, end_of_stop}
 use Rattle.cp_program.specs.declared.end.End.{End}
@@ -38,6 +37,7 @@ use Rattle.cp_program.specs.declared.stop.Stop.{Stop}
 use Rattle.cp_program.specs.declared.stop.Stop.TheVariants.{Output, Full, File, Disk, NoStore, Clock, Memory}
 use Rattle.cp_program.proofs.Opened.{stop-early, stop-disk, causes-early-end, early-not-long}
 use Rattle.cp_program.proofs.Plays.{or-false}
+use Rattle.cp_program.proofs.Verdicts.{verdict-opens}
 
 -- ---- one statement
 
@@ -56,32 +56,19 @@ statement-said files terms s x y is = one-reply (turn_of (setting files terms) s
 -- a statement was run on the workspace that was opened
 pub answered-statement : {R S : Type 0} (view : R → Tree) (source_view : S → Tree) (v m : KnownDisk) (old new : Workspace R S) (x : Stmt) (y : Reply) → OpenedAlone view source_view v m (Ok old)
     → ((t : FileTable) (terms : Terms) (s : Session) → Stands view source_view terms old s → Turned view source_view terms (turn_of (setting t terms) s (says x)) new (Some y))
-    → AnsweredAs true (answer_report x) v (Ok y)
+    → AnsweredAs (IsAnswerTo x) v (Ok y)
 answered-statement view source_view v m old new x y o f = (
   o.0,
   λ h store. statement-said no_files (store_terms h v.view.content []) (opened_session h []) x y (f no_files (store_terms h v.view.content []) (opened_session h []) (o.1 h [] store).0).0,
 )
 
--- none was opened
-pub answered-not : {R S : Type 0} (view : R → Tree) (source_view : S → Tree) (right : Bool) (report : List Entry → List ℕ → Report) (v m : KnownDisk) (stop : Stop) → OpenedAlone {R = R} {S = S} view source_view v m (Err stop) → AnsweredAs right report v (Err stop)
-answered-not view source_view right report v m Output o = tt
-answered-not view source_view right report v m Full o = tt
-answered-not view source_view right report v m File o = tt
-answered-not view source_view right report v m Disk o = tt
-answered-not view source_view right report v m (NoStore at) o = o
-answered-not view source_view right report v m Clock o = tt
-answered-not view source_view right report v m Memory o = tt
+-- the records of a store were compared
+pub answered-verdict : (v : KnownDisk) (x : Verdict) → VerifiesAs v.view.content (Ok x) → AnsweredAs IsVerdictOn v (Ok (reply.Verified x))
+answered-verdict v x h = (verdict-opens v.view.content x h, (x, refl, h))
 
 -- the commits of a store were listed
-pub answered-log : (v : KnownDisk) (commits : List LogLine) → LogsAs v.view.content (Ok commits) → AnsweredAs false log_report v (Ok (reply.Logged commits))
-answered-log v commits o = (o.0, λ h store. (ap (λ z. lines (reply.Logged z)) (o.1 h store), refl))
-
--- they weren't
-pub answered-fault : (v : KnownDisk) (fault : OpenFault) (stop : Stop) → (fault ≡ opens.Disk → stop ≡ Disk) × (fault ≡ opens.Memory → stop ≡ Memory) × ((at : ℕ) → fault ≡ opens.NoStore at → stop ≡ NoStore at)
-    → LogsAs v.view.content (Err fault) → AnsweredAs false log_report v (Err stop)
-answered-fault v opens.Disk stop becomes o = subst (λ s. AnsweredAs false log_report v (Err s)) (sym (becomes.0 refl)) tt
-answered-fault v opens.Memory stop becomes o = subst (λ s. AnsweredAs false log_report v (Err s)) (sym (becomes.1 refl)) tt
-answered-fault v (opens.NoStore at) stop becomes o = subst (λ s. AnsweredAs false log_report v (Err s)) (sym (becomes.2 at refl)) o
+pub answered-log : (v : KnownDisk) (commits : List LogLine) → LogsAs v.view.content (Ok commits) → AnsweredAs IsLogOf v (Ok (reply.Logged commits))
+answered-log v commits o = (o.0, λ h store. ap (λ z. reply.Logged z) (o.1 h store))
 
 -- ---- ends of calls that say one line
 
@@ -144,7 +131,7 @@ said-as line other flag refused o p e a b s = subst (λ z. SaidLine other z o p 
 
 -- ---- calls that answer
 
-module _ (right : Bool) (report : List Entry → List ℕ → Report) (i : KnownInput) (f : KnownFiles) (k : KnownClock) (o p : KnownOutput) (v w : KnownDisk) where
+module _ (IsReply : List ℕ → Reply → Type 0) (i : KnownInput) (f : KnownFiles) (k : KnownClock) (o p : KnownOutput) (v w : KnownDisk) where
   abbrev b : Outside
   b = record { input = i; files = f; clock = k; output = o }
 
@@ -152,7 +139,7 @@ module _ (right : Bool) (report : List Entry → List ℕ → Report) (i : Known
   a = record { input = i; files = f; clock = k; output = p }
 
   -- what isn't opened is no store
-  none-at : (stop : Stop) (at : ℕ) → end_of_stop stop ≡ how.NoStore at → AnsweredAs right report v (Err stop) → Opens v.view.content → ⊥
+  none-at : (stop : Stop) (at : ℕ) → end_of_stop stop ≡ how.NoStore at → AnsweredAs IsReply v (Err stop) → Opens v.view.content → ⊥
   none-at Output at h n = absurd (cc)
   none-at Full at h n = absurd (cc)
   none-at File at h n = absurd (cc)
@@ -162,35 +149,31 @@ module _ (right : Bool) (report : List Entry → List ℕ → Report) (i : Known
   none-at Memory at h n = absurd (cc)
 
   -- the answer was written
-  answered-line : (y : Reply) (e : End) → (IsTrue v.known → AnsweredAs right report v (Ok y)) → (IsTrue v.known → Rests v.view w.view) → SaidLine (lines y) (is_refusal y) o p e → Answered right report b a v w e
+  answered-line : (y : Reply) (e : End) → (IsTrue v.known → AnsweredAs IsReply v (Ok y)) → (IsTrue v.known → Rests v.view w.view) → SaidLine (lines y) (is_refusal y) o p e → Answered IsReply b a v w e
   answered-line y e answered rests s = record {
     input = refl;
     files = refl;
     clock = refl;
-    ended = inr (record { out = lines y; refused = is_refusal y; reads = 0; history = [] }, s);
     rests = rests;
     no_store = λ known at h. absurd (said-opened (lines y) (is_refusal y) o p e at s h);
-    unopened = λ known never. absurd (never (answered known).0);
-    did = λ known h store. (let x = (answered known).1 h store in inr (said-as (lines y) (report h v.view.content).out (is_refusal y) (report h v.view.content).refused o p e x.0 x.1 s));
+    ended = inr (y, s, answered);
   }
 
   -- the call was stopped
-  answered-early : (stop : Stop) → IsOpeningStop stop → (IsTrue v.known → AnsweredAs right report v (Err stop)) → (IsTrue v.known → Rests v.view w.view) → TellsStop o p stop → Answered right report b a v w (end_of_stop stop)
+  answered-early : (stop : Stop) → IsOpeningStop stop → (IsTrue v.known → AnsweredAs IsReply v (Err stop)) → (IsTrue v.known → Rests v.view w.view) → TellsStop o p stop → Answered IsReply b a v w (end_of_stop stop)
   answered-early stop kind none rests tells = (let early = stop-early o p stop kind tells in record {
     input = refl;
     files = refl;
     clock = refl;
-    ended = inl early;
     rests = rests;
     no_store = λ known at h. (early, none-at stop at h (none known));
-    unopened = λ known never. early;
-    did = λ known h store. inl early;
+    ended = inl early;
   })
 
   -- what came of the answer
-  pub answered-end : (r : Result Reply Stop) (e : End) → IfErr r IsOpeningStop → (IsTrue v.known → AnsweredAs right report v r) → (IsTrue v.known → Rests v.view w.view) → GaveAnswer r o p e → Answered right report b a v w e
+  pub answered-end : (r : Result Reply Stop) (e : End) → IfErr r IsOpeningStop → (IsTrue v.known → AnsweredAs IsReply v r) → (IsTrue v.known → Rests v.view w.view) → GaveAnswer r o p e → Answered IsReply b a v w e
   answered-end (Ok y) e kind answered rests gave = answered-line y e answered rests gave
-  answered-end (Err stop) e kind answered rests gave = subst (Answered right report b a v w) (sym gave.0) (answered-early stop kind answered rests gave.1)
+  answered-end (Err stop) e kind answered rests gave = subst (Answered IsReply b a v w) (sym gave.0) (answered-early stop kind answered rests gave.1)
 
 -- the causes of its end
 pub causes-answer : (i : KnownInput) (f : KnownFiles) (k : KnownClock) (o p : KnownOutput) (r : Result Reply Stop) (e : End) → IfErr r IsOpeningStop → GaveAnswer r o p e → Accounts (λ z. z ≡ how.Output) o.faults p.faults (result_of e)

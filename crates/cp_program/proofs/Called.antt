@@ -12,12 +12,14 @@ use Rattle.cp_workspace.specs.Files.{KnownFiles}
 use Rattle.cp_workspace.specs.Disks.{KnownDisk}
 use Rattle.cp_program.specs.Texts.{usage_text, memory_line}
 use Rattle.cp_program.specs.Outside.{KnownInput, KnownClock, KnownOutput, Outside}
-use Rattle.cp_program.specs.Story.{WritesLast, SaidLine, EndedEarly, IsFaultless, HasCauses, DiskCauses}
+use Rattle.cp_program.specs.Story.{WritesLast, SaidLine, IsFaultless, HasCauses, DiskCauses}
 use Rattle.cp_model.specs.declared.kind.Kind.{Kind}
+use Rattle.cp_lang.specs.declared.syntax_tree.Stmt.TheVariants as stmt
 use Rattle.cp_reply.specs.Lines.{lines}
-use Rattle.cp_program.specs.Answering.{SaidReport, Generated}
+use Rattle.cp_reply.specs.declared.reply.Reply.{Reply}
+use Rattle.cp_program.specs.Answering.{Answered, Generated, IsAnswerTo, IsLogOf, IsVerdictOn}
 use Rattle.cp_program.specs.Calls.{DidCommand, HasItsStore, IsShort, Called}
-use Rattle.cp_program.specs.Job.{Report}
+use Rattle.cp_program.specs.Job.{is_refusal}
 use Rattle.cp_program.specs.Ends.{code_of}
 use Rattle.cp_program.specs.declared.end.End.{End}
 use Rattle.cp_program.specs.declared.end.End.TheVariants as how
@@ -42,9 +44,11 @@ said-not-none : (line : List ℕ) (refused : Bool) (o p : KnownOutput) (e : End)
 said-not-none line refused o p e s at h = subst (SaidLine line refused o p) h s
 
 -- an answer from a store doesn't end with the usage
-answered-fits : (before now : Outside) (e : End) → EndedEarly before now e ⊎ ((r : Report) × SaidReport r before now e) → e ≡ how.Usage → ⊥
-answered-fits before now e (inl early) h = early-not-usage e early.0 h
-answered-fits before now e (inr said) h = said-not-usage said.0.out said.0.refused before.output now.output e said.1 h
+answered-fits : (IsReply : List ℕ → Reply → Type 0) (before now : Outside) (v w : KnownDisk) (e : End) → Answered IsReply before now v w e → e ≡ how.Usage → ⊥
+answered-fits IsReply before now v w e r h = elim r.ended [
+  | inl early ↦ early-not-usage e early.0 h
+  | inr said ↦ said-not-usage (lines said.0) (is_refusal said.0) before.output now.output e said.1 h
+]
 
 -- nor does a run of a workload end so
 generated-not : (k : Kind) (seed count : ℕ) (before now : Outside) (e d : End) → Generated k seed count before now e → (how.Memory ≡ d → ⊥) → ((line : List ℕ) → SaidLine line false before.output now.output e → e ≡ d → ⊥) → e ≡ d → ⊥
@@ -57,10 +61,11 @@ fits (words.Init k s) before now v w e r = r.running.fitting
 fits (words.Run curator) before now v w e r = r.fitting
 fits (words.Commit file curator) before now v w e r = r.fitting
 fits (words.Load l) before now v w e r = r.fitting
-fits (words.Ask q) before now v w e r = answered-fits before now e r.ended
-fits (words.Show p) before now v w e r = answered-fits before now e r.ended
+fits (words.Ask q) before now v w e r = answered-fits (IsAnswerTo (stmt.Ask q)) before now v w e r
+fits (words.Show p) before now v w e r = answered-fits (IsAnswerTo (stmt.Show p)) before now v w e r
 fits (words.Generate seed count k) before now v w e r = generated-not k seed count before now e how.Usage r (λ h. absurd (cc)) (λ line said h. said-not-usage line false before.output now.output e said h)
-fits words.Log before now v w e r = answered-fits before now e r.ended
+fits words.Log before now v w e r = answered-fits IsLogOf before now v w e r
+fits words.Verify before now v w e r = answered-fits IsVerdictOn before now v w e r
 
 -- where there is a store, if there is to be one, it is found
 opens : (x : Command) (before now : Outside) (v w : KnownDisk) (e : End) → DidCommand x before now v w e → HasItsStore x v → (at : ℕ) → e ≡ how.NoStore at → ⊥
@@ -73,6 +78,7 @@ opens (words.Ask q) before now v w e r has at h = (r.no_store has.0 at h).1 has.
 opens (words.Show p) before now v w e r has at h = (r.no_store has.0 at h).1 has.1
 opens (words.Generate seed count k) before now v w e r has at h = generated-not k seed count before now e (how.NoStore at) r (λ g. absurd (cc)) (λ line said g. said-not-none line false before.output now.output e said at g) h
 opens words.Log before now v w e r has at h = (r.no_store has.0 at h).1 has.1
+opens words.Verify before now v w e r has at h = (r.no_store has.0 at h).1 has.1
 
 -- where nothing failed and little came, the call ends with an answer
 complete : (x : Command) (before now : Outside) (v w : KnownDisk) (e : End) → DidCommand x before now v w e → HasCauses before now e → DiskCauses v w e → (e ≡ how.TooLong → IsShort before.input.left → ⊥)

@@ -6,6 +6,7 @@ mod Whole
 mod Opened
 mod Made
 mod Scripted
+mod Verdicts
 mod Answered
 mod LoadedAlone
 mod Called

@@ -1,9 +1,11 @@
--- Calls that answer and change nothing: queries, what stands at a place, and the log of a store; and what a generated workload comes to.
-use Rattle.std.specs.Prelude.{◌≡◌, ◌⊎◌, ℕ, List, [], Bool, false, IsTrue}
+-- Calls that answer and change nothing: queries, what stands at a place, the log of a store, and the verdict on its records; and what a generated workload comes to.
+use Rattle.std.specs.Prelude.{◌≡◌, ◌⊎◌, ℕ, List, [], true, false, IsTrue, Ok}
 use Rattle.cp_model.specs.History.{Entry, log_of}
 use Rattle.cp_model.specs.declared.kind.Kind.{Kind}
+use Rattle.cp_model.specs.declared.record.Verdict.{Verdict}
 use Rattle.cp_disk.specs.Views.{Rests}
 use Rattle.cp_file.specs.Stands.{IsStore, Opens}
+use Rattle.cp_db.specs.Verify.{VerifiesAs}
 use Rattle.cp_lang.specs.declared.syntax_tree.Stmt.{Stmt}
 use Rattle.cp_reply.specs.Lines.{lines}
 use Rattle.cp_reply.specs.declared.reply.Reply.{Reply}
@@ -11,7 +13,7 @@ use Rattle.cp_reply.specs.declared.reply.Reply.TheVariants as reply
 use Rattle.cp_workspace.specs.Disks.{KnownDisk}
 use Rattle.cp_scratch.specs.Sessions.{no_files}
 use Rattle.cp_scratch.specs.Workloads.{ComesTo}
-use Rattle.cp_program.specs.Job.{Report}
+use Rattle.cp_program.specs.Job.{is_refusal}
 use Rattle.cp_program.specs.Outside.{Outside}
 use Rattle.cp_program.specs.Texts.{memory_line}
 use Rattle.cp_program.specs.Story.{SaidLine, EndedEarly, WritesLast}
@@ -19,29 +21,32 @@ use Rattle.cp_program.specs.Alone.{report_on}
 use Rattle.cp_program.specs.declared.end.End.{End}
 use Rattle.cp_program.specs.declared.end.End.TheVariants as how
 
--- what is answered to a statement that reads no file, on the history h, which the content c tells
-abbrev pub answer_report : Stmt → List Entry → List ℕ → Report
-answer_report x h c = report_on no_files h c x
+-- the reply is that to the statement, which reads no file, in the session that begins on the history for which the content stands
+abbrev pub IsAnswerTo : Stmt → List ℕ → Reply → Type 0
+IsAnswerTo x c y = (h : List Entry) → IsStore true h c → (lines y ≡ (report_on no_files h c x).out) × (is_refusal y ≡ (report_on no_files h c x).refused)
 
--- the commits of the history
-abbrev pub log_report : List Entry → List ℕ → Report
-log_report h c = record { out = lines (reply.Logged (log_of h)); refused = false; reads = 0; history = h }
+-- the reply lists the commits of the history that the content tells, be its records right or not
+abbrev pub IsLogOf : List ℕ → Reply → Type 0
+IsLogOf c y = (h : List Entry) → IsStore false h c → y ≡ reply.Logged (log_of h)
 
--- The lines of a report were written, unless the output stopped in them, or memory ran out before them.
-abbrev pub SaidReport : Report → Outside → Outside → End → Type 0
-SaidReport r before now end = SaidLine r.out r.refused before.output now.output end
+-- the reply is the verdict on the records of the content
+abbrev pub IsVerdictOn : List ℕ → Reply → Type 0
+IsVerdictOn c y = (x : Verdict) × (y ≡ reply.Verified x) × VerifiesAs c (Ok x)
+
+-- The lines of a reply were written, unless the output stopped in them, or memory ran out before them.
+abbrev pub SaidReply : Reply → Outside → Outside → End → Type 0
+SaidReply y before now end = SaidLine (lines y) (is_refusal y) before.output now.output end
 
 -- A call that was to answer from a store took no input, read no file, asked no clock, and left the disk as it was.
--- What isn't opened is no store, and what is none isn't opened. What tells a history, with the right records where they count, has the answer.
-pub record Answered (right : Bool) (report : List Entry → List ℕ → Report) (before now : Outside) (v w : KnownDisk) (end : End) : Type 0 where
+-- What isn't opened is no store, and what is none isn't opened. What opens has a reply, of which this is so.
+pub record Answered (IsReply : List ℕ → Reply → Type 0) (before now : Outside) (v w : KnownDisk) (end : End) : Type 0 where
   pub input : now.input ≡ before.input
   pub files : now.files ≡ before.files
   pub clock : now.clock ≡ before.clock
-  pub ended : EndedEarly before now end ⊎ ((r : Report) × SaidReport r before now end)
   pub rests : IsTrue v.known → Rests v.view w.view
   pub no_store : IsTrue v.known → (at : ℕ) → end ≡ how.NoStore at → EndedEarly before now end × (Opens v.view.content → ⊥)
-  pub unopened : IsTrue v.known → (Opens v.view.content → ⊥) → EndedEarly before now end
-  pub did : IsTrue v.known → (h : List Entry) → IsStore right h v.view.content → EndedEarly before now end ⊎ SaidReport (report h v.view.content) before now end
+  pub ended : EndedEarly before now end
+      ⊎ ((y : Reply) × SaidReply y before now end × (IsTrue v.known → Opens v.view.content × IsReply v.view.content y))
 
 -- ---- generated workloads
 

@@ -1,5 +1,5 @@
 -- How sessions begin, and how stores are opened and made.
-use Rattle.std.specs.Prelude.{◌≡◌, ◌⊎◌, ℕ, ◌≤◌, List, [], ◌∷◌, Bool, true, IsTrue, Result, Ok, Err, IfErr, ⊤}
+use Rattle.std.specs.Prelude.{◌≡◌, ◌⊎◌, ℕ, ◌≤◌, List, [], ◌∷◌, true, IsTrue, Result, Ok, Err, IfErr, ⊤}
 use Rattle.cp_model.specs.Keyed.{len}
 use Rattle.cp_model.specs.Tree.{Tree}
 use Rattle.cp_model.specs.History.{Entry, start}
@@ -169,12 +169,11 @@ pub record LoadedAs (l : Load) (before now : KnownFiles) (v w : KnownDisk) (resu
       → LeavesOneOf h (report_on files h v.view.content (stmt.Load l)).history v.view w.view
   pub kinds : IfErr result (λ e. (e ≡ Output → ⊥) × (e ≡ Full → ⊥) × (e ≡ Clock → ⊥))
 
--- what a store answers whose report is expected on each history
-abbrev pub AnsweredAs : Bool → (List Entry → List ℕ → Report) → KnownDisk → Result Reply Stop → Type 0
-AnsweredAs right report v (Ok y) = Opens v.view.content
-    × ((h : List Entry) → IsStore right h v.view.content → (lines y ≡ (report h v.view.content).out) × (is_refusal y ≡ (report h v.view.content).refused))
-AnsweredAs right report v (Err (NoStore at)) = Opens v.view.content → ⊥
-AnsweredAs right report v (Err stop) = ⊤
+-- a content that opens has a reply of which this is so; what isn't opened is no store
+abbrev pub AnsweredAs : (List ℕ → Reply → Type 0) → KnownDisk → Result Reply Stop → Type 0
+AnsweredAs IsReply v (Ok y) = Opens v.view.content × IsReply v.view.content y
+AnsweredAs IsReply v (Err (NoStore at)) = Opens v.view.content → ⊥
+AnsweredAs IsReply v (Err stop) = ⊤
 
 -- the answer was written, or the last line of what stopped the call
 abbrev pub GaveAnswer : Result Reply Stop → KnownOutput → KnownOutput → End → Type 0

@@ -1,6 +1,6 @@
 -- One call of the program: its words, what was done for them, and how it ended.
 use Rattle.cp_program.specs.declared.limits.TheConstants.{INPUT_MAX}
-use Rattle.std.specs.Prelude.{◌≡◌, ◌⊎◌, ℕ, ◌≤◌, List, [], length, true, false, IsTrue, ⊤}
+use Rattle.std.specs.Prelude.{◌≡◌, ◌⊎◌, ℕ, ◌≤◌, List, [], length, IsTrue, ⊤}
 use Rattle.std.specs.declared.option.Option.{Option}
 use Rattle.std.specs.declared.option.Option.TheVariants.{None, Some}
 use Rattle.cp_disk.specs.Views.{Rests}
@@ -15,7 +15,7 @@ use Rattle.cp_program.specs.Outside.{Outside}
 use Rattle.cp_program.specs.Ends.{code_of}
 use Rattle.cp_program.specs.Story.{WritesLast, Ran, RanOn, Made, HasCauses, DiskCauses, IsFaultless}
 use Rattle.cp_program.specs.Alone.{Loaded}
-use Rattle.cp_program.specs.Answering.{Answered, Generated, answer_report, log_report}
+use Rattle.cp_program.specs.Answering.{Answered, Generated, IsAnswerTo, IsLogOf, IsVerdictOn}
 use Rattle.cp_program.specs.Scripts.{Committed}
 use Rattle.cp_program.specs.declared.end.End.{End}
 use Rattle.cp_program.specs.declared.end.End.TheVariants as how
@@ -46,10 +46,11 @@ DidCommand (words.Init k from) before now v w end = Made k (λ files. start_give
 DidCommand (words.Run curator) before now v w end = RanOn curator before now v w end
 DidCommand (words.Commit file curator) before now v w end = Committed file curator before now v w end
 DidCommand (words.Load l) before now v w end = Loaded l before now v w end
-DidCommand (words.Ask q) before now v w end = Answered true (answer_report (stmt.Ask q)) before now v w end
-DidCommand (words.Show p) before now v w end = Answered true (answer_report (stmt.Show p)) before now v w end
+DidCommand (words.Ask q) before now v w end = Answered (IsAnswerTo (stmt.Ask q)) before now v w end
+DidCommand (words.Show p) before now v w end = Answered (IsAnswerTo (stmt.Show p)) before now v w end
 DidCommand (words.Generate seed count k) before now v w end = Generated k seed count before now end
-DidCommand words.Log before now v w end = Answered false log_report before now v w end
+DidCommand words.Log before now v w end = Answered IsLogOf before now v w end
+DidCommand words.Verify before now v w end = Answered IsVerdictOn before now v w end
 
 -- What was done for the words: for their command, or, where they fit no row, the usage was given.
 abbrev pub RanAs : Option Command → Outside → Outside → KnownDisk → KnownDisk → End → Type 0
@@ -67,6 +68,7 @@ LeavesDisk (words.Ask q) = ⊥
 LeavesDisk (words.Show p) = ⊥
 LeavesDisk (words.Generate seed count k) = ⊤
 LeavesDisk words.Log = ⊥
+LeavesDisk words.Verify = ⊥
 
 -- The words ask for nothing of the disk.
 abbrev pub NeedsNoDisk : Option Command → Type 0
@@ -95,6 +97,7 @@ HasItsStore (words.Ask q) v = HasOpenStore v
 HasItsStore (words.Show p) v = HasOpenStore v
 HasItsStore (words.Generate seed count k) v = ⊤
 HasItsStore words.Log v = HasOpenStore v
+HasItsStore words.Verify v = HasOpenStore v
 
 -- What the words ask for needs no store, or the disk is known to hold one that opens.
 abbrev pub HasStore : Option Command → KnownDisk → Type 0

@@ -4,6 +4,8 @@ use Rattle.std.specs.List.{flat_map, list_any}
 use Rattle.cp_model.specs.Place.{target}
 use Rattle.cp_model.specs.History.{Entry}
 use Rattle.cp_model.specs.declared.query.Form.TheVariants.{Json}
+use Rattle.cp_model.specs.declared.record.Verdict.{Verdict}
+use Rattle.cp_model.specs.declared.record.Verdict.TheVariants.{Agrees}
 use Rattle.cp_lang.specs.Cuts.{cuts_in, cuts_of}
 use Rattle.cp_lang.specs.declared.cut.Cut.{Cut}
 use Rattle.cp_lang.specs.declared.syntax_tree.Load.{Load}
@@ -39,9 +41,15 @@ start_reads (TreeIn file) = 1
 
 -- ---- reports
 
--- the reply is a refusal
+-- the verdict tells of a difference
+abbrev pub is_difference : Verdict → Bool
+is_difference (Agrees n) = false
+is_difference v = true
+
+-- the reply is a refusal, or a verdict that tells of a difference
 abbrev pub is_refusal : Reply → Bool
 is_refusal (reply.Refused o w) = true
+is_refusal (reply.Verified v) = is_difference v
 is_refusal r = false
 
 -- how many files cuts read, one after another

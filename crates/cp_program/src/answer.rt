@@ -1,11 +1,11 @@
-//! Answers from a store that is left as it is: queries, what stands at a place, and its commits.
-ghost use Rattle.std.specs.Prelude.{◌≡◌, true, false, IsTrue, IfErr};
+//! Answers from a store that is left as it is: queries, what stands at a place, its commits, and whether its records are right.
+ghost use Rattle.std.specs.Prelude.{◌≡◌, IsTrue, IfErr};
 ghost use Rattle.cp_outside.specs.Causes.{Accounts};
 ghost use Rattle.cp_disk.specs.Views.{Rests};
 ghost use Rattle.cp_lang.specs.declared.syntax_tree.Stmt.TheVariants as stmt;
 ghost use Rattle.cp_workspace.specs.Disks.{known_disk};
 ghost use Rattle.cp_workspace.specs.Files.{KnownFiles};
-ghost use Rattle.cp_program.specs.Answering.{Answered, answer_report, log_report};
+ghost use Rattle.cp_program.specs.Answering.{Answered, IsAnswerTo, IsLogOf, IsVerdictOn};
 ghost use Rattle.cp_program.specs.Begins.{AnsweredAs, GaveAnswer, IsOpeningStop};
 ghost use Rattle.cp_program.specs.Outside.{KnownInput, KnownClock, known_output};
 ghost use Rattle.cp_program.specs.Story.{HasCauses, DiskCauses, result_of};
@@ -16,7 +16,7 @@ use crate::load::open_workspace;
 use crate::start::end_with;
 use crate::stop::Stop;
 use crate::tell::stopped;
-use cp_db::log_of;
+use cp_db::{log_of, verify};
 use cp_disk::Disk;
 use cp_model::Query;
 use cp_outside::Sink;
@@ -31,7 +31,7 @@ fn reply_to_query<R: TreeRep, S: TreeRep, D: Disk>(
     query: Query,
     disk: &mut D,
 ) -> Result<Reply, Stop>
-    ensures answered { IsTrue D.is_known → AnsweredAs true (answer_report (stmt.Ask query)) (known_disk D.Disk disk.old) result }
+    ensures answered { IsTrue D.is_known → AnsweredAs (IsAnswerTo (stmt.Ask query)) (known_disk D.Disk disk.old) result }
     ensures rests { IsTrue D.is_known → Rests (D.view disk.old) (D.view disk.new) }
     ensures cause { Accounts IsDiskStop (D.counts disk.old).faults (D.counts disk.new).faults result }
     ensures kinds { IfErr result IsOpeningStop }
@@ -46,7 +46,7 @@ fn reply_to_show<R: TreeRep, S: TreeRep, D: Disk>(
     place: Loc,
     disk: &mut D,
 ) -> Result<Reply, Stop>
-    ensures answered { IsTrue D.is_known → AnsweredAs true (answer_report (stmt.Show place)) (known_disk D.Disk disk.old) result }
+    ensures answered { IsTrue D.is_known → AnsweredAs (IsAnswerTo (stmt.Show place)) (known_disk D.Disk disk.old) result }
     ensures rests { IsTrue D.is_known → Rests (D.view disk.old) (D.view disk.new) }
     ensures cause { Accounts IsDiskStop (D.counts disk.old).faults (D.counts disk.new).faults result }
     ensures kinds { IfErr result IsOpeningStop }
@@ -57,13 +57,24 @@ fn reply_to_show<R: TreeRep, S: TreeRep, D: Disk>(
 
 /// The commits of a store.
 fn commits_in<R: TreeRep, S: TreeRep, D: Disk>(alloc: Global, disk: &mut D) -> Result<Reply, Stop>
-    ensures answered { IsTrue D.is_known → AnsweredAs false log_report (known_disk D.Disk disk.old) result }
+    ensures answered { IsTrue D.is_known → AnsweredAs IsLogOf (known_disk D.Disk disk.old) result }
     ensures rests { IsTrue D.is_known → Rests (D.view disk.old) (D.view disk.new) }
     ensures cause { Accounts IsDiskStop (D.counts disk.old).faults (D.counts disk.new).faults result }
     ensures kinds { IfErr result IsOpeningStop }
 {
     let commits = log_of::<R, S, D>(alloc, disk)?;
     Ok(Reply::Logged { commits })
+}
+
+/// The verdict on the records of a store.
+fn verdict_on<R: TreeRep, S: TreeRep, D: Disk>(alloc: Global, disk: &mut D) -> Result<Reply, Stop>
+    ensures answered { IsTrue D.is_known → AnsweredAs IsVerdictOn (known_disk D.Disk disk.old) result }
+    ensures rests { IsTrue D.is_known → Rests (D.view disk.old) (D.view disk.new) }
+    ensures cause { Accounts IsDiskStop (D.counts disk.old).faults (D.counts disk.new).faults result }
+    ensures kinds { IfErr result IsOpeningStop }
+{
+    let verdict = verify::<R, S, D>(alloc, disk)?;
+    Ok(Reply::Verified { verdict })
 }
 
 /// Writes an answer, or the last line of what stopped the call.
@@ -84,7 +95,7 @@ pub(crate) fn ask<R: TreeRep, S: TreeRep, D: Disk, O: Sink>(
     disk: &mut D,
     output: &mut O,
 ) -> End
-    ensures ran { (i : KnownInput) (f : KnownFiles) (k : KnownClock) → Answered true (answer_report (stmt.Ask query))
+    ensures ran { (i : KnownInput) (f : KnownFiles) (k : KnownClock) → Answered (IsAnswerTo (stmt.Ask query))
         (record { input = i; files = f; clock = k; output = known_output O.Sink output.old })
         (record { input = i; files = f; clock = k; output = known_output O.Sink output.new })
         (known_disk D.Disk disk.old) (known_disk D.Disk disk.new) result }
@@ -105,7 +116,7 @@ pub(crate) fn show<R: TreeRep, S: TreeRep, D: Disk, O: Sink>(
     disk: &mut D,
     output: &mut O,
 ) -> End
-    ensures ran { (i : KnownInput) (f : KnownFiles) (k : KnownClock) → Answered true (answer_report (stmt.Show place))
+    ensures ran { (i : KnownInput) (f : KnownFiles) (k : KnownClock) → Answered (IsAnswerTo (stmt.Show place))
         (record { input = i; files = f; clock = k; output = known_output O.Sink output.old })
         (record { input = i; files = f; clock = k; output = known_output O.Sink output.new })
         (known_disk D.Disk disk.old) (known_disk D.Disk disk.new) result }
@@ -125,7 +136,7 @@ pub(crate) fn list_commits<R: TreeRep, S: TreeRep, D: Disk, O: Sink>(
     disk: &mut D,
     output: &mut O,
 ) -> End
-    ensures ran { (i : KnownInput) (f : KnownFiles) (k : KnownClock) → Answered false log_report
+    ensures ran { (i : KnownInput) (f : KnownFiles) (k : KnownClock) → Answered IsLogOf
         (record { input = i; files = f; clock = k; output = known_output O.Sink output.old })
         (record { input = i; files = f; clock = k; output = known_output O.Sink output.new })
         (known_disk D.Disk disk.old) (known_disk D.Disk disk.new) result }
@@ -136,5 +147,26 @@ pub(crate) fn list_commits<R: TreeRep, S: TreeRep, D: Disk, O: Sink>(
     ensures short { result ≡ End.TooLong → ⊥ }
 {
     let answer = commits_in::<R, S, D>(alloc, disk);
+    give_answer(alloc, answer, output)
+}
+
+/// Tells whether the records of a store are those that its operations make, and where they first aren't. Costs the bytes of
+/// the store, the operations and their records, and keeps those of one entry at a time.
+pub(crate) fn verify_records<R: TreeRep, S: TreeRep, D: Disk, O: Sink>(
+    alloc: Global,
+    disk: &mut D,
+    output: &mut O,
+) -> End
+    ensures ran { (i : KnownInput) (f : KnownFiles) (k : KnownClock) → Answered IsVerdictOn
+        (record { input = i; files = f; clock = k; output = known_output O.Sink output.old })
+        (record { input = i; files = f; clock = k; output = known_output O.Sink output.new })
+        (known_disk D.Disk disk.old) (known_disk D.Disk disk.new) result }
+    ensures causes { (i : KnownInput) (f : KnownFiles) (k : KnownClock) → HasCauses
+        (record { input = i; files = f; clock = k; output = known_output O.Sink output.old })
+        (record { input = i; files = f; clock = k; output = known_output O.Sink output.new }) result }
+    ensures disk { DiskCauses (known_disk D.Disk disk.old) (known_disk D.Disk disk.new) result }
+    ensures short { result ≡ End.TooLong → ⊥ }
+{
+    let answer = verdict_on::<R, S, D>(alloc, disk);
     give_answer(alloc, answer, output)
 }

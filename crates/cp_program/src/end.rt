@@ -6,7 +6,7 @@ ghost use Rattle.cp_program.specs.Ends.{code_of};
 pub enum End {
     /// All was done, and nothing was refused.
     Done,
-    /// All was done, and some line is a refusal.
+    /// All was done, and some line is a refusal, or tells of a difference.
     Refused,
     /// The words fit no row.
     Usage,

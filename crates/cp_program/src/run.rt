@@ -9,7 +9,7 @@ ghost use Rattle.cp_program.specs.Outside.{known_output, known_outside};
 ghost use Rattle.cp_program.specs.Story.{WritesLast, HasCauses, DiskCauses};
 ghost use Rattle.cp_program.specs.Calls.{DidCommand, LeavesDisk, NeedsNoDisk, IsShort, Called};
 
-use crate::answer::{ask, list_commits, show};
+use crate::answer::{ask, list_commits, show, verify_records};
 use crate::commit::commit;
 use crate::end::{End, Status};
 use crate::generate::generate;
@@ -70,6 +70,7 @@ fn run_command<R: TreeRep, S: TreeRep, D: Disk, F: Files, K: Clock, I: Source, O
             generate::<R, S, O>(alloc, seed, count, kind, output)
         }
         Command::Log => list_commits::<R, S, D, O>(alloc, disk, output),
+        Command::Verify => verify_records::<R, S, D, O>(alloc, disk, output),
     }
 }
 
@@ -99,12 +100,12 @@ fn status_of(end: End) -> Status
 /// more than 67,108,864 are read, and none are kept once it is loaded. A start tree that is refused has one line, and then
 /// no input is read. A session or a workload in memory and words that fit no row make no call on the disk.
 ///
-/// Status 0 says that all was done, 1 that all was done and some line is a refusal, 2 that the words fit no row, 3 that
-/// the input or a file failed, 4 that the output failed, 5 that the disk failed, 6 that the file is no store, 7 that memory
-/// ran out, 8 that more than 68,719,476,736 bytes of input came, 9 that the clock failed. With 3 to 9 the call ended there,
-/// and what was written before stays. A crash at any moment leaves the history before the call with the first of its
-/// entries, and of these each whose line the output took. The committed tree has the form `R`, and the trees of sources
-/// have the form `S`; what the call does is the same in all.
+/// Status 0 says that all was done, 1 that all was done and some line is a refusal or tells of a difference, 2 that the
+/// words fit no row, 3 that the input or a file failed, 4 that the output failed, 5 that the disk failed, 6 that the file
+/// is no store, 7 that memory ran out, 8 that more than 68,719,476,736 bytes of input came, 9 that the clock failed. With 3
+/// to 9 the call ended there, and what was written before stays. A crash at any moment leaves the history before the call
+/// with the first of its entries, and of these each whose line the output took. The committed tree has the form `R`, and the
+/// trees of sources have the form `S`; what the call does is the same in all.
 pub fn run_cpdb<R: TreeRep, S: TreeRep, D: Disk, F: Files, K: Clock, I: Source, O: Sink>(
     alloc: Global,
     words: &[String],

@@ -1,7 +1,7 @@
 //! Lines that go to the output: replies, and the last line of a call that doesn't end with one.
 ghost use Rattle.std.specs.Prelude.{◌≡◌, ◌≤◌, []};
 ghost use Rattle.cp_reply.specs.Lines.{lines};
-ghost use Rattle.cp_program.specs.Job.{is_refusal};
+ghost use Rattle.cp_program.specs.Job.{is_difference, is_refusal};
 ghost use Rattle.cp_program.specs.Texts.{memory_line, no_store_line};
 ghost use Rattle.cp_program.specs.Outside.{known_output};
 ghost use Rattle.cp_program.specs.Story.{WritesLast};
@@ -9,6 +9,7 @@ ghost use Rattle.cp_program.specs.Turns.{SendsOut, TellsStop, UsesOutput, end_of
 
 use crate::end::End;
 use crate::stop::Stop;
+use cp_model::Verdict;
 use cp_outside::{Sink, write_all};
 use cp_reply::{Reply, lines};
 use itoa::Buffer;
@@ -17,11 +18,22 @@ use std::alloc::Global;
 /// Gives up a reply that was written. It is taken apart here and nowhere else.
 pub(crate) fn give_up(_reply: Reply) {}
 
-/// Whether a reply refuses something.
+/// Whether a verdict tells of a difference.
+fn is_difference(verdict: &Verdict) -> bool
+    ensures { result ≡ is_difference verdict.now }
+{
+    !matches!(verdict, Verdict::Agrees(_))
+}
+
+/// Whether a reply refuses something, or tells of a difference.
 pub(crate) fn is_refusal(reply: &Reply) -> bool
     ensures { result ≡ is_refusal reply.now }
 {
-    matches!(reply, Reply::Refused { .. })
+    match reply {
+        Reply::Refused { .. } => true,
+        Reply::Verified { verdict } => is_difference(verdict),
+        _ => false,
+    }
 }
 
 /// Writes the lines of a reply, by way of `text`, whose old contents are dropped.

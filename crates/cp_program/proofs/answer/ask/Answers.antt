@@ -1,7 +1,6 @@
-use Rattle.std.specs.Prelude.{true}
 use Rattle.cp_lang.specs.declared.syntax_tree.Stmt.TheVariants as stmt
 use Rattle.cp_workspace.specs.Disks.{known_disk}
-use Rattle.cp_program.specs.Answering.{answer_report}
+use Rattle.cp_program.specs.Answering.{IsAnswerTo}
 use Rattle.cp_program.specs.Outside.{known_output}
 use Rattle.cp_program.proofs.Answered.{answered-end, causes-answer, disk-answer, short-answer}
 use Rattle.cp_program.proofs.answer.ask.Goals as goal
@@ -9,7 +8,7 @@ use Rattle.cp_program.proofs.answer.ask.Goals as goal
 pub returns-clause-ran : goal.returns-clause-ran
 returns-clause-ran g c = λ i f k.
     let met = c.reply_to_query-answer.ensures in
-    answered-end true (answer_report (stmt.Ask c.args.query)) i f k (known_output g.O.Sink c.args.output.now) (known_output g.O.Sink c.give_answer.new.output)
+    answered-end (IsAnswerTo (stmt.Ask c.args.query)) i f k (known_output g.O.Sink c.args.output.now) (known_output g.O.Sink c.give_answer.new.output)
     (known_disk g.D.Disk c.args.disk.now) (known_disk g.D.Disk c.reply_to_query-answer.new.disk) c.reply_to_query-answer.result c.give_answer.result met.kinds met.answered met.rests c.give_answer.ensures.gave
 
 pub returns-clause-causes : goal.returns-clause-causes

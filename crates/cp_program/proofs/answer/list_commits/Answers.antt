@@ -1,6 +1,5 @@
-use Rattle.std.specs.Prelude.{false}
 use Rattle.cp_workspace.specs.Disks.{known_disk}
-use Rattle.cp_program.specs.Answering.{log_report}
+use Rattle.cp_program.specs.Answering.{IsLogOf}
 use Rattle.cp_program.specs.Outside.{known_output}
 use Rattle.cp_program.proofs.Answered.{answered-end, causes-answer, disk-answer, short-answer}
 use Rattle.cp_program.proofs.answer.list_commits.Goals as goal
@@ -8,7 +7,7 @@ use Rattle.cp_program.proofs.answer.list_commits.Goals as goal
 pub returns-clause-ran : goal.returns-clause-ran
 returns-clause-ran g c = λ i f k.
     let met = c.commits_in-answer.ensures in
-    answered-end false log_report i f k (known_output g.O.Sink c.args.output.now) (known_output g.O.Sink c.give_answer.new.output)
+    answered-end IsLogOf i f k (known_output g.O.Sink c.args.output.now) (known_output g.O.Sink c.give_answer.new.output)
     (known_disk g.D.Disk c.args.disk.now) (known_disk g.D.Disk c.commits_in-answer.new.disk) c.commits_in-answer.result c.give_answer.result met.kinds met.answered met.rests c.give_answer.ensures.gave
 
 pub returns-clause-causes : goal.returns-clause-causes

@@ -86,6 +86,17 @@ returns-in-Log-clause-ran g c =
 pub returns-in-Log-clause-causes : goal.returns-in-Log-clause-causes
 returns-in-Log-clause-causes g c = c.list_commits.ensures.causes (known_input g.I.Source c.args.input.now) (known_files g.F.Files c.args.files.now) (known_clock g.K.Clock c.args.clock.now)
 
+pub returns-in-Verify-clause-ran : goal.returns-in-Verify-clause-ran
+returns-in-Verify-clause-ran g c =
+    let before = known_outside g.F.Files g.K.Clock g.I.Source g.O.Sink c.args.files.now c.args.clock.now c.args.input.now c.args.output.now in
+    let now = known_outside g.F.Files g.K.Clock g.I.Source g.O.Sink c.args.files.now c.args.clock.now c.args.input.now c.verify_records.new.output in
+    let v = known_disk g.D.Disk c.args.disk.now in
+    let w = known_disk g.D.Disk c.verify_records.new.disk in
+    subst (λ (a : Command). DidCommand a before now v w c.verify_records.result) (sym c.in-Verify.is) (c.verify_records.ensures.ran (known_input g.I.Source c.args.input.now) (known_files g.F.Files c.args.files.now) (known_clock g.K.Clock c.args.clock.now))
+
+pub returns-in-Verify-clause-causes : goal.returns-in-Verify-clause-causes
+returns-in-Verify-clause-causes g c = c.verify_records.ensures.causes (known_input g.I.Source c.args.input.now) (known_files g.F.Files c.args.files.now) (known_clock g.K.Clock c.args.clock.now)
+
 pub returns-in-Commit-clause-short : goal.returns-in-Commit-clause-short
 returns-in-Commit-clause-short g c = λ h s. (c.commit.ensures.ran (known_input g.I.Source c.args.input.now)).short h
 
