@@ -52,7 +52,7 @@ const CALLS_MAX: u64 = 10_000;
 
 /// A case as far as it is played, over files in memory or the real ones of this runtime.
 #[derive(Drop)]
-pub(crate) struct Stage<'a, R> {
+pub struct Stage<'a, R> {
     runtime: &'a R,
     real: bool,
     files: Vec<MemFile>,
@@ -110,7 +110,7 @@ fn file_of(alloc: Global, name: &str, bytes: &[u8]) -> Result<MemFile, AllocErro
 
 impl<R: Files> Stage<'_, R> {
     /// A stage on which nothing is.
-    pub(crate) fn new(alloc: Global, runtime: &R) -> Stage<'_, R> {
+    pub fn new(alloc: Global, runtime: &R) -> Stage<'_, R> {
         Stage {
             runtime,
             real: false,
