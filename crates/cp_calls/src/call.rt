@@ -1,13 +1,13 @@
-//! Whole calls of the program, over a disk, files, a clock, an input and an output in memory, or over the real files.
+//! Whole calls of a program, over a disk, files, a clock, an input and an output in memory, or over the real files.
 
 use crate::pieces::Pieces;
+use crate::program::Program;
 use crate::screen::Screen;
 use cp_cases::{Step, number_of, numbers_of, words_of};
 use cp_clock::MemClock;
 use cp_disk::{DISK_MAX, Disk, MemDisk};
 use cp_host::{StdinSource, StdoutSink};
 use cp_outside::{Files, MemSink, Source};
-use cp_program::run_cpdb;
 use cp_tree::TreeRep;
 use std::alloc::{AllocError, Global};
 
@@ -191,16 +191,17 @@ impl Call {
     }
 
     /// Makes the call over an output in memory, and gives the status and the output.
-    fn write_to_memory<R: TreeRep, S: TreeRep, D: Disk, F: Files, I: Source>(
+    fn write_to_memory<P: Program, R: TreeRep, S: TreeRep, D: Disk, F: Files, I: Source>(
         &self,
         alloc: Global,
+        program: &P,
         disk: &mut D,
         files: &mut F,
         input: &mut I,
     ) -> Result<(u8, Vec<u8>), AllocError> {
         let mut clock = MemClock::with_faults(alloc, &self.moments, &self.failing_clock)?;
         let mut output = MemSink::with_faults(alloc, &self.failing_writes)?;
-        let status = run_cpdb::<R, S, D, F, _, I, _>(
+        let status = program.call::<R, S, D, F, _, I, _>(
             alloc,
             self.words.as_slice(),
             disk,
@@ -209,14 +210,15 @@ impl Call {
             input,
             &mut output,
         );
-        Ok((status.code, output.bytes().to_vec(alloc)?))
+        Ok((status, output.bytes().to_vec(alloc)?))
     }
 
     /// Makes the call over an output that takes so many bytes, one by one, and gives the status and
     /// what it took.
-    fn write_to_screen<R: TreeRep, S: TreeRep, D: Disk, F: Files, I: Source>(
+    fn write_to_screen<P: Program, R: TreeRep, S: TreeRep, D: Disk, F: Files, I: Source>(
         &self,
         alloc: Global,
+        program: &P,
         room: usize,
         disk: &mut D,
         files: &mut F,
@@ -228,7 +230,7 @@ impl Call {
         };
         let mut clock = MemClock::with_faults(alloc, &self.moments, &self.failing_clock)?;
         let mut output = StdoutSink::new(&mut screen);
-        let status = run_cpdb::<R, S, D, F, _, I, _>(
+        let status = program.call::<R, S, D, F, _, I, _>(
             alloc,
             self.words.as_slice(),
             disk,
@@ -237,27 +239,31 @@ impl Call {
             input,
             &mut output,
         );
-        Ok((status.code, screen.took))
+        Ok((status, screen.took))
     }
 
     /// Makes the call over this input, and gives the status and the output.
-    fn make_over<R: TreeRep, S: TreeRep, D: Disk, F: Files, I: Source>(
+    fn make_over<P: Program, R: TreeRep, S: TreeRep, D: Disk, F: Files, I: Source>(
         &self,
         alloc: Global,
+        program: &P,
         disk: &mut D,
         files: &mut F,
         input: &mut I,
     ) -> Result<(u8, Vec<u8>), AllocError> {
         match self.room {
-            Some(room) => self.write_to_screen::<R, S, D, F, I>(alloc, room, disk, files, input),
-            None => self.write_to_memory::<R, S, D, F, I>(alloc, disk, files, input),
+            Some(room) => self.write_to_screen::<P, R, S, D, F, I>(
+                alloc, program, room, disk, files, input,
+            ),
+            None => self.write_to_memory::<P, R, S, D, F, I>(alloc, program, disk, files, input),
         }
     }
 
     /// Makes the call over this disk and these files, with these forms of the committed tree and of the sources' trees.
-    pub(crate) fn make<R: TreeRep, S: TreeRep, D: Disk, F: Files>(
+    pub(crate) fn make<P: Program, R: TreeRep, S: TreeRep, D: Disk, F: Files>(
         &self,
         alloc: Global,
+        program: &P,
         disk: &mut D,
         files: &mut F,
     ) -> Result<Outcome, AllocError> {
@@ -268,7 +274,9 @@ impl Call {
             reads: 0,
         };
         let mut input = StdinSource::new(&mut pieces);
-        let (status, output) = self.make_over::<R, S, D, F, _>(alloc, disk, files, &mut input)?;
+        let (status, output) = self.make_over::<P, R, S, D, F, _>(
+            alloc, program, disk, files, &mut input,
+        )?;
         Ok(Outcome {
             status,
             output,

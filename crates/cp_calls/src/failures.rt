@@ -1,6 +1,7 @@
 //! A call made over and over, each time with another call of the outside failing.
 
 use crate::call::{Call, Device, Outcome};
+use crate::program::Program;
 use cp_disk::{Crash, MemDisk};
 use cp_outside::MemFiles;
 use cp_tree_arena::ArenaTree;
@@ -64,11 +65,18 @@ fn tid_in(output: &[u8]) -> Option<u64> {
 }
 
 /// The last Tid of the store that a crash leaves; `None` where it leaves no store.
-fn tid_left(alloc: Global, disk: &MemDisk, how: Crash) -> Result<Option<u64>, AllocError> {
+fn tid_left<P: Program>(
+    alloc: Global,
+    program: &P,
+    disk: &MemDisk,
+    how: Crash,
+) -> Result<Option<u64>, AllocError> {
     let mut image = disk.crash(alloc, how)?;
     let mut files = MemFiles::new(alloc, &[])?;
     let asking = Call::asking(alloc)?;
-    let outcome = asking.make::<ShareTree, ArenaTree, _, _>(alloc, &mut image, &mut files)?;
+    let outcome = asking.make::<P, ShareTree, ArenaTree, _, _>(
+        alloc, program, &mut image, &mut files,
+    )?;
     if outcome.status == 6 {
         return Ok(None);
     }
@@ -77,15 +85,16 @@ fn tid_left(alloc: Global, disk: &MemDisk, how: Crash) -> Result<Option<u64>, Al
 
 /// Says what a crash leaves other than a store with a last Tid from `low` to `high`; or no store, where one is made. `None`
 /// where it always leaves that.
-pub(crate) fn fault_left(
+pub(crate) fn fault_left<P: Program>(
     alloc: Global,
+    program: &P,
     disk: &MemDisk,
     low: u64,
     high: u64,
     may_be_none: bool,
 ) -> Result<Option<String>, AllocError> {
     for how in CRASHES {
-        let fits = match tid_left(alloc, disk, how)? {
+        let fits = match tid_left(alloc, program, disk, how)? {
             Some(tid) => low <= tid && tid <= high,
             None => may_be_none,
         };

@@ -1,7 +1,7 @@
-//! Plays whole calls of the program over files, inputs and outputs in memory, or over the real files.
+//! Plays whole calls of a program over files, inputs and outputs in memory, or over the real files.
 //!
-//! A program that plays them makes a `Stage` and hands it to `play_files` of cp_cases. `play` says what the parts of a case
-//! mean.
+//! A program that plays them makes a `Stage` for the `Program` that is called, and hands it to `play_files` of cp_cases.
+//! `play` says what the parts of a case mean.
 #![tactic(auto)]
 
 mod call;
@@ -9,6 +9,8 @@ mod failures;
 mod file;
 mod pieces;
 mod play;
+mod program;
 mod screen;
 
 pub use play::Stage;
+pub use program::Program;

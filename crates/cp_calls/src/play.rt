@@ -31,6 +31,7 @@
 use crate::call::{Call, Device, Outcome, device_of};
 use crate::failures::{fault_left, is_ended_by, last_tid};
 use crate::file::StoreFiles;
+use crate::program::Program;
 use cp_cases::{Player, Step, bytes_in, compare, numbers_of};
 use cp_disk::MemDisk;
 use cp_host::HostFiles;
@@ -52,8 +53,9 @@ const CALLS_MAX: u64 = 10_000;
 
 /// A case as far as it is played, over files in memory or the real ones of this runtime.
 #[derive(Drop)]
-pub struct Stage<'a, R> {
+pub struct Stage<'a, R, P> {
     runtime: &'a R,
+    program: &'a P,
     real: bool,
     files: Vec<MemFile>,
     stores: StoreFiles,
@@ -108,11 +110,12 @@ fn file_of(alloc: Global, name: &str, bytes: &[u8]) -> Result<MemFile, AllocErro
     })
 }
 
-impl<R: Files> Stage<'_, R> {
-    /// A stage on which nothing is.
-    pub fn new(alloc: Global, runtime: &R) -> Stage<'_, R> {
+impl<'a, R: Files, P: Program> Stage<'a, R, P> {
+    /// A stage for this program, on which nothing is.
+    pub fn new(alloc: Global, runtime: &'a R, program: &'a P) -> Stage<'a, R, P> {
         Stage {
             runtime,
+            program,
             real: false,
             files: Vec::new(alloc),
             stores: StoreFiles::new(alloc),
@@ -134,10 +137,11 @@ impl<R: Files> Stage<'_, R> {
         disk: &mut MemDisk,
     ) -> Result<Outcome, AllocError> {
         if self.real {
-            return call.make::<T, S, _, _>(alloc, disk, &mut HostFiles::new(self.runtime));
+            let mut files = HostFiles::new(self.runtime);
+            return call.make::<P, T, S, _, _>(alloc, self.program, disk, &mut files);
         }
         let mut files = MemFiles::with_faults(alloc, &self.files, call.failing_files())?;
-        call.make::<T, S, _, _>(alloc, disk, &mut files)
+        call.make::<P, T, S, _, _>(alloc, self.program, disk, &mut files)
     }
 
     /// What the call gives, over the store and the files of the case, with these forms of trees, and whether it leaves a
@@ -276,7 +280,7 @@ impl<R: Files> Stage<'_, R> {
                 return Ok(Some(format!(in alloc; "failing at {number}, it ends otherwise")?));
             }
             let low = last_tid(&outcome.output);
-            if let Some(text) = fault_left(alloc, &disk, low, high, is_made)? {
+            if let Some(text) = fault_left(alloc, self.program, &disk, low, high, is_made)? {
                 return Ok(Some(format!(in alloc; "failing at {number}, {text}")?));
             }
         }
@@ -319,7 +323,7 @@ impl<R: Files> Stage<'_, R> {
     }
 }
 
-impl<R: Files> Player for Stage<'_, R> {
+impl<R: Files, P: Program> Player for Stage<'_, R, P> {
     fn can_take(&self, _key: &str) -> bool {
         true
     }

@@ -12,8 +12,8 @@ use Rattle.std.specs.Cmp.Lexicographic.{nat_list_cmp_total, texts_ties}
 use Rattle.std.specs.FinMap.Entries.{is_sorted, below_all}
 use Rattle.cp_path.specs.Text.{text_cmp, text_eq}
 use Rattle.cp_path.specs.Place.{Label, Path, path_cmp, path_eq}
-use Rattle.cp_path.specs.Reading.{any_long}
-use Rattle.cp_path.specs.Laws.{IsValueWithin}
+use Rattle.cp_spelling.specs.Reading.{any_long}
+use Rattle.cp_spelling.specs.Laws.{IsValueWithin}
 use Rattle.cp_path.specs.declared.value.Value.{Value}
 use Rattle.cp_path.specs.declared.value.Value.TheVariants as value
 use Rattle.cp_model.specs.Place.{or_else}

@@ -7,9 +7,9 @@ use Rattle.json.specs.Print.{quoted}
 use Rattle.cp_path.specs.Text.{is_name, text_eq}
 use Rattle.cp_path.specs.Place.{Label, target}
 use Rattle.cp_path.specs.Spelling.{has_trigger, place_text, label_text}
-use Rattle.cp_path.specs.Words.{place_reading, label_reading, string_reading}
-use Rattle.cp_path.proofs.WordLaws.{place_reads_back, label_reads_back, place_shape, label_shape}
-use Rattle.cp_path.proofs.ValueLaws.{string_reads_back}
+use Rattle.cp_spelling.specs.Words.{place_reading, label_reading, string_reading}
+use Rattle.cp_spelling.proofs.WordLaws.{place_reads_back, label_reads_back, place_shape, label_shape}
+use Rattle.cp_spelling.proofs.ValueLaws.{string_reads_back}
 use Rattle.cp_path.specs.declared.loc.Loc.{Loc}
 use Rattle.cp_model.specs.Literals.{literal_rows}
 use Rattle.cp_model.specs.declared.literal.Literal.{Literal}

@@ -3,7 +3,7 @@ use Rattle.std.specs.Prelude.{ℕ, ◌<◌, ◌+◌, ◌≡◌, ◌==◌, List, 
 use Rattle.std.proofs.Common.{ap, sym, ◌∙◌, subst, ◌⊎◌, inl, inr}
 use Rattle.json.specs.Print.{quoted}
 use Rattle.cp_path.specs.Spelling.{is_trigger, has_trigger}
-use Rattle.cp_path.specs.Laws.{IsTokenShape as Spelling}
+use Rattle.cp_spelling.specs.Laws.{IsTokenShape as Spelling}
 use Rattle.cp_path.specs.declared.fault.PathFault.{PathFault}
 use Rattle.cp_lang.specs.Spaces.{is_space}
 use Rattle.cp_lang.specs.Lexer.{Shape, word, quotes, mark, tokens_at}

@@ -9,11 +9,11 @@ use Rattle.std.specs.declared.option.Option.{Option}
 use Rattle.std.specs.declared.option.Option.TheVariants.{None, Some}
 use Rattle.cp_path.specs.Text.{is_name, text_eq}
 use Rattle.cp_path.specs.Place.{Label, target, at_target}
-use Rattle.cp_path.specs.Reading.{SpellsValue}
-use Rattle.cp_path.specs.Words.{place_reading, label_reading, value_reading, string_reading}
-use Rattle.cp_path.proofs.WordLaws.{place_read, label_read}
-use Rattle.cp_path.specs.Laws.{IsValueWithin}
-use Rattle.cp_path.proofs.ValueLaws.{value_read}
+use Rattle.cp_spelling.specs.Reading.{SpellsValue}
+use Rattle.cp_spelling.specs.Words.{place_reading, label_reading, value_reading, string_reading}
+use Rattle.cp_spelling.proofs.WordLaws.{place_read, label_read}
+use Rattle.cp_spelling.specs.Laws.{IsValueWithin}
+use Rattle.cp_spelling.proofs.ValueLaws.{value_read}
 use Rattle.cp_path.specs.declared.loc.Loc.{Loc}
 use Rattle.cp_path.specs.declared.value.Value.{Value}
 use Rattle.cp_path.specs.declared.value.Value.TheVariants as value

@@ -18,7 +18,7 @@ use Rattle.cp_path.specs.Place.{Label, Path}
 use Rattle.cp_path.specs.declared.loc.Loc.{Loc}
 use Rattle.cp_path.specs.declared.fault.PathFault.{PathFault}
 use Rattle.cp_path.specs.declared.fault.PathFault.TheVariants as path
-use Rattle.cp_path.specs.Words.{value_reading}
+use Rattle.cp_spelling.specs.Words.{value_reading}
 use Rattle.cp_model.specs.declared.literal.Literal.{Literal}
 use Rattle.cp_model.specs.declared.literal.Literal.TheVariants as literal
 use Rattle.cp_model.specs.declared.op.Op.TheVariants.{Ins, Del, Copy}

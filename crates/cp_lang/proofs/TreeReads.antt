@@ -10,9 +10,9 @@ use Rattle.std.specs.BTreeMap.{insert_entry}
 use Rattle.cp_path.specs.Text.{text_cmp}
 use Rattle.cp_path.specs.Place.{Label}
 use Rattle.cp_path.specs.Spelling.{label_text, value_text}
-use Rattle.cp_path.specs.Words.{label_reading, value_reading}
-use Rattle.cp_path.proofs.WordLaws.{label_reads_back, label_shape}
-use Rattle.cp_path.proofs.ValueLaws.{value_reads_back, value_shape}
+use Rattle.cp_spelling.specs.Words.{label_reading, value_reading}
+use Rattle.cp_spelling.proofs.WordLaws.{label_reads_back, label_shape}
+use Rattle.cp_spelling.proofs.ValueLaws.{value_reads_back, value_shape}
 use Rattle.cp_model.specs.Literals.{literal_rows, rows_under}
 use Rattle.cp_model.specs.Trees.{Group, groups, between, tree_at}
 use Rattle.cp_model.specs.declared.row.Content.TheVariants.{Node, Leaf}

@@ -9,7 +9,7 @@ use Rattle.std.specs.declared.option.Option.TheVariants.{None, Some}
 use Rattle.std.specs.BTreeMap.{insert_entry}
 use Rattle.cp_path.specs.Text.{is_name, text_cmp, text_eq}
 use Rattle.cp_path.specs.Place.{Label, Path, at_target, target}
-use Rattle.cp_path.specs.Words.{place_reading, label_reading, value_reading, string_reading}
+use Rattle.cp_spelling.specs.Words.{place_reading, label_reading, value_reading, string_reading}
 use Rattle.cp_path.specs.declared.loc.Loc.{Loc}
 use Rattle.cp_path.specs.declared.fault.PathFault.{PathFault}
 use Rattle.cp_model.specs.Literals.{literal_rows, rows_under}

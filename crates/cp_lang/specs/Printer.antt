@@ -5,7 +5,7 @@ use Rattle.std.specs.declared.option.Option.TheVariants.{None, Some}
 use Rattle.json.specs.Print.{quoted}
 use Rattle.cp_path.specs.Text.{is_name, text_eq}
 use Rattle.cp_path.specs.Place.{Label, Path, target, size}
-use Rattle.cp_path.specs.Reading.{any_long}
+use Rattle.cp_spelling.specs.Reading.{any_long}
 use Rattle.cp_path.specs.Spelling.{place_text, label_text}
 use Rattle.cp_path.specs.declared.loc.Loc.{Loc}
 use Rattle.cp_model.specs.Trees.{tree_at, levels}

@@ -4,7 +4,7 @@ ghost use Rattle.cp_lang.specs.Lexer.{spaces, first_token};
 ghost use Rattle.cp_lang.specs.Tokenized.{token_of, shape_of};
 
 use crate::cut::is_space;
-use cp_path::is_trigger;
+use cp_spelling::is_trigger;
 use std::marker::Model;
 
 /// What a token is; words and quoted tokens are slices of the text.

@@ -13,6 +13,7 @@ ghost use Rattle.cp_lang.specs.Printer.{IsSpellable, IsShortTree, SpellsOp, lite
 use crate::syntax_tree::{Load, Stmt};
 use cp_model::{Form, LitEdge, LitList, Literal, Op, Query};
 use cp_path::{Label, Loc, Text, Value};
+use cp_spelling::{label_text, place_text, value_text};
 use std::alloc::{AllocError, Global};
 
 // ---- spellings
@@ -20,21 +21,21 @@ use std::alloc::{AllocError, Global};
 fn push_place(alloc: Global, out: &mut String, place: &Loc) -> Result<(), AllocError>
     ensures { OnOk result (string_bytes out.new ≡ string_bytes out.old ++ place_text place.now) }
 {
-    let text = place.text(alloc)?;
+    let text = place_text(alloc, place)?;
     out.push_str(text.as_str())
 }
 
 fn push_label(alloc: Global, out: &mut String, label: &Label) -> Result<(), AllocError>
     ensures { OnOk result (string_bytes out.new ≡ string_bytes out.old ++ label_text label.now) }
 {
-    let text = label.text(alloc)?;
+    let text = label_text(alloc, label)?;
     out.push_str(text.as_str())
 }
 
 fn push_value(alloc: Global, out: &mut String, value: &Value) -> Result<(), AllocError>
     ensures { OnOk result (string_bytes out.new ≡ string_bytes out.old ++ value_text value.now) }
 {
-    let text = value.text(alloc)?;
+    let text = value_text(alloc, value)?;
     out.push_str(text.as_str())
 }
 

@@ -1,6 +1,6 @@
 ghost use Rattle.std.specs.Prelude.{◌≡◌, [], List, if◌then◌else◌};
 ghost use Rattle.cp_path.specs.Place.{Label};
-ghost use Rattle.cp_path.specs.Words.{place_reading, value_reading};
+ghost use Rattle.cp_spelling.specs.Words.{place_reading, value_reading};
 ghost use Rattle.cp_model.specs.declared.literal.Literal.TheVariants as literal;
 ghost use Rattle.cp_lang.specs.Grammar.{Spot, Level, goes, cant, by_reading, reading_of, at_open, at_close, at_colon, at_word, at_label, at_place, at_name, at_file, at_number, at_tree, at_first, at_edge_end, first_edge, new_edge, close_node, after_tree};
 ghost use Rattle.cp_lang.specs.Parser.{IsRead, IsReadOrRefused, spelling_fault, within, after_edge};
@@ -10,6 +10,7 @@ use crate::decimal::decimal_value;
 use crate::lexer::{Shape, Token};
 use crate::syntax_tree::StmtFault;
 use cp_path::{Label, Loc, Name, PathFault, Text, Value};
+use cp_spelling::{read_label, read_place, read_text, read_value};
 use std::alloc::Global;
 
 /// The fault of a token at this offset that is wrongly spelled.
@@ -27,7 +28,7 @@ pub(crate) fn label_of<'a>(alloc: Global, token: Token<'a>) -> Result<Label, Stm
     ensures reads { IsRead token.entry.at (at_label (shape_of token.entry.shape)) result }
 {
     match token.shape {
-        Shape::Word(word) | Shape::Quoted(word) => match Label::read(alloc, word) {
+        Shape::Word(word) | Shape::Quoted(word) => match read_label(alloc, word) {
             Ok(label) => Ok(label),
             Err(fault) => Err(spelling_fault(token.at, fault)),
         },
@@ -37,10 +38,10 @@ pub(crate) fn label_of<'a>(alloc: Global, token: Token<'a>) -> Result<Label, Stm
 
 /// The place that a word at this offset is read as.
 #[tactic(auto, using(crate::proofs::Steps::fails_by))]
-fn read_place(alloc: Global, at: usize, word: &str) -> Result<Loc, StmtFault>
+fn place_at(alloc: Global, at: usize, word: &str) -> Result<Loc, StmtFault>
     ensures reads { IsRead at (by_reading (place_reading word.now)) result }
 {
-    match Loc::read(alloc, word) {
+    match read_place(alloc, word) {
         Ok(place) => Ok(place),
         Err(fault) => Err(spelling_fault(at, fault)),
     }
@@ -51,8 +52,8 @@ pub(crate) fn place_of<'a>(alloc: Global, token: Token<'a>) -> Result<Loc, StmtF
     ensures reads { IsRead token.entry.at (at_place (shape_of token.entry.shape)) result }
 {
     match token.shape {
-        Shape::Word(word) => read_place(alloc, token.at, word),
-        Shape::Quoted(word) => read_place(alloc, token.at, word),
+        Shape::Word(word) => place_at(alloc, token.at, word),
+        Shape::Quoted(word) => place_at(alloc, token.at, word),
         _ => Err(StmtFault::Syntax(token.at)),
     }
 }
@@ -62,7 +63,7 @@ pub(crate) fn value_of<'a>(alloc: Global, token: Token<'a>) -> Result<Value, Stm
     ensures reads { IsRead token.entry.at (reading_of value_reading (shape_of token.entry.shape)) result }
 {
     match token.shape {
-        Shape::Word(word) | Shape::Quoted(word) => match Value::read(alloc, word) {
+        Shape::Word(word) | Shape::Quoted(word) => match read_value(alloc, word) {
             Ok(value) => Ok(value),
             Err(fault) => Err(spelling_fault(token.at, fault)),
         },
@@ -96,7 +97,7 @@ pub(crate) fn file_of<'a>(alloc: Global, token: Token<'a>) -> Result<Text, StmtF
     let Shape::Quoted(word) = token.shape else {
         return Err(StmtFault::Syntax(token.at));
     };
-    match Text::read(alloc, word)? {
+    match read_text(alloc, word)? {
         Some(file) => Ok(file),
         None => Err(StmtFault::Syntax(token.at)),
     }

@@ -4,9 +4,5 @@ pub mod Place
 pub mod PathOrder
 pub mod Whole
 pub mod Spelling
-pub mod Reading
-pub mod Scan
-pub mod Words
-pub mod Laws
 pub mod Encoding
 pub mod Room

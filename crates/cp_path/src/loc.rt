@@ -1,22 +1,12 @@
-ghost use Rattle.std.specs.Prelude.{◌≡◌, ◌≤◌, ◌<◌, ◌↔◌, ◌⊎◌, ◌+◌, ◌*◌, [], length, sum_by, true, false, IfOk, IfErr, IsTrue, MatchResult, string_bytes};
+ghost use Rattle.std.specs.Prelude.{◌≡◌, ◌≤◌, ◌<◌, ◌↔◌, ◌⊎◌, ◌+◌, ◌*◌, [], length, sum_by, true, IfOk, IfErr, IsTrue};
 ghost use Rattle.std.specs.Option.{unwrap_or};
-ghost use Rattle.cp_path.specs.Answers.{Answers};
-ghost use Rattle.cp_path.specs.Text.{is_name};
 ghost use Rattle.cp_path.specs.Place.{size, child_place, lies_below, at_target, parent_place, moved_place, below_place, strip};
-ghost use Rattle.cp_path.specs.Spelling.{raw_place, place_text};
-ghost use Rattle.cp_path.specs.Scan.{place_from};
-ghost use Rattle.cp_path.specs.Reading.{IsPlaceSpelling, IsBadAt, PlaceFault, any_long, IsOver};
-ghost use Rattle.cp_path.specs.Words.{place_reading};
 
 use crate::fault::PathFault;
 use crate::label::Label;
 use crate::limits::{LABEL_MAX, LABELS_MAX, LOC_MAX, NAME_MAX};
 use crate::name::Name;
 use crate::path::Path;
-use crate::scan::{Part, scan};
-use crate::spelling::{push_escaped, unless_quoted};
-use crate::split::pieces_of;
-use crate::text::Text;
 use std::alloc::{AllocError, Global};
 
 /// A place of a database. Places are ordered by name, then label by label, and a place comes before those below it.
@@ -137,39 +127,6 @@ impl Loc {
         let path = self.path.joined(labels)?;
         Ok(Loc { db, path })
     }
-
-    /// The place that a word spells. `BadEscape` has the length of the word's longest beginning that some
-    /// place's spelling begins with. Costs the word's bytes.
-    #[tactic(auto, using(crate::proofs::WordLaws::place_fault_reading))]
-    pub fn read(alloc: Global, word: &str) -> Result<Loc, PathFault>
-        ensures value { IfOk result (λ q. (place_text q ≡ word.now) × (size q ≤ LOC_MAX)) }
-        ensures fault { IfErr result (λ e. PlaceFault e word.now) }
-        ensures answers { Answers PathFault.Memory (place_reading word.now) result }
-    {
-        match check_place(word) {
-            Ok(()) => spelled_place(alloc, word),
-            Err(at) => Err(PathFault::BadEscape(at)),
-        }
-    }
-
-    /// The name, then a slash and the escaped label for each label.
-    fn raw_text(&self, alloc: Global) -> Result<String, AllocError>
-        ensures { IfOk result (λ s. string_bytes s ≡ raw_place self.now) }
-    {
-        let mut word = String::from_str(alloc, self.db.as_str())?;
-        for label in self.path.labels() {
-            word.push('/')?;
-            push_escaped(&mut word, label.as_str())?;
-        }
-        Ok(word)
-    }
-
-    /// The place's spelling. Costs the place's size.
-    pub fn text(&self, alloc: Global) -> Result<String, AllocError>
-        ensures { IfOk result (λ s. string_bytes s ≡ place_text self.now) }
-    {
-        unless_quoted(alloc, self.raw_text(alloc)?)
-    }
 }
 
 /// What these labels add to a place's size.
@@ -183,55 +140,4 @@ fn bytes_of(labels: &[Label]) -> u32
         total += label.as_str().len() as u32 + 1;
     }
     total
-}
-
-/// Whether the word is a place's spelling, or else the length of its longest beginning that some begins with.
-fn check_place(word: &str) -> Result<(), usize>
-    ensures { MatchResult result (λ _. IsPlaceSpelling word.now) (λ at. IsBadAt IsPlaceSpelling word.now at) }
-{
-    scan(true, Part::Begin, word.as_bytes())
-}
-
-/// The pieces as labels, or `LabelTooLong` where one of them is too long.
-fn labels_of(alloc: Global, pieces: &[Text]) -> Result<Vec<Label>, PathFault>
-    ensures value { IfOk result (λ v. v.items ≡ pieces.now) }
-    ensures short { IfOk result (λ _. any_long pieces.now ≡ false) }
-    ensures long { IfErr result (λ e. ((e ≡ PathFault.LabelTooLong) × (any_long pieces.now ≡ true)) ⊎ (e ≡ PathFault.Memory)) }
-{
-    let mut labels = Vec::new(alloc);
-    for piece in pieces {
-        let label = Label::new(alloc, piece.items.as_str())?;
-        labels.push(label)?;
-    }
-    Ok(labels)
-}
-
-/// The place whose name is the first piece, and whose labels are the others.
-fn place_of(alloc: Global, pieces: &[Text]) -> Result<Loc, PathFault>
-    requires some { 0 < length pieces.now }
-    requires name { is_name (place_from pieces.now).db ≡ true }
-    ensures value { IfOk result (λ q. (q ≡ place_from pieces.now) × (size q ≤ LOC_MAX)) }
-    ensures within { IfOk result (λ q. (any_long q.path ≡ false) × (length q.path ≤ LABELS_MAX)) }
-    ensures fault { IfErr result (λ e. IsOver e (place_from pieces.now)) }
-{
-    let labels = labels_of(alloc, &pieces[1..])?;
-    let path = Path::of(alloc, labels.as_slice())?;
-    let name: &Text = &pieces[0];
-    let db = Name::read(alloc, name.items.as_str())?;
-    let place = Loc { db, path };
-    if place.size() > LOC_MAX as u32 {
-        return Err(PathFault::PathTooLong);
-    }
-    Ok(place)
-}
-
-/// The place that the word is the spelling of, unless it is over a limit.
-fn spelled_place(alloc: Global, word: &str) -> Result<Loc, PathFault>
-    requires { IsPlaceSpelling word.now }
-    ensures value { IfOk result (λ q. (place_text q ≡ word.now) × (size q ≤ LOC_MAX)) }
-    ensures fault { IfErr result (λ e. PlaceFault e word.now) }
-    ensures reads { IfOk result (λ q. place_reading word.now ≡ Ok q) }
-{
-    let pieces = pieces_of(alloc, word)?;
-    place_of(alloc, pieces.as_slice())
 }

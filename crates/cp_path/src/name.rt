@@ -29,13 +29,15 @@ impl Model for Name {
     ghost inverse = { λ t. record { text = t } };
 }
 
-pub(crate) fn is_letter(byte: u8) -> bool
+/// Whether the byte is an ASCII letter, with which a name begins.
+pub fn is_letter(byte: u8) -> bool
     ensures { result ≡ is_letter byte }
 {
     matches!(byte, b'A'..=b'Z' | b'a'..=b'z')
 }
 
-pub(crate) fn is_name_byte(byte: u8) -> bool
+/// Whether the byte is a letter, a digit or `_`, of which a name is made.
+pub fn is_name_byte(byte: u8) -> bool
     ensures { result ≡ is_name_byte byte }
 {
     is_letter(byte) || matches!(byte, b'0'..=b'9' | b'_')

@@ -1,13 +1,10 @@
-ghost use Rattle.std.specs.Prelude.{◌≡◌, IfOk, MatchOption, string_bytes};
+ghost use Rattle.std.specs.Prelude.{◌≡◌, IfOk};
 ghost use Rattle.std.specs.declared.option.Option.TheVariants.{Some};
 ghost use Rattle.std.specs.Cmp.{partial_equiv_from_equiv};
 ghost use Rattle.std.specs.Cmp.Lexicographic.{nat_list_eq_equiv, nat_list_cmp_total, texts_po, texts_ties};
 ghost use Rattle.std.proofs.Common.{refl};
 ghost use Rattle.cp_path.specs.Text.{text_eq, text_cmp};
-ghost use Rattle.cp_path.specs.Reading.{is_in_quotes, IsNoString, SpellsString};
-ghost use Rattle.cp_path.specs.Words.{string_reading};
 
-use serde_json::error::Category;
 use std::alloc::{AllocError, Global};
 use std::cmp::Ordering;
 use std::hash::{Hash, Hasher};
@@ -42,17 +39,6 @@ impl Text {
         ensures { result.now ≡ self.now }
     {
         self.items.as_str()
-    }
-
-    /// The text of the JSON string that the word is, of any length. Costs the word's bytes.
-    #[tactic(auto, using(crate::proofs::ValueLaws::string_reading_none, crate::proofs::Accepted::string_reading_spelled))]
-    pub fn read(alloc: Global, word: &str) -> Result<Option<Text>, AllocError>
-        ensures { IfOk result (λ o. o ≡ string_reading word.now) }
-    {
-        match read_string(alloc, word)? {
-            Some(text) => Ok(Some(Text { items: text })),
-            None => Ok(None),
-        }
     }
 }
 
@@ -115,37 +101,6 @@ impl Hash for Text {
 
     fn hash<H: Hasher>(&self, state: &mut H) {
         self.items.hash(state);
-    }
-}
-
-/// Whether the word begins and ends with a quotation mark.
-fn is_in_quotes(word: &[u8]) -> bool
-    ensures { result ≡ is_in_quotes word.now }
-{
-    if word.is_empty() {
-        return false;
-    }
-    let begins = word[0] == b'"';
-    let ends = word[word.len() - 1] == b'"';
-    begins && ends
-}
-
-/// The text of the JSON string that the word is, with nothing round it. Costs the word's bytes.
-pub(crate) fn read_string(alloc: Global, word: &str) -> Result<Option<String>, AllocError>
-    ensures { IfOk result (λ o. MatchOption o (IsNoString word.now) (λ t. SpellsString word.now (string_bytes t))) }
-{
-    if !is_in_quotes(word.as_bytes()) {
-        return Ok(None);
-    }
-    match serde_json::Value::from_str(alloc, word) {
-        Ok(serde_json::Value::String(text)) => Ok(Some(text)),
-        Ok(_) => Ok(None),
-        Err(error) => {
-            if error.classify() == Category::Memory {
-                return Err(AllocError);
-            }
-            Ok(None)
-        }
     }
 }
 

@@ -4,12 +4,13 @@ ghost use Rattle.cp_reply.specs.Lines.{line, query_text, tid_or_none, tids_text,
 
 use cp_model::{FromAnswer, Query, Segment, Trace, TraceEnd};
 use cp_path::Loc;
+use cp_spelling::place_text;
 use std::alloc::{AllocError, Global};
 
 fn asked(alloc: Global, word: &str, place: &Loc) -> Result<String, AllocError>
     ensures { IfOk result (λ s. string_bytes s ≡ word.now ++ (place_text place.now ++ codes ": ")) }
 {
-    let place = place.text(alloc)?;
+    let place = place_text(alloc, place)?;
     format!(in alloc; "{word}{place}: ")
 }
 
@@ -67,7 +68,7 @@ pub(crate) fn tids_text(alloc: Global, tids: &[u64]) -> Result<String, AllocErro
 fn segment_text(alloc: Global, segment: &Segment) -> Result<String, AllocError>
     ensures { IfOk result (λ s. string_bytes s ≡ segment_text segment.now) }
 {
-    let place = segment.loc.text(alloc)?;
+    let place = place_text(alloc, &segment.loc)?;
     let low = segment.low;
     let high = segment.high;
     format!(in alloc; "{place}@{low}..{high}")
@@ -80,7 +81,7 @@ fn end_text(alloc: Global, end: &TraceEnd) -> Result<String, AllocError>
     match end {
         TraceEnd::New => String::from_str(alloc, "new"),
         TraceEnd::Start => String::from_str(alloc, "start"),
-        TraceEnd::Source(place) => place.text(alloc),
+        TraceEnd::Source(place) => place_text(alloc, place),
     }
 }
 
@@ -115,7 +116,7 @@ pub(crate) fn from_text(alloc: Global, from: &FromAnswer) -> Result<String, Allo
     match from {
         FromAnswer::New(tid) => format!(in alloc; "new at {tid}"),
         FromAnswer::At(place, tid) => {
-            let place = place.text(alloc)?;
+            let place = place_text(alloc, place)?;
             format!(in alloc; "{place} at {tid}")
         }
         FromAnswer::Start => String::from_str(alloc, "start"),

@@ -4,6 +4,7 @@ ghost use Rattle.cp_reply.specs.Lines.{source_text, record_text, record_or_none,
 use crate::word::{kind_text, letter_text};
 use cp_model::{LogLine, Record, Stats, Verdict};
 use cp_path::Loc;
+use cp_spelling::{label_text, place_text};
 use std::alloc::{AllocError, Global};
 
 /// The source of a copy, behind a space.
@@ -13,7 +14,7 @@ fn source_text(alloc: Global, source: &Option<Loc>) -> Result<String, AllocError
     match source {
         None => Ok(String::new(alloc)),
         Some(place) => {
-            let place = place.text(alloc)?;
+            let place = place_text(alloc, place)?;
             format!(in alloc; " {place}")
         }
     }
@@ -25,7 +26,7 @@ pub fn record_text(alloc: Global, entry: &Record) -> Result<String, AllocError>
 {
     let tid = entry.tid;
     let op = letter_text(entry.op);
-    let place = entry.loc.text(alloc)?;
+    let place = place_text(alloc, &entry.loc)?;
     let source = source_text(alloc, &entry.src)?;
     format!(in alloc; "{tid} {op} {place}{source}")
 }
@@ -87,7 +88,7 @@ pub(crate) fn verdict_text(alloc: Global, verdict: &Verdict) -> Result<String, A
             expected,
         } => records_differ(alloc, *at, stored, expected),
         Verdict::TreeDiffers { at, place } => {
-            let place = place.text(alloc)?;
+            let place = place_text(alloc, place)?;
             format!(in alloc; "differs at {at}: tree at {place}")
         }
         Verdict::NumberDiffers {
@@ -133,7 +134,7 @@ pub(crate) fn commit_text(alloc: Global, commit: &LogLine) -> Result<String, All
     ensures { IfOk result (λ s. string_bytes s ≡ commit_text commit.now) }
 {
     let range = range_text(alloc, commit.low, commit.high)?;
-    let curator = commit.curator.text(alloc)?;
+    let curator = label_text(alloc, &commit.curator)?;
     commit_words(
         alloc,
         range.as_str(),

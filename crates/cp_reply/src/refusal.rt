@@ -4,6 +4,7 @@ ghost use Rattle.cp_reply.specs.Lines.{place_fault_text, failed_text, why_text};
 
 use crate::reply::{Of, Why};
 use cp_path::{Label, Loc, PathFault};
+use cp_spelling::{label_text, place_text};
 use std::alloc::{AllocError, Global};
 
 fn words(alloc: Global, words: &str) -> Result<String, AllocError>
@@ -16,7 +17,7 @@ fn words(alloc: Global, words: &str) -> Result<String, AllocError>
 fn with_place(alloc: Global, words: &str, place: &Loc) -> Result<String, AllocError>
     ensures { IfOk result (λ s. string_bytes s ≡ words.now ++ place_text place.now) }
 {
-    let place = place.text(alloc)?;
+    let place = place_text(alloc, place)?;
     format!(in alloc; "{words}{place}")
 }
 
@@ -30,16 +31,16 @@ fn with_number(alloc: Global, words: &str, number: u64) -> Result<String, AllocE
 fn label_there(alloc: Global, label: &Label, place: &Loc) -> Result<String, AllocError>
     ensures { IfOk result (λ s. string_bytes s ≡ codes "label " ++ (label_text label.now ++ (codes " is there in " ++ place_text place.now))) }
 {
-    let label = label.text(alloc)?;
-    let place = place.text(alloc)?;
+    let label = label_text(alloc, label)?;
+    let place = place_text(alloc, place)?;
     format!(in alloc; "label {label} is there in {place}")
 }
 
 fn no_label(alloc: Global, label: &Label, place: &Loc) -> Result<String, AllocError>
     ensures { IfOk result (λ s. string_bytes s ≡ codes "no label " ++ (label_text label.now ++ (codes " in " ++ place_text place.now))) }
 {
-    let label = label.text(alloc)?;
-    let place = place.text(alloc)?;
+    let label = label_text(alloc, label)?;
+    let place = place_text(alloc, place)?;
     format!(in alloc; "no label {label} in {place}")
 }
 

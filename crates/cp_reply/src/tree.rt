@@ -7,6 +7,7 @@ ghost use Rattle.cp_reply.specs.Runs.{rows_seen, all_seen, leaves, run_length, e
 
 use cp_model::{Content, Row};
 use cp_path::{LABELS_MAX, Label, Value};
+use cp_spelling::{label_text, value_text};
 use std::alloc::{AllocError, Global};
 
 /// The first rows below a node, which share their label there, and the rows after them.
@@ -77,14 +78,14 @@ fn push_label(
 ) -> Result<(), AllocError>
     ensures { OnOk result (string_bytes text.new ≡ string_bytes text.old ++ (separator.now ++ (label_text label.now ++ codes " : "))) }
 {
-    let label = label.text(alloc)?;
+    let label = label_text(alloc, label)?;
     write!(text, "{separator}{label} : ")
 }
 
 fn push_value(alloc: Global, text: &mut String, value: &Value) -> Result<(), AllocError>
     ensures { OnOk result (string_bytes text.new ≡ string_bytes text.old ++ value_text value.now) }
 {
-    let value = value.text(alloc)?;
+    let value = value_text(alloc, value)?;
     text.push_str(value.as_str())
 }
 

@@ -12,6 +12,7 @@ use crate::tree::tree_text;
 use crate::word::{kind_text, refused_front};
 use cp_model::{Answer, Kind, LogLine, Query, Record, Row, Stats};
 use cp_path::{Loc, Name};
+use cp_spelling::place_text;
 use std::alloc::{AllocError, Global};
 
 /// Puts the text behind `out`, and a line feed.
@@ -157,7 +158,7 @@ fn put_tree(alloc: Global, place: &Loc, rows: &[Row], out: &mut Vec<u8>) -> Resu
     ensures ok { OnOk result (out.new.items ≡ out.old.items ++ line (codes "show " ++ (place_text place.now ++ (codes ": " ++ tree_text rows.now)))) }
     ensures front { Begins out.old.items out.new.items }
 {
-    let place = place.text(alloc)?;
+    let place = place_text(alloc, place)?;
     let front = format!(in alloc; "show {place}: ")?;
     let tree = tree_text(alloc, rows)?;
     out.extend_from_slice(front.as_bytes())?;

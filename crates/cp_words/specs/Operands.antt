@@ -4,7 +4,7 @@ use Rattle.std.specs.Str.{bytes_eq}
 use Rattle.cp_path.specs.declared.limits.TheConstants.{LABEL_MAX}
 use Rattle.cp_path.specs.Place.{Label, label_eq, target}
 use Rattle.cp_path.specs.Text.{is_name}
-use Rattle.cp_path.specs.Words.{value_reading}
+use Rattle.cp_spelling.specs.Words.{value_reading}
 use Rattle.cp_path.specs.declared.fault.PathFault.{PathFault}
 use Rattle.cp_path.specs.declared.value.Value.{Value}
 use Rattle.cp_path.specs.declared.value.Value.TheVariants.{Whole}

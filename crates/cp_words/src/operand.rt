@@ -6,6 +6,7 @@ ghost use Rattle.cp_words.specs.Operands as form;
 use crate::limits::COUNT_MAX;
 use cp_model::{Form, Kind};
 use cp_path::{Label, Name, PathFault, Value};
+use cp_spelling::read_value;
 use std::alloc::{AllocError, Global};
 
 /// Whether the word isn't empty and doesn't begin with `-`.
@@ -129,7 +130,7 @@ fn number_in(value: &Value) -> Option<u64>
 pub(crate) fn number_of(alloc: Global, word: &str) -> Result<Option<u64>, AllocError>
     ensures { IfOk result (λ o. o ≡ form.number_of word.now) }
 {
-    match Value::read(alloc, word) {
+    match read_value(alloc, word) {
         Ok(value) => Ok(number_in(&value)),
         Err(PathFault::Memory) => Err(AllocError),
         Err(_) => Ok(None),

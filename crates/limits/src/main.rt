@@ -6,10 +6,11 @@
 
 use cp_calls::Stage;
 use cp_cases::play_files;
+use cp_played::Cpdb;
 use std::io;
 use std::process::ExitCode;
 
 fn main(rt: HostRuntime) -> io::Result<ExitCode> {
-    let mut stage = Stage::new(rt.alloc(), &rt);
+    let mut stage = Stage::new(rt.alloc(), &rt, &Cpdb);
     play_files(&rt, &mut stage)
 }

@@ -15,6 +15,7 @@ use crate::row::add_line;
 use cp_cases::{number_of, numbers_of};
 use cp_path::{Label, Loc};
 use cp_reply::record_text;
+use cp_spelling::{place_text, read_label, read_place};
 use cp_store::{Change, ProvStore, What};
 use std::alloc::{AllocError, Global};
 
@@ -25,7 +26,7 @@ fn change_text(alloc: Global, change: &Change) -> Result<String, AllocError> {
         What::New => format!(in alloc; "{tid} new"),
         What::Gone => format!(in alloc; "{tid} gone"),
         What::From(source) => {
-            let source = source.text(alloc)?;
+            let source = place_text(alloc, source)?;
             format!(in alloc; "{tid} from {source}")
         }
     }
@@ -34,7 +35,7 @@ fn change_text(alloc: Global, change: &Change) -> Result<String, AllocError> {
 /// The last change of a place, by `PLACE TID`.
 fn change<S: ProvStore>(alloc: Global, store: &mut S, words: &str) -> Result<String, Fault> {
     let (place, tid) = words.rsplit_once(' ').unwrap_or((words, ""));
-    let place = Loc::read(alloc, place)?;
+    let place = read_place(alloc, place)?;
     match store.last_change(alloc, &place, number_of(tid))? {
         None => Ok("none".to_string(alloc)?),
         Some(change) => Ok(change_text(alloc, &change)?),
@@ -71,7 +72,7 @@ fn step<S: ProvStore>(alloc: Global, store: &mut S, tid: u64) -> Result<String, 
 /// The steps that took a child of a place away, by `PLACE LOW HIGH`.
 fn losses<S: ProvStore>(alloc: Global, store: &mut S, words: &str) -> Result<String, Fault> {
     let (place, rest) = words.split_once(' ').unwrap_or((words, ""));
-    let place = Loc::read(alloc, place)?;
+    let place = read_place(alloc, place)?;
     let numbers = numbers_of(alloc, rest)?;
     let [low, high] = numbers.as_slice() else {
         return Err(Fault::Row(words.to_string(alloc)?));
@@ -89,12 +90,12 @@ fn losses<S: ProvStore>(alloc: Global, store: &mut S, words: &str) -> Result<Str
 fn below<S: ProvStore>(alloc: Global, store: &mut S, words: &str) -> Result<bool, Fault> {
     match words.split_once(' ') {
         None => {
-            let place = Loc::read(alloc, words)?;
+            let place = read_place(alloc, words)?;
             Ok(store.tells_below(alloc, &place, None)?)
         }
         Some((place, label)) => {
-            let place = Loc::read(alloc, place)?;
-            let label = Label::read(alloc, label)?;
+            let place = read_place(alloc, place)?;
+            let label = read_label(alloc, label)?;
             Ok(store.tells_below(alloc, &place, Some(&label))?)
         }
     }

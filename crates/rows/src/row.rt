@@ -7,6 +7,7 @@ use crate::fault::Fault;
 use cp_model::{RecOp, Record};
 use cp_path::Loc;
 use cp_reply::record_text;
+use cp_spelling::read_place;
 use std::alloc::{AllocError, Global};
 
 /// Adds a line and a line feed.
@@ -52,10 +53,10 @@ fn letter_of(word: &str) -> Option<RecOp> {
 /// The place and the source of a row, `PLACE` or `PLACE < PLACE`.
 fn places_of(alloc: Global, places: &str) -> Result<(Loc, Option<Loc>), Fault> {
     match places.split_once(" < ") {
-        None => Ok((Loc::read(alloc, places)?, None)),
+        None => Ok((read_place(alloc, places)?, None)),
         Some((place, source)) => {
-            let place = Loc::read(alloc, place)?;
-            let source = Loc::read(alloc, source)?;
+            let place = read_place(alloc, place)?;
+            let source = read_place(alloc, source)?;
             Ok((place, Some(source)))
         }
     }

@@ -7,6 +7,7 @@ use cp_json::tree_of_json;
 use cp_model::{Effect, Record};
 use cp_path::{Loc, Name};
 use cp_reduce::{expand, reduce};
+use cp_spelling::{place_text, read_place};
 use cp_tree::TreeRep;
 use cp_tree_box::BoxTree;
 use std::alloc::{AllocError, Global};
@@ -25,7 +26,7 @@ pub(crate) fn add_reduced(
     lines: &mut String,
 ) -> Result<(), Fault> {
     let rows = rows_of(alloc, text)?;
-    let written = Loc::read(alloc, written)?;
+    let written = read_place(alloc, written)?;
     let reduced = reduce(alloc, rows.as_slice(), &written)?;
     add_rows(alloc, lines, reduced.items.as_slice())?;
     Ok(())
@@ -49,7 +50,7 @@ fn effect_text(alloc: Global, effect: &Effect) -> Result<String, AllocError> {
     match effect {
         Effect::Same => "same".to_string(alloc),
         Effect::New => "new".to_string(alloc),
-        Effect::From(source) => source.text(alloc),
+        Effect::From(source) => place_text(alloc, source),
     }
 }
 
@@ -60,7 +61,7 @@ fn effect_at(
     after: &BoxTree,
     place: &str,
 ) -> Result<String, Fault> {
-    let place = Loc::read(alloc, place)?;
+    let place = read_place(alloc, place)?;
     if !after.is_there(&place.path) {
         return Ok("not there".to_string(alloc)?);
     }

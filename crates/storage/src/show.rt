@@ -6,13 +6,14 @@
 
 use cp_frame::Entry;
 use cp_model::{Content, Kind, LitList, Literal, Op, OpList, RecOp, Record, RecordList};
+use cp_spelling::{label_text, place_text, value_text};
 use std::alloc::{AllocError, Global};
 
 /// Adds a tree: a value, or the labels and the trees of the children in braces.
 #[cycle(tree)]
 fn add_tree(alloc: Global, tree: &Literal, line: &mut String) -> Result<(), AllocError> {
     match tree {
-        Literal::Leaf(value) => line.push_str(value.text(alloc)?.as_str()),
+        Literal::Leaf(value) => line.push_str(value_text(alloc, value)?.as_str()),
         Literal::Node(list) => {
             line.push('{')?;
             add_children(alloc, list, line)?;
@@ -27,7 +28,7 @@ fn add_children(alloc: Global, list: &LitList, line: &mut String) -> Result<(), 
     let mut between = "";
     for edge in &list.items {
         line.push_str(between)?;
-        line.push_str(edge.label.text(alloc)?.as_str())?;
+        line.push_str(label_text(alloc, &edge.label)?.as_str())?;
         line.push_str(" : ")?;
         add_tree(alloc, &edge.tree, line)?;
         between = ", ";
@@ -67,16 +68,16 @@ pub(crate) fn op_line(alloc: Global, op: &Op) -> Result<String, AllocError> {
             let tree = tree_text(alloc, tree)?;
             format!(in alloc;
                 "ins {} {} into {}\n",
-                label.text(alloc)?,
+                label_text(alloc, label)?,
                 tree,
-                into.text(alloc)?
+                place_text(alloc, into)?
             )
         }
         Op::Del { label, from } => {
-            format!(in alloc; "del {} from {}\n", label.text(alloc)?, from.text(alloc)?)
+            format!(in alloc; "del {} from {}\n", label_text(alloc, label)?, place_text(alloc, from)?)
         }
         Op::Copy { from, into } => {
-            format!(in alloc; "copy {} into {}\n", from.text(alloc)?, into.text(alloc)?)
+            format!(in alloc; "copy {} into {}\n", place_text(alloc, from)?, place_text(alloc, into)?)
         }
     }
 }
@@ -84,7 +85,7 @@ pub(crate) fn op_line(alloc: Global, op: &Op) -> Result<String, AllocError> {
 /// The line of a record.
 pub(crate) fn record_line(alloc: Global, record: &Record) -> Result<String, AllocError> {
     let word = letter(record.op);
-    let place = record.loc.text(alloc)?;
+    let place = place_text(alloc, &record.loc)?;
     match &record.src {
         Some(source) => {
             format!(in alloc;
@@ -92,7 +93,7 @@ pub(crate) fn record_line(alloc: Global, record: &Record) -> Result<String, Allo
                 record.tid,
                 word,
                 place,
-                source.text(alloc)?
+                place_text(alloc, source)?
             )
         }
         None => format!(in alloc; "record {} {} {}\n", record.tid, word, place),
@@ -119,7 +120,7 @@ fn add_changes(
 pub(crate) fn content_line(alloc: Global, content: &Content) -> Result<String, AllocError> {
     match content {
         Content::Node => "node\n".to_string(alloc),
-        Content::Leaf(value) => format!(in alloc; "{}\n", value.text(alloc)?),
+        Content::Leaf(value) => format!(in alloc; "{}\n", value_text(alloc, value)?),
     }
 }
 
@@ -142,7 +143,7 @@ pub(crate) fn entry_lines(alloc: Global, entry: &Entry) -> Result<String, AllocE
             ops,
             records,
         } => {
-            let curator = stamp.curator.text(alloc)?;
+            let curator = label_text(alloc, &stamp.curator)?;
             let mut lines = format!(in alloc; "stamped {} {}\n", curator, stamp.moment)?;
             add_changes(alloc, ops, records, &mut lines)?;
             Ok(lines)

@@ -25,6 +25,7 @@ use cp_model::{
 };
 use cp_path::{Label, Loc, PathFault};
 use cp_reply::{Of, Reply, Why, lines};
+use cp_spelling::{read_label, read_place};
 use std::alloc::{AllocError, Global};
 
 /// The words of a reply, and the lines below them.
@@ -85,7 +86,7 @@ fn line_at(text: &str, number: usize) -> &str {
 /// The source in a record's places, `PLACE` or `PLACE < PLACE`.
 fn source_of(alloc: Global, places: &str) -> Result<Option<Loc>, PathFault> {
     match places.split_once(" < ") {
-        Some((_, source)) => Ok(Some(Loc::read(alloc, source)?)),
+        Some((_, source)) => Ok(Some(read_place(alloc, source)?)),
         None => Ok(None),
     }
 }
@@ -95,7 +96,7 @@ fn record_of(alloc: Global, line: &str) -> Result<Record, PathFault> {
     let (tid, rest) = line.split_once(' ').unwrap_or((line, ""));
     let (letter, places) = rest.split_once(' ').unwrap_or((rest, ""));
     let (place, _) = places.split_once(" < ").unwrap_or((places, ""));
-    let loc = Loc::read(alloc, place)?;
+    let loc = read_place(alloc, place)?;
     Ok(Record {
         tid: tid.parse::<u64>().unwrap_or(0),
         op: letter_of(letter),
@@ -115,7 +116,7 @@ fn record_or_none(alloc: Global, line: &str) -> Result<Option<Record>, PathFault
 /// The commit on a line, `LOW HIGH MOMENT OPERATIONS by CURATOR`.
 fn commit_of(alloc: Global, line: &str) -> Result<LogLine, PathFault> {
     let (numbers, curator) = line.split_once(" by ").unwrap_or((line, ""));
-    let curator = Label::read(alloc, curator)?;
+    let curator = read_label(alloc, curator)?;
     let numbers = numbers_of(alloc, numbers)?;
     Ok(LogLine {
         low: at(numbers.as_slice(), 0),
@@ -222,7 +223,7 @@ fn log(alloc: Global, request: &Request<'_>) -> Result<Reply, PathFault> {
 
 /// The reply to `mod`.
 fn tids(alloc: Global, request: &Request<'_>) -> Result<Reply, PathFault> {
-    let place = Loc::read(alloc, line_at(request.text, 0))?;
+    let place = read_place(alloc, line_at(request.text, 0))?;
     let items = numbers_of(alloc, line_at(request.text, 1))?;
     Ok(Reply::Answered {
         query: Query::Mod(place),
@@ -236,13 +237,13 @@ fn from_answer(alloc: Global, request: &Request<'_>) -> Result<FromAnswer, PathF
     match request.word {
         "start" => Ok(FromAnswer::Start),
         "new" => Ok(FromAnswer::New(tid)),
-        _ => Ok(FromAnswer::At(Loc::read(alloc, line_at(request.text, 1))?, tid)),
+        _ => Ok(FromAnswer::At(read_place(alloc, line_at(request.text, 1))?, tid)),
     }
 }
 
 /// The reply to `from`.
 fn from(alloc: Global, request: &Request<'_>) -> Result<Reply, PathFault> {
-    let place = Loc::read(alloc, line_at(request.text, 0))?;
+    let place = read_place(alloc, line_at(request.text, 0))?;
     let answer = from_answer(alloc, request)?;
     Ok(Reply::Answered {
         query: Query::From(place),
@@ -252,7 +253,7 @@ fn from(alloc: Global, request: &Request<'_>) -> Result<Reply, PathFault> {
 
 /// The reply that the tree of a store differs from the replay's.
 fn tree_differs(alloc: Global, request: &Request<'_>) -> Result<Reply, PathFault> {
-    let place = Loc::read(alloc, line_at(request.text, 0))?;
+    let place = read_place(alloc, line_at(request.text, 0))?;
     Ok(Reply::Verified {
         verdict: Verdict::TreeDiffers {
             at: at(request.numbers, 0),

@@ -1,6 +1,7 @@
 //! Words as they are read: places, labels, names, values and texts, and the order of places.
 
 use cp_path::{Label, Loc, Name, PathFault, Text, Value};
+use cp_spelling::{label_text, place_text, read_label, read_place, read_text, read_value, value_text};
 use std::alloc::{AllocError, Global};
 
 /// Adds that the word is another one than its spelling.
@@ -13,28 +14,28 @@ fn add_otherwise(line: &mut String, spelling: &str, word: &str) -> Result<(), Al
 
 /// The place's name and its labels, each after a `|`.
 fn place(alloc: Global, word: &str) -> Result<String, PathFault> {
-    let place = Loc::read(alloc, word)?;
+    let place = read_place(alloc, word)?;
     let mut line = place.db.as_str().to_string(alloc)?;
     for label in place.path.labels() {
         line.push('|')?;
         line.push_str(label.as_str())?;
     }
-    add_otherwise(&mut line, place.text(alloc)?.as_str(), word)?;
+    add_otherwise(&mut line, place_text(alloc, &place)?.as_str(), word)?;
     Ok(line)
 }
 
 /// The label after a `|`.
 fn label(alloc: Global, word: &str) -> Result<String, PathFault> {
-    let label = Label::read(alloc, word)?;
+    let label = read_label(alloc, word)?;
     let mut line = "|".to_string(alloc)?;
     line.push_str(label.as_str())?;
-    add_otherwise(&mut line, label.text(alloc)?.as_str(), word)?;
+    add_otherwise(&mut line, label_text(alloc, &label)?.as_str(), word)?;
     Ok(line)
 }
 
 /// The spelling of a value.
 fn value(alloc: Global, word: &str) -> Result<String, PathFault> {
-    Ok(Value::read(alloc, word)?.text(alloc)?)
+    Ok(value_text(alloc, &read_value(alloc, word)?)?)
 }
 
 /// The name.
@@ -44,7 +45,7 @@ fn name(alloc: Global, word: &str) -> Result<String, PathFault> {
 
 /// The text after a `|`, or `none`.
 fn text(alloc: Global, word: &str) -> Result<String, PathFault> {
-    let Some(text) = Text::read(alloc, word)? else {
+    let Some(text) = read_text(alloc, word)? else {
         return Ok("none".to_string(alloc)?);
     };
     let mut line = "|".to_string(alloc)?;
@@ -56,7 +57,7 @@ fn text(alloc: Global, word: &str) -> Result<String, PathFault> {
 fn places(alloc: Global, words: &str) -> Result<Vec<Loc>, PathFault> {
     let mut places = Vec::new(alloc);
     for word in words.split(' ') {
-        places.push(Loc::read(alloc, word)?)?;
+        places.push(read_place(alloc, word)?)?;
     }
     Ok(places)
 }

@@ -7,12 +7,12 @@ use Rattle.cp_lang.proofs.token_reading.place_of.Goals as goal
 
 pub returns-in-Word : goal.returns-in-Word
 returns-in-Word c = record {
-  reads = let P : Shape → Type 0 = λ x. IsRead c.args.token.at (at_place (shape_of x)) c.read_place.result in subst P (sym c.in-Word.is) c.read_place.ensures.reads;
+  reads = let P : Shape → Type 0 = λ x. IsRead c.args.token.at (at_place (shape_of x)) c.place_at.result in subst P (sym c.in-Word.is) c.place_at.ensures.reads;
 }
 
 pub returns-in-Quoted : goal.returns-in-Quoted
 returns-in-Quoted c = record {
   reads =
-      let P : Shape → Type 0 = λ x. IsRead c.args.token.at (at_place (shape_of x)) c.read_place-in-Quoted.result in
-      subst P (sym c.in-Quoted.is) c.read_place-in-Quoted.ensures.reads;
+      let P : Shape → Type 0 = λ x. IsRead c.args.token.at (at_place (shape_of x)) c.place_at-in-Quoted.result in
+      subst P (sym c.in-Quoted.is) c.place_at-in-Quoted.ensures.reads;
 }

@@ -1,7 +1,0 @@
-use Rattle.std.proofs.Common.{◌≡◌, take, Some}
-use Rattle.cp_path.specs.Scan.{scan_over}
-use Rattle.cp_path.specs.declared.scan.Spot.TheVariants as spot
-use Rattle.cp_path.proofs.scan.scan.Given as goal
-
-abbrev pub invariant-loop-at : goal.invariant-loop-at
-invariant-loop-at l = scan_over l.fn.deep (spot.Start l.fn.part) (take l.at l.fn.word) ≡ Some l.spot

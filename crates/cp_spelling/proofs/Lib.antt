@@ -1,0 +1,14 @@
+pub mod Writing
+pub mod Numbers
+pub mod Pieces
+pub mod Words
+pub mod Accepted
+pub mod Complete
+pub mod PiecesLemmas
+pub mod Placed
+pub mod Runs
+pub mod ScanLemmas
+pub mod Sound
+pub mod Spelled
+pub mod ValueLaws
+pub mod WordLaws

@@ -1,0 +1,4 @@
+pub mod Scan
+pub mod Reading
+pub mod Words
+pub mod Laws
