@@ -17,8 +17,8 @@ use Rattle.cp_frame.specs.Entries as written
 use Rattle.cp_frame.specs.Entries.{Batch, WrittenEntry, IsBatchOf, IsEntry}
 use Rattle.cp_frame.specs.declared.entry.Entry.TheVariants as entry
 use Rattle.cp_frame.specs.Sound.{IsSoundBatch}
-use Rattle.cp_engine.specs.Loaded.{sources_in}
-use Rattle.cp_engine.specs.Passed.{stage_after, records_of, AllAccepted}
+use Rattle.cp_operation.specs.Loaded.{sources_in}
+use Rattle.cp_operation.specs.Passed.{stage_after, records_of, AllAccepted}
 use Rattle.cp_engine.proofs.Committed.{committed, can-commit, commit-accepted}
 use Rattle.cp_file.specs.Items.{Item, an_entry, CanStand, HasRecords, entry_meant, entries_in, records_with, ops_in, no_stamp}
 use Rattle.cp_db.specs.Committed.{HasReplayed, HasTaken, HasKept, HoldsBatch, IsReplayed, ReplaysCommit, TidsLieBetween}

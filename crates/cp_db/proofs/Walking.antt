@@ -16,8 +16,8 @@ use Rattle.cp_model.specs.declared.record.Verdict.TheVariants.{Agrees, Differs, 
 use Rattle.cp_model.specs.Past.{tree_of}
 use Rattle.cp_model.specs.Tree.{Tree}
 use Rattle.cp_model.specs.History.{Entry as History, State, start as begun, load as loaded, commit as made, start_state, after_commit, after_load, replay, then_entry, IsLegal, IsLegalFrom, log_of, log_after, log_line}
-use Rattle.cp_engine.specs.Loaded.{sources_in}
-use Rattle.cp_engine.specs.Passed.{records_of}
+use Rattle.cp_operation.specs.Loaded.{sources_in}
+use Rattle.cp_operation.specs.Passed.{records_of}
 use Rattle.cp_engine.proofs.Committed.{committed, commit-accepted}
 use Rattle.cp_frame.specs.Entries.{WrittenEntry, IsEntry, start, load, commit, stamped}
 use Rattle.cp_frame.specs.Sound.{IsSoundBatch, IsSoundSource}

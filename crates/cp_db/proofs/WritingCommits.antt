@@ -28,12 +28,12 @@ use Rattle.cp_frame.specs.Entries.{IsEntry, WrittenEntry, start, load, commit, s
 use Rattle.cp_frame.specs.Sound.{AreWritable, IsSoundBatch, IsSoundEntry, IsSoundOp}
 use Rattle.cp_frame.specs.declared.entry.Entry.TheVariants as frame
 use Rattle.cp_journal.specs.declared.limits.TheConstants.{BODY_MAX}
-use Rattle.cp_engine.specs.Accepted.{IsAcceptable}
-use Rattle.cp_engine.specs.Passed.{AllAccepted, records_of}
+use Rattle.cp_operation.specs.Accepted.{IsAcceptable}
+use Rattle.cp_operation.specs.Passed.{AllAccepted, records_of}
 use Rattle.cp_engine.specs.Transactions.{IsStep}
-use Rattle.cp_engine.specs.Loaded.{sources_in}
+use Rattle.cp_operation.specs.Loaded.{sources_in}
 use Rattle.cp_engine.specs.declared.txn.Step.{Step}
-use Rattle.cp_engine.proofs.Accepting.{accepted-targets}
+use Rattle.cp_operation.proofs.Accepting.{accepted-targets}
 use Rattle.cp_engine.proofs.Committed.{IsCommitted, commit-accepted, committed}
 use Rattle.cp_file.specs.Items.{IsOfVersion, CanStand, HasRecords, an_entry, entry_meant, ops_in}
 use Rattle.cp_file.specs.Sizes.{stamped_size}

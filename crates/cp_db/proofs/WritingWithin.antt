@@ -33,8 +33,8 @@ use Rattle.cp_model.proofs.Kept.{tree-changed, tree-step}
 use Rattle.cp_model.proofs.Origins.{sound-step}
 use Rattle.cp_model.proofs.Passing.{and_true}
 use Rattle.cp_frame.specs.Sound.{AreWithin, IsOpWithin, IsRecordWithin}
-use Rattle.cp_engine.specs.Passed.{Stage, AllAccepted, next_stage, outcome_records, records_of, stage_after}
-use Rattle.cp_engine.proofs.Linked.{accepted-step}
+use Rattle.cp_operation.specs.Passed.{Stage, AllAccepted, next_stage, outcome_records, records_of, stage_after}
+use Rattle.cp_operation.proofs.Linked.{accepted-step}
 
 -- ---- places
 

@@ -17,8 +17,8 @@ use Rattle.cp_model.specs.declared.op.Op.{Op}
 use Rattle.cp_model.specs.declared.record.Record.{Record}
 use Rattle.cp_frame.specs.Entries as written
 use Rattle.cp_frame.specs.Entries.{WrittenEntry, IsBatchOf}
-use Rattle.cp_engine.specs.Loaded.{sources_in}
-use Rattle.cp_engine.specs.Passed.{stage_after, AllAccepted}
+use Rattle.cp_operation.specs.Loaded.{sources_in}
+use Rattle.cp_operation.specs.Passed.{stage_after, AllAccepted}
 use Rattle.cp_file.specs.Items.{Item, an_entry, AllStand, CanStand, entries_in, records_in}
 use Rattle.cp_db.specs.declared.committed.Committed.{Committed}
 use Rattle.cp_db.specs.declared.limits.TheConstants.{TIDS_MAX}

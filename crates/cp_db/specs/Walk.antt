@@ -9,7 +9,7 @@ use Rattle.cp_model.specs.declared.kind.Kind.{Kind}
 use Rattle.cp_model.specs.declared.record.Record.{Record}
 use Rattle.cp_model.specs.declared.record.Verdict.{Verdict}
 use Rattle.cp_model.specs.declared.record.Verdict.TheVariants.{Agrees, Differs, TreeDiffers, NumberDiffers}
-use Rattle.cp_engine.specs.Passed.{records_of}
+use Rattle.cp_operation.specs.Passed.{records_of}
 use Rattle.cp_frame.specs.Entries.{WrittenEntry}
 use Rattle.cp_journal.specs.Frames.{Frame, spelled_all}
 use Rattle.cp_journal.specs.Holding.{Stands}

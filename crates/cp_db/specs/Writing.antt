@@ -9,7 +9,7 @@ use Rattle.cp_model.specs.declared.stamp.Stamp.{Stamp}
 use Rattle.cp_disk.specs.Views.{View}
 use Rattle.cp_journal.specs.NewStores.{IsVacant}
 use Rattle.cp_journal.specs.declared.limits.TheConstants.{BODY_MAX, FRAME_HEAD}
-use Rattle.cp_engine.specs.Passed.{records_of}
+use Rattle.cp_operation.specs.Passed.{records_of}
 use Rattle.cp_engine.specs.Transactions as txn
 use Rattle.cp_engine.specs.declared.txn.Step.{Step}
 use Rattle.cp_file.specs.Stands.{StandsFor, StandsWithOrWithout}

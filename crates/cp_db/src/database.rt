@@ -1,16 +1,17 @@
 ghost use Rattle.std.specs.Prelude.{◌≡◌, [], Bool, List, true, IfOk, IsErrOf};
 ghost use Rattle.cp_model.specs.Past.{tree_of};
 ghost use Rattle.cp_model.specs.History.{Entry};
-ghost use Rattle.cp_engine.specs.Loaded.{sources_in};
+ghost use Rattle.cp_operation.specs.Loaded.{sources_in};
 ghost use Rattle.cp_engine.specs.Transactions.{going};
 ghost use Rattle.cp_query.specs.Asked.{AnswersTo};
 ghost use Rattle.cp_query.specs.declared.fault.QueryFault.TheVariants.{Disk};
 ghost use Rattle.cp_db.specs.Databases.{Stands, IsDatabase, HasCome, IsSameFile, is_spent, version_in};
 
 use crate::committed::Committed;
-use cp_engine::{Sources, Txn};
+use cp_engine::Txn;
 use cp_journal::Journal;
 use cp_model::{Answer, Kind, Query};
+use cp_operation::Sources;
 use cp_query::{QueryFault, answer};
 use cp_store::ProvStore;
 use cp_tree::TreeRep;

@@ -9,9 +9,9 @@ use Rattle.cp_model.specs.declared.kind.Kind.TheVariants as kind
 use Rattle.cp_model.specs.declared.op.Op.{Op}
 use Rattle.cp_model.proofs.Histories.{after-commit}
 use Rattle.cp_store.specs.Changes.{AreNext}
-use Rattle.cp_engine.specs.Passed.{stage_after, records_of, AllAccepted}
-use Rattle.cp_engine.proofs.Accepting.{done-accepted}
-use Rattle.cp_engine.proofs.Linked.{accepted-step, accepted-done}
+use Rattle.cp_operation.specs.Passed.{stage_after, records_of, AllAccepted}
+use Rattle.cp_operation.proofs.Accepting.{done-accepted}
+use Rattle.cp_operation.proofs.Linked.{accepted-step, accepted-done}
 use Rattle.cp_engine.proofs.Stepped.{stepped-in}
 
 -- accepted operations may be committed, where they are some, not too many, and can be written

@@ -10,7 +10,7 @@ use Rattle.cp_model.specs.declared.op.Op.{Op}
 use Rattle.cp_model.specs.declared.record.Record.{Record}
 use Rattle.cp_record.specs.Bytes.{records_bytes, commit_length}
 use Rattle.cp_overlay.specs.Seen.{seen}
-use Rattle.cp_engine.specs.Passed.{records_of}
+use Rattle.cp_operation.specs.Passed.{records_of}
 use Rattle.cp_engine.specs.Transactions.{Progress, going, failed, IsGoing, Stands, Packs, PacksNothing, AreGivenUp, Finishes}
 use Rattle.cp_engine.specs.declared.state.Failure.{Failure}
 use Rattle.cp_engine.specs.declared.txn.Txn.{Txn}

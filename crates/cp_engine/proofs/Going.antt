@@ -22,12 +22,11 @@ use Rattle.cp_record.specs.Bytes.{records_bytes}
 use Rattle.cp_overlay.specs.Kept.{Kept}
 use Rattle.cp_overlay.specs.Kept as overlay
 use Rattle.cp_overlay.specs.Seen.{seen}
-use Rattle.cp_engine.specs.Passed.{Stage, stage_after, next_stage, AllAccepted, outcome_records, records_of}
-use Rattle.cp_engine.specs.RowsAlone.{rows_in}
-use Rattle.cp_engine.proofs.RowsAloneLemmas.{rows-alone}
-use Rattle.cp_engine.proofs.TopRows.{reduced-alone}
+use Rattle.cp_operation.specs.Passed.{Stage, stage_after, next_stage, AllAccepted, outcome_records, records_of}
+use Rattle.cp_operation.specs.RowsAlone.{rows_in}
+use Rattle.cp_engine.proofs.StepRows.{rows-alone, reduced-alone}
 use Rattle.cp_engine.proofs.KeptRecords.{held-kept, given-up-kept}
-use Rattle.cp_engine.proofs.Linked.{passed-snoc, pass-tree, accepted-step, accepted-snoc, written-snoc, passed-next, tree-passed}
+use Rattle.cp_operation.proofs.Linked.{passed-snoc, pass-tree, accepted-step, accepted-snoc, written-snoc, passed-next, tree-passed}
 use Rattle.cp_engine.specs.Held.{AreKept, AreKeptBehind}
 use Rattle.cp_engine.specs.Transactions.{Keeps, Adds, Packs, AreGivenUp, IsGoing}
 use Rattle.cp_engine.specs.declared.kept.StepRecords.{StepRecords}

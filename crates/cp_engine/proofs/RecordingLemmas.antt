@@ -13,13 +13,13 @@ use Rattle.cp_model.specs.declared.op.Op.{Op}
 use Rattle.cp_model.specs.declared.record.Record.{Record}
 use Rattle.cp_overlay.specs.Kept.{Kept}
 use Rattle.cp_overlay.specs.Kept as overlay
-use Rattle.cp_engine.specs.Held.{Appended}
-use Rattle.cp_engine.specs.Passed.{Stage, stage_after, outcome_records, AllAccepted}
+use Rattle.cp_operation.specs.Appending.{Appended}
+use Rattle.cp_operation.specs.Passed.{Stage, stage_after, outcome_records, AllAccepted}
 use Rattle.cp_engine.specs.Recording.{AreRecorded}
-use Rattle.cp_engine.specs.RowsAlone.{rows_in}
+use Rattle.cp_operation.specs.RowsAlone.{rows_in}
 use Rattle.cp_engine.proofs.Going.{IsNext, pass-records, stands-begun, stands-more, packed-step}
-use Rattle.cp_engine.proofs.Linked.{passed-snoc, passed-next, written-snoc}
-use Rattle.cp_engine.proofs.Replayed.{HaveReplayed, take_more, replayed-none, replayed-more}
+use Rattle.cp_operation.proofs.Linked.{passed-snoc, passed-next, written-snoc}
+use Rattle.cp_operation.proofs.Replayed.{HaveReplayed, take_more, replayed-none, replayed-more}
 
 -- so many of the operations are done, each as a step of its own, and these are their records; the next gets this Tid
 pub record HaveRecorded (k : Kind) (ss : List Source) (t : Tree) (n : ℕ) (ops : List Op) (i : ℕ) (u : Tree) (tid : ℕ) (rs : List Record) : Type 0 where

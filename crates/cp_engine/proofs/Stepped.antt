@@ -11,10 +11,10 @@ use Rattle.cp_model.specs.declared.kind.Kind.TheVariants as kind
 use Rattle.cp_model.specs.declared.op.Op.{Op}
 use Rattle.cp_model.proofs.Alone.{after-step}
 use Rattle.cp_store.specs.Changes.{AreNext}
-use Rattle.cp_engine.specs.Passed.{stage_after, outcome_records, records_of, AllAccepted}
+use Rattle.cp_operation.specs.Passed.{stage_after, outcome_records, records_of, AllAccepted}
 use Rattle.cp_engine.specs.Transactions.{IsStep}
 use Rattle.cp_engine.specs.declared.txn.Step.{Step}
-use Rattle.cp_engine.proofs.Linked.{accepted-step, passed-after, now-after}
+use Rattle.cp_operation.proofs.Linked.{accepted-step, passed-after, now-after}
 use Rattle.cp_engine.proofs.Rising.{next-step, rising-passed}
 use Rattle.cp_overlay.proofs.Marking.{sorted-rows_of}
 

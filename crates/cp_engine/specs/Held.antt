@@ -1,4 +1,4 @@
--- The operations that a transaction holds, and what its records become.
+-- The operations that a transaction holds, and what is kept of its records.
 use Rattle.cp_model.specs.declared.limits.TheConstants.{ENTRY_MAX, OPS_MAX}
 use Rattle.std.specs.Prelude.{◌≡◌, ◌≤◌, ◌<◌, List, ◌++◌, length}
 use Rattle.std.specs.List.{AllByRecursion}
@@ -13,15 +13,6 @@ use Rattle.cp_engine.specs.declared.kept.StepRecords.TheVariants.{Held, GivenUp}
 pub record AreHeld (ops : List Op) : Type 0 where
   pub few : length ops ≤ OPS_MAX
   pub small : AllByRecursion IsSmall ops
-
--- these records came behind those that were held
-pub record Appended (old new rs : List Record) : Type 0 where
-  pub is : new ≡ old ++ rs
-
--- those that were held are still held, and others may be behind them
-pub record Grown (old new : List Record) : Type 0 where
-  pub more : List Record
-  pub is : new ≡ old ++ more
 
 -- what is kept of these records: themselves, if they take no more bytes than an entry may have, and else none
 abbrev pub AreKept : StepRecords → List Record → Type 0

@@ -6,7 +6,7 @@ use Rattle.cp_model.specs.Tree.{Tree, Source}
 use Rattle.cp_model.specs.declared.kind.Kind.{Kind}
 use Rattle.cp_model.specs.declared.op.Op.{Op}
 use Rattle.cp_model.specs.declared.record.Record.{Record}
-use Rattle.cp_engine.specs.Passed.{stage_after, records_of, AllAccepted}
+use Rattle.cp_operation.specs.Passed.{stage_after, records_of, AllAccepted}
 
 -- the operations are accepted and lead from the old tree to the new one, and the records that are given are all of their records
 pub record AreRecorded (ss : List Source) (old new : Tree) (ops : List Op) (all rs : List Record) : Type 0 where

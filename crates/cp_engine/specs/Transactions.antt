@@ -17,8 +17,8 @@ use Rattle.cp_overlay.specs.Kept.{Kept}
 use Rattle.cp_overlay.specs.Kept as overlay
 use Rattle.cp_overlay.specs.Seen.{seen}
 use Rattle.cp_engine.specs.Held.{AreKept, AreKeptBehind}
-use Rattle.cp_engine.specs.RowsAlone.{op_rows, top_rows}
-use Rattle.cp_engine.specs.Passed.{stage_after, records_of, refusal_behind, AllAccepted}
+use Rattle.cp_operation.specs.RowsAlone.{op_rows, top_rows}
+use Rattle.cp_operation.specs.Passed.{stage_after, records_of, refusal_behind, AllAccepted}
 use Rattle.cp_engine.specs.declared.kept.StepRecords.{StepRecords}
 use Rattle.cp_engine.specs.declared.kept.StepRecords.TheVariants.{Held, GivenUp}
 use Rattle.cp_engine.specs.declared.txn.Txn.{Txn}

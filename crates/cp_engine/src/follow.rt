@@ -5,11 +5,10 @@ ghost use Rattle.cp_model.specs.Tree.{Source, refusal, tree_after};
 ghost use Rattle.cp_model.specs.History.{IsWritten};
 ghost use Rattle.cp_overlay.specs.Kept.{Follows};
 ghost use Rattle.cp_overlay.specs.Seen.{seen};
-ghost use Rattle.cp_engine.specs.Loaded.{sources_in};
+ghost use Rattle.cp_operation.specs.Loaded.{sources_in};
 
-use crate::change::change_tree;
-use crate::sources::Sources;
 use cp_model::Op;
+use cp_operation::{Sources, change_tree};
 use cp_overlay::Overlay;
 use cp_tree::TreeRep;
 use std::alloc::{AllocError, Global};

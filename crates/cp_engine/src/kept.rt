@@ -5,13 +5,12 @@ ghost use Rattle.cp_model.specs.History.{IsWritten, with_tid};
 ghost use Rattle.cp_model.specs.Tree.{refusal, tree_after};
 ghost use Rattle.cp_model.specs.declared.record.Record.{Record};
 ghost use Rattle.cp_engine.specs.Held.{AreKept, AreKeptBehind};
-ghost use Rattle.cp_engine.specs.Loaded.{sources_in};
-ghost use Rattle.cp_engine.specs.RowsAlone.{op_rows, top_rows};
+ghost use Rattle.cp_operation.specs.Loaded.{sources_in};
+ghost use Rattle.cp_operation.specs.RowsAlone.{op_rows, top_rows};
 ghost use Rattle.cp_engine.specs.declared.kept.StepRecords.TheVariants.{Held};
 
-use crate::change::{change_tree, record_op, record_top};
-use crate::sources::Sources;
 use cp_model::{ENTRY_MAX, Op};
+use cp_operation::{Sources, change_tree, record_op, record_top};
 use cp_record::PackedRecords;
 use cp_tree::TreeRep;
 use std::alloc::{AllocError, Global};

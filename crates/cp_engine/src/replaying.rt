@@ -2,13 +2,11 @@
 ghost use Rattle.std.specs.Prelude.{◌≡◌, ◌↔◌, ℕ, IsTrue, IfOk};
 ghost use Rattle.cp_model.specs.History.{AreWritten};
 ghost use Rattle.cp_model.specs.declared.kind.Kind.{Kind as KindValue};
-ghost use Rattle.cp_engine.specs.Loaded.{sources_in};
-ghost use Rattle.cp_engine.specs.Passed.{stage_after, tree_until, AllAccepted};
+ghost use Rattle.cp_operation.specs.Loaded.{sources_in};
+ghost use Rattle.cp_operation.specs.Passed.{stage_after, tree_until, AllAccepted};
 
-use crate::change::change_tree;
-use crate::checks::check;
-use crate::sources::Sources;
 use cp_model::Op;
+use cp_operation::{Sources, change_tree, check};
 use cp_tree::TreeRep;
 use std::alloc::{AllocError, Global};
 

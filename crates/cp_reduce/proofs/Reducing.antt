@@ -30,9 +30,9 @@ use Rattle.cp_model.proofs.Histories.{trees-sources}
 use Rattle.cp_model.proofs.Lookups.{path_eq-sym}
 use Rattle.cp_model.proofs.Reading.{below_place-nil}
 use Rattle.cp_model.proofs.Strips.{strip-itself}
-use Rattle.cp_engine.specs.RowsAlone.{marks_below, op_rows, top_rows}
-use Rattle.cp_engine.proofs.RowsAloneLemmas.{find-behind, rows-alone, root-below}
-use Rattle.cp_engine.proofs.TopRows.{reduced-alone}
+use Rattle.cp_operation.specs.RowsAlone.{marks_below, op_rows, top_rows}
+use Rattle.cp_operation.proofs.RowsAloneLemmas.{find-behind, root-below}
+use Rattle.cp_engine.proofs.StepRows.{rows-alone, reduced-alone}
 use Rattle.cp_reduce.specs.Written.{written_by}
 
 -- the row of a mark, if there is one

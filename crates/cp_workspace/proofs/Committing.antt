@@ -19,7 +19,7 @@ use Rattle.cp_reply.specs.declared.reply.Why.TheVariants as why
 use Rattle.cp_reply.specs.declared.reply.Reply.{Reply}
 use Rattle.cp_reply.specs.declared.reply.Reply.TheVariants as reply
 use Rattle.cp_session.specs.Session.{Session, OpenTransaction, closed, going, failed, with_opened, Setting, Turn, replies, says, turn_of, on_commit, refused_commit, count_given_up, next_moment, new_records, stamp_of, after_moment, with_entry}
-use Rattle.cp_engine.specs.Passed.{records_of}
+use Rattle.cp_operation.specs.Passed.{records_of}
 use Rattle.cp_engine.specs.Transactions as txn
 use Rattle.cp_engine.specs.declared.txn.Txn.{Txn}
 use Rattle.cp_engine.specs.declared.state.TxnState.{TxnState}

@@ -1,4 +1,4 @@
-use Rattle.cp_engine.proofs.Changed.{on-ok}
+use Rattle.cp_operation.proofs.Changed.{on-ok}
 use Rattle.cp_engine.proofs.KeptRecords.{given-up-behind}
 use Rattle.cp_engine.proofs.kept.keep_top.Goals as goal
 

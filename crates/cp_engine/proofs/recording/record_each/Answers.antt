@@ -1,9 +1,9 @@
 use Rattle.std.proofs.Common.{sym, ap, ◌∙◌, arith}
 use Rattle.std.specs.Prelude.{is_some}
 use Rattle.cp_model.proofs.Accepted.{none_is}
-use Rattle.cp_engine.specs.Loaded.{sources_in}
-use Rattle.cp_engine.proofs.LoadedLemmas.{trees-loaded}
-use Rattle.cp_engine.proofs.Replayed.{written-at, replayed-refused}
+use Rattle.cp_operation.specs.Loaded.{sources_in}
+use Rattle.cp_operation.proofs.LoadedLemmas.{trees-loaded}
+use Rattle.cp_operation.proofs.Replayed.{written-at, replayed-refused}
 use Rattle.cp_engine.proofs.RecordingLemmas.{recorded-none, recorded-more, recorded-all}
 use Rattle.cp_engine.proofs.recording.record_each.Goals as goal
 

@@ -1,4 +1,4 @@
-use Rattle.cp_engine.specs.Loaded.{sources_in}
+use Rattle.cp_operation.specs.Loaded.{sources_in}
 use Rattle.cp_engine.proofs.RecordingLemmas.{HaveRecorded}
 use Rattle.cp_engine.proofs.recording.record_each.Given as goal
 

@@ -2,8 +2,8 @@ use Rattle.std.proofs.Common.{sym, ap, ◌∙◌}
 use Rattle.std.specs.Prelude.{is_some}
 use Rattle.cp_model.proofs.Accepted.{none_is}
 use Rattle.cp_overlay.specs.Seen.{seen}
-use Rattle.cp_engine.specs.Loaded.{sources_in}
-use Rattle.cp_engine.proofs.Replayed.{written-at, replayed-refused}
+use Rattle.cp_operation.specs.Loaded.{sources_in}
+use Rattle.cp_operation.proofs.Replayed.{written-at, replayed-refused}
 use Rattle.cp_engine.proofs.RecordingLemmas.{followed-none, followed-more, followed-all}
 use Rattle.cp_engine.proofs.recording.record_whole.Goals as goal
 

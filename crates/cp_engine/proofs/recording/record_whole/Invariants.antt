@@ -1,5 +1,5 @@
 use Rattle.cp_overlay.specs.Seen.{seen}
-use Rattle.cp_engine.specs.Loaded.{sources_in}
+use Rattle.cp_operation.specs.Loaded.{sources_in}
 use Rattle.cp_engine.proofs.RecordingLemmas.{HaveFollowed}
 use Rattle.cp_engine.proofs.recording.record_whole.Given as goal
 

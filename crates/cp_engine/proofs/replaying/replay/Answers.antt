@@ -1,8 +1,8 @@
 use Rattle.std.proofs.Common.{sym, ap, ◌∙◌}
 use Rattle.std.specs.Prelude.{is_some}
 use Rattle.cp_model.proofs.Accepted.{none_is}
-use Rattle.cp_engine.specs.Loaded.{sources_in}
-use Rattle.cp_engine.proofs.Replayed.{written-at, replayed-none, replayed-more, replayed-refused, replayed-until, replayed-all}
+use Rattle.cp_operation.specs.Loaded.{sources_in}
+use Rattle.cp_operation.proofs.Replayed.{written-at, replayed-none, replayed-more, replayed-refused, replayed-until, replayed-all}
 use Rattle.cp_engine.proofs.replaying.replay.Goals as goal
 
 pub loop-op-init : goal.loop-op-init

@@ -1,5 +1,5 @@
-use Rattle.cp_engine.specs.Loaded.{sources_in}
-use Rattle.cp_engine.proofs.Replayed.{HaveReplayed}
+use Rattle.cp_operation.specs.Loaded.{sources_in}
+use Rattle.cp_operation.proofs.Replayed.{HaveReplayed}
 use Rattle.cp_engine.proofs.replaying.replay.Given as goal
 
 abbrev pub invariant-loop-op : goal.invariant-loop-op

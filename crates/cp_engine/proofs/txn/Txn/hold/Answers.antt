@@ -1,6 +1,6 @@
 use Rattle.std.proofs.Common.{◌+◌, ap, ◌∙◌, [], ◌∷◌, ◌++◌}
-use Rattle.cp_engine.specs.Loaded.{sources_in}
-use Rattle.cp_engine.proofs.Changed.{op-small}
+use Rattle.cp_operation.specs.Loaded.{sources_in}
+use Rattle.cp_operation.proofs.Changed.{op-small}
 use Rattle.cp_engine.proofs.Going.{going-more}
 use Rattle.cp_engine.proofs.txn.Txn.hold.Goals as goal
 

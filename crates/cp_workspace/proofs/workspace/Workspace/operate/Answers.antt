@@ -1,5 +1,5 @@
 use Rattle.std.proofs.Common.{ap, subst, refl, Err}
-use Rattle.cp_engine.specs.Loaded.{sources_in}
+use Rattle.cp_operation.specs.Loaded.{sources_in}
 use Rattle.cp_workspace.specs.Workspaces.{progress_of}
 use Rattle.cp_workspace.proofs.Turning.{workspace-opened}
 use Rattle.cp_workspace.proofs.Operating.{AppliesTo, sources-same, applies-to, begun-applied, turned-accepted, turned-refused, turned-failed_before}

@@ -1,7 +1,7 @@
 use Rattle.std.proofs.Common.{true, sym, ap, ◌∙◌, arith}
 use Rattle.std.specs.declared.option.Option.TheVariants.{Some}
 use Rattle.cp_model.specs.Tree.{source}
-use Rattle.cp_engine.specs.Loaded.{sources_in}
+use Rattle.cp_operation.specs.Loaded.{sources_in}
 use Rattle.cp_reply.specs.declared.reply.Why.TheVariants as why
 use Rattle.cp_workspace.proofs.Loading.{why-there, why-many, why-none, may-load, is_some-seen}
 use Rattle.cp_workspace.proofs.workspace.Workspace.why_not_loaded.Goals as goal
