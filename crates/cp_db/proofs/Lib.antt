@@ -1,13 +1,11 @@
 pub mod Keeping
 mod TakingCounts
 mod TakingLists
-mod Taking
-mod TakingCommits
-mod OpeningFrames
-mod OpeningItems
-mod OpeningStores
-mod Walking
-mod WalkingFrames
+pub mod Taking
+pub mod TakingCommits
+pub mod OpeningFrames
+pub mod OpeningItems
+pub mod OpeningStores
 mod WritingStanding
 mod WritingFrames
 mod WritingLoads

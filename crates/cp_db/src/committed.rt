@@ -24,17 +24,18 @@ use cp_store::ProvStore;
 use cp_tree::TreeRep;
 use std::alloc::{AllocError, Global};
 
-/// The committed tree, the sources and the rows of all steps, and the number of commits.
+/// The committed tree, the sources and the rows of all steps, and the number of commits. A plain value: what it says is
+/// that of a history only where a contract says so.
 #[derive(Drop)]
-pub(crate) struct Committed<R: TreeRep, S: TreeRep> {
-    pub(crate) tree: R,
-    pub(crate) sources: Sources<S>,
-    pub(crate) store: KindStore,
-    pub(crate) commits: u64,
+pub struct Committed<R: TreeRep, S: TreeRep> {
+    pub tree: R,
+    pub sources: Sources<S>,
+    pub store: KindStore,
+    pub commits: u64,
 }
 
-/// Whether each record has a Tid after `low` and up to `high`.
-pub(crate) fn tids_lie_between(records: &[Record], low: u64, high: u64) -> bool
+/// Whether each record has a Tid after `low` and up to `high`. Costs the records up to the first that has none.
+pub fn tids_lie_between(records: &[Record], low: u64, high: u64) -> bool
     ensures { IsTrue result ↔ TidsLieBetween low high records.now }
 {
     for record in records {
@@ -45,8 +46,9 @@ pub(crate) fn tids_lie_between(records: &[Record], low: u64, high: u64) -> bool
     true
 }
 
-/// Does nothing. The text of a label says that it is short, as it has to be where its operation is applied.
-pub(crate) fn look_at_labels(ops: &[Op])
+/// Does nothing. The text of a label says that it is short, as it has to be where its operation is applied. Costs the
+/// number of operations.
+pub fn look_at_labels(ops: &[Op])
     requires { (trees : Bool) × AllByRecursion (IsSoundOp trees) ops.now }
     ensures { AreWritten ops.now }
 {
@@ -57,8 +59,9 @@ pub(crate) fn look_at_labels(ops: &[Op])
     }
 }
 
-/// Keeps a tree as a source, if one may be loaded under the name; says whether it may.
-pub(crate) fn load_source<S: TreeRep>(
+/// Keeps a tree as a source, if one may be loaded under the name; says whether it may. Where it may not, and after an
+/// error, the sources are as they were. Costs the tree.
+pub fn load_source<S: TreeRep>(
     alloc: Global,
     sources: &mut Sources<S>,
     name: Name,
@@ -80,7 +83,7 @@ pub(crate) fn load_source<S: TreeRep>(
 /// Applies the operations of a commit after the Tid `last`, if each is accepted and each record has one of the commit's
 /// Tids; gives the number of these Tids, `None` where it isn't so. Of the records it looks at nothing else. After `None`,
 /// and after an error, what the tree holds isn't said. Costs the operations and a comparison for each record.
-pub(crate) fn replay_commit<R: TreeRep, S: TreeRep>(
+pub fn replay_commit<R: TreeRep, S: TreeRep>(
     alloc: Global,
     kind: Kind,
     last: u64,

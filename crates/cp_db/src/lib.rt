@@ -9,14 +9,11 @@ mod committed;
 mod database;
 mod fault;
 mod limits;
-mod log;
 mod opening;
-mod verification;
-mod walk;
 mod writing;
 
+pub use committed::{Committed, load_source, look_at_labels, replay_commit, tids_lie_between};
 pub use database::{Db, Tids};
 pub use fault::{CommitFault, InitFault, OpenFault, WriteFault};
 pub use limits::TIDS_MAX;
-pub use log::log_of;
-pub use verification::verify;
+pub use opening::{entry_in, is_of_version, open_slot, version_of};

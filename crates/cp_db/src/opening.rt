@@ -24,8 +24,8 @@ use cp_literal::tree_of;
 use cp_tree::TreeRep;
 use std::alloc::Global;
 
-/// The offset of the slot that names the newest checkpoint, if one is open.
-pub(crate) fn open_slot(header: &Header) -> Option<u64>
+/// The offset in the file, in bytes, of the slot that names the newest checkpoint, if one is open.
+pub fn open_slot(header: &Header) -> Option<u64>
     ensures { result ≡ open_slot header.now }
 {
     match (header.first, header.second) {
@@ -42,8 +42,9 @@ pub(crate) fn open_slot(header: &Header) -> Option<u64>
     }
 }
 
-/// The entry that the bytes of the frame at this offset spell.
-pub(crate) fn entry_in(alloc: Global, body: &[u8], at: u64) -> Result<Entry, OpenFault>
+/// The entry that the bytes of the frame at this offset spell; `NoStore` with the offset where they spell none. Costs the
+/// bytes.
+pub fn entry_in(alloc: Global, body: &[u8], at: u64) -> Result<Entry, OpenFault>
     ensures spells { (f : Frame) → f.body ≡ body.now → SpellsAs f result }
     ensures sound { IfOk result IsSoundEntry }
     ensures at { IfErr result (λ e. (n : ℕ) → e ≡ OpenFault.NoStore n → n ≡ at) }
@@ -56,8 +57,8 @@ pub(crate) fn entry_in(alloc: Global, body: &[u8], at: u64) -> Result<Entry, Ope
     }
 }
 
-/// Whether the entry may stand in a file of this version.
-pub(crate) fn is_of_version(entry: &Entry, version: u8) -> bool
+/// Whether the entry may stand in a file of this version: a commit with a stamp stands in one of version 2 alone.
+pub fn is_of_version(entry: &Entry, version: u8) -> bool
     ensures { (w : WrittenEntry) → IsEntry entry.now w → IsTrue result ↔ IsOfVersion version w }
 {
     match entry {
@@ -67,8 +68,9 @@ pub(crate) fn is_of_version(entry: &Entry, version: u8) -> bool
 }
 
 impl<R: TreeRep, S: TreeRep> Committed<R, S> {
-    /// What the first frame starts from.
-    pub(crate) fn first<D: Disk>(
+    /// What the first frame starts from; `NoStore` with the offset of what isn't a start. Reads the frame, and leaves its
+    /// bytes in `body`. Costs the tree.
+    pub fn first<D: Disk>(
         alloc: Global,
         disk: &mut D,
         journal: &Journal,
@@ -190,7 +192,7 @@ impl<R: TreeRep, S: TreeRep> Committed<R, S> {
 }
 
 /// The version that a header says, which is 1 or 2.
-pub(crate) fn version_of(header: &Header) -> u8
+pub fn version_of(header: &Header) -> u8
     ensures either { (result ≡ 1) ⊎ (result ≡ 2) }
     ensures said { (header.now.version ≡ 1) ⊎ (header.now.version ≡ 2) → result ≡ header.now.version }
 {

@@ -9,7 +9,7 @@ use Rattle.cp_journal.specs.Frames.{Frame}
 use Rattle.cp_file.specs.Items.{Item, an_entry, AreHeld, entries_in}
 use Rattle.cp_file.specs.Stands.{Opens}
 use Rattle.cp_file.proofs.Images.{files_open}
-use Rattle.cp_db.specs.Verify.{HasWrong, VerifiesAs}
+use Rattle.cp_history.specs.Verify.{HasWrong, VerifiesAs}
 
 -- frames that hold an item are one at least
 some-frames : (version : ℕ) (fs : List Frame) (before : List Item) (i : Item) (after : List Item) → AreHeld version fs (before ++ i ∷ after) → 1 ≤ length fs

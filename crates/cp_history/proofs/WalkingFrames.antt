@@ -1,0 +1,181 @@
+-- What a walk finds in a file, frame by frame.
+use Rattle.std.proofs.Common.{◌≡◌, ◌≤◌, ◌+◌, ◌∙◌, ℕ, zero, suc, Bool, true, false, List, [], ◌∷◌, ◌++◌, length, take, drop, refl, sym, ap, subst, arith, length-append, Ok, Err}
+use Rattle.std.specs.List.{slice_get, flat_map}
+use Rattle.std.specs.declared.option.Option.TheVariants.{None, Some}
+use Rattle.std.proofs.lemmas.List.{take_all}
+use Rattle.cp_format.specs.Formats.{Reads}
+use Rattle.cp_model.specs.Tree.{Tree}
+use Rattle.cp_model.specs.History.{log_of}
+use Rattle.cp_model.specs.declared.answer.LogLine.{LogLine}
+use Rattle.cp_model.specs.declared.record.Verdict.{Verdict}
+use Rattle.cp_model.specs.declared.record.Verdict.TheVariants.{Agrees, Differs, TreeDiffers, NumberDiffers}
+use Rattle.cp_disk.specs.Views.{View}
+use Rattle.cp_journal.specs.Frames.{Frame, frames_of, spelled, spelled_all}
+use Rattle.cp_journal.specs.Headers.{HasHeader, header_in}
+use Rattle.std.specs.Int.{w64, to_be_bytes}
+use Rattle.cp_journal.proofs.Walks.{length-be8}
+use Rattle.cp_journal.specs.Journals.{JournalState, HasWalked, Lists, places}
+use Rattle.cp_journal.specs.declared.frame.FrameAt.{FrameAt}
+use Rattle.cp_journal.specs.declared.header.Header.{Header}
+use Rattle.cp_journal.specs.declared.limits.TheConstants.{HEADER_SIZE}
+use Rattle.cp_journal.specs.declared.frame.TheConstants.{ENTRY}
+use Rattle.cp_frame.specs.Entries.{WrittenEntry, entry_format}
+use Rattle.cp_file.specs.Items.{Item, an_entry, AllStand, AreHeld, IsOfVersion, entries_in}
+use Rattle.cp_file.specs.Stands.{IsStore}
+use Rattle.cp_file.proofs.Images.{one_history}
+use Rattle.cp_file.proofs.Standing.{held-append, replayed-items, rows-right, stops-here}
+use Rattle.cp_history.specs.Log.{LogsAs}
+use Rattle.cp_db.specs.Opening.{StartsAs, open_slot}
+use Rattle.cp_history.specs.Verify.{VerifiesAs}
+use Rattle.cp_history.specs.Walk.{AreFindings, AreFirst, FindsAs, HasFound, HasPassed, HasReached, PassesFrameAs, TellsPassedAs, committed_of, frame_place}
+use Rattle.cp_db.specs.declared.committed.Committed.{Committed}
+use Rattle.cp_db.specs.declared.fault.OpenFault.{OpenFault}
+use Rattle.cp_db.specs.declared.fault.OpenFault.TheVariants.{NoStore, Disk, Memory}
+use Rattle.cp_history.specs.declared.walk.Findings.{Findings}
+use Rattle.cp_history.specs.declared.walk.Findings.TheVariants.{Log, Records}
+use Rattle.cp_history.specs.declared.walk.HistoryWalk.{HistoryWalk}
+use Rattle.cp_db.proofs.OpeningFrames.{taken_more}
+use Rattle.cp_db.proofs.OpeningStores.{clean_of, closed_is, head_long, opens_not}
+use Rattle.cp_history.proofs.Walking.{found-first, reached-first}
+
+-- ---- where frames stand
+
+-- how long a frame is
+length-spelled : (f : Frame) → length (spelled f) ≡ 10 + length f.body
+length-spelled f = omega (arith, length-append (to_be_bytes w64 (length f.body)) f.body, length-be8 (length f.body))
+
+-- the offset that a journal has of the frame of a number
+placed_at : (from : ℕ) (fs : List Frame) (n : ℕ) (at : FrameAt) → slice_get (places from fs) n ≡ Some at → at.at ≡ frame_place from fs n
+placed_at from [] n at is = absurd (cc is)
+placed_at from (f ∷ fs) zero at is = let same : record { at = from; tag = f.tag; len = length f.body } ≡ at = cc is in ap (λ (x : FrameAt). x.at) (sym same) ∙ omega arith
+placed_at from (f ∷ fs) (suc n) at is =
+    placed_at (from + 10 + length f.body) fs n at is
+    ∙ omega (arith, length-append (spelled f) (spelled_all (take n fs)), length-spelled f)
+
+pub listed_place : (from : ℕ) (fs : List Frame) (j : JournalState) (c : List ℕ) → Lists from fs j c → (n : ℕ) (at : FrameAt) → slice_get j.frames n ≡ Some at → at.at ≡ frame_place from fs n
+listed_place from fs j c lists n at is = placed_at from fs n at (ap (λ (l : List FrameAt). slice_get l n) (sym lists.frames) ∙ is)
+
+module _ {R S : Type 0} (view : R → Tree) (source_view : S → Tree) where
+  -- the entry that a frame spells has been passed
+  pub passed_here : (v : ℕ) (f : Frame) (place : ℕ → ℕ) (items : List Item) (new : HistoryWalk R S) (w : WrittenEntry) → f.tag ≡ ENTRY → Reads entry_format f.body w [] → IsOfVersion v w → HasReached view source_view new (items ++ an_entry w ∷ []) → AreFindings place (items ++ an_entry w ∷ []) new.findings
+      → PassesFrameAs view source_view place v f items new (Ok tt)
+  passed_here v f place items new w tag reads allowed reached found = (an_entry w, record { tag = tag; body = reads; allowed = allowed }, record { reached = reached; found = found })
+
+  -- the walk has passed what the first n frames hold
+  pub record HasCome (v : ℕ) (from : ℕ) (fs : List Frame) (n : ℕ) (w : HistoryWalk R S) : Type 0 where
+    pub items : List Item
+    pub count : length items ≡ n
+    pub held : AreHeld v (take n fs) items
+    pub passed : HasPassed view source_view (frame_place from fs) w items
+
+  -- the first frame, which holds the start
+  pub come_first : (v from : ℕ) (fs : List Frame) (c : Committed R S) (w : HistoryWalk R S) → StartsAs view source_view v fs (Ok c) → committed_of w c.commits c.store.rows.list ≡ c → AreFirst w.findings → HasCome v from fs 1 w
+  come_first v from fs c w (f, rest, i, are, held, taken) same none = record {
+    items = i ∷ [];
+    count = refl;
+    held = subst (λ (l : List Frame). AreHeld v (take 1 l) (i ∷ [])) (sym are) (held, tt);
+    passed = record { reached = reached-first view source_view c w i taken same; found = found-first view source_view (frame_place from fs) c i w.findings taken none };
+  }
+
+  -- and one more
+  pub come_on : (v from : ℕ) (fs : List Frame) (n : ℕ) (f : Frame) (old new : HistoryWalk R S) (g : HasCome v from fs n old) → slice_get fs n ≡ Some f → PassesFrameAs view source_view (frame_place from fs) v f g.items new (Ok tt) → HasCome v from fs (n + 1) new
+  come_on v from fs n f old new g here (i, held, passed) = record {
+    items = g.items ++ i ∷ [];
+    count = length-append g.items (i ∷ []) ∙ ap (λ (m : ℕ). m + 1) g.count;
+    held = subst (λ (l : List Frame). AreHeld v l (g.items ++ i ∷ [])) (sym (taken_more fs n f here)) (held-append v (take n fs) (f ∷ []) g.items (i ∷ []) g.held (held, tt));
+    passed = passed;
+  }
+
+  -- and all
+  pub come_all : (v from : ℕ) (fs : List Frame) (n : ℕ) (w : HistoryWalk R S) → HasCome v from fs n w → 1 ≤ n → n ≡ length fs → TellsPassedAs view source_view from v fs (Ok w)
+  come_all v from fs n w g some all = (
+    omega (arith, some, all),
+    g.items,
+    subst (λ (l : List Frame). AreHeld v l g.items) (take_all n fs (omega (arith, all))) g.held,
+    g.passed,
+  )
+
+  -- or a frame holds nothing that may follow
+  pub come_stops : (v from : ℕ) (fs : List Frame) (n : ℕ) (f : Frame) (old new : HistoryWalk R S) (g : HasCome v from fs n old) → slice_get fs n ≡ Some f → (e : OpenFault) → PassesFrameAs view source_view (frame_place from fs) v f g.items new (Err e) → TellsPassedAs view source_view from v fs (Err e)
+  come_stops v from fs n f old new g here (NoStore at) none = λ h some t. stops-here false v fs h n f g.items g.held here none t
+  come_stops v from fs n f old new g here Disk none = tt
+  come_stops v from fs n f old new g here Memory none = tt
+
+  module _ (c : List ℕ) (hd : Header) (has : HasHeader c) (said : hd ≡ header_in (take HEADER_SIZE c)) where
+    -- of frames that tell no history nothing is found
+    pub finds_not : (v : View) (e : OpenFault) → TellsPassedAs view source_view HEADER_SIZE hd.version (frames_of (drop HEADER_SIZE c)).frames (Err e) → FindsAs c (Err e)
+    finds_not v (NoStore at) none = opens_not view source_view c hd has said v (NoStore at) none
+    finds_not v Disk none = tt
+    finds_not v Memory none = tt
+
+    -- what is found of all frames is found of the file
+    pub finds : (j : JournalState) (w : HistoryWalk R S) → open_slot hd ≡ None → j.broken ≡ None → HasWalked HEADER_SIZE (frames_of (drop HEADER_SIZE c)) j c
+        → TellsPassedAs view source_view HEADER_SIZE hd.version (frames_of (drop HEADER_SIZE c)).frames (Ok w) → FindsAs c (Ok w.findings)
+    finds j w closed whole walked (some, items, held, passed) =
+        let long = head_long c has in
+        let fs = (frames_of (drop HEADER_SIZE c)).frames in
+        let clean = clean_of (frames_of (drop HEADER_SIZE c)).clean _ j.broken walked.broken whole in
+        let taken = passed.reached.taken in
+        record {
+          version = hd.version;
+          head = take HEADER_SIZE c;
+          is_head = record { size = long; header = has.1; says = sym said ∙ closed_is hd closed };
+          frames = fs;
+          some = some;
+          stands = record {
+            front = ap (λ (n : ℕ). take n c) long;
+            frames = record { frames = ap (λ (n : ℕ). (frames_of (drop n c)).frames) long; clean = ap (λ (n : ℕ). (frames_of (drop n c)).clean) long ∙ clean };
+          };
+          items = items;
+          held = held;
+          stand = taken.stand;
+          state = taken.replayed.state;
+          replayed = taken.replayed.replayed;
+          findings = subst (λ (n : ℕ). AreFindings (frame_place n fs) items w.findings) (sym long) passed.found;
+        }
+
+-- ---- what is found of a file
+
+module _ (c : List ℕ) where
+  -- the file is a store's
+  store_of : (right : Bool) (f : Findings) (h : HasFound c f) → AllStand right None h.items → IsStore right (flat_map entries_in h.items) c
+  store_of right f h stand = record {
+    version = h.version;
+    head = h.head;
+    is_head = h.is_head;
+    frames = h.frames;
+    some = h.some;
+    stands = h.stands;
+    tell = record { items = h.items; held = h.held; stand = stand; are = refl };
+  }
+
+  -- the lines that are found are the log of the file
+  pub lines_found : (lines : List LogLine) → HasFound c (Log lines) → LogsAs c (Ok lines)
+  lines_found lines h =
+      let store = store_of false (Log lines) h h.stand in
+      ((flat_map entries_in h.items, store), λ i is. h.findings ∙ ap log_of (one_history c false false (flat_map entries_in h.items) i store is))
+
+  -- the verdict that is found is that on the file
+  pub verdict_found : (v : Verdict) → HasFound c (Records v) → VerifiesAs c (Ok v)
+  verdict_found (Agrees n) h = record {
+    history = flat_map entries_in h.items;
+    store = store_of true (Records (Agrees n)) h h.findings.0;
+    state = h.state;
+    replayed = h.replayed;
+    counted = h.findings.1 ∙ ap length (sym (rows-right h.items h.state h.findings.0 (sym (replayed-items h.items) ∙ h.replayed)));
+  }
+  verdict_found (Differs at a b) h = record {
+    version = h.version;
+    head = h.head;
+    is_head = h.is_head;
+    frames = h.frames;
+    stands = h.stands;
+    items = h.items;
+    held = h.held;
+    stand = h.stand;
+    number = h.findings.0;
+    wrong = h.findings.1;
+    place = h.findings.2;
+  }
+  verdict_found (TreeDiffers at q) h = absurd h.findings
+  verdict_found (NumberDiffers at m n) h = absurd h.findings

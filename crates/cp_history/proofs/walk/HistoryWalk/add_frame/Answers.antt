@@ -1,0 +1,28 @@
+use Rattle.std.proofs.Common.{◌≡◌, ◌∙◌, sym, ap}
+use Rattle.cp_journal.specs.declared.frame.TheConstants.{ENTRY}
+use Rattle.cp_file.specs.Items.{a_checkpoint}
+use Rattle.cp_history.specs.Walk.{frame_place}
+use Rattle.cp_db.proofs.OpeningFrames.{checkpoint_is, entry_read, lawful_at, listed_tag}
+use Rattle.cp_history.proofs.Walking.{checkpoint-found, checkpoint-reached}
+use Rattle.cp_history.proofs.WalkingFrames.{listed_place}
+use Rattle.cp_history.proofs.walk.HistoryWalk.add_frame.Goals as goal
+
+pub returns-then-frame-ne-ENTRY-clause-added : goal.returns-then-frame-ne-ENTRY-clause-added
+returns-then-frame-ne-ENTRY-clause-added g c = λ known from fs f items lists here count t.
+    let view = g.R.TreeRep.contents in
+    let source_view = g.S.TreeRep.contents in
+    let other : f.tag ≡ ENTRY → ⊥ = λ is. c.if-frame-ne-ENTRY.true (listed_tag from fs c.args.journal.now _ lists c.args.n c.in_ok-frame.frame f c.in_ok-frame.ensures.at here ∙ is) in (
+      a_checkpoint f.body,
+      checkpoint_is f (lawful_at fs c.args.n f lists.lawful here) other,
+      record {
+        reached = checkpoint-reached view source_view c.args.self.now items t.reached f.body;
+        found = checkpoint-found view source_view c.args.self.now items t.reached (frame_place from fs) f.body c.args.self.now.findings t.found;
+      },
+    )
+
+pub returns-clause-added : goal.returns-clause-added
+returns-clause-added g c = λ known from fs f items lists here count t.
+    let read = entry_read from fs c.args.journal.now _ c.args.n c.in_ok-frame.frame f c.deref.result.now lists c.in_ok-frame.ensures.at here c.if-frame-ne-ENTRY.false
+    (c.deref.ensures.value ∙ c.in_ok-frame.ensures.body known from fs f lists here) in
+    let at = listed_place from fs c.args.journal.now _ lists c.args.n c.in_ok-frame.frame c.in_ok-frame.ensures.at in
+    c.add_entry.ensures.added f (frame_place from fs) items read.0 read.1 t (at ∙ ap (frame_place from fs) (sym count))
