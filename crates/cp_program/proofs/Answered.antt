@@ -1,8 +1,6 @@
 -- Calls that answer from a store, and leave it as it is.
-use Rattle.std.proofs.Common.{◌≡◌, ℕ, List, [], Bool, Ok, Err, inl, inr, refl, sym, ap, subst, append-nil, arith}
+use Rattle.std.proofs.Common.{◌≡◌, ℕ, List, [], Ok, Err, inl, inr, refl, sym, ap, subst}
 use Rattle.std.specs.Prelude.{IsTrue, IfErr, Result, ◌≤◌}
-use Rattle.std.specs.List.{flat_map, list_any}
-use Rattle.std.specs.declared.option.Option.{Option}
 use Rattle.std.specs.declared.option.Option.TheVariants.{Some}
 use Rattle.cp_outside.specs.Causes.{Accounts}
 use Rattle.cp_outside.specs.FileReads.{FileTable}
@@ -17,39 +15,26 @@ use Rattle.cp_lang.specs.declared.syntax_tree.Stmt.{Stmt}
 use Rattle.cp_reply.specs.Lines.{lines}
 use Rattle.cp_reply.specs.declared.reply.Reply.{Reply}
 use Rattle.cp_reply.specs.declared.reply.Reply.TheVariants as reply
-use Rattle.cp_session.specs.Session.{Session, says, turn_of, with_reply, replies_to_statements}
+use Rattle.cp_session.specs.Session.{Session, says, turn_of}
 use Rattle.cp_workspace.specs.Texts.{Terms, setting}
 use Rattle.cp_workspace.specs.Disks.{KnownDisk}
 use Rattle.cp_workspace.specs.Files.{KnownFiles}
 use Rattle.cp_workspace.specs.Workspaces.{Stands, Turned, opened_session}
 use Rattle.cp_workspace.specs.declared.workspace.Workspace.{Workspace}
-use Rattle.cp_program.specs.Job.{is_refusal}
-use Rattle.cp_program.specs.Outside.{KnownInput, KnownClock, KnownOutput, Outside}
-use Rattle.cp_program.specs.Story.{SaidLine, HasCauses, DiskCauses, result_of, store_terms}
-use Rattle.cp_program.specs.Alone.{statement_report}
+use Rattle.cp_interpreter.specs.Job.{is_refusal}
+use Rattle.cp_interpreter.specs.Outside.{KnownInput, KnownClock, KnownOutput, Outside}
+use Rattle.cp_interpreter.specs.Story.{SaidLine, HasCauses, DiskCauses, result_of, store_terms}
 use Rattle.cp_scratch.specs.Sessions.{no_files}
 use Rattle.cp_program.specs.Answering.{IsAnswerTo, IsLogOf, IsVerdictOn, Answered}
-use Rattle.cp_program.specs.Begins.{IsOpeningStop, OpenedAlone, AnsweredAs, GaveAnswer}
-use Rattle.cp_program.specs.Turns.{IsDiskStop, TellsStop, end_of_stop}
-use Rattle.cp_program.specs.declared.end.End.{End}
-use Rattle.cp_program.specs.declared.end.End.TheVariants as how
-use Rattle.cp_program.specs.declared.stop.Stop.{Stop}
-use Rattle.cp_program.specs.declared.stop.Stop.TheVariants.{Output, Full, File, Disk, NoStore, Clock, Memory}
-use Rattle.cp_program.proofs.Opened.{stop-early, stop-disk, causes-early-end, early-not-long}
-use Rattle.cp_program.proofs.Plays.{or-false}
+use Rattle.cp_interpreter.specs.Begins.{IsOpeningStop, OpenedAlone, AnsweredAs, GaveAnswer}
+use Rattle.cp_interpreter.specs.Turns.{IsDiskStop, TellsStop, end_of_stop}
+use Rattle.cp_interpreter.specs.declared.end.End.{End}
+use Rattle.cp_interpreter.specs.declared.end.End.TheVariants as how
+use Rattle.cp_interpreter.specs.declared.stop.Stop.{Stop}
+use Rattle.cp_interpreter.specs.declared.stop.Stop.TheVariants.{Output, Full, File, Disk, NoStore, Clock, Memory}
+use Rattle.cp_interpreter.proofs.Opened.{stop-early, stop-disk, causes-early-end, early-not-long}
+use Rattle.cp_interpreter.proofs.Said.{statement-said, said-short, said-opened, causes-said, disk-said}
 use Rattle.cp_program.proofs.Verdicts.{verdict-opens}
-
--- ---- one statement
-
--- the lines of one reply
-one-reply : (o : Option Reply) (y : Reply) → Some y ≡ o → (lines y ≡ flat_map lines (with_reply o [])) × (is_refusal y ≡ list_any is_refusal (with_reply o []))
-one-reply o y is = subst (λ z. (lines y ≡ flat_map lines (with_reply z [])) × (is_refusal y ≡ list_any is_refusal (with_reply z []))) is (sym (append-nil (lines y)), or-false (is_refusal y))
-
--- the report of a statement that got this reply
-pub statement-said : (files : FileTable) (terms : Terms) (s : Session) (x : Stmt) (y : Reply) → Some y ≡ (turn_of (setting files terms) s (says x)).reply
-    → (lines y ≡ (statement_report files terms s x).out) × (is_refusal y ≡ (statement_report files terms s x).refused)
-unfolding replies_to_statements
-statement-said files terms s x y is = one-reply (turn_of (setting files terms) s (says x)).reply y is
 
 -- ---- what a store answers
 
@@ -69,65 +54,6 @@ answered-verdict v x h = (verdict-opens v.view.content x h, (x, refl, h))
 -- the commits of a store were listed
 pub answered-log : (v : KnownDisk) (commits : List LogLine) → LogsAs v.view.content (Ok commits) → AnsweredAs IsLogOf v (Ok (reply.Logged commits))
 answered-log v commits o = (o.0, λ h store. ap (λ z. reply.Logged z) (o.1 h store))
-
--- ---- ends of calls that say one line
-
--- how such a call ends
-said-is : (P : End → Type 0) (line : List ℕ) (flag : Bool) (o p : KnownOutput) (e : End) → SaidLine line flag o p e → P how.Done → P how.Refused → P how.Output → P how.Memory → P e
-said-is P line flag o p how.Done s d r u m = d
-said-is P line flag o p how.Refused s d r u m = r
-said-is P line flag o p how.Usage s d r u m = absurd s
-said-is P line flag o p how.Input s d r u m = absurd s
-said-is P line flag o p how.File s d r u m = absurd s
-said-is P line flag o p how.Output s d r u m = u
-said-is P line flag o p how.Disk s d r u m = absurd s
-said-is P line flag o p (how.NoStore at) s d r u m = absurd s
-said-is P line flag o p how.Memory s d r u m = m
-said-is P line flag o p how.TooLong s d r u m = absurd s
-said-is P line flag o p how.Clock s d r u m = absurd s
-
--- such an end is none of these
-pub said-short : (line : List ℕ) (flag : Bool) (o p : KnownOutput) (e : End) → SaidLine line flag o p e → e ≡ how.TooLong → ⊥
-said-short line flag o p e s = said-is (λ z. z ≡ how.TooLong → ⊥) line flag o p e s (λ h. absurd (cc)) (λ h. absurd (cc)) (λ h. absurd (cc)) (λ h. absurd (cc))
-
-pub said-fitting : (line : List ℕ) (flag : Bool) (o p : KnownOutput) (e : End) → SaidLine line flag o p e → e ≡ how.Usage → ⊥
-said-fitting line flag o p e s = said-is (λ z. z ≡ how.Usage → ⊥) line flag o p e s (λ h. absurd (cc)) (λ h. absurd (cc)) (λ h. absurd (cc)) (λ h. absurd (cc))
-
-pub said-opened : (line : List ℕ) (flag : Bool) (o p : KnownOutput) (e : End) (at : ℕ) → SaidLine line flag o p e → e ≡ how.NoStore at → ⊥
-said-opened line flag o p e at s = said-is (λ z. z ≡ how.NoStore at → ⊥) line flag o p e s (λ h. absurd (cc)) (λ h. absurd (cc)) (λ h. absurd (cc)) (λ h. absurd (cc))
-
-pub said-not-disk : (line : List ℕ) (flag : Bool) (o p : KnownOutput) (e : End) → SaidLine line flag o p e → e ≡ how.Disk → ⊥
-said-not-disk line flag o p e s = said-is (λ z. z ≡ how.Disk → ⊥) line flag o p e s (λ h. absurd (cc)) (λ h. absurd (cc)) (λ h. absurd (cc)) (λ h. absurd (cc))
-
--- it blames nothing but the output
-pub said-quiet : (d : End) (n m : ℕ) (line : List ℕ) (flag : Bool) (o p : KnownOutput) (e : End) → SaidLine line flag o p e → m ≡ n → (how.Output ≡ d → ⊥) → (how.Memory ≡ d → ⊥) → Accounts (λ z. z ≡ d) n m (result_of e)
-said-quiet d n m line flag o p e s same nu nm = said-is (λ z. Accounts (λ y. y ≡ d) n m (result_of z)) line flag o p e s
-    (record { later = omega (arith, same); blamed = tt; steady = same })
-    (record { later = omega (arith, same); blamed = tt; steady = same })
-    (record { later = omega (arith, same); blamed = λ h. absurd (nu h); steady = tt })
-    (record { later = omega (arith, same); blamed = λ h. absurd (nm h); steady = tt })
-
--- the causes of such an end
-pub causes-said : (i : KnownInput) (f g : KnownFiles) (k : KnownClock) (o p : KnownOutput) (line : List ℕ) (flag : Bool) (e : End) → g.found ≡ f.found → g.faults ≡ f.faults → SaidLine line flag o p e
-    → Accounts (λ z. z ≡ how.Output) o.faults p.faults (result_of e)
-    → HasCauses (record { input = i; files = f; clock = k; output = o }) (record { input = i; files = g; clock = k; output = p }) e
-causes-said i f g k o p line flag e found same s cause = record {
-  input = said-quiet how.Input i.faults i.faults line flag o p e s refl (λ h. absurd (cc)) (λ h. absurd (cc));
-  world = record {
-    same = found;
-    files = said-quiet how.File f.faults g.faults line flag o p e s same (λ h. absurd (cc)) (λ h. absurd (cc));
-    clock = said-quiet how.Clock k.faults k.faults line flag o p e s refl (λ h. absurd (cc)) (λ h. absurd (cc));
-    output = cause;
-  };
-}
-
--- and the disk's account
-pub disk-said : (v w : KnownDisk) (line : List ℕ) (flag : Bool) (o p : KnownOutput) (e : End) → w.counts.faults ≡ v.counts.faults → SaidLine line flag o p e → DiskCauses v w e
-disk-said v w line flag o p e same s = said-quiet how.Disk v.counts.faults w.counts.faults line flag o p e s same (λ h. absurd (cc)) (λ h. absurd (cc))
-
--- the same of a line that is the same
-pub said-as : (line other : List ℕ) (flag refused : Bool) (o p : KnownOutput) (e : End) → line ≡ other → flag ≡ refused → SaidLine line flag o p e → SaidLine other refused o p e
-said-as line other flag refused o p e a b s = subst (λ z. SaidLine other z o p e) b (subst (λ z. SaidLine z flag o p e) a s)
 
 -- ---- calls that answer
 

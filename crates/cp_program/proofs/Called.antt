@@ -1,5 +1,5 @@
 -- One call: what its end says, and what it has to do with the words.
-use Rattle.cp_program.specs.declared.limits.TheConstants.{INPUT_MAX}
+use Rattle.cp_interpreter.specs.declared.limits.TheConstants.{INPUT_MAX}
 use Rattle.std.proofs.Common.{◌≡◌, ℕ, ◌+◌, ◌≤◌, ◌<◌, List, [], length, Bool, false, refl, inl, inr, sym, ap, subst, ◌∙◌, arith}
 use Rattle.std.proofs.lemmas.List.{length-append}
 use Rattle.std.specs.Prelude.{◌⊎◌, ◌↔◌}
@@ -10,22 +10,23 @@ use Rattle.cp_words.specs.declared.command.Command.{Command}
 use Rattle.cp_words.specs.declared.command.Command.TheVariants as words
 use Rattle.cp_workspace.specs.Files.{KnownFiles}
 use Rattle.cp_workspace.specs.Disks.{KnownDisk}
-use Rattle.cp_program.specs.Texts.{usage_text, memory_line}
-use Rattle.cp_program.specs.Outside.{KnownInput, KnownClock, KnownOutput, Outside}
-use Rattle.cp_program.specs.Story.{WritesLast, SaidLine, IsFaultless, HasCauses, DiskCauses}
+use Rattle.cp_program.specs.Texts.{usage_text}
+use Rattle.cp_interpreter.specs.Texts.{memory_line}
+use Rattle.cp_interpreter.specs.Outside.{KnownInput, KnownClock, KnownOutput, Outside}
+use Rattle.cp_interpreter.specs.Story.{WritesLast, SaidLine, IsFaultless, HasCauses, DiskCauses}
 use Rattle.cp_model.specs.declared.kind.Kind.{Kind}
 use Rattle.cp_lang.specs.declared.syntax_tree.Stmt.TheVariants as stmt
 use Rattle.cp_reply.specs.Lines.{lines}
 use Rattle.cp_reply.specs.declared.reply.Reply.{Reply}
 use Rattle.cp_program.specs.Answering.{Answered, Generated, IsAnswerTo, IsLogOf, IsVerdictOn}
 use Rattle.cp_program.specs.Calls.{DidCommand, HasItsStore, IsShort, Called}
-use Rattle.cp_program.specs.Job.{is_refusal}
-use Rattle.cp_program.specs.Ends.{code_of}
-use Rattle.cp_program.specs.declared.end.End.{End}
-use Rattle.cp_program.specs.declared.end.End.TheVariants as how
-use Rattle.cp_program.proofs.Runs.{parts}
-use Rattle.cp_program.proofs.Opened.{same-rests, early-not-usage, causes-early-end, out-disk}
-use Rattle.cp_program.proofs.Whole.{disk-still}
+use Rattle.cp_interpreter.specs.Job.{is_refusal}
+use Rattle.cp_interpreter.specs.Ends.{code_of}
+use Rattle.cp_interpreter.specs.declared.end.End.{End}
+use Rattle.cp_interpreter.specs.declared.end.End.TheVariants as how
+use Rattle.cp_interpreter.proofs.Runs.{parts}
+use Rattle.cp_interpreter.proofs.Opened.{same-rests, early-not-usage, causes-early-end, out-disk}
+use Rattle.cp_interpreter.proofs.Whole.{disk-still}
 
 -- more came than a call takes, so that it isn't known that so little would come
 pub too-short : (l m : Option (List ℕ)) (taken : List ℕ) (e : End) → Consumes l m taken → (e ≡ how.TooLong) ↔ (INPUT_MAX < length taken) → e ≡ how.TooLong → IsShort l → ⊥

@@ -1,12 +1,4 @@
-mod Blame
-mod Lines
-mod Plays
-mod Runs
-mod Whole
-mod Opened
-mod Made
-mod Scripted
+mod FromStart
 mod Verdicts
 mod Answered
-mod LoadedAlone
 mod Called

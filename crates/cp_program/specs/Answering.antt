@@ -13,13 +13,13 @@ use Rattle.cp_reply.specs.declared.reply.Reply.TheVariants as reply
 use Rattle.cp_workspace.specs.Disks.{KnownDisk}
 use Rattle.cp_scratch.specs.Sessions.{no_files}
 use Rattle.cp_scratch.specs.Workloads.{ComesTo}
-use Rattle.cp_program.specs.Job.{is_refusal}
-use Rattle.cp_program.specs.Outside.{Outside}
-use Rattle.cp_program.specs.Texts.{memory_line}
-use Rattle.cp_program.specs.Story.{SaidLine, EndedEarly, WritesLast}
-use Rattle.cp_program.specs.Alone.{report_on}
-use Rattle.cp_program.specs.declared.end.End.{End}
-use Rattle.cp_program.specs.declared.end.End.TheVariants as how
+use Rattle.cp_interpreter.specs.Job.{is_refusal}
+use Rattle.cp_interpreter.specs.Outside.{Outside}
+use Rattle.cp_interpreter.specs.Texts.{memory_line}
+use Rattle.cp_interpreter.specs.Story.{SaidLine, EndedEarly, WritesLast}
+use Rattle.cp_interpreter.specs.Alone.{report_on}
+use Rattle.cp_interpreter.specs.declared.end.End.{End}
+use Rattle.cp_interpreter.specs.declared.end.End.TheVariants as how
 
 -- the reply is that to the statement, which reads no file, in the session that begins on the history for which the content stands
 abbrev pub IsAnswerTo : Stmt → List ℕ → Reply → Type 0

@@ -1,5 +1,5 @@
 -- One call of the program: its words, what was done for them, and how it ended.
-use Rattle.cp_program.specs.declared.limits.TheConstants.{INPUT_MAX}
+use Rattle.cp_interpreter.specs.declared.limits.TheConstants.{INPUT_MAX}
 use Rattle.std.specs.Prelude.{◌≡◌, ◌⊎◌, ℕ, ◌≤◌, List, [], length, IsTrue, ⊤}
 use Rattle.std.specs.declared.option.Option.{Option}
 use Rattle.std.specs.declared.option.Option.TheVariants.{None, Some}
@@ -9,16 +9,17 @@ use Rattle.cp_lang.specs.declared.syntax_tree.Stmt.TheVariants as stmt
 use Rattle.cp_words.specs.declared.command.Command.{Command}
 use Rattle.cp_words.specs.declared.command.Command.TheVariants as words
 use Rattle.cp_workspace.specs.Disks.{KnownDisk}
-use Rattle.cp_program.specs.Texts.{usage_text, memory_line}
-use Rattle.cp_program.specs.Job.{start_given, start_reads}
-use Rattle.cp_program.specs.Outside.{Outside}
-use Rattle.cp_program.specs.Ends.{code_of}
-use Rattle.cp_program.specs.Story.{WritesLast, Ran, RanOn, Made, HasCauses, DiskCauses, IsFaultless}
-use Rattle.cp_program.specs.Alone.{Loaded}
+use Rattle.cp_program.specs.Texts.{usage_text}
+use Rattle.cp_interpreter.specs.Texts.{memory_line}
+use Rattle.cp_program.specs.Starts.{start_given, start_reads, Ran}
+use Rattle.cp_interpreter.specs.Outside.{Outside}
+use Rattle.cp_interpreter.specs.Ends.{code_of}
+use Rattle.cp_interpreter.specs.Story.{WritesLast, RanOn, Made, HasCauses, DiskCauses, IsFaultless}
+use Rattle.cp_interpreter.specs.Alone.{Loaded}
 use Rattle.cp_program.specs.Answering.{Answered, Generated, IsAnswerTo, IsLogOf, IsVerdictOn}
-use Rattle.cp_program.specs.Scripts.{Committed}
-use Rattle.cp_program.specs.declared.end.End.{End}
-use Rattle.cp_program.specs.declared.end.End.TheVariants as how
+use Rattle.cp_interpreter.specs.Scripts.{Committed}
+use Rattle.cp_interpreter.specs.declared.end.End.{End}
+use Rattle.cp_interpreter.specs.declared.end.End.TheVariants as how
 
 -- ---- what a call did
 

@@ -1,12 +1,5 @@
 pub mod Texts
-pub mod Outside
-pub mod Job
-pub mod Play
-pub mod Ends
-pub mod Story
-pub mod Alone
+pub mod Starts
+pub mod Begun
 pub mod Answering
-pub mod Scripts
 pub mod Calls
-pub mod Turns
-pub mod Begins

@@ -1,35 +1,7 @@
--- The texts that are no replies: the usage, and the last lines of calls that end early.
-use Rattle.std.specs.Prelude.{ℕ, List, ◌++◌, codes, decimal}
+-- The text of the usage.
+use Rattle.std.specs.Prelude.{ℕ, List, codes}
 
 -- all commands, those that are not built yet included
 abbrev pub usage_text : List ℕ
 usage_text =
     codes "usage: cpdb scratch KIND [JSON]\nusage: cpdb init STORE KIND [JSON]\nusage: cpdb run STORE [CURATOR]\nusage: cpdb commit STORE FILE [CURATOR]\nusage: cpdb load STORE NAME json FILE\nusage: cpdb load STORE NAME csv FILE [COLUMN]\nusage: cpdb query STORE STATEMENT\nusage: cpdb verify STORE\nusage: cpdb checkpoint STORE\nusage: cpdb gen SEED COUNT KIND\nusage: cpdb log STORE\n"
-
--- the last line where the input failed
-abbrev pub input_line : List ℕ
-input_line = codes "error: input\n"
-
--- the last line where a file failed
-abbrev pub file_line : List ℕ
-file_line = codes "error: file\n"
-
--- the last line where the disk failed
-abbrev pub disk_line : List ℕ
-disk_line = codes "error: disk\n"
-
--- the last line where the store is none, from this offset on
-abbrev pub no_store_line : ℕ → List ℕ
-no_store_line at = codes "error: not a store at " ++ (decimal at ++ codes "\n")
-
--- the last line where memory ran out
-abbrev pub memory_line : List ℕ
-memory_line = codes "error: memory\n"
-
--- the last line where too much input came
-abbrev pub too_long_line : List ℕ
-too_long_line = codes "error: input too long\n"
-
--- the last line where the clock failed
-abbrev pub clock_line : List ℕ
-clock_line = codes "error: clock\n"

@@ -2,22 +2,17 @@
 ghost use Rattle.std.specs.Prelude.{◌≡◌, ◌<◌, ◌≤◌, length};
 ghost use Rattle.cp_workspace.specs.Disks.{known_disk};
 ghost use Rattle.cp_workspace.specs.Files.{known_files, HasReadSome};
-ghost use Rattle.cp_program.specs.Outside.{KnownInput, known_clock, known_output, known_world};
-ghost use Rattle.cp_program.specs.Scripts.{Committed};
-ghost use Rattle.cp_program.specs.Story.{HasCauses, WorldCauses, DiskCauses};
-ghost use Rattle.cp_program.specs.Turns.{MayGoOn, RanScript};
+ghost use Rattle.cp_interpreter.specs.Outside.{KnownInput, known_clock, known_output, known_world};
+ghost use Rattle.cp_interpreter.specs.Scripts.{Committed};
+ghost use Rattle.cp_interpreter.specs.Story.{HasCauses, WorldCauses, DiskCauses};
+ghost use Rattle.cp_interpreter.specs.Turns.{MayGoOn, RanScript};
 
-use crate::end::End;
-use crate::interpreter::Interpreter;
-use crate::limits::PIECE_MAX;
-use crate::script::read_script;
-use crate::session::turns;
-use crate::start::end_with;
-use crate::stop::Stop;
 use crate::store::begin;
-use crate::tell::{out_of_memory, stopped};
 use cp_clock::Clock;
 use cp_disk::Disk;
+use cp_interpreter::{
+    End, Interpreter, PIECE_MAX, Stop, end_with, out_of_memory, read_script, stopped, turns,
+};
 use cp_outside::{Files, Sink};
 use cp_path::{Label, Text};
 use cp_reply::{Of, Reply, Why};

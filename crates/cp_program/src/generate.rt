@@ -2,12 +2,10 @@
 ghost use Rattle.std.specs.Prelude.{◌≡◌};
 ghost use Rattle.cp_workspace.specs.Files.{KnownFiles};
 ghost use Rattle.cp_program.specs.Answering.{Generated};
-ghost use Rattle.cp_program.specs.Outside.{KnownInput, KnownClock, known_output};
-ghost use Rattle.cp_program.specs.Story.{HasCauses};
+ghost use Rattle.cp_interpreter.specs.Outside.{KnownInput, KnownClock, known_output};
+ghost use Rattle.cp_interpreter.specs.Story.{HasCauses};
 
-use crate::end::End;
-use crate::start::end_with;
-use crate::tell::out_of_memory;
+use cp_interpreter::{End, end_with, out_of_memory};
 use cp_model::Kind;
 use cp_outside::Sink;
 use cp_scratch::run_workload;

@@ -4,20 +4,13 @@
 
 mod answer;
 mod commit;
-mod end;
 mod generate;
 mod init;
-mod interpreter;
-mod limits;
 mod load;
 mod run;
 mod scratch;
-mod script;
-mod session;
 mod start;
-mod stop;
 mod store;
-mod tell;
 
-pub use end::Status;
+pub use cp_interpreter::Status;
 pub use run::run_cpdb;

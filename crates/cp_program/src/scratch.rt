@@ -1,32 +1,24 @@
 //! A session in memory.
-ghost use Rattle.std.specs.Prelude.{◌≡◌, ◌+◌, ◌∷◌, [], Bool, true, false, List, ℕ, IfOk};
+ghost use Rattle.std.specs.Prelude.{◌≡◌, [], false, List, ℕ, IfOk};
 ghost use Rattle.cp_disk.specs.MemoryDisks.{sure_view};
 ghost use Rattle.cp_journal.specs.NewStores.{IsVacant};
-ghost use Rattle.cp_journal.specs.declared.limits.TheConstants.{HEADER_SIZE, FRAME_HEAD};
 ghost use Rattle.cp_model.specs.History.{start};
 ghost use Rattle.cp_outside.specs.FileReads.{FileTable};
-ghost use Rattle.cp_file.specs.Sizes.{start_size};
-ghost use Rattle.cp_db.specs.Databases as database;
-ghost use Rattle.cp_db.specs.Databases.{IsKept, IsReady, end_in, is_spent, version_in};
 ghost use Rattle.cp_workspace.specs.Faults.{IsFailedFile};
 ghost use Rattle.cp_workspace.specs.Files.{known_files, IsTable, Reads, UsesFiles};
 ghost use Rattle.cp_scratch.specs.Sessions.{scratch_session, scratch_terms, sure_disk};
-ghost use Rattle.cp_program.specs.Begins.{Begun};
-ghost use Rattle.cp_program.specs.Job.{start_given, start_reads};
-ghost use Rattle.cp_program.specs.Outside.{known_outside};
-ghost use Rattle.cp_program.specs.Story.{Ran, HasCauses};
-ghost use Rattle.cp_program.specs.Play.{begun};
-ghost use Rattle.cp_program.specs.Turns.{Follows, MayGoOn};
+ghost use Rattle.cp_program.specs.Begun.{Begun};
+ghost use Rattle.cp_program.specs.Starts.{start_given, start_reads};
+ghost use Rattle.cp_interpreter.specs.Outside.{known_outside};
+ghost use Rattle.cp_program.specs.Starts.{Ran};
+ghost use Rattle.cp_interpreter.specs.Story.{HasCauses};
+ghost use Rattle.cp_interpreter.specs.Play.{begun};
+ghost use Rattle.cp_interpreter.specs.Turns.{Follows, MayGoOn, has_refused};
 
-use crate::end::End;
-use crate::interpreter::Interpreter;
-use crate::limits::PIECE_MAX;
-use crate::session::turns;
-use crate::start::{end_with, no_curator, start_tree};
-use crate::stop::Stop;
-use crate::tell::{out_of_memory, stopped};
+use crate::start::{no_curator, start_tree};
 use cp_clock::Clock;
 use cp_disk::SureDisk;
+use cp_interpreter::{End, Interpreter, PIECE_MAX, Stop, end_with, out_of_memory, stopped, turns};
 use cp_model::Kind;
 use cp_outside::{Files, FilesFault, Sink, Source};
 use cp_reply::{Of, Reply, Why};
@@ -46,7 +38,7 @@ fn session_on<R: TreeRep, S: TreeRep>(
     requires vacant { IsVacant (sure_view disk.old).content }
     ensures follows { IfOk result (λ x. (moments : List ℕ) → Follows R.contents S.contents (sure_disk disk.new) x
         (begun (scratch_terms kind (R.contents tree)) (scratch_session kind (R.contents tree) moments))) }
-    ensures goes_on { IfOk result (λ x. MayGoOn R.contents S.contents (sure_disk disk.new) x × (x.refused ≡ false)) }
+    ensures goes_on { IfOk result (λ x. MayGoOn R.contents S.contents (sure_disk disk.new) x × (has_refused x ≡ false)) }
 {
     let curator = no_curator(alloc)?;
     let db = new_db(alloc, kind, tree, disk)?;
@@ -64,7 +56,7 @@ fn begin<R: TreeRep, S: TreeRep, F: Files>(
     requires vacant { IsVacant (sure_view disk.old).content }
     ensures begun { IfOk result (λ r. (t : FileTable) → IsTable t (known_files F.Files files.old) (known_files F.Files files.new)
         → Begun R.contents S.contents (sure_disk disk.new) kind (start_given t start) r) }
-    ensures goes_on { IfOk result (λ r. IfOk r (λ x. MayGoOn R.contents S.contents (sure_disk disk.new) x × (x.refused ≡ false))) }
+    ensures goes_on { IfOk result (λ r. IfOk r (λ x. MayGoOn R.contents S.contents (sure_disk disk.new) x × (has_refused x ≡ false))) }
     ensures used { UsesFiles IsFailedFile (known_files F.Files files.old) (known_files F.Files files.new) result }
     ensures reads { Reads IsFailedFile (start_reads start) (known_files F.Files files.old) (known_files F.Files files.new) result }
 {

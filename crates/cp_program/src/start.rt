@@ -1,23 +1,15 @@
-//! What a history starts from, and replies that stand alone.
+//! What a history starts from, and the curator of calls that have none.
 ghost use Rattle.std.specs.Prelude.{◌≡◌, [], IfOk};
-ghost use Rattle.cp_outside.specs.Causes.{Accounts};
 ghost use Rattle.cp_outside.specs.FileReads.{FileTable};
-ghost use Rattle.cp_reply.specs.Lines.{lines};
 ghost use Rattle.cp_workspace.specs.Faults.{IsFailedFile};
 ghost use Rattle.cp_workspace.specs.Fetched.{Gives};
 ghost use Rattle.cp_workspace.specs.Files.{known_files, IsTable, Reads, UsesFiles};
-ghost use Rattle.cp_program.specs.Job.{is_refusal, start_given, start_reads};
-ghost use Rattle.cp_program.specs.Outside.{known_output};
-ghost use Rattle.cp_program.specs.Story.{SaidLine, result_of};
-ghost use Rattle.cp_program.specs.Turns.{SendsOut, UsesOutput};
+ghost use Rattle.cp_program.specs.Starts.{start_given, start_reads};
 
-use crate::end::End;
-use crate::stop::Stop;
-use crate::tell::{give_up, is_refusal, stopped, tell};
 use cp_model::{Content, Form};
-use cp_outside::{Files, FilesFault, Sink};
+use cp_outside::{Files, FilesFault};
 use cp_path::{Label, Name};
-use cp_reply::{Reply, Why};
+use cp_reply::Why;
 use cp_tree::TreeRep;
 use cp_words::Start;
 use cp_workspace::fetch;
@@ -50,29 +42,5 @@ pub(crate) fn no_curator(alloc: Global) -> Result<Label, AllocError>
     match Label::new(alloc, "") {
         Ok(curator) => Ok(curator),
         Err(_) => Err(AllocError),
-    }
-}
-
-/// Writes the lines of a reply that stands alone.
-fn tell_alone<O: Sink>(alloc: Global, reply: &Reply, output: &mut O) -> Result<(), Stop>
-    ensures went { SendsOut (lines reply.now) (O.contents output.old) (O.contents output.new) result }
-    ensures used { UsesOutput (known_output O.Sink output.old) (known_output O.Sink output.new) result }
-{
-    let mut text = Vec::new(alloc);
-    tell(alloc, reply, &mut text, output)
-}
-
-/// Writes the lines of a reply with which a call ends.
-pub(crate) fn end_with<O: Sink>(alloc: Global, reply: Reply, output: &mut O) -> End
-    ensures said { SaidLine (lines reply) (is_refusal reply) (known_output O.Sink output.old) (known_output O.Sink output.new) result }
-    ensures cause { Accounts (λ e. e ≡ End.Output) (O.faults output.old) (O.faults output.new) (result_of result) }
-{
-    let told = tell_alone(alloc, &reply, output);
-    let refused = is_refusal(&reply);
-    give_up(reply);
-    match told {
-        Ok(()) if refused => End::Refused,
-        Ok(()) => End::Done,
-        Err(stop) => stopped(output, stop),
     }
 }

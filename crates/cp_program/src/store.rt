@@ -3,20 +3,15 @@ ghost use Rattle.std.specs.Prelude.{◌≡◌, ◌⊎◌, false, IsTrue, IfOk, I
 ghost use Rattle.cp_outside.specs.Causes.{Accounts};
 ghost use Rattle.cp_db.specs.Databases.{IsDatabase, IsReady, is_spent, version_in};
 ghost use Rattle.cp_workspace.specs.Disks.{known_disk};
-ghost use Rattle.cp_program.specs.Begins.{Migrated, OpenedAs, BegunOn, IsOpeningStop, LeavesStore};
-ghost use Rattle.cp_program.specs.Outside.{known_outside};
-ghost use Rattle.cp_program.specs.Story.{RanOn, HasCauses, DiskCauses};
-ghost use Rattle.cp_program.specs.Turns.{MayGoOn, IsDiskStop};
+ghost use Rattle.cp_interpreter.specs.Begins.{Migrated, OpenedAs, BegunOn, IsOpeningStop, LeavesStore};
+ghost use Rattle.cp_interpreter.specs.Outside.{known_outside};
+ghost use Rattle.cp_interpreter.specs.Story.{RanOn, HasCauses, DiskCauses};
+ghost use Rattle.cp_interpreter.specs.Turns.{MayGoOn, IsDiskStop, has_refused};
 
-use crate::end::End;
-use crate::interpreter::Interpreter;
-use crate::limits::PIECE_MAX;
-use crate::session::turns;
-use crate::stop::Stop;
-use crate::tell::{out_of_memory, stopped};
 use cp_clock::Clock;
 use cp_db::{Db, WriteFault};
 use cp_disk::Disk;
+use cp_interpreter::{End, Interpreter, PIECE_MAX, Stop, out_of_memory, stopped, turns};
 use cp_outside::{Files, Sink, Source};
 use cp_path::Label;
 use cp_tree::TreeRep;
@@ -70,7 +65,7 @@ pub(crate) fn begin<R: TreeRep, S: TreeRep, D: Disk>(
 ) -> Result<Interpreter<R, S>, Stop>
     ensures begun { IsTrue D.is_known → BegunOn R.contents S.contents curator (known_disk D.Disk disk.old) (known_disk D.Disk disk.new) result }
     ensures leaves { LeavesStore (known_disk D.Disk disk.old) (known_disk D.Disk disk.new) }
-    ensures goes_on { IfOk result (λ x. MayGoOn R.contents S.contents (known_disk D.Disk disk.new) x × (x.refused ≡ false)) }
+    ensures goes_on { IfOk result (λ x. MayGoOn R.contents S.contents (known_disk D.Disk disk.new) x × (has_refused x ≡ false)) }
     ensures cause { Accounts IsDiskStop (D.counts disk.old).faults (D.counts disk.new).faults result }
     ensures kinds { IfErr result IsOpeningStop }
 {

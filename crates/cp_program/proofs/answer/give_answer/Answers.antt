@@ -1,10 +1,10 @@
 use Rattle.std.proofs.Common.{◌≡◌, sym, subst}
 use Rattle.std.specs.Prelude.{IfErr}
 use Rattle.cp_outside.specs.Causes.{Accounts}
-use Rattle.cp_program.specs.Begins.{GaveAnswer, IsOpeningStop}
-use Rattle.cp_program.specs.Outside.{known_output}
-use Rattle.cp_program.specs.Story.{result_of}
-use Rattle.cp_program.specs.declared.end.End.TheVariants as how
+use Rattle.cp_interpreter.specs.Begins.{GaveAnswer, IsOpeningStop}
+use Rattle.cp_interpreter.specs.Outside.{known_output}
+use Rattle.cp_interpreter.specs.Story.{result_of}
+use Rattle.cp_interpreter.specs.declared.end.End.TheVariants as how
 use Rattle.cp_program.proofs.Answered.{stopped-output}
 use Rattle.cp_program.proofs.answer.give_answer.Goals as goal
 

@@ -1,6 +1,6 @@
 use Rattle.cp_workspace.specs.Disks.{known_disk}
 use Rattle.cp_program.specs.Answering.{IsLogOf}
-use Rattle.cp_program.specs.Outside.{known_output}
+use Rattle.cp_interpreter.specs.Outside.{known_output}
 use Rattle.cp_program.proofs.Answered.{answered-end, causes-answer, disk-answer, short-answer}
 use Rattle.cp_program.proofs.answer.list_commits.Goals as goal
 

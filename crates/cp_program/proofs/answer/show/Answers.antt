@@ -1,7 +1,7 @@
 use Rattle.cp_lang.specs.declared.syntax_tree.Stmt.TheVariants as stmt
 use Rattle.cp_workspace.specs.Disks.{known_disk}
 use Rattle.cp_program.specs.Answering.{IsAnswerTo}
-use Rattle.cp_program.specs.Outside.{known_output}
+use Rattle.cp_interpreter.specs.Outside.{known_output}
 use Rattle.cp_program.proofs.Answered.{answered-end, causes-answer, disk-answer, short-answer}
 use Rattle.cp_program.proofs.answer.show.Goals as goal
 

@@ -3,15 +3,15 @@ use Rattle.std.specs.Prelude.{IsTrue}
 use Rattle.cp_outside.specs.Causes.{Accounts}
 use Rattle.cp_workspace.specs.Files.{known_files}
 use Rattle.cp_workspace.specs.Disks.{known_disk}
-use Rattle.cp_program.specs.Outside.{known_clock, known_output}
-use Rattle.cp_program.specs.Begins.{BegunOn}
-use Rattle.cp_program.specs.Scripts.{Committed}
-use Rattle.cp_program.specs.Story.{HasCauses, DiskCauses, result_of}
-use Rattle.cp_program.specs.Turns.{RanScript, end_of_stop}
-use Rattle.cp_program.specs.declared.end.End.TheVariants as how
-use Rattle.cp_program.proofs.Runs.{parts, world}
-use Rattle.cp_program.proofs.Opened.{same-rests, rests-leave, stop-early, causes-early-end, stop-disk, none-stopped, never-stopped, out-disk}
-use Rattle.cp_program.proofs.Scripted.{committed-early, committed-ran, causes-unread}
+use Rattle.cp_interpreter.specs.Outside.{known_clock, known_output}
+use Rattle.cp_interpreter.specs.Begins.{BegunOn}
+use Rattle.cp_interpreter.specs.Scripts.{Committed}
+use Rattle.cp_interpreter.specs.Story.{HasCauses, DiskCauses, result_of}
+use Rattle.cp_interpreter.specs.Turns.{RanScript, end_of_stop}
+use Rattle.cp_interpreter.specs.declared.end.End.TheVariants as how
+use Rattle.cp_interpreter.proofs.Runs.{parts, world}
+use Rattle.cp_interpreter.proofs.Opened.{same-rests, rests-leave, stop-early, causes-early-end, stop-disk, none-stopped, never-stopped, out-disk}
+use Rattle.cp_interpreter.proofs.Scripted.{committed-early, committed-ran, causes-unread}
 use Rattle.cp_program.proofs.commit.commit.Goals as goal
 
 pub returns-in_default-clause-ran : goal.returns-in_default-clause-ran

@@ -5,14 +5,14 @@ use Rattle.cp_workspace.specs.declared.limits.TheConstants.{FILE_MAX}
 use Rattle.cp_workspace.specs.Disks.{known_disk}
 use Rattle.cp_workspace.specs.Files.{known_files}
 use Rattle.cp_workspace.proofs.ReadCounts.{some-then}
-use Rattle.cp_program.specs.Job.{is_refusal}
-use Rattle.cp_program.specs.Outside.{KnownInput, known_clock, known_output, known_world}
-use Rattle.cp_program.specs.Scripts.{script_of, commit_text, refused_script}
-use Rattle.cp_program.specs.Story.{SaidLine, WorldCauses, DiskCauses}
-use Rattle.cp_program.specs.Begins.{GivesScript}
-use Rattle.cp_program.specs.Turns.{RanScript, end_of_stop}
-use Rattle.cp_program.proofs.Whole.{causes-refused, causes-early, early-no-disk, disk-still}
-use Rattle.cp_program.proofs.Scripted.{script-ran, script-refused, script-stopped, script-causes, said-disk}
+use Rattle.cp_interpreter.specs.Job.{is_refusal}
+use Rattle.cp_interpreter.specs.Outside.{KnownInput, known_clock, known_output, known_world}
+use Rattle.cp_interpreter.specs.Scripts.{script_of, commit_text, refused_script}
+use Rattle.cp_interpreter.specs.Story.{SaidLine, WorldCauses, DiskCauses}
+use Rattle.cp_interpreter.specs.Begins.{GivesScript}
+use Rattle.cp_interpreter.specs.Turns.{RanScript, end_of_stop}
+use Rattle.cp_interpreter.proofs.Whole.{causes-refused, causes-early, early-no-disk, disk-still}
+use Rattle.cp_interpreter.proofs.Scripted.{script-ran, script-refused, script-stopped, script-causes, said-disk}
 use Rattle.cp_program.proofs.commit.play_file.Goals as goal
 
 -- no input

@@ -1,12 +1,12 @@
 use Rattle.std.proofs.Common.{false, refl, inl, inr, sym, ap, subst}
 use Rattle.cp_reply.specs.Lines.{lines}
-use Rattle.cp_program.specs.Job.{is_refusal}
-use Rattle.cp_program.specs.Outside.{known_output}
-use Rattle.cp_program.specs.Story.{HasCauses}
-use Rattle.cp_program.specs.declared.end.End.TheVariants as how
-use Rattle.cp_program.proofs.Runs.{parts}
-use Rattle.cp_program.proofs.Opened.{causes-early-end}
-use Rattle.cp_program.proofs.Answered.{causes-said, said-as, said-not-disk, said-short}
+use Rattle.cp_interpreter.specs.Job.{is_refusal}
+use Rattle.cp_interpreter.specs.Outside.{known_output}
+use Rattle.cp_interpreter.specs.Story.{HasCauses}
+use Rattle.cp_interpreter.specs.declared.end.End.TheVariants as how
+use Rattle.cp_interpreter.proofs.Runs.{parts}
+use Rattle.cp_interpreter.proofs.Opened.{causes-early-end}
+use Rattle.cp_interpreter.proofs.Said.{causes-said, said-as, said-not-disk, said-short}
 use Rattle.cp_program.proofs.generate.generate.Goals as goal
 
 pub returns-in-Ok-clause-ran : goal.returns-in-Ok-clause-ran

@@ -3,7 +3,7 @@ use Rattle.cp_model.specs.History.{start}
 use Rattle.cp_reply.specs.declared.reply.Reply.TheVariants as reply
 use Rattle.cp_db.proofs.Keeping.{kept-images}
 use Rattle.cp_workspace.specs.Disks.{known_disk}
-use Rattle.cp_program.specs.Begins.{CreatedAs}
+use Rattle.cp_interpreter.specs.Begins.{CreatedAs}
 use Rattle.cp_program.proofs.init.create.Goals as goal
 use Rattle.cp_program.proofs.init.create.Goals.{in-Ok, in-Err-Disk, in-Err-Exists}
 

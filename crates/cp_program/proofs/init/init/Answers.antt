@@ -1,11 +1,11 @@
 use Rattle.std.proofs.Common.{sym, subst}
 use Rattle.cp_workspace.specs.Disks.{known_disk}
 use Rattle.cp_workspace.specs.Files.{known_files}
-use Rattle.cp_program.specs.Job.{start_given, start_reads}
-use Rattle.cp_program.specs.Outside.{known_output, Outside}
-use Rattle.cp_program.specs.Begins.{StoreMade}
-use Rattle.cp_program.specs.Story.{Made}
-use Rattle.cp_program.proofs.Made.{made-said, made-stopped}
+use Rattle.cp_program.specs.Starts.{start_given, start_reads}
+use Rattle.cp_interpreter.specs.Outside.{known_output, Outside}
+use Rattle.cp_interpreter.specs.Begins.{StoreMade}
+use Rattle.cp_interpreter.specs.Story.{Made}
+use Rattle.cp_interpreter.proofs.Made.{made-said, made-stopped}
 use Rattle.cp_program.proofs.init.init.Goals as goal
 
 pub returns-in-Ok-clause-made : goal.returns-in-Ok-clause-made

@@ -2,14 +2,14 @@ use Rattle.std.proofs.Common.{sym, subst}
 use Rattle.cp_reply.specs.Lines.{lines}
 use Rattle.cp_workspace.specs.Disks.{known_disk}
 use Rattle.cp_workspace.specs.Files.{known_files, UsesFiles}
-use Rattle.cp_program.specs.Alone.{Loaded}
-use Rattle.cp_program.specs.Begins.{LoadedAs}
-use Rattle.cp_program.specs.Job.{is_refusal}
-use Rattle.cp_program.specs.Outside.{Outside, known_output}
-use Rattle.cp_program.specs.Story.{HasCauses, DiskCauses}
-use Rattle.cp_program.specs.Turns.{IsFileStop}
-use Rattle.cp_program.proofs.Answered.{causes-said, disk-said}
-use Rattle.cp_program.proofs.LoadedAlone.{load-said, load-stopped, causes-stopped, disk-stopped}
+use Rattle.cp_interpreter.specs.Alone.{Loaded}
+use Rattle.cp_interpreter.specs.Begins.{LoadedAs}
+use Rattle.cp_interpreter.specs.Job.{is_refusal}
+use Rattle.cp_interpreter.specs.Outside.{Outside, known_output}
+use Rattle.cp_interpreter.specs.Story.{HasCauses, DiskCauses}
+use Rattle.cp_interpreter.specs.Turns.{IsFileStop}
+use Rattle.cp_interpreter.proofs.Said.{causes-said, disk-said}
+use Rattle.cp_interpreter.proofs.LoadedAlone.{load-said, load-stopped, causes-stopped, disk-stopped}
 use Rattle.cp_program.proofs.load.load.Goals as goal
 
 pub returns-in-Ok-clause-ran : goal.returns-in-Ok-clause-ran

@@ -1,7 +1,7 @@
 use Rattle.std.proofs.Common.{sym, subst}
 use Rattle.cp_db.specs.Databases.{IsReady}
 use Rattle.cp_workspace.specs.Disks.{known_disk}
-use Rattle.cp_program.proofs.LoadedAlone.{alone-opened}
+use Rattle.cp_interpreter.proofs.LoadedAlone.{alone-opened}
 use Rattle.cp_program.proofs.load.open_workspace.Goals as goal
 
 pub returns-clause-opened : goal.returns-clause-opened

@@ -2,8 +2,8 @@ use Rattle.std.proofs.Common.{Err, sym, ap, subst}
 use Rattle.std.proofs.lemmas.Result.{err_from_is_err_and}
 use Rattle.cp_workspace.specs.Disks.{known_disk}
 use Rattle.cp_workspace.specs.Files.{known_files}
-use Rattle.cp_program.specs.Begins.{LoadedAs}
-use Rattle.cp_program.proofs.LoadedAlone.{loaded-not, loaded-said, loaded-stopped}
+use Rattle.cp_interpreter.specs.Begins.{LoadedAs}
+use Rattle.cp_interpreter.proofs.LoadedAlone.{loaded-not, loaded-said, loaded-stopped}
 use Rattle.cp_program.proofs.load.reply_to_load.Goals as goal
 
 pub returns-clause-loaded : goal.returns-clause-loaded

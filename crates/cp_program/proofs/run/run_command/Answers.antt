@@ -2,7 +2,7 @@ use Rattle.std.proofs.Common.{sym, subst}
 use Rattle.cp_workspace.specs.Files.{known_files}
 use Rattle.cp_workspace.specs.Disks.{known_disk}
 use Rattle.cp_words.specs.declared.command.Command.{Command}
-use Rattle.cp_program.specs.Outside.{known_input, known_clock, known_outside}
+use Rattle.cp_interpreter.specs.Outside.{known_input, known_clock, known_outside}
 use Rattle.cp_program.specs.Calls.{DidCommand}
 use Rattle.cp_program.proofs.Called.{too-short}
 use Rattle.cp_program.proofs.run.run_command.Goals as goal

@@ -1,6 +1,6 @@
 use Rattle.std.proofs.Common.{sym, ◌∙◌}
 use Rattle.cp_workspace.specs.Disks.{known_disk}
-use Rattle.cp_program.specs.Outside.{known_outside}
+use Rattle.cp_interpreter.specs.Outside.{known_outside}
 use Rattle.cp_program.proofs.Called.{called}
 use Rattle.cp_program.proofs.run.run_cpdb.Goals as goal
 

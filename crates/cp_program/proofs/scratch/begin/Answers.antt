@@ -1,8 +1,8 @@
 use Rattle.std.proofs.Common.{subst}
 use Rattle.cp_workspace.specs.Fetched.{Gives}
 use Rattle.cp_scratch.specs.Sessions.{sure_disk}
-use Rattle.cp_program.specs.Job.{start_given}
-use Rattle.cp_program.proofs.Whole.{begun-given}
+use Rattle.cp_program.specs.Starts.{start_given}
+use Rattle.cp_program.proofs.FromStart.{begun-given}
 use Rattle.cp_program.proofs.scratch.begin.Goals as goal
 
 pub returns-in_ok-session_on-in-Ok-clause-begun : goal.returns-in_ok-session_on-in-Ok-clause-begun

@@ -4,15 +4,17 @@ use Rattle.cp_session.specs.Session.{FetchedFile}
 use Rattle.cp_workspace.specs.Files.{known_files}
 use Rattle.cp_reply.specs.Lines.{lines}
 use Rattle.cp_reply.specs.declared.reply.Reply.{Reply}
-use Rattle.cp_program.specs.Job.{start_given, start_reads, is_refusal, refused_start}
-use Rattle.cp_program.specs.Outside.{known_input, known_clock, known_output, known_outside}
-use Rattle.cp_program.specs.Story.{SaidLine, Ran, HasCauses}
+use Rattle.cp_program.specs.Starts.{start_given, start_reads, refused_start, Ran}
+use Rattle.cp_interpreter.specs.Job.{is_refusal}
+use Rattle.cp_interpreter.specs.Outside.{known_input, known_clock, known_output, known_outside}
+use Rattle.cp_interpreter.specs.Story.{SaidLine, HasCauses}
 use Rattle.cp_scratch.specs.Sessions.{sure_disk}
-use Rattle.cp_program.specs.Begins.{Begun}
-use Rattle.cp_program.specs.Turns.{MayGoOn}
-use Rattle.cp_program.specs.declared.end.End.{End}
-use Rattle.cp_program.proofs.Runs.{parts}
-use Rattle.cp_program.proofs.Whole.{ran-begun, ran-refused, ran-early, ran-out, causes-refused, causes-early, early-no-disk}
+use Rattle.cp_program.specs.Begun.{Begun}
+use Rattle.cp_interpreter.specs.Turns.{MayGoOn, has_refused}
+use Rattle.cp_interpreter.specs.declared.end.End.{End}
+use Rattle.cp_interpreter.proofs.Runs.{parts}
+use Rattle.cp_program.proofs.FromStart.{ran-begun, ran-refused, ran-early, ran-out}
+use Rattle.cp_interpreter.proofs.Whole.{causes-refused, causes-early, early-no-disk}
 use Rattle.cp_program.proofs.scratch.scratch.Goals as goal
 
 pub returns-in_default-clause-ran : goal.returns-in_default-clause-ran
@@ -53,7 +55,7 @@ returns-in-Ok-Ok-clause-ran g c =
     ran-begun view source_view c.args.kind given (start_reads c.args.start) c.in-Ok-Ok.session i f fb k o
     (known_outside g.F.Files g.K.Clock g.I.Source g.O.Sink c.turns.new.files c.turns.new.clock c.turns.new.input c.turns.new.output) v (sure_disk c.turns.new.disk) c.turns.result
     c.in-Ok-Ok.ensures.used.same c.in-Ok-Ok.ensures.reads c.turns.ensures.read
-    (subst (λ r. IfOk r (λ x. MayGoOn view source_view v x × (x.refused ≡ false))) c.in-Ok-Ok.field-0-is c.in-Ok-Ok.ensures.goes_on).1
+    (subst (λ r. IfOk r (λ x. MayGoOn view source_view v x × (has_refused x ≡ false))) c.in-Ok-Ok.field-0-is c.in-Ok-Ok.ensures.goes_on).1
     (λ t w. subst (Begun view source_view v c.args.kind (given t)) c.in-Ok-Ok.field-0-is (c.in-Ok-Ok.ensures.begun t w)) c.turns.ensures.ran
 
 pub returns-in-Ok-Err-clause-ran : goal.returns-in-Ok-Err-clause-ran

@@ -1,6 +1,6 @@
 use Rattle.std.proofs.Common.{false, true}
 use Rattle.cp_scratch.specs.Sessions.{sure_disk}
-use Rattle.cp_program.proofs.Whole.{scratch-follows, scratch-goes_on}
+use Rattle.cp_program.proofs.FromStart.{scratch-follows, scratch-goes_on}
 use Rattle.cp_program.proofs.scratch.session_on.Goals as goal
 
 pub new-requires-clause-stands : goal.new-requires-clause-stands

@@ -2,7 +2,7 @@ use Rattle.std.proofs.Common.{true, sym, ap, subst, ◌∙◌}
 use Rattle.cp_db.specs.Databases.{IsKept, IsReady, version_in}
 use Rattle.cp_workspace.specs.Disks.{known_disk}
 use Rattle.cp_workspace.specs.Workspaces.{end_now, opened_session}
-use Rattle.cp_program.proofs.Opened.{begun-on, begun-in, goes-in}
+use Rattle.cp_interpreter.proofs.Opened.{begun-on, begun-in, goes-in}
 use Rattle.cp_program.proofs.store.begin.Goals as goal
 
 pub returns-clause-begun : goal.returns-clause-begun

@@ -1,6 +1,6 @@
 use Rattle.std.proofs.Common.{inl, inr, refl, false, true}
 use Rattle.cp_workspace.specs.Disks.{known_disk}
-use Rattle.cp_program.proofs.Opened.{none-migrated, unspent}
+use Rattle.cp_interpreter.proofs.Opened.{none-migrated, unspent}
 use Rattle.cp_program.proofs.store.migrate.Goals as goal
 
 pub returns-then-version-eq2-clause-migrated : goal.returns-then-version-eq2-clause-migrated

@@ -1,5 +1,5 @@
 use Rattle.cp_workspace.specs.Disks.{known_disk}
-use Rattle.cp_program.proofs.Opened.{opened-result, opened-leaves}
+use Rattle.cp_interpreter.proofs.Opened.{opened-result, opened-leaves}
 use Rattle.cp_program.proofs.store.open_db.Goals as goal
 
 pub returns-clause-opened : goal.returns-clause-opened

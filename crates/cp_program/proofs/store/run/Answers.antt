@@ -3,12 +3,12 @@ use Rattle.std.specs.Prelude.{IsTrue}
 use Rattle.cp_outside.specs.Causes.{Accounts}
 use Rattle.cp_workspace.specs.Files.{known_files}
 use Rattle.cp_workspace.specs.Disks.{known_disk}
-use Rattle.cp_program.specs.Outside.{Outside, known_input, known_clock, known_output, known_outside}
-use Rattle.cp_program.specs.Begins.{BegunOn}
-use Rattle.cp_program.specs.Story.{RanOn, HasCauses, DiskCauses, result_of}
-use Rattle.cp_program.specs.Turns.{end_of_stop}
-use Rattle.cp_program.specs.declared.end.End.TheVariants as how
-use Rattle.cp_program.proofs.Opened.{same-rests, rests-leave, stop-early, causes-early-end, stop-disk, none-stopped, never-stopped, ran-early-on, ran-on, out-disk}
+use Rattle.cp_interpreter.specs.Outside.{Outside, known_input, known_clock, known_output, known_outside}
+use Rattle.cp_interpreter.specs.Begins.{BegunOn}
+use Rattle.cp_interpreter.specs.Story.{RanOn, HasCauses, DiskCauses, result_of}
+use Rattle.cp_interpreter.specs.Turns.{end_of_stop}
+use Rattle.cp_interpreter.specs.declared.end.End.TheVariants as how
+use Rattle.cp_interpreter.proofs.Opened.{same-rests, rests-leave, stop-early, causes-early-end, stop-disk, none-stopped, never-stopped, ran-early-on, ran-on, out-disk}
 use Rattle.cp_program.proofs.store.run.Goals as goal
 
 pub returns-in_default-clause-ran : goal.returns-in_default-clause-ran

@@ -1,0 +1,210 @@
+-- Stores that are made, or aren't.
+use Rattle.std.proofs.Common.{◌≡◌, ℕ, List, Ok, Err, inl, inr, refl, sym, ap, subst, ◌∙◌, arith}
+use Rattle.std.specs.Prelude.{IsTrue, IfErr, Result, ◌⊎◌, Bool}
+use Rattle.cp_model.specs.Tree.{Tree}
+use Rattle.cp_model.specs.declared.kind.Kind.{Kind}
+use Rattle.cp_outside.specs.FileReads.{FileTable}
+use Rattle.cp_outside.specs.declared.files.FilesFault.{FilesFault}
+use Rattle.cp_outside.specs.declared.files.FilesFault.TheVariants as fails
+use Rattle.cp_disk.specs.Views.{View, Rests, Keeps}
+use Rattle.cp_journal.specs.NewStores.{IsVacant}
+use Rattle.cp_db.specs.Writing.{IsOldOrVacantOrStart}
+use Rattle.cp_reply.specs.Lines.{lines}
+use Rattle.cp_reply.specs.declared.reply.Of.TheVariants as of
+use Rattle.cp_reply.specs.declared.reply.Why.{Why}
+use Rattle.cp_reply.specs.declared.reply.Why.TheVariants as why
+use Rattle.cp_reply.specs.declared.reply.Reply.{Reply}
+use Rattle.cp_reply.specs.declared.reply.Reply.TheVariants as reply
+use Rattle.cp_session.specs.Session.{FetchedFile, gives, withholds}
+use Rattle.cp_workspace.specs.Disks.{KnownDisk}
+use Rattle.cp_workspace.specs.Faults.{IsFailedFile}
+use Rattle.cp_workspace.specs.Fetched.{Gives}
+use Rattle.cp_workspace.specs.Files.{KnownFiles, HasRead, IsTable, ReadsBefore, UsesFiles}
+use Rattle.cp_interpreter.specs.Job.{is_refusal}
+use Rattle.cp_interpreter.specs.Outside.{KnownInput, KnownClock, KnownOutput, Outside}
+use Rattle.cp_interpreter.specs.Story.{LeavesStart, IsRunning, SaidLine, Made, MadeFrom, EndedEarly, FileOfStartFailed}
+use Rattle.cp_interpreter.specs.Begins.{IsMakingStop, CreatedAs, MadeAs, StoreMade}
+use Rattle.cp_interpreter.specs.Turns.{IsFileStop, TellsStop, end_of_stop}
+use Rattle.cp_interpreter.specs.declared.end.End.{End}
+use Rattle.cp_interpreter.specs.declared.end.End.TheVariants as how
+use Rattle.cp_interpreter.specs.declared.stop.Stop.{Stop}
+use Rattle.cp_interpreter.specs.declared.stop.Stop.TheVariants.{Output, Full, File, Disk, NoStore, Clock, Memory}
+
+-- ---- what a crash leaves
+
+-- where it leaves what it could leave
+pub leaves-start : (k : Kind) (g : FetchedFile) (v w : View) → Rests v w → LeavesStart k g v w
+leaves-start k (gives t) v w r = record { later = r.later; since = λ s c le i. inl (r.since s c le i); now = λ c i. inl (r.images c i) }
+leaves-start k (withholds y) v w r = r
+
+-- and then what it leaves of a new store
+start-then : (k : Kind) (t : Tree) (v m w : View) → Rests v m → Keeps (IsOldOrVacantOrStart m k t) m w → Keeps (IsOldOrVacantOrStart v k t) v w
+start-then k t v m w r p = record {
+  later = omega (arith, r.later, p.later);
+  since = λ s c le i. elim (p.since s c (omega (arith, le, r.later)) i) [ inl old ↦ inl (r.since s c le old) | inr x ↦ inr (old_then c x) ];
+  now = λ c i. old_then c (p.now c i);
+}
+  where
+    old_then : (c : List ℕ) → IsOldOrVacantOrStart m k t c → IsOldOrVacantOrStart v k t c
+    old_then c x = elim x [ inl old ↦ inl (r.images c old) | inr new ↦ inr new ]
+
+-- ---- what was replied
+
+-- an error of no file
+making : (k : Kind) (g : FetchedFile) (reads : ℕ) (b a : KnownFiles) (w : KnownDisk) (stop : Stop) → IsMakingStop stop → (stop ≡ File → (reads ≡ 1) × HasRead b a 1) → MadeAs k g reads b a w (Err stop)
+making k (gives t) reads b a w stop s f = (s, f)
+making k (withholds y) reads b a w stop s f = (s, f)
+
+no_file : (stop : Stop) (P : Type 0) → (stop ≡ Disk) ⊎ (stop ≡ Memory) → stop ≡ File → P
+no_file stop P k e = elim k [ inl d ↦ (let x = sym d ∙ e in absurd (cc)) | inr m ↦ (let x = sym m ∙ e in absurd (cc)) ]
+
+making_of : (stop : Stop) → (stop ≡ Disk) ⊎ (stop ≡ Memory) → IsMakingStop stop
+making_of stop k = inr k
+
+module _ (k : Kind) (given : FileTable → FetchedFile) (reads : ℕ) (b a : KnownFiles) (v m : KnownDisk) (rests : IsTrue v.known → Rests v.view m.view) where
+  -- there is a store
+  pub made-there : (IsTrue v.known → IsVacant v.view.content → ⊥) → StoreMade k given reads b b v m (Ok (reply.Refused of.Init why.StoreExists))
+  made-there never = record {
+    exists = λ known no. (refl, rests known, refl);
+    made = λ known vacant files t. absurd (never known vacant);
+    stops = tt;
+  }
+
+  -- it wasn't found out
+  pub made-unknown : (stop : Stop) → (stop ≡ Disk) ⊎ (stop ≡ Memory) → StoreMade k given reads b b v m (Err stop)
+  made-unknown stop s = record {
+    exists = λ known no. (refl, rests known, s);
+    made = λ known vacant files t. (making k (given files) reads b b m stop (making_of stop s) (no_file stop _ s), leaves-start k (given files) v.view m.view (rests known));
+    stops = making_of stop s;
+  }
+
+  module _ (vacant : IsTrue v.known → IsVacant v.view.content) where
+    -- the start tree's file failed, or memory ran out
+    pub made-unread : (fault : FilesFault) (stop : Stop) → (fault ≡ fails.Failed → stop ≡ File) × (fault ≡ fails.Memory → stop ≡ Memory) → ReadsBefore IsFailedFile reads b a fault → StoreMade k given reads b a v m (Err stop)
+    made-unread fails.Failed stop becomes r = record {
+      exists = λ known no. absurd (no (vacant known));
+      made = λ known is files t. (making k (given files) reads b a m stop (inl (becomes.0 refl)) (λ e. r.blamed refl), leaves-start k (given files) v.view m.view (rests known));
+      stops = inl (becomes.0 refl);
+    }
+    made-unread fails.Memory stop becomes r = record {
+      exists = λ known no. absurd (no (vacant known));
+      made = λ known is files t. (making k (given files) reads b a m stop (inr (inr (becomes.1 refl))) (no_file stop _ (inr (becomes.1 refl))), leaves-start k (given files) v.view m.view (rests known));
+      stops = inr (inr (becomes.1 refl));
+    }
+
+    refused_as : (g : FetchedFile) (y : Why) {R : Type 0} (view : R → Tree) → Gives view g (Err y) → MadeAs k g reads b a m (Ok (reply.Refused of.Init y))
+    refused_as (gives t) y view h = absurd h
+    refused_as (withholds z) y view h = ap (λ u. reply.Refused of.Init u) h
+
+    -- there is no start tree
+    pub made-refused : (y : Why) {R : Type 0} (view : R → Tree) → ((files : FileTable) → IsTable files b a → Gives view (given files) (Err y)) → StoreMade k given reads b a v m (Ok (reply.Refused of.Init y))
+    made-refused y view h = record {
+      exists = λ known no. absurd (no (vacant known));
+      made = λ known is files t. (refused_as (given files) y view (h files t), leaves-start k (given files) v.view m.view (rests known));
+      stops = tt;
+    }
+
+    module _ (w : KnownDisk) (r : Result Reply Stop) {R : Type 0} (view : R → Tree) (tree : R) (created : IsTrue v.known → CreatedAs k (view tree) w r) (crash : IsTrue v.known → Keeps (IsOldOrVacantOrStart m.view k (view tree)) m.view w.view) where
+      created_as : (g : FetchedFile) (q : Result Reply Stop) → Gives view g (Ok tree) → CreatedAs k (view tree) w q → MadeAs k g reads b a w q
+      created_as (gives t) (Ok x) h d = subst (λ u. CreatedAs k u w (Ok x)) h d
+      created_as (gives t) (Err stop) h d = (making_of stop d, no_file stop _ d)
+      created_as (withholds z) q h d = absurd h
+
+      leaves_as : (g : FetchedFile) → Gives view g (Ok tree) → IsTrue v.known → LeavesStart k g v.view w.view
+      leaves_as (gives t) h known = subst (λ u. Keeps (IsOldOrVacantOrStart v.view k u) v.view w.view) h (start-then k (view tree) v.view m.view w.view (rests known) (crash known))
+      leaves_as (withholds z) h known = absurd h
+
+      -- the store was made
+      pub made-created : IfErr r IsMakingStop → ((files : FileTable) → IsTable files b a → Gives view (given files) (Ok tree)) → StoreMade k given reads b a v w r
+      made-created s h = record {
+        exists = λ known no. absurd (no (vacant known));
+        made = λ known is files t. (created_as (given files) r (h files t) (created known), leaves_as (given files) (h files t) known);
+        stops = s;
+      }
+
+-- ---- the end of the call
+
+-- a line was said, at an end of its own
+said-running : (line : List ℕ) (f : Bool) (o p : KnownOutput) (e : End) → SaidLine line f o p e → IsRunning e
+said-running line f o p how.Done s = record { fitting = λ h. absurd (cc); opened = λ at h. absurd (cc) }
+said-running line f o p how.Refused s = record { fitting = λ h. absurd (cc); opened = λ at h. absurd (cc) }
+said-running line f o p how.Usage s = absurd s
+said-running line f o p how.Input s = absurd s
+said-running line f o p how.File s = absurd s
+said-running line f o p how.Output s = record { fitting = λ h. absurd (cc); opened = λ at h. absurd (cc) }
+said-running line f o p how.Disk s = absurd s
+said-running line f o p (how.NoStore at) s = absurd s
+said-running line f o p how.Memory s = record { fitting = λ h. absurd (cc); opened = λ at h. absurd (cc) }
+said-running line f o p how.TooLong s = absurd s
+said-running line f o p how.Clock s = absurd s
+
+-- a store wasn't made at a running end
+stop-running : (stop : Stop) → IsMakingStop stop → IsRunning (end_of_stop stop)
+stop-running Output s = record { fitting = λ h. absurd (cc); opened = λ at h. absurd (cc) }
+stop-running Full s = record { fitting = λ h. absurd (cc); opened = λ at h. absurd (cc) }
+stop-running File s = record { fitting = λ h. absurd (cc); opened = λ at h. absurd (cc) }
+stop-running Disk s = record { fitting = λ h. absurd (cc); opened = λ at h. absurd (cc) }
+stop-running (NoStore n) s = elim s [ inl e ↦ absurd (cc) | inr q ↦ elim q [ inl e ↦ absurd (cc) | inr e ↦ absurd (cc) ] ]
+stop-running Clock s = record { fitting = λ h. absurd (cc); opened = λ at h. absurd (cc) }
+stop-running Memory s = record { fitting = λ h. absurd (cc); opened = λ at h. absurd (cc) }
+
+module _ (k : Kind) (given : FileTable → FetchedFile) (reads : ℕ) (i : KnownInput) (c : KnownClock) (f g : KnownFiles) (o p : KnownOutput) (v w : KnownDisk) where
+  abbrev b : Outside
+  b = record { input = i; files = f; clock = c; output = o }
+
+  abbrev a : Outside
+  a = record { input = i; files = g; clock = c; output = p }
+
+  made_of : (x : FetchedFile) (r : Reply) (e : End) → MadeAs k x reads f g w (Ok r) → SaidLine (lines r) (is_refusal r) o p e → MadeFrom k x b a v w e
+  made_of (gives t) r e m s = (subst (λ y. SaidLine (lines y) (is_refusal y) o p e) m.0 s, m.1)
+  made_of (withholds y) r e m s = subst (λ z. SaidLine (lines z) (is_refusal z) o p e) m s
+
+  -- the reply was written
+  pub made-said : (r : Reply) (e : End) → StoreMade k given reads f g v w (Ok r) → SaidLine (lines r) (is_refusal r) o p e → Made k given reads b a v w e
+  made-said r e m s = record {
+    running = said-running (lines r) (is_refusal r) o p e s;
+    input = refl;
+    clock = refl;
+    exists = λ known no. (let x = m.exists known no in (x.0, x.1, inl (subst (λ z. SaidLine (lines z) (is_refusal z) o p e) x.2 s)));
+    did = λ known vacant files t. inr (inr (made_of (given files) r e (m.made known vacant files t).0 s));
+    crash = λ known vacant files t. (m.made known vacant files t).1;
+  }
+
+  early_of : (stop : Stop) → (stop ≡ Disk) ⊎ (stop ≡ Memory) → TellsStop o p stop → EndedEarly b a (end_of_stop stop)
+  early_of stop d t = elim d [
+    | inl e ↦ subst (λ s. EndedEarly b a (end_of_stop s)) (sym e) (inl refl, subst (TellsStop o p) e t)
+    | inr e ↦ subst (λ s. EndedEarly b a (end_of_stop s)) (sym e) (inr (inr refl), subst (TellsStop o p) e t)
+  ]
+
+  stop_of : (x : FetchedFile) (stop : Stop) → MadeAs k x reads f g w (Err stop) → IsMakingStop stop × (stop ≡ File → (reads ≡ 1) × HasRead f g 1)
+  stop_of (gives t) stop m = m
+  stop_of (withholds y) stop m = m
+
+  did_stop : (stop : Stop) → IsMakingStop stop × (stop ≡ File → (reads ≡ 1) × HasRead f g 1) → TellsStop o p stop → FileOfStartFailed reads b a (end_of_stop stop) ⊎ EndedEarly b a (end_of_stop stop)
+  did_stop stop m t = elim m.0 [
+    | inl e ↦ (let x = m.1 e in inl (ap end_of_stop e, x.0, subst (TellsStop o p) e t, x.1))
+    | inr d ↦ inr (early_of stop d t)
+  ]
+
+  -- it was stopped
+  pub made-stopped : (stop : Stop) → StoreMade k given reads f g v w (Err stop) → TellsStop o p stop → Made k given reads b a v w (end_of_stop stop)
+  made-stopped stop m t = record {
+    running = stop-running stop m.stops;
+    input = refl;
+    clock = refl;
+    exists = λ known no. (let x = m.exists known no in (x.0, x.1, inr (early_of stop x.2 t)));
+    did = λ known vacant files tab. elim (did_stop stop (stop_of (given files) stop (m.made known vacant files tab).0) t) [ inl q ↦ inl q | inr q ↦ inr (inl q) ];
+    crash = λ known vacant files tab. (m.made known vacant files tab).1;
+  }
+
+-- ---- the files of a call that makes a store
+
+-- what isn't made for want of memory or by the disk isn't made
+pub stops-of : {T : Type 0} (r : Result T Stop) → IfErr r (λ e. (e ≡ Disk) ⊎ (e ≡ Memory)) → IfErr r IsMakingStop
+stops-of (Ok x) h = tt
+stops-of (Err e) h = inr h
+
+-- and blames no file
+pub files-unblamed : {T : Type 0} (b a : KnownFiles) (r : Result T Stop) → IfErr r (λ e. (e ≡ Disk) ⊎ (e ≡ Memory)) → a.found ≡ b.found → a.faults ≡ b.faults → UsesFiles IsFileStop b a r
+files-unblamed b a (Ok x) h found same = record { same = found; account = record { later = omega (arith, same); blamed = tt; steady = same } }
+files-unblamed b a (Err e) h found same = record { same = found; account = record { later = omega (arith, same); blamed = λ f. no_file e _ h f; steady = tt } }

@@ -1,0 +1,533 @@
+-- A run is its first turns, and then the rest.
+use Rattle.cp_interpreter.specs.declared.limits.TheConstants.{INPUT_MAX, PIECE_MAX}
+use Rattle.std.proofs.Common.{◌≡◌, ℕ, ◌+◌, ◌≤◌, ◌<◌, List, [], ◌++◌, take, length, Bool, true, false, Ok, Err, inl, inr, refl, sym, ap, ◌∙◌, subst, append_assoc, append-nil, arith}
+use Rattle.std.proofs.Math.Bool.{or_assoc}
+use Rattle.std.specs.Prelude.{◌||◌, ◌⊎◌, ⊤, OnOk, Result, IsTrue}
+use Rattle.std.proofs.Math.Seq.{take-append-add}
+use Rattle.std.proofs.lemmas.List.{length-append}
+use Rattle.std.specs.Io.KnownBytes.{Appends, Consumes, Keeps, IsAtEnd}
+use Rattle.std.proofs.KnownBytes.{Appends-trans, Consumes-trans, Consumes-nil, Consumes-kept}
+use Rattle.cp_outside.specs.Causes.{Accounts, Rose}
+use Rattle.cp_outside.specs.FileReads.{FileTable}
+use Rattle.cp_clock.proofs.Telling.{told-none, told-then}
+use Rattle.cp_model.specs.Tree.{Tree}
+use Rattle.cp_file.specs.Stands.{StandsFor}
+use Rattle.cp_db.proofs.Keeping.{kept-images}
+use Rattle.cp_workspace.specs.Disks.{KnownDisk}
+use Rattle.cp_workspace.specs.Files.{KnownFiles, HasRead, HasReadSome}
+use Rattle.cp_workspace.proofs.ReadCounts.{read-sum, some-then, table-first, table-second}
+use Rattle.cp_workspace.proofs.Standing.{on-ok}
+use Rattle.cp_interpreter.specs.Texts.{input_line, file_line, disk_line, clock_line, memory_line, too_long_line}
+use Rattle.cp_interpreter.specs.Job.{Report}
+use Rattle.cp_interpreter.specs.Outside.{KnownInput, KnownClock, KnownOutput, World, Outside, world_of}
+use Rattle.cp_interpreter.specs.Play.{Seen, plays, after_play, closes, plays_all}
+use Rattle.cp_interpreter.specs.Story.{Writes, StopsIn, WritesLast, Leaving, left_on, AllDone, OutputStopped, StoppedInside, Did, HasCauses, DiskCauses, result_of}
+use Rattle.cp_interpreter.specs.declared.interpreter.Interpreter.{Interpreter}
+use Rattle.cp_interpreter.specs.Turns.{Follows, StopRefusesWrite, IsOpenedStop, StopsWriting, Fed, WasFed, RunsLast, RanLast, LeavesBoth, LeavesAlong, with_refusal, work_from, RanFrom, TookPiece, IsSteady, TellsStop, Closes, HasClosed, IsClosing, end_of_stop}
+use Rattle.cp_interpreter.specs.declared.end.End.{End}
+use Rattle.cp_interpreter.specs.declared.end.End.TheVariants as how
+use Rattle.cp_interpreter.specs.declared.stop.Stop.{Stop}
+use Rattle.cp_interpreter.specs.declared.stop.Stop.TheVariants.{Output, Full, File, Disk, NoStore, Clock, Memory}
+use Rattle.cp_interpreter.proofs.Plays.{plays-append, all-append, all-none, closes-reads, closes-history, plays-none, history-none, along-then, goes-none, goes-then, part-then}
+
+-- the outside, of its parts
+abbrev pub parts : KnownInput → KnownFiles → KnownClock → KnownOutput → Outside
+parts i f c o = record { input = i; files = f; clock = c; output = o }
+
+abbrev pub world : KnownFiles → KnownClock → KnownOutput → World
+world f c o = record { files = f; clock = c; output = o }
+
+-- ---- lines one after another
+
+-- a last line after what was written before
+pub last-after : (b m a : KnownOutput) (xs ys last : List ℕ) → Writes b m xs → WritesLast m a ys last → WritesLast b a (xs ++ ys) last
+last-after b m a xs ys last h w = elim w [
+  | inl whole ↦ inl (whole.0 ∙ h.0, subst (Appends b.contents a.contents) (sym (append_assoc xs ys last)) (Appends-trans b.contents m.contents a.contents xs (ys ++ last) h.1 whole.1))
+  | inr part ↦ inr (
+    subst (λ n. Rose n a.refusals) h.0 part.0,
+    part.1,
+    part.2,
+    subst (Appends b.contents a.contents) (sym (append_assoc xs ys (take part.1 last))) (Appends-trans b.contents m.contents a.contents xs (ys ++ take part.1 last) h.1 part.3),
+  )
+]
+
+-- a last line after nothing
+pub last-alone : (b m a : KnownOutput) (last : List ℕ) → Writes b m [] → WritesLast m a [] last → WritesLast b a [] last
+last-alone b m a last h w = last-after b m a [] [] last h w
+
+-- the output stopped after what was written before
+pub stops-after : (b m a : KnownOutput) (xs ys : List ℕ) → Writes b m xs → StopsIn m a ys → StopsIn b a (xs ++ ys)
+stops-after b m a xs ys h w = (subst (λ n. Rose n a.refusals) h.0 w.0, part-then b.contents m.contents a.contents xs ys h.1 w.1)
+
+-- ---- what a crash leaves
+
+-- of a disk that holds the code's file it leaves the session's history
+pub left-here : {R S : Type 0} (view : R → Tree) (source_view : S → Tree) (v : KnownDisk) (x : Interpreter R S) (s : Seen) → Follows view source_view v x s → left_on v s.session.history s.session.history
+left-here view source_view v x s f = λ known c i. inl (kept-images x.workspace.db s.session.history v.view (f.holds known) c i)
+
+module _ (files : FileTable) where
+  -- of a disk that no step touches nothing else
+  pub along-still : (s : Seen) (bytes : List ℕ) (v : KnownDisk) → LeavesAlong files s bytes v v
+  along-still s bytes v = λ known. (omega arith, λ t c le h. inl h)
+
+  -- at the end of the input the history stays
+  pub along-closed : (s : Seen) (v w : KnownDisk) → LeavesBoth s.session.history s.session.history v w → LeavesAlong files s [] v w
+  along-closed s v w l = λ known. (
+    (l known).0,
+    λ t c le h. elim ((l known).1 t c le h) [
+      | inl before ↦ inl before
+      | inr now ↦ inr (0, omega arith, here c now)
+    ],
+  )
+    where
+      here : (c : List ℕ) → StandsFor s.session.history c ⊎ StandsFor s.session.history c → StandsFor (plays files s []).history c
+      here c (inl x) = subst (λ h. StandsFor h c) (sym (history-none files s)) x
+      here c (inr x) = subst (λ h. StandsFor h c) (sym (history-none files s)) x
+
+-- ---- sessions that go on
+
+module _ (files : FileTable) where
+  -- a last line after no byte
+  last-first : (b a : KnownOutput) (s : Seen) (last : List ℕ) → WritesLast b a [] last → WritesLast b a (plays files s []).out last
+  last-first b a s last w = subst (λ z. WritesLast b a z last) (sym (plays-none files s).0) w
+
+  -- what is left after no byte
+  left-first : (L : Leaving) (s : Seen) → L s.session.history s.session.history → L (plays files s []).history (plays files s []).history
+  left-first L s w = subst (λ z. L z z) (sym (history-none files s)) w
+
+  -- whether a refusal was written, after the bytes and then the rest
+  refused-then : (s : Seen) (f : Bool) (xs ys : List ℕ) → (with_refusal f (plays_all files s (xs ++ ys))).refused ≡ (with_refusal (f || (plays files s xs).refused) (plays_all files (after_play files s xs) ys)).refused
+  refused-then s f xs ys = ap (λ (e : Report). f || e.refused) (all-append files s xs ys) ∙ sym (or_assoc f (plays files s xs).refused (plays_all files (after_play files s xs) ys).refused)
+
+  -- all that was written and read, and the history, after the bytes and then the rest
+  out-then : (s : Seen) (xs ys : List ℕ) → (plays_all files s (xs ++ ys)).out ≡ (plays files s xs).out ++ (plays_all files (after_play files s xs) ys).out
+  out-then s xs ys = ap (λ (e : Report). e.out) (all-append files s xs ys)
+
+  all_read-then : (s : Seen) (xs ys : List ℕ) → (plays_all files s (xs ++ ys)).reads ≡ (plays files s xs).reads + (plays_all files (after_play files s xs) ys).reads
+  all_read-then s xs ys = ap (λ (e : Report). e.reads) (all-append files s xs ys)
+
+  all_history-then : (s : Seen) (xs ys : List ℕ) → (plays_all files s (xs ++ ys)).history ≡ (plays_all files (after_play files s xs) ys).history
+  all_history-then s xs ys = ap (λ (e : Report). e.history) (all-append files s xs ys)
+
+  -- what the bytes write and read, and then others, and the history to which they come
+  played-then : (s : Seen) (xs ys : List ℕ) → (plays files s (xs ++ ys)).out ≡ (plays files s xs).out ++ (plays files (after_play files s xs) ys).out
+  played-then s xs ys = ap (λ (e : Report). e.out) (plays-append files s xs ys)
+
+  reads-then : (s : Seen) (xs ys : List ℕ) → (plays files s (xs ++ ys)).reads ≡ (plays files s xs).reads + (plays files (after_play files s xs) ys).reads
+  reads-then s xs ys = ap (λ (e : Report). e.reads) (plays-append files s xs ys)
+
+  history-then : (s : Seen) (xs ys : List ℕ) → (plays files s (xs ++ ys)).history ≡ (plays files (after_play files s xs) ys).history
+  history-then s xs ys = ap (λ (e : Report). e.history) (plays-append files s xs ys)
+
+  -- the same of a front part of the others
+  front-then : (s : Seen) (xs ys : List ℕ) (k : ℕ) → (plays files s (take (length xs + k) (xs ++ ys))).out ≡ (plays files s xs).out ++ (plays files (after_play files s xs) (take k ys)).out
+  front-then s xs ys k = ap (λ zs. (plays files s zs).out) (take-append-add xs ys k) ∙ played-then s xs (take k ys)
+
+  front_reads-then : (s : Seen) (xs ys : List ℕ) (k : ℕ) → (plays files s (take (length xs + k) (xs ++ ys))).reads ≡ (plays files s xs).reads + (plays files (after_play files s xs) (take k ys)).reads
+  front_reads-then s xs ys k = ap (λ zs. (plays files s zs).reads) (take-append-add xs ys k) ∙ reads-then s xs (take k ys)
+
+  front_history-then : (s : Seen) (xs ys : List ℕ) (k : ℕ) → (plays files s (take (length xs + k) (xs ++ ys))).history ≡ (plays files (after_play files s xs) (take k ys)).history
+  front_history-then s xs ys k = ap (λ zs. (plays files s zs).history) (take-append-add xs ys k) ∙ history-then s xs (take k ys)
+
+  -- what is left after a front part of the others
+  front_left-then : (L : Leaving) (s : Seen) (xs ys : List ℕ) (k j n : ℕ) → n ≡ length xs + j → L (plays files (after_play files s xs) (take k ys)).history (plays files (after_play files s xs) (take j ys)).history
+      → L (plays files s (take (length xs + k) (xs ++ ys))).history (plays files s (take n (xs ++ ys))).history
+  front_left-then L s xs ys k j n e w =
+      subst (λ z. L (plays files s (take (length xs + k) (xs ++ ys))).history z) (sym (ap (λ z. (plays files s (take z (xs ++ ys))).history) e ∙ front_history-then s xs ys j))
+      (subst (λ z. L z (plays files (after_play files s xs) (take j ys)).history) (sym (front_history-then s xs ys k)) w)
+
+  module _ (s : Seen) (f : Bool) (count : ℕ) (xs ys : List ℕ) (b m a : Outside) (L : Leaving) (h : Writes b.output m.output (plays files s xs).out) (r : HasRead b.files m.files (plays files s xs).reads) where
+    abbrev next : Seen
+    next = after_play files s xs
+
+    abbrev flag : Bool
+    flag = f || (plays files s xs).refused
+
+    -- so many reads, and those of the bytes before them
+    abbrev read_all : (n k : ℕ) → k ≡ (plays files s xs).reads + n → HasRead m.files a.files n → HasRead b.files a.files k
+    read_all n k e w = read-sum b.files m.files a.files (plays files s xs).reads n k e r w
+
+    -- a last line, and what was written before it
+    written_last : (k : ℕ) (last : List ℕ) → WritesLast m.output a.output (plays files next (take k ys)).out last → WritesLast b.output a.output (plays files s (take (length xs + k) (xs ++ ys))).out last
+    written_last k last w =
+        subst (λ z. WritesLast b.output a.output z last) (sym (front-then s xs ys k)) (last-after b.output m.output a.output (plays files s xs).out (plays files next (take k ys)).out last h w)
+
+    -- what is left at the end
+    all_left : L (plays_all files next ys).history (plays_all files next ys).history → L (plays_all files s (xs ++ ys)).history (plays_all files s (xs ++ ys)).history
+    all_left w = subst (λ z. L z z) (sym (all_history-then s xs ys)) w
+
+    -- and after a front part
+    front_left : (k : ℕ) → L (plays files next (take k ys)).history (plays files next (take k ys)).history → L (plays files s (take (length xs + k) (xs ++ ys))).history (plays files s (take (length xs + k) (xs ++ ys))).history
+    front_left k w = front_left-then L s xs ys k k (length xs + k) refl w
+
+    all_done : (t : Bool) → AllDone (work_from files next flag) L ys m a t → AllDone (work_from files s f) L (xs ++ ys) b a t
+    all_done t w = record {
+      refused_is = refused-then s f xs ys ∙ w.refused_is;
+      wrote = (w.wrote.0 ∙ h.0, subst (Appends b.output.contents a.output.contents) (sym (out-then s xs ys)) (Appends-trans b.output.contents m.output.contents a.output.contents (plays files s xs).out (plays_all files next ys).out h.1 w.wrote.1));
+      read = read_all (plays_all files next ys).reads (plays_all files s (xs ++ ys)).reads (all_read-then s xs ys) w.read;
+      left = all_left w.left;
+    }
+
+    stopped : OutputStopped (work_from files next flag) L ys m a → OutputStopped (work_from files s f) L (xs ++ ys) b a
+    stopped v = elim v [
+      | inl part ↦ inl (record {
+        at = length xs + part.at;
+        within = omega (arith, part.within, length-append xs ys);
+        wrote = subst (StopsIn b.output a.output) (sym (front-then s xs ys part.at)) (stops-after b.output m.output a.output (plays files s xs).out (plays files next (take part.at ys)).out h part.wrote);
+        left = front_left part.at part.left;
+      })
+      | inr part ↦ inr (record {
+        ended = part.ended;
+        wrote = subst (StopsIn b.output a.output) (sym (out-then s xs ys)) (stops-after b.output m.output a.output (plays files s xs).out (plays_all files next ys).out h part.wrote);
+        left = all_left part.left;
+      })
+    ]
+
+    inside : (last : List ℕ) → StoppedInside (work_from files next flag) L ys m a last → StoppedInside (work_from files s f) L (xs ++ ys) b a last
+    inside last w = record {
+      at = length xs + w.at;
+      within = omega (arith, w.within, length-append xs ys);
+      wrote = written_last w.at last w.wrote;
+      left = front_left-then L s xs ys w.at (w.at + 1) ((length xs + w.at) + 1) (omega arith) w.left;
+    }
+
+    -- bytes, and then the end
+    pub did-then : (e : End) → Did (work_from files next flag) L (count + length xs) ys m a e → Did (work_from files s f) L count (xs ++ ys) b a e
+    did-then how.Done w = all_done _ w
+    did-then how.Refused w = all_done _ w
+    did-then how.Usage w = absurd w
+    did-then how.Input w = record {
+      wrote = subst (λ z. WritesLast b.output a.output z input_line) (sym (played-then s xs ys)) (last-after b.output m.output a.output (plays files s xs).out (plays files next ys).out input_line h w.wrote);
+      read = read_all (plays files next ys).reads (plays files s (xs ++ ys)).reads (reads-then s xs ys) w.read;
+      left = subst (λ z. L z z) (sym (history-then s xs ys)) w.left;
+    }
+    did-then how.File w =
+        let one : (length xs + w.at) + 1 ≡ length xs + (w.at + 1) = omega arith in
+        let upto = front_reads-then s xs ys w.at in
+        let beyond : (plays files s (take ((length xs + w.at) + 1) (xs ++ ys))).reads ≡ (plays files s xs).reads + (plays files next (take (w.at + 1) ys)).reads = ap (λ n. (plays files s (take n (xs ++ ys))).reads) one ∙ front_reads-then s xs ys (w.at + 1) in
+        record {
+          at = length xs + w.at;
+          inside = omega (arith, w.inside, length-append xs ys);
+          load = omega (arith, upto, beyond, w.load);
+          wrote = written_last w.at file_line w.wrote;
+          read = read_all ((plays files next (take w.at ys)).reads + 1) ((plays files s (take (length xs + w.at) (xs ++ ys))).reads + 1) (omega (arith, upto)) w.read;
+          left = front_left w.at w.left;
+        }
+    did-then how.Output w = stopped w
+    did-then how.Disk w = inside disk_line w
+    did-then (how.NoStore at) w = absurd w
+    did-then how.Memory w = elim w [
+      | inl full ↦ inl (stopped full)
+      | inr ran ↦ inr (inside memory_line ran)
+    ]
+    did-then how.TooLong w = record {
+      at = length xs + w.at;
+      within = omega (arith, w.within);
+      last_piece = omega (arith, w.last_piece, length-append xs ys);
+      wrote = written_last w.at too_long_line w.wrote;
+      read = read_all (plays files next (take w.at ys)).reads (plays files s (take (length xs + w.at) (xs ++ ys))).reads (front_reads-then s xs ys w.at) w.read;
+      left = front_left w.at w.left;
+    }
+    did-then how.Clock w = record {
+      at = length xs + w.at;
+      within = omega (arith, w.within, length-append xs ys);
+      wrote = written_last w.at clock_line w.wrote;
+      left = front_left w.at w.left;
+    }
+
+  -- ---- sessions that end
+
+  -- the input failed
+  pub did-input : (L : Leaving) (s : Seen) (f : Bool) (count : ℕ) (b a : Outside) → WritesLast b.output a.output [] input_line → HasRead b.files a.files 0 → L s.session.history s.session.history → Did (work_from files s f) L count [] b a how.Input
+  did-input L s f count b a w r l = record { wrote = last-first b.output a.output s input_line w; read = subst (HasRead b.files a.files) (sym (plays-none files s).1) r; left = left-first L s l }
+
+  -- too much has come
+  pub did-too-long : (L : Leaving) (s : Seen) (f : Bool) (count : ℕ) (bytes : List ℕ) (b a : Outside) → count ≤ INPUT_MAX → length bytes ≤ PIECE_MAX → WritesLast b.output a.output [] too_long_line → HasRead b.files a.files 0 → L s.session.history s.session.history
+      → Did (work_from files s f) L count bytes b a how.TooLong
+  did-too-long L s f count bytes b a le piece w r l = record {
+    at = 0;
+    within = omega (arith, le);
+    last_piece = omega (arith, piece);
+    wrote = last-first b.output a.output s too_long_line w;
+    read = subst (HasRead b.files a.files) (sym (plays-none files s).1) r;
+    left = left-first L s l;
+  }
+
+  -- the input has ended
+  module _ (s : Seen) (f : Bool) (count : ℕ) (b a : Outside) (w : KnownDisk) (end : IsAtEnd a.input.left) where
+    abbrev L : Leaving
+    L = left_on w
+
+    left_closed : L s.session.history s.session.history → L (plays_all files s []).history (plays_all files s []).history
+    left_closed l = subst (λ z. L z z) (sym (ap (λ (e : Report). e.history) (all-none files s) ∙ closes-history files s)) l
+
+    all_closed : (t : Bool) → ((f || (closes files s).refused) ≡ t) × Writes b.output a.output (closes files s).out × HasRead b.files a.files 0 × L s.session.history s.session.history → AllDone (work_from files s f) L [] b a t
+    all_closed t c = record {
+      refused_is = ap (λ (e : Report). f || e.refused) (all-none files s) ∙ c.0;
+      wrote = subst (λ (e : Report). Writes b.output a.output e.out) (sym (all-none files s)) c.1;
+      read = subst (HasRead b.files a.files) (sym (ap (λ (e : Report). e.reads) (all-none files s) ∙ closes-reads files s)) c.2;
+      left = left_closed c.3;
+    }
+
+    ending : StopsIn b.output a.output (closes files s).out × L s.session.history s.session.history → OutputStopped (work_from files s f) L [] b a
+    ending c = inr (record { ended = end; wrote = subst (λ (e : Report). StopsIn b.output a.output e.out) (sym (all-none files s)) c.0; left = left_closed c.1 })
+
+    closing : (last : List ℕ) → WritesLast b.output a.output [] last × L s.session.history s.session.history → StoppedInside (work_from files s f) L [] b a last
+    closing last c = record { at = 0; within = omega arith; wrote = last-first b.output a.output s last c.0; left = left-first L s c.1 }
+
+    pub did-closed : (e : End) → Closes files s f (world_of b) (world_of a) w e → Did (work_from files s f) (left_on w) count [] b a e
+    did-closed how.Done c = all_closed _ c
+    did-closed how.Refused c = all_closed _ c
+    did-closed how.Usage c = absurd c
+    did-closed how.Input c = absurd c
+    did-closed how.File c = absurd c
+    did-closed how.Output c = ending c
+    did-closed how.Disk c = closing disk_line c
+    did-closed (how.NoStore at) c = absurd c
+    did-closed how.Memory c = elim c [ inl full ↦ inl (ending full) | inr last ↦ inr (closing memory_line last) ]
+    did-closed how.TooLong c = absurd c
+    did-closed how.Clock c = record { at = 0; within = omega arith; wrote = last-first b.output a.output s clock_line c.0; left = left-first L s c.1 }
+
+  -- the session was stopped
+  module _ {R S : Type 0} (view : R → Tree) (source_view : S → Tree) (s : Seen) (f : Bool) (rest : List ℕ) (old new : Interpreter R S) (count : ℕ) (bytes : List ℕ) (ib ia : KnownInput) (fb fm : KnownFiles) (cb cm : KnownClock) (ob om oa : KnownOutput) (w : KnownDisk) where
+    -- a last line behind what was written up to a byte
+    line_at : (at : ℕ) (last : List ℕ) → Writes ob om (plays files s (take at bytes)).out → WritesLast om oa [] last → WritesLast ob oa (plays files s (take at bytes)).out last
+    line_at at last g t = subst (λ z. WritesLast ob oa z last) (append-nil (plays files s (take at bytes)).out) (last-after ob om oa (plays files s (take at bytes)).out [] last g t)
+
+    writing : StopsWriting files s bytes (world fb cb ob) (world fm cm om) w → Rose ob.refusals om.refusals → oa ≡ om → OutputStopped (work_from files s f) (left_on w) bytes (parts ib fb cb ob) (parts ia fm cm oa)
+    writing g r t = inl (record { at = g.at; within = g.within; wrote = subst (λ o. StopsIn ob o (plays files s (take g.at bytes)).out) (sym t) (r, g.wrote); left = g.left })
+
+    pub did-stopped : (stop : Stop) → Fed view source_view files s bytes rest old new (world fb cb ob) (world fm cm om) w (Err stop) → StopRefusesWrite ob.refusals om.refusals stop → TellsStop om oa stop
+        → Did (work_from files s f) (left_on w) count bytes (parts ib fb cb ob) (parts ia fm cm oa) (end_of_stop stop)
+    did-stopped Output g r t = writing g r t
+    did-stopped Full g r t = inl (writing g r t)
+    did-stopped File g r t = record { at = g.at; inside = g.inside; load = g.load; wrote = line_at g.at file_line (r, g.wrote) t; read = g.read; left = g.left }
+    did-stopped Disk g r t = record { at = g.at; within = g.within; wrote = line_at g.at disk_line (r, g.wrote) t; left = g.left }
+    did-stopped (NoStore at) g r t = absurd g
+    did-stopped Clock g r t = record { at = g.at; within = g.within; wrote = line_at g.at clock_line (r, g.wrote) t; left = g.left }
+    did-stopped Memory g r t = inr (record { at = g.at; within = g.within; wrote = line_at g.at memory_line (r, g.wrote) t; left = g.left })
+
+-- ---- sessions that were stopped
+
+-- a session was stopped at the end of its input
+pub closes-stopped : {R S : Type 0} (files : FileTable) (s : Seen) (f : Bool) (old new : Interpreter R S) (fb fm : KnownFiles) (cb cm : KnownClock) (ob om oa : KnownOutput) (w : KnownDisk) (stop : Stop) → RunsLast files s old new (world fb cb ob) (world fm cm om) w (Err stop)
+    → StopRefusesWrite ob.refusals om.refusals stop → TellsStop om oa stop → Closes files s f (world fb cb ob) (world fm cm oa) w (end_of_stop stop)
+closes-stopped files s f old new fb fm cb cm ob om oa w Output g r t = (subst (λ o. StopsIn ob o (closes files s).out) (sym t) (r, g.0), g.1)
+closes-stopped files s f old new fb fm cb cm ob om oa w Full g r t = inl (subst (λ o. StopsIn ob o (closes files s).out) (sym t) (r, g.0), g.1)
+closes-stopped files s f old new fb fm cb cm ob om oa w File g r t = absurd g
+closes-stopped files s f old new fb fm cb cm ob om oa w Disk g r t = (last-alone ob om oa disk_line (r, g.0) t, g.1)
+closes-stopped files s f old new fb fm cb cm ob om oa w (NoStore at) g r t = absurd g
+closes-stopped files s f old new fb fm cb cm ob om oa w Clock g r t = (last-alone ob om oa clock_line (r, g.0) t, g.1)
+closes-stopped files s f old new fb fm cb cm ob om oa w Memory g r t = inr (last-alone ob om oa memory_line (r, g.0) t, g.1)
+
+-- the end of a stop is an end of its own
+pub closing-stopped : (stop : Stop) → IsOpenedStop stop → IsClosing (end_of_stop stop)
+closing-stopped Output n = record { running = record { fitting = λ e. absurd (cc); opened = λ at e. absurd (cc) }; input = λ e. absurd (cc); too_much = λ e. absurd (cc) }
+closing-stopped Full n = record { running = record { fitting = λ e. absurd (cc); opened = λ at e. absurd (cc) }; input = λ e. absurd (cc); too_much = λ e. absurd (cc) }
+closing-stopped File n = record { running = record { fitting = λ e. absurd (cc); opened = λ at e. absurd (cc) }; input = λ e. absurd (cc); too_much = λ e. absurd (cc) }
+closing-stopped Disk n = record { running = record { fitting = λ e. absurd (cc); opened = λ at e. absurd (cc) }; input = λ e. absurd (cc); too_much = λ e. absurd (cc) }
+closing-stopped (NoStore at) n = absurd (n at refl)
+closing-stopped Clock n = record { running = record { fitting = λ e. absurd (cc); opened = λ at e. absurd (cc) }; input = λ e. absurd (cc); too_much = λ e. absurd (cc) }
+closing-stopped Memory n = record { running = record { fitting = λ e. absurd (cc); opened = λ at e. absurd (cc) }; input = λ e. absurd (cc); too_much = λ e. absurd (cc) }
+
+-- at which not all was done
+stop-ended : (stop : Stop) (P : Type 0) → OnOk (result_of (end_of_stop stop)) P
+stop-ended Output P = tt
+stop-ended Full P = tt
+stop-ended File P = tt
+stop-ended Disk P = tt
+stop-ended (NoStore at) P = tt
+stop-ended Clock P = tt
+stop-ended Memory P = tt
+
+-- ---- the end of the input
+
+module _ {R S : Type 0} (view : R → Tree) (source_view : S → Tree) (old new : Interpreter R S) (fb fm : KnownFiles) (cb cm : KnownClock) (ob om oa : KnownOutput) (v w : KnownDisk) where
+  -- it was stopped
+  pub closed-stopped : (stop : Stop) → IsOpenedStop stop → RanLast view source_view old new (world fb cb ob) (world fm cm om) v w (Err stop) → StopRefusesWrite ob.refusals om.refusals stop → TellsStop om oa stop
+      → HasClosed view source_view old (world fb cb ob) (world fm cm oa) v w (end_of_stop stop)
+  closed-stopped stop n g r t = record {
+    moments = g.moments;
+    told = g.told;
+    closing = closing-stopped stop n;
+    closed = λ files is s rest f m. (let x = g.runs files is s rest f m in (closes-stopped files s old.refused old new fb fm cb cm ob om oa w stop x.0 r t, x.1));
+  }
+
+  -- some line refuses a statement
+  pub closed-refused : RanLast view source_view old new (world fb cb ob) (world fm cm om) v w (Ok tt) → om.refusals ≡ ob.refusals → new.refused ≡ true → HasClosed view source_view old (world fb cb ob) (world fm cm om) v w how.Refused
+  closed-refused g r t = record {
+    moments = g.moments;
+    told = g.told;
+    closing = record { running = record { fitting = λ e. absurd (cc); opened = λ at e. absurd (cc) }; input = λ e. absurd (cc); too_much = λ e. absurd (cc) };
+    closed = λ files is s rest f m. (let x = g.runs files is s rest f m in ((sym x.0.0 ∙ t, (r, x.0.1), x.0.2, x.0.3), x.1));
+  }
+
+  -- none does
+  pub closed-done : RanLast view source_view old new (world fb cb ob) (world fm cm om) v w (Ok tt) → om.refusals ≡ ob.refusals → new.refused ≡ false → HasClosed view source_view old (world fb cb ob) (world fm cm om) v w how.Done
+  closed-done g r t = record {
+    moments = g.moments;
+    told = g.told;
+    closing = record { running = record { fitting = λ e. absurd (cc); opened = λ at e. absurd (cc) }; input = λ e. absurd (cc); too_much = λ e. absurd (cc) };
+    closed = λ files is s rest f m. (let x = g.runs files is s rest f m in ((sym x.0.0 ∙ t, (r, x.0.1), x.0.2, x.0.3), x.1));
+  }
+
+-- ---- turns in which nothing failed
+
+-- none
+pub steady-none : (o : Outside) (v : KnownDisk) → IsSteady o o v v
+steady-none o v = record { input = refl; found = refl; read = (0, refl); files = refl; clock = refl; output = refl; refused = refl; disk = refl }
+
+-- some, and then others
+pub steady-then : (b m a : Outside) (v u w : KnownDisk) → IsSteady b m v u → IsSteady m a u w → IsSteady b a v w
+steady-then b m a v u w x y = record {
+  input = y.input ∙ x.input;
+  found = y.found ∙ x.found;
+  read = some-then b.files m.files a.files x.read y.read;
+  files = y.files ∙ x.files;
+  clock = y.clock ∙ x.clock;
+  output = y.output ∙ x.output;
+  refused = y.refused ∙ x.refused;
+  disk = y.disk ∙ x.disk;
+}
+
+-- ---- the ends of a turn
+
+module _ {R S : Type 0} (view : R → Tree) (source_view : S → Tree) where
+  -- the input failed
+  pub ran-input : (x : Interpreter R S) (count : ℕ) (ib ia : KnownInput) (f : KnownFiles) (k : KnownClock) (ob oa : KnownOutput) (v : KnownDisk) → count ≤ INPUT_MAX → Keeps ib.left ia.left → ia.given ≡ ib.given → WritesLast ob oa [] input_line
+      → RanFrom view source_view x count (parts ib f k ob) (parts ia f k oa) v v how.Input
+  ran-input x count ib ia f k ob oa v le kept given w = record {
+    taken = [];
+    took = Consumes-kept ib.left ib.left ia.left [] (Consumes-nil ib.left) kept;
+    counted = omega (arith, given);
+    too_much = (λ e. absurd (cc), λ l. absurd (omega (arith, le, l)));
+    moments = [];
+    told = told-none k.left;
+    running = record { fitting = λ e. absurd (cc); opened = λ at e. absurd (cc) };
+    ended = tt;
+    did = λ files t s rest z m. (did-input files (left_on v) s x.refused count (parts ib f k ob) (parts ia f k oa) w refl (left-here view source_view v x s z), along-still files s [] v);
+  }
+
+  -- the input has ended
+  pub ran-closed : (x : Interpreter R S) (count : ℕ) (b a : Outside) (v w : KnownDisk) (e : End) → count ≤ INPUT_MAX → Consumes b.input.left a.input.left [] → a.input.given ≡ b.input.given + 0 → IsAtEnd a.input.left → HasClosed view source_view x (world_of b) (world_of a) v w e
+      → RanFrom view source_view x count b a v w e
+  ran-closed x count b a v w e le took given end c = record {
+    taken = [];
+    took = took;
+    counted = omega (arith, given);
+    too_much = (λ h. absurd (c.closing.too_much h), λ l. absurd (omega (arith, le, l)));
+    moments = c.moments;
+    told = c.told;
+    running = c.closing.running;
+    ended = on-ok (result_of e) end;
+    did = λ files t s rest z m. (let d = c.closed files t s rest z m in (did-closed files s x.refused count b a w end e d.0, along-closed files s v w d.1));
+  }
+
+  -- too much has come
+  pub ran-too-long : (x : Interpreter R S) (count : ℕ) (bytes : List ℕ) (ib ia : KnownInput) (f : KnownFiles) (k : KnownClock) (ob oa : KnownOutput) (v : KnownDisk) → count ≤ INPUT_MAX → Consumes ib.left ia.left bytes → ia.given ≡ ib.given + length bytes → INPUT_MAX < count + length bytes → length bytes ≤ PIECE_MAX
+      → WritesLast ob oa [] too_long_line → RanFrom view source_view x count (parts ib f k ob) (parts ia f k oa) v v how.TooLong
+  ran-too-long x count bytes ib ia f k ob oa v le took given past piece w = record {
+    taken = bytes;
+    took = took;
+    counted = given;
+    too_much = (λ e. past, λ l. refl);
+    moments = [];
+    told = told-none k.left;
+    running = record { fitting = λ e. absurd (cc); opened = λ at e. absurd (cc) };
+    ended = tt;
+    did = λ files t s rest z m. (did-too-long files (left_on v) s x.refused count bytes (parts ib f k ob) (parts ia f k oa) le piece w refl (left-here view source_view v x s z), along-still files s bytes v);
+  }
+
+  -- the session was stopped
+  pub ran-stopped : (old new : Interpreter R S) (count : ℕ) (bytes : List ℕ) (ib ia : KnownInput) (fb fm : KnownFiles) (cb cm : KnownClock) (ob om oa : KnownOutput) (v w : KnownDisk) (stop : Stop) → IsOpenedStop stop
+      → count + length bytes ≤ INPUT_MAX → Consumes ib.left ia.left bytes → ia.given ≡ ib.given + length bytes
+      → WasFed view source_view bytes old new (world fb cb ob) (world fm cm om) v w (Err stop) → StopRefusesWrite ob.refusals om.refusals stop → TellsStop om oa stop
+      → RanFrom view source_view old count (parts ib fb cb ob) (parts ia fm cm oa) v w (end_of_stop stop)
+  ran-stopped old new count bytes ib ia fb fm cb cm ob om oa v w stop n le took given g r t =
+      let ends = closing-stopped stop n in
+      record {
+        taken = bytes;
+        took = took;
+        counted = given;
+        too_much = (λ h. absurd (ends.too_much h), λ l. absurd (omega (arith, le, l)));
+        moments = g.moments;
+        told = g.told;
+        running = ends.running;
+        ended = stop-ended stop (IsAtEnd ia.left);
+        did = λ files is s rest z m. (let x = g.fed files is s rest z m in (did-stopped files view source_view s old.refused rest old new count bytes ib ia fb fm cb cm ob om oa w stop x.0 r t, x.1));
+      }
+
+  -- ---- turns
+
+  -- no turn yet
+  pub piece-none : (k : Interpreter R S) (o : Outside) (v : KnownDisk) → TookPiece view source_view k k 0 0 o o v v
+  piece-none k o v = record {
+    bytes = [];
+    took = Consumes-nil o.input.left;
+    counted = omega arith;
+    sum = omega arith;
+    moments = [];
+    told = told-none o.clock.left;
+    played = λ files t s rest z m. (goes-none files view source_view s rest k (world_of o) v z m, along-still files s [] v);
+  }
+
+  -- one turn more
+  pub piece-more : (old mid new : Interpreter R S) (count now later : ℕ) (b m a : Outside) (v u w : KnownDisk) → u.known ≡ v.known → IsSteady b m v u → HasReadSome m.files a.files → TookPiece view source_view old mid count now b m v u → TookPiece view source_view mid new now later m a u w
+      → TookPiece view source_view old new count later b a v w
+  piece-more old mid new count now later b m a v u w same steady read x y = record {
+    bytes = x.bytes ++ y.bytes;
+    took = Consumes-trans b.input.left m.input.left a.input.left x.bytes y.bytes x.took y.took;
+    counted = omega (arith, x.counted, y.counted, length-append x.bytes y.bytes);
+    sum = omega (arith, x.sum, y.sum, length-append x.bytes y.bytes);
+    moments = x.moments ++ y.moments;
+    told = told-then b.clock.left m.clock.left a.clock.left x.moments y.moments x.told y.told;
+    played = λ files t s rest z e.
+        (let g = x.played files (table-first b.files m.files a.files steady.read read files t) s (y.moments ++ rest) z (e ∙ append_assoc x.moments y.moments rest) in
+        let next = after_play files s x.bytes in
+        let k = y.played files (table-second b.files m.files a.files steady.read read files steady.found t) next rest g.0.0 g.0.4 in (
+          goes-then files view source_view s x.bytes y.bytes (y.moments ++ rest) rest old mid new (world_of b) (world_of m) (world_of a) u w g.0 k.0,
+          along-then files s x.bytes y.bytes v u w (λ known. subst IsTrue (sym same) known) g.1 k.1,
+        ));
+  }
+
+  -- turns, and then a run
+  pub piece-ran : (old mid : Interpreter R S) (now : ℕ) (b m a : Outside) (v u w : KnownDisk) (e : End) → u.known ≡ v.known → IsSteady b m v u → HasReadSome m.files a.files → TookPiece view source_view old mid 0 now b m v u → RanFrom view source_view mid now m a u w e
+      → RanFrom view source_view old 0 b a v w e
+  piece-ran old mid now b m a v u w e same steady read x y = record {
+    taken = x.bytes ++ y.taken;
+    took = Consumes-trans b.input.left m.input.left a.input.left x.bytes y.taken x.took y.took;
+    counted = omega (arith, x.counted, y.counted, length-append x.bytes y.taken);
+    too_much = (λ h. omega (arith, y.too_much.0 h, x.sum, length-append x.bytes y.taken), λ l. y.too_much.1 (omega (arith, l, x.sum, length-append x.bytes y.taken)));
+    moments = x.moments ++ y.moments;
+    told = told-then b.clock.left m.clock.left a.clock.left x.moments y.moments x.told y.told;
+    running = y.running;
+    ended = y.ended;
+    did = λ files t s rest z i.
+        (let g = x.played files (table-first b.files m.files a.files steady.read read files t) s (y.moments ++ rest) z (i ∙ append_assoc x.moments y.moments rest) in
+        let d = y.did files (table-second b.files m.files a.files steady.read read files steady.found t) (after_play files s x.bytes) rest g.0.0 g.0.4 in
+        let P : Bool → Type 0 = λ f. Did (work_from files (after_play files s x.bytes) f) (left_on w) now y.taken m a e in
+        let Q : ℕ → Type 0 = λ n. Did (work_from files (after_play files s x.bytes) (old.refused || (plays files s x.bytes).refused)) (left_on w) n y.taken m a e in (
+          did-then files s old.refused 0 x.bytes y.taken b m a (left_on w) (steady.refused, g.0.2) g.0.3 e (subst Q x.sum (subst P g.0.1 d.0)),
+          along-then files s x.bytes y.taken v u w (λ known. subst IsTrue (sym same) known) g.1 d.1,
+        ));
+  }
+
+-- an account where the count stayed before
+account-after : {p q r : ℕ} (Blames : End → Type 0) (result : Result ⊤ End) → q ≡ p → Accounts Blames q r result → Accounts Blames p r result
+account-after {p} {q} {r} Blames result same a = subst (λ n. Accounts Blames n r result) same a
+
+-- a run after turns in which nothing failed has its causes
+pub causes-after : (b m a : Outside) (v u : KnownDisk) (e : End) → IsSteady b m v u → HasCauses m a e → HasCauses b a e
+causes-after b m a v u e x c = record {
+  input = account-after (λ z. z ≡ how.Input) (result_of e) x.input c.input;
+  world = record {
+    same = c.world.same ∙ x.found;
+    files = account-after (λ z. z ≡ how.File) (result_of e) x.files c.world.files;
+    clock = account-after (λ z. z ≡ how.Clock) (result_of e) x.clock c.world.clock;
+    output = account-after (λ z. z ≡ how.Output) (result_of e) x.output c.world.output;
+  };
+}
+
+-- also in the disk
+pub disk-after : (b m : Outside) (v u w : KnownDisk) (e : End) → IsSteady b m v u → DiskCauses u w e → DiskCauses v w e
+disk-after b m v u w e x c = account-after (λ z. z ≡ how.Disk) (result_of e) x.disk c

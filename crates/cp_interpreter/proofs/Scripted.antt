@@ -1,0 +1,295 @@
+-- Commit files: the session over a script, and calls that run one on a store.
+use Rattle.cp_interpreter.specs.declared.limits.TheConstants.{INPUT_MAX}
+use Rattle.cp_workspace.specs.declared.limits.TheConstants.{FILE_MAX}
+use Rattle.std.proofs.Common.{◌≡◌, ℕ, ◌+◌, ◌≤◌, ◌<◌, List, [], ◌++◌, length, take, Bool, true, false, Result, Ok, Err, inl, inr, refl, sym, ap, ◌∙◌, subst, arith}
+use Rattle.std.specs.Prelude.{IsTrue, ◌⊎◌}
+use Rattle.std.proofs.lemmas.List.{length-append}
+use Rattle.std.specs.Io.KnownBytes.{IsAtEnd}
+use Rattle.std.specs.declared.option.Option.TheVariants.{Some}
+use Rattle.cp_outside.specs.Causes.{Accounts}
+use Rattle.cp_outside.specs.FileReads.{FileTable}
+use Rattle.cp_outside.specs.declared.files.FilesFault.{FilesFault}
+use Rattle.cp_outside.specs.declared.files.FilesFault.TheVariants as fails
+use Rattle.cp_clock.proofs.Telling.{told-none}
+use Rattle.cp_disk.specs.Views.{Rests}
+use Rattle.cp_file.specs.Stands.{IsStore, Opens, StandsFor}
+use Rattle.cp_model.specs.Tree.{Tree}
+use Rattle.cp_model.specs.History.{Entry}
+use Rattle.cp_reply.specs.declared.reply.Why.{Why}
+use Rattle.cp_lang.specs.Cuts.{scan_bytes}
+use Rattle.cp_session.specs.Session.{Session, session_after}
+use Rattle.cp_workspace.specs.Disks.{KnownDisk}
+use Rattle.cp_workspace.specs.Files.{KnownFiles, HasRead, HasReadSome, IsTable}
+use Rattle.cp_workspace.specs.Texts.{Terms}
+use Rattle.cp_workspace.specs.Workspaces.{opened_session}
+use Rattle.cp_workspace.proofs.ReadCounts.{read-sum, table-first, table-second}
+use Rattle.cp_interpreter.specs.Texts.{file_line, memory_line}
+use Rattle.cp_interpreter.specs.Job.{job_so_far, job}
+use Rattle.cp_interpreter.specs.Outside.{KnownInput, KnownClock, KnownOutput, World}
+use Rattle.cp_interpreter.specs.Play.{Seen, begun, plays, plays_all}
+use Rattle.cp_interpreter.specs.Story.{WritesLast, SaidLine, Leaving, left_on, Work, AllDone, OutputStopped, StoppedInside, Did, work_on, store_terms, LeavesFronts, IsEarly, early_line, HasNotBegun, HasCauses, WorldCauses, DiskCauses, result_of}
+use Rattle.cp_interpreter.specs.Scripts.{script_of, commit_text, ScriptState, refused_script, ScriptFailed, DidScript, script_session, DidCommit, Committed}
+use Rattle.cp_interpreter.specs.Turns.{LeavesAlong, RanFrom, RanScript, IsClosing, TellsStop, end_of_stop, work_from, script_from}
+use Rattle.cp_interpreter.specs.Begins.{LeavesHistory, LeavesStore, BegunOn, GivesScript}
+use Rattle.cp_interpreter.specs.declared.interpreter.Interpreter.{Interpreter}
+use Rattle.cp_interpreter.specs.declared.end.End.{End}
+use Rattle.cp_interpreter.specs.declared.end.End.TheVariants as how
+use Rattle.cp_interpreter.specs.declared.stop.Stop.{Stop}
+use Rattle.cp_interpreter.specs.declared.stop.Stop.TheVariants.{File, Memory}
+use Rattle.cp_interpreter.proofs.Runs.{parts, world, left-here, along-still}
+use Rattle.cp_interpreter.proofs.Whole.{said-running, said-short, disk-still}
+use Rattle.cp_interpreter.proofs.Opened.{early-not-long, early-not-usage}
+
+-- ---- the session over a script
+
+-- what a session does for a script is what it does for an input, after the read of the script
+module _ (files : FileTable) (s : Seen) (q : Bool) (taken : List ℕ) (i j ia ja : KnownInput) (f fb fa : KnownFiles) (c ca : KnownClock) (o oa : KnownOutput) (L : Leaving) (r : HasRead f fb 1) (ends : IsAtEnd ia.left → IsAtEnd ja.left) where
+  read_all : (n m : ℕ) → m ≡ 1 + n → HasRead fb fa n → HasRead f fa m
+  read_all n m e w = read-sum f fb fa 1 n m e r w
+
+  script_done : (t : Bool) → AllDone (work_from files s q) L taken (parts i fb c o) (parts ia fa ca oa) t → AllDone (script_from files s q) L taken (parts j f c o) (parts ja fa ca oa) t
+  script_done t w = record { refused_is = w.refused_is; wrote = w.wrote; read = read_all _ _ refl w.read; left = w.left }
+
+  script_stopped : OutputStopped (work_from files s q) L taken (parts i fb c o) (parts ia fa ca oa) → OutputStopped (script_from files s q) L taken (parts j f c o) (parts ja fa ca oa)
+  script_stopped (inl w) = inl (record { at = w.at; within = w.within; wrote = w.wrote; left = w.left })
+  script_stopped (inr w) = inr (record { ended = ends w.ended; wrote = w.wrote; left = w.left })
+
+  script_inside : (last : List ℕ) → StoppedInside (work_from files s q) L taken (parts i fb c o) (parts ia fa ca oa) last → StoppedInside (script_from files s q) L taken (parts j f c o) (parts ja fa ca oa) last
+  script_inside last w = record { at = w.at; within = w.within; wrote = w.wrote; left = w.left }
+
+  did-script : (e : End) → Did (work_from files s q) L 0 taken (parts i fb c o) (parts ia fa ca oa) e → Did (script_from files s q) L 0 taken (parts j f c o) (parts ja fa ca oa) e
+  did-script how.Done w = script_done _ w
+  did-script how.Refused w = script_done _ w
+  did-script how.Usage w = absurd w
+  did-script how.Input w = record { wrote = w.wrote; read = read_all _ _ refl w.read; left = w.left }
+  did-script how.File w = record {
+    at = w.at;
+    inside = w.inside;
+    load = omega (arith, w.load);
+    wrote = w.wrote;
+    read = read_all _ _ (omega arith) w.read;
+    left = w.left;
+  }
+  did-script how.Output w = script_stopped w
+  did-script how.Disk w = script_inside _ w
+  did-script (how.NoStore at) w = absurd w
+  did-script how.Memory w = elim w [ inl full ↦ inl (script_stopped full) | inr ran ↦ inr (script_inside _ ran) ]
+  did-script how.TooLong w = record { at = w.at; within = w.within; last_piece = w.last_piece; wrote = w.wrote; read = read_all _ _ refl w.read; left = w.left }
+  did-script how.Clock w = record { at = w.at; within = w.within; wrote = w.wrote; left = w.left }
+
+-- a script as an input, which never fails
+abbrev pub script_input : ScriptState → KnownInput
+script_input s = record { left = Some s.left; given = s.given; faults = 0 }
+
+-- a count that stays at 0 blames nothing
+calm-input : (e : End) → Accounts (λ z. z ≡ how.Input) 0 0 (result_of e) → e ≡ how.Input → ⊥
+calm-input e a h = let b = subst (λ z. Accounts (λ y. y ≡ how.Input) 0 0 (result_of z)) h a in absurd (omega (arith, b.blamed refl))
+
+-- no front part of a script is more than a call takes
+script-short : (all taken left : List ℕ) → all ≡ taken ++ left → length all ≤ FILE_MAX + length commit_text → INPUT_MAX < 0 + length taken → ⊥
+script-short all taken left is short much =
+    let n : length all ≡ length taken + length left = ap length is ∙ length-append taken left in
+    let eight : length commit_text ≡ 8 = refl in
+    absurd (omega (arith, n, eight, short, much))
+
+module _ {R S : Type 0} (view : R → Tree) (source_view : S → Tree) (x : Interpreter R S) (file : List ℕ) (f fb : KnownFiles) (c : KnownClock) (o : KnownOutput) (v : KnownDisk) (e : End) where
+  -- the script was played
+  module _ (script now : ScriptState) (fa : KnownFiles) (ca : KnownClock) (oa : KnownOutput) (w : KnownDisk) (read : HasRead f fb 1) (ran : RanFrom view source_view x 0 (parts (script_input script) fb c o) (parts (script_input now) fa ca oa) v w e) where
+    did_script : (files : FileTable) (s : Seen) (g : Result (List ℕ) Why) → GivesScript g (Ok script) → Did (work_from files s x.refused) (left_on w) 0 ran.taken (parts (script_input script) fb c o) (parts (script_input now) fa ca oa) e
+        → DidScript g (script_from files s x.refused) s.session.history (left_on w) ran.taken ran.moments (world f c o) (world fa ca oa) e
+    did_script files s (Ok bytes) is d =
+        let P : ScriptState → Type 0 = λ z. z.left ≡ ran.taken ++ now.left in
+        record {
+          left = now.left;
+          parts = subst P is ran.took;
+          whole = ran.ended;
+          did = did-script files s x.refused ran.taken (script_input script) (record { left = Some bytes; given = 0; faults = 0 }) (script_input now) (record { left = Some now.left; given = 0; faults = 0 }) f fb fa c ca o oa (left_on w) read (λ h. h) e d;
+        }
+    did_script files s (Err y) is d = absurd is
+
+    pub script-ran : fb.found ≡ f.found → HasReadSome fb fa → length script.left ≤ FILE_MAX + length commit_text → ((t : FileTable) → IsTable t f fb → GivesScript (script_of (t file)) (Ok script)) → Accounts (λ z. z ≡ how.Input) 0 0 (result_of e)
+        → RanScript view source_view x file (world f c o) (world fa ca oa) v w e
+    script-ran same more short gives calm = record {
+      taken = ran.taken;
+      moments = ran.moments;
+      told = ran.told;
+      closing = record {
+        running = ran.running;
+        input = calm-input e calm;
+        too_much = λ h. script-short script.left ran.taken now.left ran.took short (ran.too_much.0 h);
+      };
+      did = λ files t s rest z m. (
+          let d = ran.did files (table-second f fb fa (1, read) more files same t) s rest z m in
+          (inr (did_script files s (script_of (files file)) (gives files (table-first f fb fa (1, read) more files t)) d.0), d.1)
+          );
+    }
+
+  -- there is no script
+  pub script-refused : (p : KnownOutput) (y : Why) → HasRead f fb 1 → ((t : FileTable) → IsTable t f fb → GivesScript (script_of (t file)) (Err y)) → SaidLine (refused_script y) true o p e → RanScript view source_view x file (world f c o) (world fb c p) v v e
+  script-refused p y read gives w = record {
+    taken = [];
+    moments = [];
+    told = told-none c.left;
+    closing = record { running = said-running (refused_script y) true o p e w; input = said_input; too_much = said-short (refused_script y) true o p e w };
+    did = λ files t s rest z m. (inr (did_from files s (left-here view source_view v x s z) (script_of (files file)) (gives files t)), along-still files s [] v);
+  }
+    where
+      said_input : e ≡ how.Input → ⊥
+      said_input h = subst (λ z. SaidLine (refused_script y) true o p z) h w
+
+      did_from : (files : FileTable) (s : Seen) → left_on v s.session.history s.session.history → (g : Result (List ℕ) Why) → GivesScript g (Err y) → DidScript g (script_from files s x.refused) s.session.history (left_on v) [] [] (world f c o) (world fb c p) e
+      did_from files s left (Ok bytes) is = absurd is
+      did_from files s left (Err z) is = (refl, refl, subst (λ k. SaidLine (refused_script k) true o p e) is w, λ h. read, left)
+
+  -- the file failed, or memory ran out
+  script-failed : (p : KnownOutput) → IsClosing e → ((e ≡ how.File) × WritesLast o p [] file_line × HasRead f fb 1) ⊎ ((e ≡ how.Memory) × WritesLast o p [] memory_line) → RanScript view source_view x file (world f c o) (world fb c p) v v e
+  script-failed p closing ended = record {
+    taken = [];
+    moments = [];
+    told = told-none c.left;
+    closing = closing;
+    did = λ files t s rest z m. (inl (record { ended = ended; none_taken = refl; none_told = refl; left = left-here view source_view v x s z }), along-still files s [] v);
+  }
+
+-- such a call is stopped by the file, or as memory runs out
+pub script-stopped : {R S : Type 0} (view : R → Tree) (source_view : S → Tree) (x : Interpreter R S) (file : List ℕ) (f fb : KnownFiles) (c : KnownClock) (o p : KnownOutput) (v : KnownDisk) (fault : FilesFault) (stop : Stop) → (fault ≡ fails.Failed → stop ≡ File) × (fault ≡ fails.Memory → stop ≡ Memory) → HasRead f fb 1 → TellsStop o p stop
+    → RanScript view source_view x file (world f c o) (world fb c p) v v (end_of_stop stop)
+script-stopped view source_view x file f fb c o p v fails.Failed stop becomes read w =
+    let is = becomes.0 refl in
+    let last : WritesLast o p [] file_line = subst (TellsStop o p) is w in
+    subst (λ z. RanScript view source_view x file (world f c o) (world fb c p) v v (end_of_stop z)) (sym is)
+    (script-failed view source_view x file f fb c o v how.File p
+    (record { running = record { fitting = λ h. absurd (cc); opened = λ at h. absurd (cc) }; input = λ h. absurd (cc); too_much = λ h. absurd (cc) }) (inl (refl, last, read)))
+script-stopped view source_view x file f fb c o p v fails.Memory stop becomes read w =
+    let is = becomes.1 refl in
+    let last : WritesLast o p [] memory_line = subst (TellsStop o p) is w in
+    subst (λ z. RanScript view source_view x file (world f c o) (world fb c p) v v (end_of_stop z)) (sym is)
+    (script-failed view source_view x file f fb c o v how.Memory p
+    (record { running = record { fitting = λ h. absurd (cc); opened = λ at h. absurd (cc) }; input = λ h. absurd (cc); too_much = λ h. absurd (cc) }) (inr (refl, last)))
+
+-- ---- causes
+
+-- of a session whose script was read before
+pub script-causes : (f fb : KnownFiles) (c : KnownClock) (o : KnownOutput) (a : World) (e : End) → fb.found ≡ f.found → fb.faults ≡ f.faults → WorldCauses (world fb c o) a e → WorldCauses (world f c o) a e
+script-causes f fb c o a e found faults w = record {
+  same = w.same ∙ found;
+  files = subst (λ n. Accounts (λ z. z ≡ how.File) n a.files.faults (result_of e)) faults w.files;
+  clock = w.clock;
+  output = w.output;
+}
+
+-- of a disk where one line was said
+pub said-disk : (line : List ℕ) (o p : KnownOutput) (v : KnownDisk) (e : End) → SaidLine line true o p e → DiskCauses v v e
+said-disk line o p v e w = disk-still v e (λ h. subst (λ z. SaidLine line true o p z) h w)
+
+-- an input that isn't read isn't blamed
+input-still : (n : ℕ) (e : End) → (e ≡ how.Input → ⊥) → Accounts (λ z. z ≡ how.Input) n n (result_of e)
+input-still n how.Done never = record { later = omega arith; blamed = tt; steady = refl }
+input-still n how.Refused never = record { later = omega arith; blamed = tt; steady = refl }
+input-still n how.Input never = absurd (never refl)
+input-still n e never = record { later = omega arith; blamed = λ h. absurd (cc); steady = tt }
+
+-- of a call whose session read no input
+pub causes-unread : (i : KnownInput) (f fa : KnownFiles) (k ka : KnownClock) (o oa : KnownOutput) (e : End) → (e ≡ how.Input → ⊥) → WorldCauses (world f k o) (world fa ka oa) e → HasCauses (parts i f k o) (parts i fa ka oa) e
+causes-unread i f fa k ka o oa e never w = record { input = input-still i.faults e never; world = w }
+
+-- ---- calls
+
+-- the session from its beginning on is the session on the history
+same-work : (files : FileTable) (terms : Terms) (s : Session) → script_from files (begun terms s) false ≡ work_on files terms s 1
+unfolding plays plays_all job_so_far job
+same-work files terms s = refl
+
+-- no byte leads on
+first-of-script : (files : FileTable) (h : List Entry) (c curator moments : List ℕ) → ((script_session files h c curator moments).so_far []).history ≡ h
+unfolding plays job_so_far scan_bytes session_after
+first-of-script files h c curator moments = refl
+
+-- a front part leads to the same
+along-script : (files : FileTable) (terms : Terms) (s : Session) (taken : List ℕ) (k : ℕ) (c : List ℕ) → StandsFor (plays files (begun terms s) (take k taken)).history c → StandsFor ((work_on files terms s 1).so_far (take k taken)).history c
+unfolding plays job_so_far
+along-script files terms s taken k c x = x
+
+-- nothing early is a fault of the input
+early-not-input : (e : End) → IsEarly e → e ≡ how.Input → ⊥
+early-not-input e k h = elim k [
+  | inl x ↦ absurd (cc)
+  | inr l ↦ elim l [ inl a ↦ let same : e ≡ how.NoStore a.0 = a.1 in absurd (cc) | inr x ↦ absurd (cc) ]
+]
+
+-- a call that ran no session on its store
+pub committed-early : (file curator : List ℕ) (i : KnownInput) (f : KnownFiles) (k : KnownClock) (o p : KnownOutput) (v w : KnownDisk) (e : End) → IsEarly e → WritesLast o p [] (early_line e)
+    → (IsTrue v.known → (at : ℕ) → e ≡ how.NoStore at → (Opens v.view.content → ⊥) × Rests v.view w.view) → (IsTrue v.known → (Opens v.view.content → ⊥) → Rests v.view w.view) → LeavesStore v w
+    → Committed file curator (parts i f k o) (parts i f k p) v w e
+committed-early file curator i f k o p v w e early wrote none never leaves = record {
+  input = refl;
+  taken = [];
+  moments = [];
+  told = told-none k.left;
+  fitting = early-not-usage e early;
+  fed = early-not-input e early;
+  short = early-not-long e early;
+  no_store = λ known at h. (let x = none known at h in (not_begun, x.1, x.0));
+  unopened = λ known h. (not_begun, never known h);
+  did = λ known files t h store. (let l = leaves known h store in record {
+    did = λ rest. inl (not_begun, l.now);
+    later = l.later;
+    crash = λ rest t c le x. elim (l.since t c le x) [
+      | inl old ↦ inl old
+      | inr s ↦ inr (0, omega arith, subst (λ g. StandsFor g c) (sym (first-of-script files h v.view.content curator ([] ++ rest))) s)
+    ];
+  });
+}
+  where
+    not_begun : HasNotBegun [] [] (parts i f k o) (parts i f k p) e
+    not_begun = record { early = early; none_taken = refl; none_told = refl; files = refl; wrote = wrote }
+
+-- a call that ran the script of its file, or said why there is none
+module _ {R S : Type 0} (view : R → Tree) (source_view : S → Tree) (file curator : List ℕ) (x : Interpreter R S) (i : KnownInput) (f fa : KnownFiles) (k ka : KnownClock) (o oa : KnownOutput) (v m w : KnownDisk) (e : End)
+    (none : x.refused ≡ false) (same : IsTrue v.known → IsTrue m.known) (opened : IsTrue v.known → BegunOn view source_view curator v m (Ok x)) (leaves : LeavesStore v m) (r : RanScript view source_view x file (world f k o) (world fa ka oa) m w e) where
+  module _ (known : IsTrue v.known) (files : FileTable) (t : IsTable files f fa) (h : List Entry) (store : IsStore true h v.view.content) where
+    abbrev terms : Terms
+    terms = store_terms h v.view.content curator
+
+    abbrev session : List ℕ → Session
+    session rest = opened_session h (r.moments ++ rest)
+
+    abbrev Before : Leaving → Work → Type 0
+    Before L work = ScriptFailed h L r.taken r.moments (world f k o) (world fa ka oa) e ⊎ DidScript (script_of (files file)) work h L r.taken r.moments (world f k o) (world fa ka oa) e
+
+    went : (rest : List ℕ) → Before (left_on w) (script_from files (begun terms (session rest)) x.refused) × LeavesAlong files (begun terms (session rest)) r.taken m w
+    went rest = r.did files t (begun terms (session rest)) rest ((opened known).1 h (r.moments ++ rest) store) refl
+
+    left : LeavesHistory h v m
+    left = leaves known h store
+
+    done : (rest : List ℕ) → Before (left_on w) (script_session files h v.view.content curator (r.moments ++ rest))
+    done rest = subst (Before (left_on w)) (same-work files terms (session rest)) (subst (λ z. Before (left_on w) (script_from files (begun terms (session rest)) z)) none (went rest).0)
+
+    crashed : (rest : List ℕ) → LeavesFronts (script_session files h v.view.content curator (r.moments ++ rest)) r.taken v.view w.view
+    crashed rest n c le l =
+        let y = (went rest).1 (same known) in
+        elim (y.1 n c (omega (arith, le, left.later)) l) [
+          | inl old ↦ elim (left.since n c le old) [
+            | inl z ↦ inl z
+            | inr s ↦ inr (0, omega arith, subst (λ g. StandsFor g c) (sym (first-of-script files h v.view.content curator (r.moments ++ rest))) s)
+          ]
+          | inr z ↦ inr (z.0, z.1, along-script files terms (session rest) r.taken z.0 c z.2)
+        ]
+
+    did_commit : DidCommit files h file curator r.taken r.moments (parts i f k o) (parts i fa ka oa) v w e
+    did_commit = record { did = λ rest. inr (done rest); later = omega (arith, left.later, ((went []).1 (same known)).0); crash = crashed }
+
+  pub committed-ran : Committed file curator (parts i f k o) (parts i fa ka oa) v w e
+  committed-ran = record {
+    input = refl;
+    taken = r.taken;
+    moments = r.moments;
+    told = r.told;
+    fitting = r.closing.running.fitting;
+    fed = r.closing.input;
+    short = r.closing.too_much;
+    no_store = λ known at h. absurd (r.closing.running.opened at h);
+    unopened = λ known never. absurd (never (opened known).0);
+    did = did_commit;
+  }

@@ -1,0 +1,72 @@
+-- Calls that hand a session one statement: what it replies, and what a load of a source into a store did.
+use Rattle.std.specs.Prelude.{◌≡◌, ◌⊎◌, ℕ, ◌≤◌, List, [], ◌∷◌, true, false, IsTrue}
+use Rattle.std.specs.List.{flat_map, list_any}
+use Rattle.cp_outside.specs.FileReads.{FileTable}
+use Rattle.cp_model.specs.History.{Entry}
+use Rattle.cp_disk.specs.Views.{View, Rests}
+use Rattle.cp_file.specs.Stands.{IsStore, Opens, StandsFor}
+use Rattle.cp_lang.specs.declared.syntax_tree.Load.{Load}
+use Rattle.cp_lang.specs.declared.syntax_tree.Stmt.{Stmt}
+use Rattle.cp_lang.specs.declared.syntax_tree.Stmt.TheVariants as stmt
+use Rattle.cp_reply.specs.Lines.{lines}
+use Rattle.cp_session.specs.Session.{Session, replies_to_statements, session_after_statements}
+use Rattle.cp_workspace.specs.Texts.{Terms, setting}
+use Rattle.cp_workspace.specs.Loads.{statement_reads}
+use Rattle.cp_workspace.specs.Files.{HasRead, IsTable}
+use Rattle.cp_workspace.specs.Disks.{KnownDisk}
+use Rattle.cp_workspace.specs.Workspaces.{opened_session}
+use Rattle.cp_interpreter.specs.Texts.{file_line, disk_line, memory_line}
+use Rattle.cp_interpreter.specs.Job.{Report, is_refusal}
+use Rattle.cp_interpreter.specs.Outside.{Outside}
+use Rattle.cp_interpreter.specs.Story.{Writes, StopsIn, WritesLast, Leaving, left_on, store_terms, HasNotBegun}
+use Rattle.cp_interpreter.specs.declared.end.End.{End}
+use Rattle.cp_interpreter.specs.declared.end.End.TheVariants as how
+
+-- what a statement does that is handed over as a value, with these files
+abbrev pub statement_report : FileTable → Terms → Session → Stmt → Report
+statement_report files terms s x = record {
+  out = flat_map lines (replies_to_statements (setting files terms) s (x ∷ []));
+  refused = list_any is_refusal (replies_to_statements (setting files terms) s (x ∷ []));
+  reads = statement_reads s x;
+  history = (session_after_statements (setting files terms) s (x ∷ [])).history;
+}
+
+-- the same in a session that begins on the history h, which the content c tells; a load has no curator
+abbrev pub report_on : FileTable → List Entry → List ℕ → Stmt → Report
+report_on files h c x = statement_report files (store_terms h c []) (opened_session h []) x
+
+-- What the one statement did, by how the call ended: its report, or what came of it where something failed in it.
+abbrev pub DidStatement : Report → List Entry → Leaving → Outside → Outside → End → Type 0
+DidStatement r h Leaves before now how.Done = (r.refused ≡ false) × Writes before.output now.output r.out × HasRead before.files now.files r.reads × Leaves r.history r.history
+DidStatement r h Leaves before now how.Refused = (r.refused ≡ true) × Writes before.output now.output r.out × HasRead before.files now.files r.reads × Leaves r.history r.history
+DidStatement r h Leaves before now how.Usage = ⊥
+DidStatement r h Leaves before now how.Input = ⊥
+DidStatement r h Leaves before now how.File = (r.reads ≡ 1) × WritesLast before.output now.output [] file_line × HasRead before.files now.files 1 × Leaves h h
+DidStatement r h Leaves before now how.Output = StopsIn before.output now.output r.out × Leaves r.history r.history
+DidStatement r h Leaves before now how.Disk = WritesLast before.output now.output [] disk_line × Leaves h r.history
+DidStatement r h Leaves before now (how.NoStore at) = ⊥
+DidStatement r h Leaves before now how.Memory = (StopsIn before.output now.output r.out × Leaves r.history r.history) ⊎ (WritesLast before.output now.output [] memory_line × Leaves h r.history)
+DidStatement r h Leaves before now how.TooLong = ⊥
+DidStatement r h Leaves before now how.Clock = ⊥
+
+-- Each file that a crash leaves between the two moments is one that it could leave before, or stands for the one history or for the other.
+abbrev pub LeavesOneOf : List Entry → List Entry → View → View → Type 0
+LeavesOneOf h i v w = (t : ℕ) (c : List ℕ) → t ≤ v.moment → w.since t c → v.since t c ⊎ StandsFor h c ⊎ StandsFor i c
+
+-- What was done on a store that stands for the history h, which the content tells at entry: the load, whose report this is; or the call ended before it.
+pub record DidLoad (r : Report) (h : List Entry) (before now : Outside) (v w : KnownDisk) (end : End) : Type 0 where
+  pub did : (HasNotBegun [] [] before now end × Rests v.view w.view) ⊎ DidStatement r h (left_on w) before now end
+  pub later : v.view.moment ≤ w.view.moment
+  pub crash : LeavesOneOf h r.history v.view w.view
+
+-- A call that was to load a source into a store took no input and asked no clock.
+-- What isn't opened is no store, and what is none isn't opened. What stands for a history has the source, or the refusal of the load.
+pub record Loaded (l : Load) (before now : Outside) (v w : KnownDisk) (end : End) : Type 0 where
+  pub input : now.input ≡ before.input
+  pub clock : now.clock ≡ before.clock
+  pub fitting : end ≡ how.Usage → ⊥
+  pub short : end ≡ how.TooLong → ⊥
+  pub no_store : IsTrue v.known → (at : ℕ) → end ≡ how.NoStore at → HasNotBegun [] [] before now end × Rests v.view w.view × (Opens v.view.content → ⊥)
+  pub unopened : IsTrue v.known → (Opens v.view.content → ⊥) → HasNotBegun [] [] before now end × Rests v.view w.view
+  pub did : IsTrue v.known → (files : FileTable) → IsTable files before.files now.files → (h : List Entry) → IsStore true h v.view.content
+      → DidLoad (report_on files h v.view.content (stmt.Load l)) h before now v w end

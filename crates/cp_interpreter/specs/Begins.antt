@@ -1,0 +1,171 @@
+-- How sessions on stores begin, and how stores are opened and made.
+use Rattle.std.specs.Prelude.{◌≡◌, ◌⊎◌, ℕ, ◌≤◌, List, [], ◌∷◌, true, IsTrue, Result, Ok, Err, IfErr, ⊤}
+use Rattle.cp_model.specs.Keyed.{len}
+use Rattle.cp_model.specs.Tree.{Tree}
+use Rattle.cp_model.specs.History.{Entry, start}
+use Rattle.cp_model.specs.declared.kind.Kind.{Kind}
+use Rattle.cp_outside.specs.FileReads.{FileTable}
+use Rattle.cp_disk.specs.Views.{Rests, Keeps}
+use Rattle.cp_journal.specs.NewStores.{IsVacant}
+use Rattle.cp_file.specs.Stands.{IsStore, Opens, StandsFor}
+use Rattle.cp_db.specs.Databases as database
+use Rattle.cp_db.specs.Databases.{IsKept, end_in}
+use Rattle.cp_db.specs.declared.database.Db.{Db}
+use Rattle.cp_lang.specs.declared.syntax_tree.Load.{Load}
+use Rattle.cp_lang.specs.declared.syntax_tree.Stmt.TheVariants as stmt
+use Rattle.cp_reply.specs.Lines.{lines}
+use Rattle.cp_reply.specs.declared.reply.Of.TheVariants as of
+use Rattle.cp_reply.specs.declared.reply.Why.{Why}
+use Rattle.cp_reply.specs.declared.reply.Why.TheVariants as why
+use Rattle.cp_reply.specs.declared.reply.Reply.{Reply}
+use Rattle.cp_reply.specs.declared.reply.Reply.TheVariants as reply
+use Rattle.cp_session.specs.Session.{FetchedFile, gives, withholds}
+use Rattle.cp_workspace.specs.Disks.{KnownDisk}
+use Rattle.cp_workspace.specs.Files.{KnownFiles, HasRead, IsTable}
+use Rattle.cp_workspace.specs.Workspaces as workspace
+use Rattle.cp_workspace.specs.Workspaces.{HoldsFile, opened_session}
+use Rattle.cp_workspace.specs.declared.workspace.Workspace.{Workspace}
+use Rattle.cp_interpreter.specs.Job.{Report, is_refusal}
+use Rattle.cp_interpreter.specs.Outside.{KnownOutput}
+use Rattle.cp_interpreter.specs.Play.{begun}
+use Rattle.cp_interpreter.specs.Story.{frames_end, left_on, store_terms, SaidLine, LeavesStart}
+use Rattle.cp_interpreter.specs.Alone.{LeavesOneOf, report_on}
+use Rattle.cp_interpreter.specs.Scripts.{ScriptState}
+use Rattle.cp_interpreter.specs.Turns.{Follows, TellsStop, end_of_stop}
+use Rattle.cp_interpreter.specs.declared.interpreter.Interpreter.{Interpreter}
+use Rattle.cp_interpreter.specs.declared.end.End.{End}
+use Rattle.cp_interpreter.specs.declared.stop.Stop.{Stop}
+use Rattle.cp_interpreter.specs.declared.stop.Stop.TheVariants.{Output, Full, File, Disk, NoStore, Clock, Memory}
+
+-- ---- on a store
+
+-- the database stands for the history, the disk holds that, and the frames end where they do in the content
+pub record IsOpenedOn {R S : Type 0} (view : R → Tree) (source_view : S → Tree) (d : Db R S) (h : List Entry) (c : List ℕ) (w : KnownDisk) : Type 0 where
+  pub stands : database.Stands view source_view true d h
+  pub kept : IsKept true d h w.view
+  pub is_end : end_in d ≡ frames_end c
+
+-- meanwhile, and now, each file that a crash leaves is one that it could leave before, or stands for the history
+pub record LeavesHistory (h : List Entry) (v w : KnownDisk) : Type 0 where
+  pub later : v.view.moment ≤ w.view.moment
+  pub since : (t : ℕ) (c : List ℕ) → t ≤ v.view.moment → w.view.since t c → v.view.since t c ⊎ StandsFor h c
+  pub now : (c : List ℕ) → w.view.images c → v.view.images c ⊎ StandsFor h c
+
+-- where the content stands for a history
+abbrev pub LeavesStore : KnownDisk → KnownDisk → Type 0
+LeavesStore v w = IsTrue v.known → (h : List Entry) → IsStore true h v.view.content → LeavesHistory h v w
+
+-- the database stands for the history that the one before stood for, and the frames end where they did
+abbrev pub IsMigrated : {R S : Type 0} → (R → Tree) → (S → Tree) → Db R S → List Entry → KnownDisk → Result (Db R S) Stop → Type 0
+IsMigrated view source_view old h w (Ok d) = database.Stands view source_view true d h × IsKept true d h w.view × (end_in d ≡ end_in old)
+IsMigrated view source_view old h w (Err stop) = (stop ≡ Disk) ⊎ (stop ≡ Memory)
+
+-- the file was made one of version 2, which tells what it told
+abbrev pub Migrated : {R S : Type 0} → (R → Tree) → (S → Tree) → Db R S → KnownDisk → KnownDisk → Result (Db R S) Stop → Type 0
+Migrated view source_view old v w result = (h : List Entry) → database.Stands view source_view true old h → IsTrue v.known → IsKept true old h v.view
+    → Keeps (StandsFor h) v.view w.view × IsMigrated view source_view old h w result
+
+-- a content that opens gives its database; what isn't opened is no store; where it doesn't open, a crash leaves what it could leave
+abbrev pub OpenedAs : {R S : Type 0} → (R → Tree) → (S → Tree) → KnownDisk → KnownDisk → Result (Db R S) Stop → Type 0
+OpenedAs view source_view v w (Ok d) = Opens v.view.content × ((h : List Entry) → IsStore true h v.view.content → IsOpenedOn view source_view d h v.view.content w)
+OpenedAs view source_view v w (Err (NoStore at)) = (Opens v.view.content → ⊥) × Rests v.view w.view
+OpenedAs view source_view v w (Err stop) = (Opens v.view.content → ⊥) → Rests v.view w.view
+
+-- the same of its session
+abbrev pub BegunOn : {R S : Type 0} → (R → Tree) → (S → Tree) → List ℕ → KnownDisk → KnownDisk → Result (Interpreter R S) Stop → Type 0
+BegunOn view source_view curator v w (Ok x) = Opens v.view.content
+    × ((h : List Entry) (moments : List ℕ) → IsStore true h v.view.content → Follows view source_view w x (begun (store_terms h v.view.content curator) (opened_session h moments)))
+BegunOn view source_view curator v w (Err (NoStore at)) = (Opens v.view.content → ⊥) × Rests v.view w.view
+BegunOn view source_view curator v w (Err stop) = (Opens v.view.content → ⊥) → Rests v.view w.view
+
+-- a store isn't opened for one of these
+abbrev pub IsOpeningStop : Stop → Type 0
+IsOpeningStop stop = (stop ≡ Disk) ⊎ ((at : ℕ) × (stop ≡ NoStore at)) ⊎ (stop ≡ Memory)
+
+-- ---- a new store
+
+-- it isn't made for one of these
+abbrev pub IsMakingStop : Stop → Type 0
+IsMakingStop stop = (stop ≡ File) ⊎ (stop ≡ Disk) ⊎ (stop ≡ Memory)
+
+-- the store was made, which a crash leaves now
+abbrev pub CreatedAs : Kind → Tree → KnownDisk → Result Reply Stop → Type 0
+CreatedAs k t w (Ok r) = (r ≡ reply.Created k (len t)) × ((c : List ℕ) → w.view.images c → StandsFor (start k t ∷ []) c)
+CreatedAs k t w (Err stop) = (stop ≡ Disk) ⊎ (stop ≡ Memory)
+
+-- it was made from the start tree, or there is none
+abbrev pub MadeAs : Kind → FetchedFile → ℕ → KnownFiles → KnownFiles → KnownDisk → Result Reply Stop → Type 0
+MadeAs k (gives t) reads before now w (Ok r) = CreatedAs k t w (Ok r)
+MadeAs k (withholds y) reads before now w (Ok r) = r ≡ reply.Refused of.Init y
+MadeAs k g reads before now w (Err stop) = IsMakingStop stop × (stop ≡ File → (reads ≡ 1) × HasRead before now 1)
+
+-- the reply that there is one, and the file is as it was; or it wasn't found out
+abbrev pub FoundAs : Result Reply Stop → Type 0
+FoundAs (Ok r) = r ≡ reply.Refused of.Init why.StoreExists
+FoundAs (Err stop) = (stop ≡ Disk) ⊎ (stop ≡ Memory)
+
+-- what was replied to `init`, and what became of the files and of the disk
+pub record StoreMade (k : Kind) (given : FileTable → FetchedFile) (reads : ℕ) (before now : KnownFiles) (v w : KnownDisk) (result : Result Reply Stop) : Type 0 where
+  pub exists : IsTrue v.known → (IsVacant v.view.content → ⊥) → (now ≡ before) × Rests v.view w.view × FoundAs result
+  pub made : IsTrue v.known → IsVacant v.view.content → (files : FileTable) → IsTable files before now
+      → MadeAs k (given files) reads before now w result × LeavesStart k (given files) v.view w.view
+  pub stops : IfErr result IsMakingStop
+
+-- ---- scripts
+
+-- the script that is expected, before its first byte, or why there is none
+abbrev pub GivesScript : Result (List ℕ) Why → Result ScriptState Why → Type 0
+GivesScript (Ok bytes) (Ok s) = s ≡ record { left = bytes; given = 0 }
+GivesScript (Ok bytes) (Err w) = ⊥
+GivesScript (Err w) (Ok s) = ⊥
+GivesScript (Err w) (Err y) = y ≡ w
+
+-- ---- calls that hand over one statement
+
+-- a content that opens gives its workspace, which commits nothing; what isn't opened is no store
+abbrev pub OpenedAlone : {R S : Type 0} → (R → Tree) → (S → Tree) → KnownDisk → KnownDisk → Result (Workspace R S) Stop → Type 0
+OpenedAlone view source_view v w (Ok d) = Opens v.view.content
+    × ((h : List Entry) (moments : List ℕ) → IsStore true h v.view.content → workspace.Stands view source_view (store_terms h v.view.content []) d (opened_session h moments) × HoldsFile d h w)
+OpenedAlone view source_view v w (Err (NoStore at)) = Opens v.view.content → ⊥
+OpenedAlone view source_view v w (Err stop) = ⊤
+
+-- the store wasn't opened, and nothing was read or written
+pub record NotOpened (before now : KnownFiles) (v w : KnownDisk) (result : Result Reply Stop) : Type 0 where
+  pub stop : Stop
+  pub is : result ≡ Err stop
+  pub opening : IsOpeningStop stop
+  pub files : now ≡ before
+  pub rests : Rests v.view w.view
+
+-- what a load with this report gave, on the history h
+abbrev pub LoadGives : Report → List Entry → KnownFiles → KnownFiles → KnownDisk → Result Reply Stop → Type 0
+LoadGives r h before now w (Ok y) = (lines y ≡ r.out) × (is_refusal y ≡ r.refused) × HasRead before now r.reads × left_on w r.history r.history
+LoadGives r h before now w (Err Output) = ⊥
+LoadGives r h before now w (Err Full) = ⊥
+LoadGives r h before now w (Err File) = (r.reads ≡ 1) × HasRead before now 1 × left_on w h h
+LoadGives r h before now w (Err Disk) = left_on w h r.history
+LoadGives r h before now w (Err (NoStore at)) = ⊥
+LoadGives r h before now w (Err Clock) = ⊥
+LoadGives r h before now w (Err Memory) = left_on w h r.history
+
+-- what a load did to files and disk, whose report is expected on each history
+pub record LoadedAs (l : Load) (before now : KnownFiles) (v w : KnownDisk) (result : Result Reply Stop) : Type 0 where
+  pub no_store : IsTrue v.known → (at : ℕ) → result ≡ Err (NoStore at) → NotOpened before now v w result × (Opens v.view.content → ⊥)
+  pub unopened : IsTrue v.known → (Opens v.view.content → ⊥) → NotOpened before now v w result
+  pub did : IsTrue v.known → (files : FileTable) → IsTable files before now → (h : List Entry) → IsStore true h v.view.content
+      → NotOpened before now v w result ⊎ LoadGives (report_on files h v.view.content (stmt.Load l)) h before now w result
+  pub later : IsTrue v.known → (files : FileTable) → IsTable files before now → (h : List Entry) → IsStore true h v.view.content → v.view.moment ≤ w.view.moment
+  pub crash : IsTrue v.known → (files : FileTable) → IsTable files before now → (h : List Entry) → IsStore true h v.view.content
+      → LeavesOneOf h (report_on files h v.view.content (stmt.Load l)).history v.view w.view
+  pub kinds : IfErr result (λ e. (e ≡ Output → ⊥) × (e ≡ Full → ⊥) × (e ≡ Clock → ⊥))
+
+-- a content that opens has a reply of which this is so; what isn't opened is no store
+abbrev pub AnsweredAs : (List ℕ → Reply → Type 0) → KnownDisk → Result Reply Stop → Type 0
+AnsweredAs IsReply v (Ok y) = Opens v.view.content × IsReply v.view.content y
+AnsweredAs IsReply v (Err (NoStore at)) = Opens v.view.content → ⊥
+AnsweredAs IsReply v (Err stop) = ⊤
+
+-- the answer was written, or the last line of what stopped the call
+abbrev pub GaveAnswer : Result Reply Stop → KnownOutput → KnownOutput → End → Type 0
+GaveAnswer (Ok y) before now end = SaidLine (lines y) (is_refusal y) before now end
+GaveAnswer (Err stop) before now end = (end ≡ end_of_stop stop) × TellsStop before now stop

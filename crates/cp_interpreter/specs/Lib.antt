@@ -1,0 +1,10 @@
+pub mod Texts
+pub mod Outside
+pub mod Job
+pub mod Play
+pub mod Ends
+pub mod Story
+pub mod Alone
+pub mod Scripts
+pub mod Turns
+pub mod Begins

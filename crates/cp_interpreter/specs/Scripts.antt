@@ -1,0 +1,96 @@
+-- Calls that run the statements of a file on a store, and commit them.
+use Rattle.std.specs.Prelude.{◌≡◌, ◌⊎◌, ℕ, ◌≤◌, List, [], ◌++◌, codes, length, nat_lt, if◌then◌else◌, true, IsTrue, Result, Ok, Err, OnOk}
+use Rattle.std.specs.declared.option.Option.{Option}
+use Rattle.std.specs.declared.option.Option.TheVariants.{None, Some}
+use Rattle.cp_outside.specs.FileReads.{FileTable}
+use Rattle.cp_clock.specs.Moments.{HasTold}
+use Rattle.cp_model.specs.History.{Entry}
+use Rattle.cp_disk.specs.Views.{Rests}
+use Rattle.cp_file.specs.Stands.{IsStore, Opens, StandsFor}
+use Rattle.cp_reply.specs.Lines.{lines}
+use Rattle.cp_reply.specs.declared.reply.Of.TheVariants as of
+use Rattle.cp_reply.specs.declared.reply.Why.{Why}
+use Rattle.cp_reply.specs.declared.reply.Why.TheVariants as why
+use Rattle.cp_reply.specs.declared.reply.Reply.TheVariants as reply
+use Rattle.cp_workspace.specs.declared.limits.TheConstants.{FILE_MAX}
+use Rattle.cp_workspace.specs.Files.{HasRead, IsTable}
+use Rattle.cp_workspace.specs.Disks.{KnownDisk}
+use Rattle.cp_workspace.specs.Workspaces.{opened_session}
+use Rattle.cp_interpreter.specs.Texts.{file_line, memory_line}
+use Rattle.cp_interpreter.specs.Outside.{World, Outside, world_of}
+use Rattle.cp_interpreter.specs.Story.{WritesLast, Leaving, left_on, Work, Did, result_of, work_on, store_terms, SaidLine, HasNotBegun, LeavesFronts}
+use Rattle.cp_interpreter.specs.declared.end.End.{End}
+use Rattle.cp_interpreter.specs.declared.end.End.TheVariants as how
+
+-- ---- scripts
+
+-- what is run after the file's own bytes
+abbrev pub commit_text : List ℕ
+commit_text = codes "\ncommit;"
+
+-- the script of a commit file, which may be none, or why there is no script
+abbrev pub script_of : Option (List ℕ) → Result (List ℕ) Why
+script_of None = Err why.NoFile
+script_of (Some bytes) = if nat_lt FILE_MAX (length bytes) then Err why.FileTooLong else Ok (bytes ++ commit_text)
+
+-- a script that is read as an input: what is left of it, and how many of its bytes were given
+pub record ScriptState : Type 0 where
+  pub left : List ℕ
+  pub given : ℕ
+
+-- the line of a commit file that is refused
+abbrev pub refused_script : Why → List ℕ
+refused_script w = lines (reply.Refused of.Commit w)
+
+-- all that a session reaches, where a script of which this is left stands in for the input
+abbrev pub reading : List ℕ → World → Outside
+reading left o = record { input = record { left = Some left; given = 0; faults = 0 }; files = o.files; clock = o.clock; output = o.output }
+
+-- The session took these bytes of the script, all of them where all was done, and did what a session over an input does.
+pub record PlayedScript (work : Work) (Leaves : Leaving) (script taken : List ℕ) (before now : World) (end : End) : Type 0 where
+  pub left : List ℕ
+  pub parts : script ≡ taken ++ left
+  pub whole : OnOk (result_of end) (left ≡ [])
+  pub did : Did work Leaves 0 taken (reading script before) (reading left now) end
+
+-- ---- commits from files
+
+-- No session was run since the commit file failed, or memory ran out while it was read; a crash leaves the history.
+pub record ScriptFailed (h : List Entry) (Leaves : Leaving) (taken moments : List ℕ) (before now : World) (end : End) : Type 0 where
+  pub ended : ((end ≡ how.File) × WritesLast before.output now.output [] file_line × HasRead before.files now.files 1) ⊎ ((end ≡ how.Memory) × WritesLast before.output now.output [] memory_line)
+  pub none_taken : taken ≡ []
+  pub none_told : moments ≡ []
+  pub left : Leaves h h
+
+-- What the script did, if there is one; else the line was written that says why there is none, and nothing was run.
+abbrev pub DidScript : Result (List ℕ) Why → Work → List Entry → Leaving → List ℕ → List ℕ → World → World → End → Type 0
+DidScript (Ok script) work h Leaves taken moments before now end = PlayedScript work Leaves script taken before now end
+DidScript (Err w) work h Leaves taken moments before now end =
+    (taken ≡ []) × (moments ≡ []) × SaidLine (refused_script w) true before.output now.output end × (end ≡ how.Refused → HasRead before.files now.files 1) × Leaves h h
+
+-- The session on the history h, which the content c tells, with the moments that were told and any after them; its commit file has been read.
+abbrev pub script_session : FileTable → List Entry → List ℕ → List ℕ → List ℕ → Work
+script_session files h c curator moments = work_on files (store_terms h c curator) (opened_session h moments) 1
+
+-- What was done on a store that stands for the history h, which the content tells at entry.
+pub record DidCommit (files : FileTable) (h : List Entry) (file curator taken moments : List ℕ) (before now : Outside) (v w : KnownDisk) (end : End) : Type 0 where
+  pub did : (rest : List ℕ) → (HasNotBegun taken moments before now end × ((c : List ℕ) → w.view.images c → v.view.images c ⊎ StandsFor h c))
+      ⊎ ScriptFailed h (left_on w) taken moments (world_of before) (world_of now) end
+      ⊎ DidScript (script_of (files file)) (script_session files h v.view.content curator (moments ++ rest)) h (left_on w) taken moments (world_of before) (world_of now) end
+  pub later : v.view.moment ≤ w.view.moment
+  pub crash : (rest : List ℕ) → LeavesFronts (script_session files h v.view.content curator (moments ++ rest)) taken v.view w.view
+
+-- A call that was to run a commit file on a store took no input; the store is opened before the file is read.
+-- What isn't opened is no store, and what is none isn't opened. What stands for a history has the session over the script.
+pub record Committed (file curator : List ℕ) (before now : Outside) (v w : KnownDisk) (end : End) : Type 0 where
+  pub input : now.input ≡ before.input
+  pub taken : List ℕ
+  pub moments : List ℕ
+  pub told : HasTold before.clock.left now.clock.left moments
+  pub fitting : end ≡ how.Usage → ⊥
+  pub fed : end ≡ how.Input → ⊥
+  pub short : end ≡ how.TooLong → ⊥
+  pub no_store : IsTrue v.known → (at : ℕ) → end ≡ how.NoStore at → HasNotBegun taken moments before now end × Rests v.view w.view × (Opens v.view.content → ⊥)
+  pub unopened : IsTrue v.known → (Opens v.view.content → ⊥) → HasNotBegun taken moments before now end × Rests v.view w.view
+  pub did : IsTrue v.known → (files : FileTable) → IsTable files before.files now.files → (h : List Entry) → IsStore true h v.view.content
+      → DidCommit files h file curator taken moments before now v w end

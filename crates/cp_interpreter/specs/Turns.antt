@@ -1,0 +1,348 @@
+-- What the steps of a session did to files, the clock, the output and the disk: for the program's own clauses.
+use Rattle.cp_interpreter.specs.declared.limits.TheConstants.{INPUT_MAX}
+use Rattle.std.specs.Prelude.{◌≡◌, ◌⊎◌, ◌↔◌, ℕ, ◌≤◌, ◌<◌, ◌+◌, List, [], ◌++◌, length, take, Bool, true, false, IsTrue, ◌||◌, Result, Ok, Err, ⊤, OnOk}
+use Rattle.std.specs.declared.option.Option.{Option}
+use Rattle.std.specs.Io.KnownBytes.{Appends, Consumes, IsAtEnd}
+use Rattle.cp_outside.specs.Causes.{Accounts, Rose}
+use Rattle.cp_outside.specs.FileReads.{FileTable}
+use Rattle.cp_outside.specs.Sinks.{TakesPart}
+use Rattle.cp_clock.specs.Moments.{HasTold}
+use Rattle.cp_lang.specs.Cuts.{Scan}
+use Rattle.cp_lang.specs.CutterState.{CutterState, held_of}
+use Rattle.cp_lang.specs.declared.cut.Cut.{Cut}
+use Rattle.cp_model.specs.Tree.{Tree}
+use Rattle.cp_model.specs.History.{Entry}
+use Rattle.cp_file.specs.Stands.{StandsFor}
+use Rattle.cp_session.specs.Session.{session_after}
+use Rattle.cp_interpreter.specs.Texts.{no_store_line, memory_line, file_line, disk_line, clock_line}
+use Rattle.cp_workspace.specs.Texts.{setting}
+use Rattle.cp_workspace.specs.Disks.{KnownDisk}
+use Rattle.cp_workspace.specs.Files.{HasRead, HasReadSome, IsTable, UsesFiles}
+use Rattle.cp_workspace.specs.Workspaces.{Stands, IsUsable, HasStamps, HoldsFile}
+use Rattle.cp_workspace.specs.declared.workspace.Workspace.{Workspace}
+use Rattle.cp_interpreter.specs.Job.{Report, report_of}
+use Rattle.cp_interpreter.specs.Play.{Seen, plays, after_play, closes, plays_all}
+use Rattle.cp_interpreter.specs.Outside.{KnownOutput, World, Outside, world_of}
+use Rattle.cp_interpreter.specs.Story.{Writes, StopsIn, WritesLast, left_on, Work, Did, after_reads, IsRunning, result_of}
+use Rattle.cp_interpreter.specs.Scripts.{script_of, ScriptFailed, DidScript}
+use Rattle.cp_interpreter.specs.declared.interpreter.Interpreter.{Interpreter}
+use Rattle.cp_interpreter.specs.declared.end.End.{End}
+use Rattle.cp_interpreter.specs.declared.end.End.TheVariants as how
+use Rattle.cp_interpreter.specs.declared.stop.Stop.{Stop}
+use Rattle.cp_interpreter.specs.declared.stop.Stop.TheVariants.{Output, Full, File, Disk, NoStore, Clock, Memory}
+
+-- ---- where the code stands
+
+-- the cutter of a session that the code keeps
+abbrev pub cutter_in : {R S : Type 0} → Interpreter R S → CutterState
+cutter_in x = x.cutter
+
+-- its workspace
+abbrev pub workspace_in : {R S : Type 0} → Interpreter R S → Workspace R S
+workspace_in x = x.workspace
+
+-- whether it wrote a refusal
+abbrev pub has_refused : {R S : Type 0} → Interpreter R S → Bool
+has_refused x = x.refused
+
+-- the code stands where the session does, and the disk, where it is known what that holds, holds its history
+pub record Follows {R S : Type 0} (view : R → Tree) (source_view : S → Tree) (v : KnownDisk) (x : Interpreter R S) (s : Seen) : Type 0 where
+  pub cutter : x.cutter ≡ held_of s.scan
+  pub stands : Stands view source_view s.terms x.workspace s.session
+  pub holds : IsTrue v.known → HoldsFile x.workspace s.session.history v
+
+-- it may go on: the cutter stands in some text, and the workspace may be used on the disk, and commit
+pub record MayGoOn {R S : Type 0} (view : R → Tree) (source_view : S → Tree) (v : KnownDisk) (x : Interpreter R S) : Type 0 where
+  pub scan : Scan
+  pub cutter : x.cutter ≡ held_of scan
+  pub usable : IsUsable view source_view v x.workspace
+  pub stamps : HasStamps x.workspace
+
+-- ---- what the outside says of a step that may stop the session
+
+-- a file failed
+abbrev pub IsFileStop : Stop → Type 0
+IsFileStop stop = stop ≡ File
+
+-- the disk failed
+abbrev pub IsDiskStop : Stop → Type 0
+IsDiskStop stop = stop ≡ Disk
+
+-- the clock failed
+abbrev pub IsClockStop : Stop → Type 0
+IsClockStop stop = stop ≡ Clock
+
+-- the output failed
+abbrev pub IsOutputStop : Stop → Type 0
+IsOutputStop stop = stop ≡ Output
+
+-- it isn't that the file is no store
+abbrev pub IsOpenedStop : Stop → Type 0
+IsOpenedStop stop = (at : ℕ) → stop ≡ NoStore at → ⊥
+
+-- The output refused a write exactly where it stopped the session.
+abbrev pub StopRefusesWrite : ℕ → ℕ → Stop → Type 0
+StopRefusesWrite before now Output = Rose before now
+StopRefusesWrite before now Full = Rose before now
+StopRefusesWrite before now File = now ≡ before
+StopRefusesWrite before now Disk = now ≡ before
+StopRefusesWrite before now (NoStore at) = now ≡ before
+StopRefusesWrite before now Clock = now ≡ before
+StopRefusesWrite before now Memory = now ≡ before
+
+-- It refused none where nothing stopped.
+abbrev pub RefusesWrite : {T : Type 0} → ℕ → ℕ → Result T Stop → Type 0
+RefusesWrite before now (Ok x) = now ≡ before
+RefusesWrite before now (Err stop) = StopRefusesWrite before now stop
+
+-- The output is blamed only where its count rose, which stays where nothing stopped; and it refused a write exactly where it stopped the session.
+pub record UsesOutput (before now : KnownOutput) (result : Result ⊤ Stop) : Type 0 where
+  pub account : Accounts IsOutputStop before.faults now.faults result
+  pub refuses : RefusesWrite before.refusals now.refusals result
+
+-- Files, clock, output and disk.
+pub record Uses (before now : World) (v w : KnownDisk) (result : Result ⊤ Stop) : Type 0 where
+  pub files : UsesFiles IsFileStop before.files now.files result
+  pub read : HasReadSome before.files now.files
+  pub clock : Accounts IsClockStop before.clock.faults now.clock.faults result
+  pub output : UsesOutput before.output now.output result
+  pub disk : Accounts IsDiskStop v.counts.faults w.counts.faults result
+
+-- ---- what was written
+
+-- Bytes were written; or the output stopped in them; or nothing was written.
+abbrev pub SendsOut : List ℕ → Option (List ℕ) → Option (List ℕ) → Result ⊤ Stop → Type 0
+SendsOut text before after (Ok x) = Appends before after text
+SendsOut text before after (Err Output) = TakesPart before after text
+SendsOut text before after (Err Full) = TakesPart before after text
+SendsOut text before after (Err File) = ⊥
+SendsOut text before after (Err Disk) = ⊥
+SendsOut text before after (Err (NoStore at)) = ⊥
+SendsOut text before after (Err Clock) = ⊥
+SendsOut text before after (Err Memory) = Appends before after []
+
+-- ---- what one cut does
+
+-- what these cuts do
+abbrev pub cuts_play : FileTable → Seen → List Cut → Report
+cuts_play files s cuts = report_of files s.terms s.session cuts
+
+-- the session after these cuts
+abbrev pub after_cuts : FileTable → Seen → List Cut → Seen
+after_cuts files s cuts = record { scan = s.scan; terms = s.terms; session = session_after (setting files s.terms) s.session cuts }
+
+-- What is reported was written and read, the moments after it are the rest, and the code follows what is seen then; or the output stopped in it, once its turn was made;
+-- or nothing was written: a file that failed is the one that is read, with a file or the clock the disk is as it was, else a crash leaves the history before or after.
+abbrev pub Goes : {R S : Type 0} → (R → Tree) → (S → Tree) → Report → Seen → List Entry → List ℕ → Interpreter R S → Interpreter R S → World → World → KnownDisk → Result ⊤ Stop → Type 0
+Goes view source_view r next h rest old new before now w (Ok x) =
+    Follows view source_view w new next × (new.refused ≡ (old.refused || r.refused)) × Appends before.output.contents now.output.contents r.out × HasRead before.files now.files r.reads × (next.session.moments ≡ rest)
+Goes view source_view r next h rest old new before now w (Err Output) = TakesPart before.output.contents now.output.contents r.out × left_on w r.history r.history
+Goes view source_view r next h rest old new before now w (Err Full) = TakesPart before.output.contents now.output.contents r.out × left_on w r.history r.history
+Goes view source_view r next h rest old new before now w (Err File) =
+    (r.reads ≡ 1) × Appends before.output.contents now.output.contents [] × HasRead before.files now.files 1 × left_on w h h
+Goes view source_view r next h rest old new before now w (Err Disk) = Appends before.output.contents now.output.contents [] × left_on w h r.history
+Goes view source_view r next h rest old new before now w (Err (NoStore at)) = ⊥
+Goes view source_view r next h rest old new before now w (Err Clock) = Appends before.output.contents now.output.contents [] × left_on w h h
+Goes view source_view r next h rest old new before now w (Err Memory) = Appends before.output.contents now.output.contents [] × left_on w h r.history
+
+-- Each file that a crash leaves meanwhile is one that it could leave before, or stands for the one history or the other.
+abbrev pub LeavesBoth : List Entry → List Entry → KnownDisk → KnownDisk → Type 0
+LeavesBoth h i v w = IsTrue v.known → (v.view.moment ≤ w.view.moment)
+    × ((t : ℕ) (c : List ℕ) → t ≤ v.view.moment → w.view.since t c → v.view.since t c ⊎ (StandsFor h c ⊎ StandsFor i c))
+
+-- Cuts were run, as the sessions do that the code follows, with the moments that the clock told and any after them.
+pub record Went {R S : Type 0} (view : R → Tree) (source_view : S → Tree) (report : FileTable → Seen → Report) (after : FileTable → Seen → Seen) (old new : Interpreter R S) (before now : World) (v w : KnownDisk) (result : Result ⊤ Stop) : Type 0 where
+  pub moments : List ℕ
+  pub told : HasTold before.clock.left now.clock.left moments
+  pub goes : (files : FileTable) → IsTable files before.files now.files → (s : Seen) (rest : List ℕ) → Follows view source_view v old s → s.session.moments ≡ moments ++ rest
+      → Goes view source_view (report files s) (after files s) s.session.history rest old new before now w result × LeavesBoth s.session.history (report files s).history v w
+
+-- ---- what the bytes of a piece do
+
+-- the output stopped in what is written up to some byte
+pub record StopsWriting (files : FileTable) (s : Seen) (bytes : List ℕ) (before now : World) (w : KnownDisk) : Type 0 where
+  pub at : ℕ
+  pub within : at ≤ length bytes
+  pub wrote : TakesPart before.output.contents now.output.contents (plays files s (take at bytes)).out
+  pub left : left_on w (plays files s (take at bytes)).history (plays files s (take at bytes)).history
+
+-- a file failed at the load that ends with the byte at this position: all before it was written and read
+pub record StopsAtLoad (files : FileTable) (s : Seen) (bytes : List ℕ) (before now : World) (w : KnownDisk) : Type 0 where
+  pub at : ℕ
+  pub inside : at < length bytes
+  pub load : (plays files s (take (at + 1) bytes)).reads ≡ (plays files s (take at bytes)).reads + 1
+  pub wrote : Appends before.output.contents now.output.contents (plays files s (take at bytes)).out
+  pub read : HasRead before.files now.files ((plays files s (take at bytes)).reads + 1)
+  pub left : left_on w (plays files s (take at bytes)).history (plays files s (take at bytes)).history
+
+-- the clock failed in the statement that ends with the byte at this position: all before it was written
+pub record StopsAtClock (files : FileTable) (s : Seen) (bytes : List ℕ) (before now : World) (w : KnownDisk) : Type 0 where
+  pub at : ℕ
+  pub within : at ≤ length bytes
+  pub wrote : Appends before.output.contents now.output.contents (plays files s (take at bytes)).out
+  pub left : left_on w (plays files s (take at bytes)).history (plays files s (take at bytes)).history
+
+-- the disk failed or memory ran out in the statement that ends with the byte at this position: all before it was written
+pub record StopsInside (files : FileTable) (s : Seen) (bytes : List ℕ) (before now : World) (w : KnownDisk) : Type 0 where
+  pub at : ℕ
+  pub within : at ≤ length bytes
+  pub wrote : Appends before.output.contents now.output.contents (plays files s (take at bytes)).out
+  pub left : left_on w (plays files s (take at bytes)).history (plays files s (take (at + 1) bytes)).history
+
+-- Bytes were played, or a front part of them where something stopped the session.
+abbrev pub Fed : {R S : Type 0} → (R → Tree) → (S → Tree) → FileTable → Seen → List ℕ → List ℕ → Interpreter R S → Interpreter R S → World → World → KnownDisk → Result ⊤ Stop → Type 0
+Fed view source_view files s bytes rest old new before now w (Ok x) =
+    Goes view source_view (plays files s bytes) (after_play files s bytes) s.session.history rest old new before now w (Ok x)
+Fed view source_view files s bytes rest old new before now w (Err Output) = StopsWriting files s bytes before now w
+Fed view source_view files s bytes rest old new before now w (Err Full) = StopsWriting files s bytes before now w
+Fed view source_view files s bytes rest old new before now w (Err File) = StopsAtLoad files s bytes before now w
+Fed view source_view files s bytes rest old new before now w (Err Disk) = StopsInside files s bytes before now w
+Fed view source_view files s bytes rest old new before now w (Err (NoStore at)) = ⊥
+Fed view source_view files s bytes rest old new before now w (Err Clock) = StopsAtClock files s bytes before now w
+Fed view source_view files s bytes rest old new before now w (Err Memory) = StopsInside files s bytes before now w
+
+-- Each file that a crash leaves meanwhile is one that it could leave before, or stands for the history after a front part of the bytes.
+abbrev pub LeavesAlong : FileTable → Seen → List ℕ → KnownDisk → KnownDisk → Type 0
+LeavesAlong files s bytes v w = IsTrue v.known → (v.view.moment ≤ w.view.moment)
+    × ((t : ℕ) (c : List ℕ) → t ≤ v.view.moment → w.view.since t c → v.view.since t c ⊎ ((k : ℕ) × (k ≤ length bytes) × StandsFor (plays files s (take k bytes)).history c))
+
+-- A piece was fed, as to the sessions that the code follows, with the moments that the clock told and any after them.
+pub record WasFed {R S : Type 0} (view : R → Tree) (source_view : S → Tree) (bytes : List ℕ) (old new : Interpreter R S) (before now : World) (v w : KnownDisk) (result : Result ⊤ Stop) : Type 0 where
+  pub moments : List ℕ
+  pub told : HasTold before.clock.left now.clock.left moments
+  pub fed : (files : FileTable) → IsTable files before.files now.files → (s : Seen) (rest : List ℕ) → Follows view source_view v old s → s.session.moments ≡ moments ++ rest
+      → Fed view source_view files s bytes rest old new before now w result × LeavesAlong files s bytes v w
+
+-- ---- the input's end
+
+-- The cut at the end of the input was run, and the code knows whether a refusal was written; or as with other lines. It reads no file, asks no clock and adds no entry.
+abbrev pub RunsLast : {R S : Type 0} → FileTable → Seen → Interpreter R S → Interpreter R S → World → World → KnownDisk → Result ⊤ Stop → Type 0
+RunsLast files s old new before now w (Ok x) =
+    (new.refused ≡ (old.refused || (closes files s).refused)) × Appends before.output.contents now.output.contents (closes files s).out × HasRead before.files now.files 0 × left_on w s.session.history s.session.history
+RunsLast files s old new before now w (Err Output) = TakesPart before.output.contents now.output.contents (closes files s).out × left_on w s.session.history s.session.history
+RunsLast files s old new before now w (Err Full) = TakesPart before.output.contents now.output.contents (closes files s).out × left_on w s.session.history s.session.history
+RunsLast files s old new before now w (Err File) = ⊥
+RunsLast files s old new before now w (Err Disk) = Appends before.output.contents now.output.contents [] × left_on w s.session.history s.session.history
+RunsLast files s old new before now w (Err (NoStore at)) = ⊥
+RunsLast files s old new before now w (Err Clock) = Appends before.output.contents now.output.contents [] × left_on w s.session.history s.session.history
+RunsLast files s old new before now w (Err Memory) = Appends before.output.contents now.output.contents [] × left_on w s.session.history s.session.history
+
+-- The last cut was run, as the sessions do that the code follows, with the moments that the clock told and any after them.
+pub record RanLast {R S : Type 0} (view : R → Tree) (source_view : S → Tree) (old new : Interpreter R S) (before now : World) (v w : KnownDisk) (result : Result ⊤ Stop) : Type 0 where
+  pub moments : List ℕ
+  pub told : HasTold before.clock.left now.clock.left moments
+  pub runs : (files : FileTable) → IsTable files before.files now.files → (s : Seen) (rest : List ℕ) → Follows view source_view v old s → s.session.moments ≡ moments ++ rest
+      → RunsLast files s old new before now w result × LeavesBoth s.session.history s.session.history v w
+
+-- ---- how a session ends
+
+-- the end of a call whose session stopped so
+abbrev pub end_of_stop : Stop → End
+end_of_stop Output = how.Output
+end_of_stop Full = how.Memory
+end_of_stop File = how.File
+end_of_stop Disk = how.Disk
+end_of_stop (NoStore at) = how.NoStore at
+end_of_stop Clock = how.Clock
+end_of_stop Memory = how.Memory
+
+-- The last line of a stop: where the output stopped the session there is none.
+abbrev pub TellsStop : KnownOutput → KnownOutput → Stop → Type 0
+TellsStop before now Output = now ≡ before
+TellsStop before now Full = now ≡ before
+TellsStop before now File = WritesLast before now [] file_line
+TellsStop before now Disk = WritesLast before now [] disk_line
+TellsStop before now (NoStore at) = WritesLast before now [] (no_store_line at)
+TellsStop before now Clock = WritesLast before now [] clock_line
+TellsStop before now Memory = WritesLast before now [] memory_line
+
+-- a report, where a refusal may have been written before
+abbrev pub with_refusal : Bool → Report → Report
+with_refusal refused r = record r { refused = refused || r.refused }
+
+-- the ends of a session whose input has ended
+pub record IsClosing (end : End) : Type 0 where
+  pub running : IsRunning end
+  pub input : end ≡ how.Input → ⊥
+  pub too_much : end ≡ how.TooLong → ⊥
+
+-- the work of a session that stands at s, and maybe wrote a refusal
+abbrev pub work_from : FileTable → Seen → Bool → Work
+work_from files s refused = record { so_far = λ bytes. plays files s bytes; whole = λ bytes. with_refusal refused (plays_all files s bytes) }
+
+-- The session of x, after so many bytes, ran to this end.
+pub record RanFrom {R S : Type 0} (view : R → Tree) (source_view : S → Tree) (x : Interpreter R S) (count : ℕ) (before now : Outside) (v w : KnownDisk) (end : End) : Type 0 where
+  pub taken : List ℕ
+  pub took : Consumes before.input.left now.input.left taken
+  pub counted : now.input.given ≡ before.input.given + length taken
+  pub too_much : (end ≡ how.TooLong) ↔ (INPUT_MAX < count + length taken)
+  pub moments : List ℕ
+  pub told : HasTold before.clock.left now.clock.left moments
+  pub running : IsRunning end
+  pub ended : OnOk (result_of end) (IsAtEnd now.input.left)
+  pub did : (files : FileTable) → IsTable files before.files now.files → (s : Seen) (rest : List ℕ) → Follows view source_view v x s → s.session.moments ≡ moments ++ rest
+      → Did (work_from files s x.refused) (left_on w) count taken before now end × LeavesAlong files s taken v w
+
+-- The session is over.
+abbrev pub Closes : FileTable → Seen → Bool → World → World → KnownDisk → End → Type 0
+Closes files s refused before now w how.Done =
+    ((refused || (closes files s).refused) ≡ false) × Writes before.output now.output (closes files s).out × HasRead before.files now.files 0 × left_on w s.session.history s.session.history
+Closes files s refused before now w how.Refused =
+    ((refused || (closes files s).refused) ≡ true) × Writes before.output now.output (closes files s).out × HasRead before.files now.files 0 × left_on w s.session.history s.session.history
+Closes files s refused before now w how.Usage = ⊥
+Closes files s refused before now w how.Input = ⊥
+Closes files s refused before now w how.File = ⊥
+Closes files s refused before now w how.Output = StopsIn before.output now.output (closes files s).out × left_on w s.session.history s.session.history
+Closes files s refused before now w how.Disk = WritesLast before.output now.output [] disk_line × left_on w s.session.history s.session.history
+Closes files s refused before now w (how.NoStore at) = ⊥
+Closes files s refused before now w how.Memory =
+    (StopsIn before.output now.output (closes files s).out × left_on w s.session.history s.session.history)
+    ⊎ (WritesLast before.output now.output [] memory_line × left_on w s.session.history s.session.history)
+Closes files s refused before now w how.TooLong = ⊥
+Closes files s refused before now w how.Clock = WritesLast before.output now.output [] clock_line × left_on w s.session.history s.session.history
+
+-- The same, as to the sessions that the code follows, with the moments that the clock told and any after them.
+pub record HasClosed {R S : Type 0} (view : R → Tree) (source_view : S → Tree) (x : Interpreter R S) (before now : World) (v w : KnownDisk) (end : End) : Type 0 where
+  pub moments : List ℕ
+  pub told : HasTold before.clock.left now.clock.left moments
+  pub closing : IsClosing end
+  pub closed : (files : FileTable) → IsTable files before.files now.files → (s : Seen) (rest : List ℕ) → Follows view source_view v x s → s.session.moments ≡ moments ++ rest
+      → Closes files s x.refused before now w end × LeavesBoth s.session.history s.session.history v w
+
+-- The next bytes were taken and played.
+pub record TookPiece {R S : Type 0} (view : R → Tree) (source_view : S → Tree) (old new : Interpreter R S) (count later : ℕ) (before now : Outside) (v w : KnownDisk) : Type 0 where
+  pub bytes : List ℕ
+  pub took : Consumes before.input.left now.input.left bytes
+  pub counted : now.input.given ≡ before.input.given + length bytes
+  pub sum : later ≡ count + length bytes
+  pub moments : List ℕ
+  pub told : HasTold before.clock.left now.clock.left moments
+  pub played : (files : FileTable) → IsTable files before.files now.files → (s : Seen) (rest : List ℕ) → Follows view source_view v old s → s.session.moments ≡ moments ++ rest
+      → Goes view source_view (plays files s bytes) (after_play files s bytes) s.session.history rest old new (world_of before) (world_of now) w (Ok tt) × LeavesAlong files s bytes v w
+
+-- Turns in which nothing failed: no count of faults rose, and the output refused nothing.
+pub record IsSteady (before now : Outside) (v w : KnownDisk) : Type 0 where
+  pub input : now.input.faults ≡ before.input.faults
+  pub found : now.files.found ≡ before.files.found
+  pub read : HasReadSome before.files now.files
+  pub files : now.files.faults ≡ before.files.faults
+  pub clock : now.clock.faults ≡ before.clock.faults
+  pub output : now.output.faults ≡ before.output.faults
+  pub refused : now.output.refusals ≡ before.output.refusals
+  pub disk : w.counts.faults ≡ v.counts.faults
+
+-- ---- scripts
+
+-- the work of a session that stands at s, and maybe wrote a refusal, whose script has been read
+abbrev pub script_from : FileTable → Seen → Bool → Work
+script_from files s refused = record { so_far = λ bytes. after_reads 1 (plays files s bytes); whole = λ bytes. after_reads 1 (with_refusal refused (plays_all files s bytes)) }
+
+-- The script of the commit file with this name was run in the session of x, or there is none.
+pub record RanScript {R S : Type 0} (view : R → Tree) (source_view : S → Tree) (x : Interpreter R S) (file : List ℕ) (before now : World) (v w : KnownDisk) (end : End) : Type 0 where
+  pub taken : List ℕ
+  pub moments : List ℕ
+  pub told : HasTold before.clock.left now.clock.left moments
+  pub closing : IsClosing end
+  pub did : (files : FileTable) → IsTable files before.files now.files → (s : Seen) (rest : List ℕ) → Follows view source_view v x s → s.session.moments ≡ moments ++ rest
+      → (ScriptFailed s.session.history (left_on w) taken moments before now end ⊎ DidScript (script_of (files file)) (script_from files s x.refused) s.session.history (left_on w) taken moments before now end)
+      × LeavesAlong files s taken v w

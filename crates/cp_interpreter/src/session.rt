@@ -1,0 +1,127 @@
+//! A session over an input, from its first byte to its end.
+ghost use Rattle.std.specs.Prelude.{◌≤◌, ◌<◌, length, IfOk, IfErr};
+ghost use Rattle.cp_workspace.specs.Disks.{known_disk};
+ghost use Rattle.cp_workspace.specs.Files.{known_files, HasReadSome};
+ghost use Rattle.cp_interpreter.specs.Outside.{known_world, known_outside};
+ghost use Rattle.cp_interpreter.specs.Story.{WorldCauses, HasCauses, DiskCauses};
+ghost use Rattle.cp_interpreter.specs.Turns.{MayGoOn, HasClosed, RanFrom, TookPiece, IsSteady};
+
+use crate::end::End;
+use crate::interpreter::Interpreter;
+use crate::limits::{INPUT_MAX, PIECE_MAX};
+use crate::tell::{last_line, stopped};
+use cp_clock::Clock;
+use cp_disk::Disk;
+use cp_outside::{Files, Sink, Source};
+use cp_tree::TreeRep;
+
+/// The input has ended.
+fn closing<R: TreeRep, S: TreeRep, D: Disk, F: Files, K: Clock, O: Sink>(
+    session: &mut Interpreter<R, S>,
+    disk: &mut D,
+    files: &mut F,
+    clock: &mut K,
+    output: &mut O,
+) -> End
+    requires goes_on { MayGoOn R.contents S.contents (known_disk D.Disk disk.old) session.old }
+    ensures closed { HasClosed R.contents S.contents session.old
+        (known_world F.Files K.Clock O.Sink files.old clock.old output.old) (known_world F.Files K.Clock O.Sink files.new clock.new output.new)
+        (known_disk D.Disk disk.old) (known_disk D.Disk disk.new) result }
+    ensures read { HasReadSome (known_files F.Files files.old) (known_files F.Files files.new) }
+    ensures causes { WorldCauses (known_world F.Files K.Clock O.Sink files.old clock.old output.old) (known_world F.Files K.Clock O.Sink files.new clock.new output.new) result }
+    ensures disk { DiskCauses (known_disk D.Disk disk.old) (known_disk D.Disk disk.new) result }
+{
+    match session.close(disk, files, clock, output) {
+        Ok(()) if session.refused() => End::Refused,
+        Ok(()) => End::Done,
+        Err(stop) => stopped(output, stop),
+    }
+}
+
+/// Takes the next piece of the input, and runs the statements that end in it. The number is that of the bytes so far.
+fn turn<R: TreeRep, S: TreeRep, D: Disk, F: Files, K: Clock, I: Source, O: Sink>(
+    session: &mut Interpreter<R, S>,
+    piece: &mut [u8],
+    disk: &mut D,
+    files: &mut F,
+    clock: &mut K,
+    input: &mut I,
+    output: &mut O,
+    before: u64,
+) -> Result<u64, End>
+    requires goes_on { MayGoOn R.contents S.contents (known_disk D.Disk disk.old) session.old }
+    requires taken { before ≤ INPUT_MAX }
+    requires room { 0 < length piece.old }
+    requires bounded { length piece.old ≤ PIECE_MAX }
+    ensures goes_on { IfOk result (λ n. (before < n) × (n ≤ INPUT_MAX) × MayGoOn R.contents S.contents (known_disk D.Disk disk.new) session.new) }
+    ensures took { IfOk result (λ n. TookPiece R.contents S.contents session.old session.new before n
+        (known_outside F.Files K.Clock I.Source O.Sink files.old clock.old input.old output.old)
+        (known_outside F.Files K.Clock I.Source O.Sink files.new clock.new input.new output.new)
+        (known_disk D.Disk disk.old) (known_disk D.Disk disk.new)) }
+    ensures steady { IfOk result (λ n. IsSteady
+        (known_outside F.Files K.Clock I.Source O.Sink files.old clock.old input.old output.old)
+        (known_outside F.Files K.Clock I.Source O.Sink files.new clock.new input.new output.new)
+        (known_disk D.Disk disk.old) (known_disk D.Disk disk.new)) }
+    ensures ends { IfErr result (λ end. RanFrom R.contents S.contents session.old before
+        (known_outside F.Files K.Clock I.Source O.Sink files.old clock.old input.old output.old)
+        (known_outside F.Files K.Clock I.Source O.Sink files.new clock.new input.new output.new)
+        (known_disk D.Disk disk.old) (known_disk D.Disk disk.new) end) }
+    ensures causes { IfErr result (λ end. HasCauses
+        (known_outside F.Files K.Clock I.Source O.Sink files.old clock.old input.old output.old)
+        (known_outside F.Files K.Clock I.Source O.Sink files.new clock.new input.new output.new) end) }
+    ensures disk { IfErr result (λ end. DiskCauses (known_disk D.Disk disk.old) (known_disk D.Disk disk.new) end) }
+    ensures read { HasReadSome (known_files F.Files files.old) (known_files F.Files files.new) }
+{
+    let Ok(count) = input.read(piece) else {
+        last_line(output, b"error: input\n");
+        return Err(End::Input);
+    };
+    if count == 0 {
+        return Err(closing(session, disk, files, clock, output));
+    }
+    let now = before + count as u64;
+    if now > INPUT_MAX {
+        last_line(output, b"error: input too long\n");
+        return Err(End::TooLong);
+    }
+    match session.feed(&piece[..count], disk, files, clock, output) {
+        Ok(()) => Ok(now),
+        Err(stop) => Err(stopped(output, stop)),
+    }
+}
+
+/// Runs a session over an input until it ends, and says how it ended. A read asks for at most as many bytes as `piece` has.
+/// Each statement is run where its end comes, and its lines are written before the next is run.
+///
+/// The input is taken to its end, unless something fails or it has more than `INPUT_MAX` bytes. Then what was written and run
+/// before stays, and the last line says what it was, if the output still takes one.
+pub fn turns<R: TreeRep, S: TreeRep, D: Disk, F: Files, K: Clock, I: Source, O: Sink>(
+    session: &mut Interpreter<R, S>,
+    piece: &mut [u8],
+    disk: &mut D,
+    files: &mut F,
+    clock: &mut K,
+    input: &mut I,
+    output: &mut O,
+) -> End
+    requires goes_on { MayGoOn R.contents S.contents (known_disk D.Disk disk.old) session.old }
+    requires room { 0 < length piece.old }
+    requires bounded { length piece.old ≤ PIECE_MAX }
+    ensures ran { RanFrom R.contents S.contents session.old 0
+        (known_outside F.Files K.Clock I.Source O.Sink files.old clock.old input.old output.old)
+        (known_outside F.Files K.Clock I.Source O.Sink files.new clock.new input.new output.new)
+        (known_disk D.Disk disk.old) (known_disk D.Disk disk.new) result }
+    ensures causes { HasCauses
+        (known_outside F.Files K.Clock I.Source O.Sink files.old clock.old input.old output.old)
+        (known_outside F.Files K.Clock I.Source O.Sink files.new clock.new input.new output.new) result }
+    ensures disk { DiskCauses (known_disk D.Disk disk.old) (known_disk D.Disk disk.new) result }
+    ensures read { HasReadSome (known_files F.Files files.old) (known_files F.Files files.new) }
+{
+    let mut taken = 0;
+    loop {
+        match turn(session, piece, disk, files, clock, input, output, taken) {
+            Ok(now) => taken = now,
+            Err(end) => return end,
+        }
+    }
+}

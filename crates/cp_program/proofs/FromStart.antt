@@ -1,0 +1,191 @@
+-- A run in memory is the session's job, from its start tree on.
+use Rattle.std.proofs.Common.{◌≡◌, ℕ, ◌+◌, List, [], true, false, Ok, Err, refl, inl, inr, sym, ap, subst, ◌∙◌, ◌++◌, ◌∷◌, arith}
+use Rattle.std.specs.Prelude.{⊤, ◌⊎◌, OnOk, Result}
+use Rattle.std.specs.Io.KnownBytes.{IsAtEnd}
+use Rattle.std.specs.declared.option.Option.{Option}
+use Rattle.std.proofs.KnownBytes.{Consumes-nil}
+use Rattle.cp_outside.specs.FileReads.{FileTable}
+use Rattle.cp_outside.specs.declared.files.FilesFault.{FilesFault}
+use Rattle.cp_outside.specs.declared.files.FilesFault.TheVariants as fails
+use Rattle.cp_clock.proofs.Telling.{told-none}
+use Rattle.cp_lang.specs.Cuts.{scan_start}
+use Rattle.cp_lang.specs.CutterState.{held_of}
+use Rattle.cp_journal.specs.declared.limits.TheConstants.{HEADER_SIZE, FRAME_HEAD}
+use Rattle.cp_file.specs.Sizes.{start_size}
+use Rattle.cp_db.specs.Databases.{IsKept, IsReady, end_in, version_in}
+use Rattle.cp_db.specs.declared.database.Db.{Db}
+use Rattle.cp_model.specs.Place.{Label}
+use Rattle.cp_model.specs.History.{start}
+use Rattle.cp_model.specs.Tree.{Tree}
+use Rattle.cp_model.specs.declared.kind.Kind.{Kind}
+use Rattle.cp_session.specs.Session.{FetchedFile, gives, withholds}
+use Rattle.cp_reply.specs.declared.reply.Why.{Why}
+use Rattle.cp_workspace.specs.Fetched.{Gives}
+use Rattle.cp_workspace.specs.Files.{KnownFiles, HasRead, HasReadSome, IsTable, ReadsBefore}
+use Rattle.cp_workspace.specs.Disks.{KnownDisk}
+use Rattle.cp_workspace.specs.Workspaces.{Stands, IsWorkspace, IsUsable, HasStamps, HoldsFile, db_in, end_now}
+use Rattle.cp_workspace.specs.declared.workspace.Workspace.{Workspace}
+use Rattle.cp_workspace.specs.Faults.{IsFailedFile}
+use Rattle.cp_workspace.proofs.ReadCounts.{table-first, table-second}
+use Rattle.cp_interpreter.specs.Texts.{file_line, memory_line}
+use Rattle.cp_scratch.specs.Sessions.{scratch_session, scratch_terms}
+use Rattle.cp_program.specs.Starts.{refused_start, DidFrom, Ran}
+use Rattle.cp_interpreter.specs.Outside.{KnownInput, KnownClock, KnownOutput, Outside}
+use Rattle.cp_interpreter.specs.Play.{begun}
+use Rattle.cp_interpreter.specs.Story.{WritesLast, SaidLine, left_on, Did, result_of}
+use Rattle.cp_program.specs.Begun.{Begun}
+use Rattle.cp_interpreter.specs.Turns.{Follows, MayGoOn, work_from, RanFrom, TellsStop, end_of_stop, cutter_in, workspace_in, has_refused}
+use Rattle.cp_interpreter.specs.declared.interpreter.Interpreter.{Interpreter}
+use Rattle.cp_interpreter.specs.declared.end.End.{End}
+use Rattle.cp_interpreter.specs.declared.end.End.TheVariants as how
+use Rattle.cp_interpreter.specs.declared.stop.Stop.{Stop}
+use Rattle.cp_interpreter.specs.declared.stop.Stop.TheVariants.{File, Memory}
+use Rattle.cp_interpreter.proofs.Runs.{parts}
+use Rattle.cp_interpreter.proofs.Whole.{played-none, did-start, said-running, said-short}
+
+-- ---- from the start tree on
+
+-- what holds of an end at which all was done
+on-done : {P Q : Type 0} (r : Result ⊤ End) → (P → Q) → OnOk r P → OnOk r Q
+on-done (Ok x) f h = f h
+on-done (Err e) f h = tt
+
+-- a run of a session that begins on its start tree
+pub ran-begun : {R S : Type 0} (view : R → Tree) (source_view : S → Tree) (j : Kind) (given : FileTable → FetchedFile) (k : ℕ) (x : Interpreter R S) (i : KnownInput) (f fb : KnownFiles) (c : KnownClock) (o : KnownOutput) (a : Outside) (v w : KnownDisk) (e : End)
+    → fb.found ≡ f.found → HasRead f fb k → HasReadSome fb a.files → has_refused x ≡ false → ((t : FileTable) → IsTable t f fb → Begun view source_view v j (given t) (Ok x)) → RanFrom view source_view x 0 (parts i fb c o) a v w e → Ran j given k (parts i f c o) a e
+ran-begun {R} {S} view source_view j given k x i f fb c o a v w e same read more none begins ran = record {
+  taken = ran.taken;
+  took = ran.took;
+  counted = ran.counted;
+  too_much = (λ h. omega (arith, ran.too_much.0 h), λ l. ran.too_much.1 (omega (arith, l)));
+  moments = ran.moments;
+  told = ran.told;
+  running = ran.running;
+  ended = on-done (result_of e) (λ h. inl h) ran.ended;
+  did = λ files t.
+      (let first = table-first f fb a.files (k, read) more files t in
+      inr (did_from files (given files) (begins files first) (table-second f fb a.files (k, read) more files same t)));
+}
+  where
+    did_from : (files : FileTable) (g : FetchedFile) → Begun view source_view v j g (Ok x) → IsTable files fb a.files → DidFrom j files g k ran.moments ran.taken (parts i f c o) a e
+    did_from files (gives t) b table = λ rest.
+        let s = scratch_session j t (ran.moments ++ rest) in
+        let d = ran.did files table (begun (scratch_terms j t) s) rest (b (ran.moments ++ rest)) refl in
+        did-start files (scratch_terms j t) s k ran.taken i f fb c o a (left_on w) read e (subst (λ z. Did (work_from files (begun (scratch_terms j t) s) z) (left_on w) 0 ran.taken (parts i fb c o) a e) none d.0)
+    did_from files (withholds y) b table = absurd b
+
+-- a session begins on the tree that is given
+pub begun-given : {R S : Type 0} (view : R → Tree) (source_view : S → Tree) (v : KnownDisk) (j : Kind) (g : FetchedFile) (tree : R) (x : Interpreter R S) → Gives view g (Ok tree)
+    → ((moments : List ℕ) → Follows view source_view v x (begun (scratch_terms j (view tree)) (scratch_session j (view tree) moments))) → Begun view source_view v j g (Ok x)
+begun-given view source_view v j (gives t) tree x h f = subst (λ u. (moments : List ℕ) → Follows view source_view v x (begun (scratch_terms j u) (scratch_session j u moments))) h f
+begun-given view source_view v j (withholds y) tree x h f = absurd h
+
+pub refused-given : {R S : Type 0} (view : R → Tree) (source_view : S → Tree) (v : KnownDisk) (j : Kind) (g : FetchedFile) (w : Why) → Gives view g (Err w) → Begun {R = R} {S = S} view source_view v j g (Err w)
+refused-given view source_view v j (gives t) w h = absurd h
+refused-given view source_view v j (withholds y) w h = h
+
+-- a session on a database that was just made
+module _ {R S : Type 0} (view : R → Tree) (source_view : S → Tree) (d : Db R S) (m : Workspace R S) (x : Interpreter R S) (v : KnownDisk) (same : db_in m ≡ d) (cutter : cutter_in x ≡ held_of scan_start) (workspace : workspace_in x ≡ m) where
+  -- follows the one on its history
+  pub scratch-follows : (j : Kind) (t : Tree) (curator : Label) → curator ≡ [] → end_in d ≡ HEADER_SIZE + FRAME_HEAD + start_size t → IsKept true d (start j t ∷ []) v.view
+      → ((moments : List ℕ) → Stands view source_view (record { ends = end_now (start j t ∷ []) d; curator = curator }) m (scratch_session j t moments))
+      → (moments : List ℕ) → Follows view source_view v x (begun (scratch_terms j t) (scratch_session j t moments))
+  scratch-follows j t curator none size kept stands moments =
+      let h = start j t ∷ [] in
+      let s = scratch_session j t moments in
+      let P : ℕ → Type 0 = λ n. Stands view source_view (record { ends = record { entries = h; at = n }; curator = curator }) m s in
+      let Q : Label → Type 0 = λ a. Stands view source_view (record { ends = record { entries = h; at = HEADER_SIZE + FRAME_HEAD + start_size t }; curator = a }) m s in
+      record {
+        cutter = cutter;
+        stands = subst (λ z. Stands view source_view (scratch_terms j t) z s) (sym workspace) (subst Q none (subst P size (stands moments)));
+        holds = λ known. subst (λ z. HoldsFile z h v) (sym workspace) (subst (λ z. IsKept true z h v.view) (sym same) kept);
+      }
+
+  -- and may go on
+  pub scratch-goes_on : IsWorkspace view source_view m → IsReady d v.view → version_in d ≡ 2 → MayGoOn view source_view v x
+  scratch-goes_on w r two = record {
+    scan = scan_start;
+    cutter = cutter;
+    usable = subst (IsUsable view source_view v) (sym workspace) (record { workspace = w; ready = λ known. subst (λ z. IsReady z v.view) (sym same) r });
+    stamps = subst HasStamps (sym workspace) (ap version_in same ∙ two);
+  }
+
+-- ---- calls that run no session
+
+-- where all was done the start tree is refused
+refused-end : (line : List ℕ) (o p : KnownOutput) (taken : List ℕ) (left : Option (List ℕ)) (e : End) → taken ≡ [] → SaidLine line true o p e → OnOk (result_of e) (IsAtEnd left ⊎ ((e ≡ how.Refused) × (taken ≡ [])))
+refused-end line o p taken left how.Done none w = absurd (cc)
+refused-end line o p taken left how.Refused none w = inr (refl, none)
+refused-end line o p taken left how.Usage none w = tt
+refused-end line o p taken left how.Input none w = tt
+refused-end line o p taken left how.File none w = tt
+refused-end line o p taken left how.Output none w = tt
+refused-end line o p taken left how.Disk none w = tt
+refused-end line o p taken left (how.NoStore at) none w = tt
+refused-end line o p taken left how.Memory none w = tt
+refused-end line o p taken left how.TooLong none w = tt
+refused-end line o p taken left how.Clock none w = tt
+
+module _ (j : Kind) (given : FileTable → FetchedFile) (k : ℕ) (i : KnownInput) (f fb : KnownFiles) (c : KnownClock) (o p : KnownOutput) where
+  -- a start tree is refused
+  pub ran-refused : {R S : Type 0} (view : R → Tree) (source_view : S → Tree) (v : KnownDisk) (y : Why) (e : End) → HasRead f fb k → ((t : FileTable) → IsTable t f fb → Begun {R = R} {S = S} view source_view v j (given t) (Err y)) → SaidLine (refused_start y) true o p e
+      → Ran j given k (parts i f c o) (parts i fb c p) e
+  ran-refused {R} {S} view source_view v y e read begins w = record {
+    taken = [];
+    took = Consumes-nil i.left;
+    counted = omega arith;
+    too_much = (λ h. absurd (said-short (refused_start y) true o p e w h), λ l. absurd (omega (arith, l)));
+    moments = [];
+    told = told-none c.left;
+    running = said-running (refused_start y) true o p e w;
+    ended = refused-end (refused_start y) o p [] i.left e refl w;
+    did = λ files t. inr (did_from files (given files) (begins files t));
+  }
+    where
+      did_from : (files : FileTable) (g : FetchedFile) → Begun {R = R} {S = S} view source_view v j g (Err y) → DidFrom j files g k [] [] (parts i f c o) (parts i fb c p) e
+      did_from files (gives t) b = absurd b
+      did_from files (withholds z) b = (refl, subst (λ q. SaidLine (refused_start q) true o p e) b w, λ h. read)
+
+  -- memory ran out before a byte was taken
+  pub ran-out : WritesLast o p [] memory_line → Ran j given k (parts i f c o) (parts i fb c p) how.Memory
+  ran-out w = record {
+    taken = [];
+    took = Consumes-nil i.left;
+    counted = omega arith;
+    too_much = (λ h. absurd (cc), λ l. absurd (omega (arith, l)));
+    moments = [];
+    told = told-none c.left;
+    running = record { fitting = λ h. absurd (cc); opened = λ at h. absurd (cc) };
+    ended = tt;
+    did = λ files t. inr (did_from files (given files));
+  }
+    where
+      did_from : (files : FileTable) (g : FetchedFile) → DidFrom j files g k [] [] (parts i f c o) (parts i fb c p) how.Memory
+      did_from files (gives t) = λ rest. inr (record {
+        at = 0;
+        within = omega arith;
+        wrote = subst (λ z. WritesLast o p z memory_line) (sym (played-none files (scratch_terms j t) (scratch_session j t ([] ++ rest)))) w;
+        left = tt;
+      })
+      did_from files (withholds z) = (refl, inr w, λ h. absurd (cc))
+
+  -- a call was stopped before it took a byte: by its start tree's file, or as memory ran out
+  pub ran-early : (fault : FilesFault) (stop : Stop) → (fault ≡ fails.Failed → stop ≡ File) × (fault ≡ fails.Memory → stop ≡ Memory) → ReadsBefore IsFailedFile k f fb fault → TellsStop o p stop → Ran j given k (parts i f c o) (parts i fb c p) (end_of_stop stop)
+  ran-early fails.Failed stop becomes r w =
+      let is = becomes.0 refl in
+      let x = r.blamed refl in
+      let last : WritesLast o p [] file_line = subst (TellsStop o p) is w in
+      subst (λ z. Ran j given k (parts i f c o) (parts i fb c p) (end_of_stop z)) (sym is) (record {
+        taken = [];
+        took = Consumes-nil i.left;
+        counted = omega arith;
+        too_much = (λ h. absurd (cc), λ l. absurd (omega (arith, l)));
+        moments = [];
+        told = told-none c.left;
+        running = record { fitting = λ h. absurd (cc); opened = λ at h. absurd (cc) };
+        ended = tt;
+        did = λ files t. inl (refl, x.0, refl, last, x.1);
+      })
+  ran-early fails.Memory stop becomes r w =
+      let is = becomes.1 refl in
+      subst (λ z. Ran j given k (parts i f c o) (parts i fb c p) (end_of_stop z)) (sym is) (ran-out (subst (TellsStop o p) is w))

@@ -1,0 +1,72 @@
+-- What a history starts from, and what a session in memory did from there.
+use Rattle.std.specs.Prelude.{ℕ, ◌+◌, List, [], true, ◌≡◌, ◌⊎◌, ◌↔◌, ◌<◌, ◌++◌, length, OnOk}
+use Rattle.cp_model.specs.Place.{target}
+use Rattle.cp_model.specs.declared.query.Form.TheVariants.{Json}
+use Rattle.cp_lang.specs.declared.syntax_tree.Load.{Load}
+use Rattle.cp_reply.specs.Lines.{lines}
+use Rattle.cp_reply.specs.declared.reply.Of.TheVariants as of
+use Rattle.cp_reply.specs.declared.reply.Why.{Why}
+use Rattle.cp_reply.specs.declared.reply.Reply.TheVariants as reply
+use Rattle.cp_session.specs.Session.{FetchedFile, gives, withholds}
+use Rattle.cp_outside.specs.FileReads.{FileTable}
+use Rattle.cp_workspace.specs.Fetching.{fetch}
+use Rattle.cp_scratch.specs.Sessions.{empty_tree, scratch_session, scratch_terms}
+use Rattle.cp_words.specs.declared.command.Start.{Start}
+use Rattle.cp_words.specs.declared.command.Start.TheVariants.{Alone, TreeIn}
+use Rattle.cp_interpreter.specs.declared.limits.TheConstants.{INPUT_MAX}
+use Rattle.std.specs.Io.KnownBytes.{Consumes, IsAtEnd}
+use Rattle.cp_clock.specs.Moments.{HasTold}
+use Rattle.cp_model.specs.declared.kind.Kind.{Kind}
+use Rattle.cp_workspace.specs.Files.{HasRead, IsTable}
+use Rattle.cp_interpreter.specs.Texts.{file_line}
+use Rattle.cp_interpreter.specs.Outside.{Outside}
+use Rattle.cp_interpreter.specs.Story.{WritesLast, unseen, Did, result_of, IsRunning, SaidLine, work_on}
+use Rattle.cp_interpreter.specs.declared.end.End.{End}
+use Rattle.cp_interpreter.specs.declared.end.End.TheVariants as how
+
+-- ---- starts
+
+-- the tree of a JSON file, as if it were loaded under the name T
+abbrev pub start_load : List ℕ → Load
+start_load file = record { name = target; form = Json; file = file }
+
+-- the tree that a history starts from, or why it starts from none
+abbrev pub start_given : FileTable → Start → FetchedFile
+start_given files Alone = gives empty_tree
+start_given files (TreeIn file) = fetch files (start_load file)
+
+-- how many files are read for the start tree
+abbrev pub start_reads : Start → ℕ
+start_reads Alone = 0
+start_reads (TreeIn file) = 1
+
+-- the lines of a start tree that is refused
+abbrev pub refused_start : Why → List ℕ
+refused_start w = lines (reply.Refused of.Scratch w)
+
+-- ---- sessions
+
+-- The file of the start tree failed, which is all that was read, nothing of the input was taken, and the last line was written.
+abbrev pub StartFailed : ℕ → List ℕ → Outside → Outside → End → Type 0
+StartFailed reads taken before now end = (end ≡ how.File) × (reads ≡ 1) × (taken ≡ []) × WritesLast before.output now.output [] file_line × HasRead before.files now.files 1
+
+-- The session from the start tree, for which so many files are read, with the moments that were told and any after them; or the line that refuses it.
+-- Nothing of the input is taken where there is no start tree.
+abbrev pub DidFrom : Kind → FileTable → FetchedFile → ℕ → List ℕ → List ℕ → Outside → Outside → End → Type 0
+DidFrom k files (gives t) reads moments taken before now end =
+    (rest : List ℕ) → Did (work_on files (scratch_terms k t) (scratch_session k t (moments ++ rest)) reads) unseen 0 taken before now end
+DidFrom k files (withholds w) reads moments taken before now end =
+    (taken ≡ []) × SaidLine (refused_start w) true before.output now.output end × (end ≡ how.Refused → HasRead before.files now.files reads)
+
+-- A call with words that fit took these bytes of the input: all of them where all was done, unless the start tree is refused; more than a call takes exactly at that end.
+-- Where a table says what each name names, as far as the call had to know it, it did what the session from the start tree does.
+pub record Ran (k : Kind) (given : FileTable → FetchedFile) (reads : ℕ) (before now : Outside) (end : End) : Type 0 where
+  pub taken : List ℕ
+  pub took : Consumes before.input.left now.input.left taken
+  pub counted : now.input.given ≡ before.input.given + length taken
+  pub too_much : (end ≡ how.TooLong) ↔ (INPUT_MAX < length taken)
+  pub moments : List ℕ
+  pub told : HasTold before.clock.left now.clock.left moments
+  pub running : IsRunning end
+  pub ended : OnOk (result_of end) (IsAtEnd now.input.left ⊎ ((end ≡ how.Refused) × (taken ≡ [])))
+  pub did : (files : FileTable) → IsTable files before.files now.files → StartFailed reads taken before now end ⊎ DidFrom k files (given files) reads moments taken before now end
