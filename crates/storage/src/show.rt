@@ -74,10 +74,18 @@ pub(crate) fn op_line(alloc: Global, op: &Op) -> Result<String, AllocError> {
             )
         }
         Op::Del { label, from } => {
-            format!(in alloc; "del {} from {}\n", label_text(alloc, label)?, place_text(alloc, from)?)
+            format!(in alloc;
+                "del {} from {}\n",
+                label_text(alloc, label)?,
+                place_text(alloc, from)?
+            )
         }
         Op::Copy { from, into } => {
-            format!(in alloc; "copy {} into {}\n", place_text(alloc, from)?, place_text(alloc, into)?)
+            format!(in alloc;
+                "copy {} into {}\n",
+                place_text(alloc, from)?,
+                place_text(alloc, into)?
+            )
         }
     }
 }

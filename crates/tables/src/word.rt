@@ -1,7 +1,9 @@
 //! Words as they are read: places, labels, names, values and texts, and the order of places.
 
 use cp_path::{Label, Loc, Name, PathFault, Text, Value};
-use cp_spelling::{label_text, place_text, read_label, read_place, read_text, read_value, value_text};
+use cp_spelling::{
+    label_text, place_text, read_label, read_place, read_text, read_value, value_text,
+};
 use std::alloc::{AllocError, Global};
 
 /// Adds that the word is another one than its spelling.
