@@ -158,6 +158,7 @@ impl<R: TreeRep, S: TreeRep> Committed<R, S> {
     {
         let entry = entry_in(alloc, body, at)?;
         if !is_of_version(&entry, version) {
+            drop(entry);
             return Err(OpenFault::NoStore(at));
         }
         if !self.take(alloc, entry)? {

@@ -68,13 +68,13 @@ impl<R: TreeRep, S: TreeRep> Db<R, S> {
             return Err(InitFault::Exists);
         }
         let literal = literal_of(alloc, &tree)?;
-        let body = entry_bytes(
-            alloc,
-            &Entry::Start {
-                kind,
-                tree: literal,
-            },
-        )?;
+        let entry = Entry::Start {
+            kind,
+            tree: literal,
+        };
+        let body = entry_bytes(alloc, &entry);
+        drop(entry);
+        let body = body?;
         let committed = Committed::start(alloc, kind, tree)?;
         let journal = Journal::create(alloc, disk, &body)?;
         Ok(Db {
@@ -300,7 +300,9 @@ impl<R: TreeRep, S: TreeRep> Db<R, S> {
             name: name.clone()?,
             tree: literal,
         };
-        let body = entry_bytes(alloc, &entry)?;
+        let body = entry_bytes(alloc, &entry);
+        drop(entry);
+        let body = body?;
         if !self.has_room(body.len()) {
             return Err(WriteFault::TooLarge);
         }

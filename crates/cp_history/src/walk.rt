@@ -210,6 +210,7 @@ impl<R: TreeRep, S: TreeRep> HistoryWalk<R, S> {
     {
         let entry = entry_in(alloc, body, at)?;
         if !is_of_version(&entry, version) {
+            drop(entry);
             return Err(OpenFault::NoStore(at));
         }
         if !self.add(alloc, entry, at)? {
@@ -292,12 +293,14 @@ pub(crate) fn findings_in<R: TreeRep, S: TreeRep, D: Disk>(
 {
     let header = Journal::header(disk)?;
     if let Some(at) = open_slot(&header) {
+        drop(findings);
         return Err(OpenFault::NoStore(at));
     }
     let version = version_of(&header);
     let journal = Journal::open_on(alloc, disk, HEADER_SIZE as u64)?;
     let walk: HistoryWalk<R, S> = HistoryWalk::over_all(alloc, disk, &journal, version, findings)?;
     if let Some(at) = journal.broken() {
+        drop(walk);
         return Err(OpenFault::NoStore(at));
     }
     Ok(walk.findings)

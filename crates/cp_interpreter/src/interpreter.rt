@@ -11,7 +11,7 @@ ghost use Rattle.cp_interpreter.specs.Play.{plays, after_play};
 ghost use Rattle.cp_interpreter.specs.Turns.{MayGoOn, SendsOut, Went, WasFed, RanLast, Uses, UsesOutput, IsOpenedStop, cuts_play, after_cuts, cutter_in, workspace_in, has_refused};
 
 use crate::stop::Stop;
-use crate::tell::{give_up, is_refusal, tell};
+use crate::tell::{is_refusal, tell};
 use cp_clock::Clock;
 use cp_disk::Disk;
 use cp_lang::{Cut, Cutter};
@@ -68,7 +68,7 @@ impl<R: TreeRep, S: TreeRep> Interpreter<R, S> {
     {
         let told = tell(self.alloc, &reply, &mut self.text, output);
         let refused = is_refusal(&reply);
-        give_up(reply);
+        drop(reply);
         told?;
         self.refused = self.refused || refused;
         Ok(())

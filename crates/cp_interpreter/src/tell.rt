@@ -16,9 +16,6 @@ use cp_reply::{Reply, lines};
 use itoa::Buffer;
 use std::alloc::Global;
 
-/// Gives up a reply that was written. It is taken apart here and nowhere else.
-pub(crate) fn give_up(_reply: Reply) {}
-
 /// Whether a verdict tells of a difference.
 fn is_difference(verdict: &Verdict) -> bool
     ensures { result ≡ is_difference verdict.now }
@@ -135,7 +132,7 @@ pub fn end_with<O: Sink>(alloc: Global, reply: Reply, output: &mut O) -> End
 {
     let told = tell_alone(alloc, &reply, output);
     let refused = is_refusal(&reply);
-    give_up(reply);
+    drop(reply);
     match told {
         Ok(()) if refused => End::Refused,
         Ok(()) => End::Done,

@@ -34,7 +34,9 @@ fn reply_to_query<R: TreeRep, S: TreeRep, D: Disk>(
     ensures kinds { IfErr result IsOpeningStop }
 {
     let mut workspace = open_workspace::<R, S, D>(alloc, disk)?;
-    Ok(workspace.ask(alloc, query)?)
+    let reply = workspace.ask(alloc, query);
+    drop(workspace);
+    Ok(reply?)
 }
 
 /// What stands at and below a place of a store.
@@ -49,7 +51,9 @@ fn reply_to_show<R: TreeRep, S: TreeRep, D: Disk>(
     ensures kinds { IfErr result IsOpeningStop }
 {
     let workspace = open_workspace::<R, S, D>(alloc, disk)?;
-    Ok(workspace.show(alloc, place)?)
+    let reply = workspace.show(alloc, place);
+    drop(workspace);
+    Ok(reply?)
 }
 
 /// The commits of a store.

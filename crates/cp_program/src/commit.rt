@@ -80,16 +80,20 @@ pub(crate) fn commit<R: TreeRep, S: TreeRep, D: Disk, F: Files, K: Clock, O: Sin
         return out_of_memory(output);
     };
     match begin::<R, S, D>(alloc, curator, disk) {
-        Ok(mut session) => play_file(
-            alloc,
-            &mut session,
-            &mut piece,
-            file.as_str(),
-            disk,
-            files,
-            clock,
-            output,
-        ),
+        Ok(mut session) => {
+            let end = play_file(
+                alloc,
+                &mut session,
+                &mut piece,
+                file.as_str(),
+                disk,
+                files,
+                clock,
+                output,
+            );
+            drop(session);
+            end
+        }
         Err(stop) => stopped(output, stop),
     }
 }

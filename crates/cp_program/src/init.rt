@@ -45,7 +45,10 @@ fn create<R: TreeRep, D: Disk>(
 {
     let nodes = tree.count();
     match Db::<R, R>::init(alloc, disk, kind, tree) {
-        Ok(_) => Ok(Reply::Created { kind, nodes }),
+        Ok(db) => {
+            drop(db);
+            Ok(Reply::Created { kind, nodes })
+        }
         Err(InitFault::Disk) => Err(Stop::Disk),
         Err(InitFault::Exists | InitFault::Memory) => Err(Stop::Memory),
     }

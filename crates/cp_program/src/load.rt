@@ -53,7 +53,9 @@ fn reply_to_load<R: TreeRep, S: TreeRep, D: Disk, F: Files>(
     ensures cause { Accounts IsDiskStop (D.counts disk.old).faults (D.counts disk.new).faults result }
 {
     let mut workspace = open_workspace::<R, S, D>(alloc, disk)?;
-    Ok(workspace.load(alloc, source, disk, files)?)
+    let reply = workspace.load(alloc, source, disk, files);
+    drop(workspace);
+    Ok(reply?)
 }
 
 /// Loads a source into a store, and says so, or why not.

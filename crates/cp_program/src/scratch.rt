@@ -101,15 +101,19 @@ pub(crate) fn scratch<R: TreeRep, S: TreeRep, F: Files, K: Clock, I: Source, O: 
         return out_of_memory(output);
     };
     match begin::<R, S, F>(alloc, kind, start, &mut disk, files) {
-        Ok(Ok(mut session)) => turns(
-            &mut session,
-            &mut piece,
-            &mut disk,
-            files,
-            clock,
-            input,
-            output,
-        ),
+        Ok(Ok(mut session)) => {
+            let end = turns(
+                &mut session,
+                &mut piece,
+                &mut disk,
+                files,
+                clock,
+                input,
+                output,
+            );
+            drop(session);
+            end
+        }
         Ok(Err(why)) => end_with(alloc, refused_start(why), output),
         Err(fault) => stopped(output, Stop::from(fault)),
     }

@@ -39,8 +39,5 @@ pub(crate) fn start_tree<R: TreeRep, F: Files>(
 pub(crate) fn no_curator(alloc: Global) -> Result<Label, AllocError>
     ensures { IfOk result (λ a. a ≡ []) }
 {
-    match Label::new(alloc, "") {
-        Ok(curator) => Ok(curator),
-        Err(_) => Err(AllocError),
-    }
+    Label::copy_of(alloc, "")
 }

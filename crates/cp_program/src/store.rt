@@ -39,8 +39,14 @@ fn migrate<R: TreeRep, S: TreeRep, D: Disk>(
     match db.migrate(disk) {
         Ok(()) => Ok(db),
         Err(WriteFault::TooLarge) => unreachable!(),
-        Err(WriteFault::Disk) => Err(Stop::Disk),
-        Err(WriteFault::Memory) => Err(Stop::Memory),
+        Err(WriteFault::Disk) => {
+            drop(db);
+            Err(Stop::Disk)
+        }
+        Err(WriteFault::Memory) => {
+            drop(db);
+            Err(Stop::Memory)
+        }
     }
 }
 
@@ -96,7 +102,11 @@ pub(crate) fn run<R: TreeRep, S: TreeRep, D: Disk, F: Files, K: Clock, I: Source
         return out_of_memory(output);
     };
     match begin::<R, S, D>(alloc, curator, disk) {
-        Ok(mut session) => turns(&mut session, &mut piece, disk, files, clock, input, output),
+        Ok(mut session) => {
+            let end = turns(&mut session, &mut piece, disk, files, clock, input, output);
+            drop(session);
+            end
+        }
         Err(stop) => stopped(output, stop),
     }
 }

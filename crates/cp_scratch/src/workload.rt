@@ -37,14 +37,17 @@ fn db_with_source<R: TreeRep, S: TreeRep>(
     ensures made { IfOk result (λ d. (version_in d ≡ 2) × (is_spent d ≡ false)) }
     ensures ready { IfOk result (λ d. IsReady d (sure_view disk.new)) }
 {
-    let root = R::single(alloc, &Content::Node)?;
-    let mut db = new_db::<R, S>(alloc, kind, root, disk)?;
     let name = source_name(alloc)?;
     let tree = source(alloc)?;
+    let root = R::single(alloc, &Content::Node)?;
+    let mut db = new_db::<R, S>(alloc, kind, root, disk)?;
     match db.load(alloc, disk, name, tree) {
         Ok(()) => Ok(db),
         // A new file has room for the source, and this disk doesn't fail.
-        Err(_) => Err(AllocError),
+        Err(_) => {
+            drop(db);
+            Err(AllocError)
+        }
     }
 }
 
@@ -64,9 +67,6 @@ fn begin<R: TreeRep, S: TreeRep>(
     Ok(Workspace::new(db, curator))
 }
 
-/// Gives up what a statement replied.
-fn give_up(_reply: Option<Reply>) {}
-
 /// Runs an operation of a script. What it replies isn't kept.
 fn run_operation<R: TreeRep, S: TreeRep>(
     alloc: Global,
@@ -80,7 +80,7 @@ fn run_operation<R: TreeRep, S: TreeRep>(
     ensures stays { OnOk result (IsWorkspace R.contents S.contents workspace.new) }
     ensures same { db_in workspace.new ≡ db_in workspace.old }
 {
-    give_up(workspace.operate(alloc, op)?);
+    drop(workspace.operate(alloc, op)?);
     Ok(())
 }
 
@@ -102,7 +102,7 @@ fn run_commit<R: TreeRep, S: TreeRep>(
 {
     match workspace.commit(alloc, disk, clock) {
         Ok(reply) => {
-            give_up(Some(reply));
+            drop(reply);
             Ok(())
         }
         // Neither this disk nor this clock fails.
@@ -172,6 +172,15 @@ pub fn run_workload<R: TreeRep, S: TreeRep>(
     let mut clock = MemClock::new(alloc, &[])?;
     let mut workspace: Workspace<R, S> = begin(alloc, kind, &mut disk)?;
     let script = Generator::new(alloc, seed, count);
-    run_script(alloc, &mut workspace, script, &mut disk, &mut clock)?;
-    workspace.summary(alloc)
+    match run_script(alloc, &mut workspace, script, &mut disk, &mut clock) {
+        Ok(()) => {
+            let reply = workspace.summary(alloc);
+            drop(workspace);
+            reply
+        }
+        Err(fault) => {
+            drop(workspace);
+            Err(fault)
+        }
+    }
 }

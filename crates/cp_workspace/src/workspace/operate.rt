@@ -46,10 +46,19 @@ impl<R: TreeRep, S: TreeRep> Workspace<R, S> {
         let applied = transaction.apply(alloc, &op, self.db.sources());
         self.transaction = Some(transaction);
         match applied {
-            Ok(()) => Ok(None),
-            Err(ApplyFault::Failed(number)) => Ok(Some(refused(Why::FailedAt(number)))),
+            Ok(()) => {
+                drop(op);
+                Ok(None)
+            }
+            Err(ApplyFault::Failed(number)) => {
+                drop(op);
+                Ok(Some(refused(Why::FailedAt(number))))
+            }
             Err(ApplyFault::Refused(refusal)) => Ok(Some(refused(why_of(op, refusal)))),
-            Err(ApplyFault::Memory) => Err(AllocError),
+            Err(ApplyFault::Memory) => {
+                drop(op);
+                Err(AllocError)
+            }
         }
     }
 

@@ -5,5 +5,5 @@ use Rattle.cp_program.proofs.answer.reply_to_show.Goals as goal
 
 pub returns-clause-answered : goal.returns-clause-answered
 returns-clause-answered g c = λ known.
-    answered-statement g.R.TreeRep.contents g.S.TreeRep.contents (known_disk g.D.Disk c.args.disk.now) (known_disk g.D.Disk c.open_workspace.new.disk) c.in_ok-workspace.workspace c.in_ok-workspace.workspace (stmt.Show c.args.place) c.in_ok-show.field-0
-    (c.in_ok-workspace.ensures.opened known) c.in_ok-show.ensures
+    answered-statement g.R.TreeRep.contents g.S.TreeRep.contents (known_disk g.D.Disk c.args.disk.now) (known_disk g.D.Disk c.open_workspace.new.disk) c.in_ok-workspace.workspace c.in_ok-workspace.workspace (stmt.Show c.args.place) c.in_ok-reply.field-0
+    (c.in_ok-workspace.ensures.opened known) c.in_ok-reply.ensures

@@ -42,27 +42,27 @@ returns-in-Ok-begin-clause-ran g c = λ i.
     let view = g.R.TreeRep.contents in
     let source_view = g.S.TreeRep.contents in
     let f = known_files g.F.Files c.args.files.now in
-    let fa = known_files g.F.Files c.play_file.new.files in
+    let fa = known_files g.F.Files c.play_file-end.new.files in
     let k = known_clock g.K.Clock c.args.clock.now in
-    let ka = known_clock g.K.Clock c.play_file.new.clock in
+    let ka = known_clock g.K.Clock c.play_file-end.new.clock in
     let o = known_output g.O.Sink c.args.output.now in
-    let oa = known_output g.O.Sink c.play_file.new.output in
+    let oa = known_output g.O.Sink c.play_file-end.new.output in
     let v = known_disk g.D.Disk c.args.disk.now in
     let m = known_disk g.D.Disk c.begin.new.disk in
-    let w = known_disk g.D.Disk c.play_file.new.disk in
-    committed-ran view source_view c.args.file c.args.curator c.in-Ok-begin.session i f fa k ka o oa v m w c.play_file.result
+    let w = known_disk g.D.Disk c.play_file-end.new.disk in
+    committed-ran view source_view c.args.file c.args.curator c.in-Ok-begin.session i f fa k ka o oa v m w c.play_file-end.result
     c.in-Ok-begin.ensures.goes_on.1 (λ known. known) (λ known. subst (BegunOn view source_view c.args.curator v m) c.in-Ok-begin.is (c.begin.ensures.begun known)) c.begin.ensures.leaves
-    (subst (λ n. RanScript view source_view c.in-Ok-begin.session n (world f k o) (world fa ka oa) m w c.play_file.result) c.as_str.ensures c.play_file.ensures.ran)
+    (subst (λ n. RanScript view source_view c.in-Ok-begin.session n (world f k o) (world fa ka oa) m w c.play_file-end.result) c.as_str.ensures c.play_file-end.ensures.ran)
 
 pub returns-in-Ok-begin-clause-causes : goal.returns-in-Ok-begin-clause-causes
 returns-in-Ok-begin-clause-causes g c = λ i.
-    causes-unread i (known_files g.F.Files c.args.files.now) (known_files g.F.Files c.play_file.new.files) (known_clock g.K.Clock c.args.clock.now) (known_clock g.K.Clock c.play_file.new.clock) (known_output g.O.Sink c.args.output.now) (known_output g.O.Sink c.play_file.new.output)
-    c.play_file.result c.play_file.ensures.ran.closing.input c.play_file.ensures.causes
+    causes-unread i (known_files g.F.Files c.args.files.now) (known_files g.F.Files c.play_file-end.new.files) (known_clock g.K.Clock c.args.clock.now) (known_clock g.K.Clock c.play_file-end.new.clock) (known_output g.O.Sink c.args.output.now) (known_output g.O.Sink c.play_file-end.new.output)
+    c.play_file-end.result c.play_file-end.ensures.ran.closing.input c.play_file-end.ensures.causes
 
 pub returns-in-Ok-begin-clause-disk : goal.returns-in-Ok-begin-clause-disk
 returns-in-Ok-begin-clause-disk g c =
-    let w = known_disk g.D.Disk c.play_file.new.disk in
-    subst (λ n. Accounts (λ e. e ≡ how.Disk) n w.counts.faults (result_of c.play_file.result)) c.in-Ok-begin.ensures.cause.steady c.play_file.ensures.disk
+    let w = known_disk g.D.Disk c.play_file-end.new.disk in
+    subst (λ n. Accounts (λ e. e ≡ how.Disk) n w.counts.faults (result_of c.play_file-end.result)) c.in-Ok-begin.ensures.cause.steady c.play_file-end.ensures.disk
 
 pub returns-clause-ran : goal.returns-clause-ran
 returns-clause-ran g c = λ i.

@@ -9,9 +9,9 @@ use Rattle.cp_program.proofs.load.reply_to_load.Goals as goal
 pub returns-clause-loaded : goal.returns-clause-loaded
 returns-clause-loaded g c =
     loaded-said g.R.TreeRep.contents g.S.TreeRep.contents c.args.source
-    (known_files g.F.Files c.args.files.now) (known_files g.F.Files c.load.new.files) (known_disk g.D.Disk c.args.disk.now) (known_disk g.D.Disk c.open_workspace.new.disk) (known_disk g.D.Disk c.load.new.disk)
-    c.in_ok-workspace.workspace c.load.new.self (λ known. known) c.open_workspace.ensures.rests c.in_ok-workspace.ensures.opened
-    c.in_ok-load.field-0 c.in_ok-load.ensures.turned c.in_ok-load.ensures.reads
+    (known_files g.F.Files c.args.files.now) (known_files g.F.Files c.load-reply.new.files) (known_disk g.D.Disk c.args.disk.now) (known_disk g.D.Disk c.open_workspace.new.disk) (known_disk g.D.Disk c.load-reply.new.disk)
+    c.in_ok-workspace.workspace c.load-reply.new.self (λ known. known) c.open_workspace.ensures.rests c.in_ok-workspace.ensures.opened
+    c.in_ok-reply.field-0 c.in_ok-reply.ensures.turned c.in_ok-reply.ensures.reads
 
 pub returns-in_err-workspace-clause-loaded : goal.returns-in_err-workspace-clause-loaded
 returns-in_err-workspace-clause-loaded g c =
@@ -25,17 +25,17 @@ returns-in_err-workspace-clause-loaded g c =
     rw p.1 (subst (λ s. LoadedAs c.args.source f f v m (Err s)) (sym p.2)
     (loaded-not view source_view c.args.source f f v m m stop c.in_err-workspace.ensures.kinds c.open_workspace.ensures.rests c.in_err-workspace.ensures.opened))
 
-pub returns-in_err-load-clause-loaded : goal.returns-in_err-load-clause-loaded
-returns-in_err-load-clause-loaded g c =
+pub returns-in_err-reply-clause-loaded : goal.returns-in_err-reply-clause-loaded
+returns-in_err-reply-clause-loaded g c =
     let view = g.R.TreeRep.contents in
     let source_view = g.S.TreeRep.contents in
     let f = known_files g.F.Files c.args.files.now in
-    let h = known_files g.F.Files c.load.new.files in
+    let h = known_files g.F.Files c.load-reply.new.files in
     let v = known_disk g.D.Disk c.args.disk.now in
     let m = known_disk g.D.Disk c.open_workspace.new.disk in
-    let w = known_disk g.D.Disk c.load.new.disk in
-    let met = c.in_err-load.ensures in
-    let e = c.in_err-load.field-0.0 in
-    let p = err_from_is_err_and c.from_residual-in_err-load.result c.from_residual-in_err-load.ensures.1 in
-    rw p.1 (loaded-stopped view source_view c.args.source f h v m w c.in_ok-workspace.workspace c.load.new.self (λ known. known) c.open_workspace.ensures.rests c.in_ok-workspace.ensures.opened
+    let w = known_disk g.D.Disk c.load-reply.new.disk in
+    let met = c.in_err-reply.ensures in
+    let e = c.in_err-reply.field-0.0 in
+    let p = err_from_is_err_and c.from_residual-in_err-reply.result c.from_residual-in_err-reply.ensures.1 in
+    rw p.1 (loaded-stopped view source_view c.args.source f h v m w c.in_ok-workspace.workspace c.load-reply.new.self (λ known. known) c.open_workspace.ensures.rests c.in_ok-workspace.ensures.opened
     e p.0 p.2 met.turned met.reads (λ is z image. subst (λ d. (g.D.Disk.view d).images z) (met.untouched (ap (λ y. Err y) is)) image) (λ is. met.kinds (ap (λ y. Err y) is)))

@@ -53,10 +53,10 @@ returns-in-Ok-Ok-clause-ran g c =
     let o = known_output g.O.Sink c.args.output.now in
     let v = sure_disk c.begin.new.disk in
     ran-begun view source_view c.args.kind given (start_reads c.args.start) c.in-Ok-Ok.session i f fb k o
-    (known_outside g.F.Files g.K.Clock g.I.Source g.O.Sink c.turns.new.files c.turns.new.clock c.turns.new.input c.turns.new.output) v (sure_disk c.turns.new.disk) c.turns.result
-    c.in-Ok-Ok.ensures.used.same c.in-Ok-Ok.ensures.reads c.turns.ensures.read
+    (known_outside g.F.Files g.K.Clock g.I.Source g.O.Sink c.turns-end.new.files c.turns-end.new.clock c.turns-end.new.input c.turns-end.new.output) v (sure_disk c.turns-end.new.disk) c.turns-end.result
+    c.in-Ok-Ok.ensures.used.same c.in-Ok-Ok.ensures.reads c.turns-end.ensures.read
     (subst (λ r. IfOk r (λ x. MayGoOn view source_view v x × (has_refused x ≡ false))) c.in-Ok-Ok.field-0-is c.in-Ok-Ok.ensures.goes_on).1
-    (λ t w. subst (Begun view source_view v c.args.kind (given t)) c.in-Ok-Ok.field-0-is (c.in-Ok-Ok.ensures.begun t w)) c.turns.ensures.ran
+    (λ t w. subst (Begun view source_view v c.args.kind (given t)) c.in-Ok-Ok.field-0-is (c.in-Ok-Ok.ensures.begun t w)) c.turns-end.ensures.ran
 
 pub returns-in-Ok-Err-clause-ran : goal.returns-in-Ok-Err-clause-ran
 returns-in-Ok-Err-clause-ran g c =

@@ -19,5 +19,5 @@ returns-in-Ok-clause-usable g c = (
 pub returns-in-Err-Disk-clause-migrated : goal.returns-in-Err-Disk-clause-migrated
 returns-in-Err-Disk-clause-migrated g c = λ h z known k. (c.migrate.ensures.crash known h k, inl refl)
 
-pub returns-clause-migrated : goal.returns-clause-migrated
-returns-clause-migrated g c = λ h z known k. (c.migrate.ensures.crash known h k, inr refl)
+pub returns-in-Err-Memory-clause-migrated : goal.returns-in-Err-Memory-clause-migrated
+returns-in-Err-Memory-clause-migrated g c = λ h z known k. (c.migrate.ensures.crash known h k, inr refl)

@@ -46,17 +46,17 @@ returns-in-Ok-begin-clause-ran g c =
     let source_view = g.S.TreeRep.contents in
     let v = known_disk g.D.Disk c.args.disk.now in
     let m = known_disk g.D.Disk c.begin.new.disk in
-    let w = known_disk g.D.Disk c.turns.new.disk in
+    let w = known_disk g.D.Disk c.turns-end.new.disk in
     ran-on view source_view c.args.curator c.in-Ok-begin.session
     (known_outside g.F.Files g.K.Clock g.I.Source g.O.Sink c.args.files.now c.args.clock.now c.args.input.now c.args.output.now)
-    (known_outside g.F.Files g.K.Clock g.I.Source g.O.Sink c.turns.new.files c.turns.new.clock c.turns.new.input c.turns.new.output) v m w c.turns.result
-    c.in-Ok-begin.ensures.goes_on.1 (λ known. known) (λ known. subst (BegunOn view source_view c.args.curator v m) c.in-Ok-begin.is (c.begin.ensures.begun known)) c.begin.ensures.leaves c.turns.ensures.ran
+    (known_outside g.F.Files g.K.Clock g.I.Source g.O.Sink c.turns-end.new.files c.turns-end.new.clock c.turns-end.new.input c.turns-end.new.output) v m w c.turns-end.result
+    c.in-Ok-begin.ensures.goes_on.1 (λ known. known) (λ known. subst (BegunOn view source_view c.args.curator v m) c.in-Ok-begin.is (c.begin.ensures.begun known)) c.begin.ensures.leaves c.turns-end.ensures.ran
 
 pub returns-in-Ok-begin-clause-disk : goal.returns-in-Ok-begin-clause-disk
 returns-in-Ok-begin-clause-disk g c =
     let v = known_disk g.D.Disk c.args.disk.now in
-    let w = known_disk g.D.Disk c.turns.new.disk in
-    subst (λ n. Accounts (λ e. e ≡ how.Disk) n w.counts.faults (result_of c.turns.result)) c.in-Ok-begin.ensures.cause.steady c.turns.ensures.disk
+    let w = known_disk g.D.Disk c.turns-end.new.disk in
+    subst (λ n. Accounts (λ e. e ≡ how.Disk) n w.counts.faults (result_of c.turns-end.result)) c.in-Ok-begin.ensures.cause.steady c.turns-end.ensures.disk
 
 pub returns-clause-ran : goal.returns-clause-ran
 returns-clause-ran g c =

@@ -7,12 +7,12 @@ use Rattle.cp_scratch.specs.Workloads.{workload_session, workload_terms}
 use Rattle.cp_scratch.proofs.Running.{comes-to}
 use Rattle.cp_scratch.proofs.workload.run_workload.Goals as goal
 
-pub returns : goal.returns
-returns g c =
+pub returns-in-Ok : goal.returns-in-Ok
+returns-in-Ok g c =
     let view = g.R.TreeRep.contents in
     let source_view = g.S.TreeRep.contents in
     let terms = workload_terms c.args.kind in
-    comes-to view source_view c.args.kind c.args.seed c.args.count c.run_script.new.workspace c.summary.result
+    comes-to view source_view c.args.kind c.args.seed c.args.count c.run_script.new.workspace c.summary-reply.result
     (subst (λ all. Stands view source_view terms c.run_script.new.workspace (session_after_statements (setting no_files terms) (workload_session c.args.kind) all)) c.new-script.ensures
-    (c.in_ok-run_script.ensures.ran terms (workload_session c.args.kind) c.in_ok-workspace.ensures.stands refl))
-    c.summary.ensures.summary
+    (c.in-Ok.ensures.ran terms (workload_session c.args.kind) c.in_ok-workspace.ensures.stands refl))
+    c.summary-reply.ensures.summary

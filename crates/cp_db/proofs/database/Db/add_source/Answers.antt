@@ -17,8 +17,8 @@ returns-in_err-literal-clause-crash g c = λ known h z k. crash-none c.args.self
 pub returns-in_err-clone-clause-crash : goal.returns-in_err-clone-clause-crash
 returns-in_err-clone-clause-crash g c = λ known h z k. crash-none c.args.self.now h _ k _
 
-pub entry_bytes-requires : goal.entry_bytes-requires
-entry_bytes-requires g c =
+pub entry_bytes-body-requires : goal.entry_bytes-body-requires
+entry_bytes-body-requires g c =
     let z = c.requires.stands.1 in
     subst (λ (m : List ℕ). IsSoundEntry (frame.Load m c.in_ok-literal.literal)) (sym c.in_ok-clone.ensures.cases)
     (load-sound c.args.name c.in_ok-literal.literal (g.S.TreeRep.contents c.args.tree) c.in_ok-literal.ensures.literal c.in_ok-literal.ensures.tree z.committed.state (c.requires.can false c.requires.stands.0 z))
