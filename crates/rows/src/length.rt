@@ -43,15 +43,22 @@ fn is_small(op: &Op) -> bool
     }
 }
 
+/// The bytes of the operation that a statement is; `None` where it is none, or inserts places below a root.
+fn length_of(stmt: &Stmt) -> Option<u64> {
+    match stmt {
+        Stmt::Op(op) if is_small(op) => Some(op_length(op)),
+        _ => None,
+    }
+}
+
 /// Adds the bytes of the operation that a text is.
 pub(crate) fn add_length(alloc: Global, text: &str, lines: &mut String) -> Result<(), Fault> {
-    let Stmt::Op(op) = parse(alloc, text)? else {
+    let stmt = parse(alloc, text)?;
+    let bytes = length_of(&stmt);
+    drop(stmt);
+    let Some(bytes) = bytes else {
         return Err(Fault::Operation);
     };
-    if !is_small(&op) {
-        return Err(Fault::Operation);
-    }
-    let bytes = op_length(&op);
     let line = format!(in alloc; "{bytes} bytes")?;
     add_line(lines, line.as_str())?;
     Ok(())

@@ -40,16 +40,26 @@ struct Caller {
 fn add_answer(alloc: Global, step: &Step, lines: &mut String) -> Result<bool, Fault> {
     let text = std::str::from_utf8(&step.text).unwrap_or("");
     let words = step.rest.as_str();
-    match step.key.as_str() {
-        "store" => store::add_answers(alloc, words, text, lines)?,
-        "reduce" => step::add_reduced(alloc, words, text, lines)?,
-        "expand" => step::add_expanded(alloc, text, lines)?,
-        "effects" => step::add_effects(alloc, text, lines)?,
-        "packed" => packed::add_packed(alloc, number_of(words) as usize, text, lines)?,
-        "length" => length::add_length(alloc, text, lines)?,
+    let added = match step.key.as_str() {
+        "store" => store::add_answers(alloc, words, text, lines),
+        "reduce" => step::add_reduced(alloc, words, text, lines),
+        "expand" => step::add_expanded(alloc, text, lines),
+        "effects" => step::add_effects(alloc, text, lines),
+        "packed" => packed::add_packed(alloc, number_of(words) as usize, text, lines),
+        "length" => length::add_length(alloc, text, lines),
         _ => return Ok(false),
-    }
+    };
+    added?;
     Ok(true)
+}
+
+/// Adds what is wrong with a part. Where memory ran out, that is the error.
+fn add_fault(alloc: Global, fault: &Fault, lines: &mut String) -> Result<(), AllocError> {
+    if let Fault::Memory = fault {
+        return Err(AllocError);
+    }
+    let line = fault.to_string(alloc)?;
+    row::add_line(lines, line.as_str())
 }
 
 /// The lines that the call of this keyword gives, at the end of which stands what is wrong with the part, if anything is;
@@ -59,10 +69,10 @@ fn answer(alloc: Global, step: &Step) -> Result<Option<String>, AllocError> {
     match add_answer(alloc, step, &mut lines) {
         Ok(true) => Ok(Some(lines)),
         Ok(false) => Ok(None),
-        Err(Fault::Memory) => Err(AllocError),
         Err(fault) => {
-            let fault = fault.to_string(alloc)?;
-            row::add_line(&mut lines, fault.as_str())?;
+            let added = add_fault(alloc, &fault, &mut lines);
+            drop(fault);
+            added?;
             Ok(Some(lines))
         }
     }

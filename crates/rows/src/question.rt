@@ -11,8 +11,9 @@
 //! The answer stands after the question and a colon. Its parts have semicolons between them.
 
 use crate::fault::Fault;
-use crate::row::add_line;
+use crate::row::add_answer;
 use cp_cases::{number_of, numbers_of};
+use cp_model::Record;
 use cp_path::{Label, Loc};
 use cp_reply::record_text;
 use cp_spelling::{place_text, read_label, read_place};
@@ -36,10 +37,15 @@ fn change_text(alloc: Global, change: &Change) -> Result<String, AllocError> {
 fn change<S: ProvStore>(alloc: Global, store: &mut S, words: &str) -> Result<String, Fault> {
     let (place, tid) = words.rsplit_once(' ').unwrap_or((words, ""));
     let place = read_place(alloc, place)?;
-    match store.last_change(alloc, &place, number_of(tid))? {
-        None => Ok("none".to_string(alloc)?),
-        Some(change) => Ok(change_text(alloc, &change)?),
-    }
+    let change = store.last_change(alloc, &place, number_of(tid));
+    drop(place);
+    let change = change?;
+    let text = match &change {
+        None => "none".to_string(alloc),
+        Some(change) => change_text(alloc, change),
+    };
+    drop(change);
+    Ok(text?)
 }
 
 /// Adds a part of an answer, after a semicolon where it isn't the first.
@@ -58,32 +64,78 @@ fn or_none(alloc: Global, text: String) -> Result<String, AllocError> {
     Ok(text)
 }
 
-/// The rows of a step.
-fn step<S: ProvStore>(alloc: Global, store: &mut S, tid: u64) -> Result<String, Fault> {
-    let rows = store.rows_of(alloc, tid)?;
+/// The rows as parts of an answer.
+fn rows_text(alloc: Global, rows: &[Record]) -> Result<String, AllocError> {
     let mut text = String::new(alloc);
-    for row in rows.items.iter() {
+    for row in rows {
         let row = record_text(alloc, row)?;
         add_part(&mut text, row.as_str())?;
     }
-    Ok(or_none(alloc, text)?)
+    or_none(alloc, text)
 }
 
-/// The steps that took a child of a place away, by `PLACE LOW HIGH`.
-fn losses<S: ProvStore>(alloc: Global, store: &mut S, words: &str) -> Result<String, Fault> {
-    let (place, rest) = words.split_once(' ').unwrap_or((words, ""));
-    let place = read_place(alloc, place)?;
+/// The rows of a step.
+fn step<S: ProvStore>(alloc: Global, store: &mut S, tid: u64) -> Result<String, Fault> {
+    let rows = store.rows_of(alloc, tid)?;
+    let text = rows_text(alloc, rows.items.as_slice());
+    drop(rows);
+    Ok(text?)
+}
+
+/// The Tids as parts of an answer.
+fn tids_text(alloc: Global, tids: &[u64]) -> Result<String, AllocError> {
+    let mut text = String::new(alloc);
+    for tid in tids {
+        let tid = tid.to_string(alloc)?;
+        add_part(&mut text, tid.as_str())?;
+    }
+    or_none(alloc, text)
+}
+
+/// The numbers of `PLACE LOW HIGH`.
+fn bounds_of(alloc: Global, words: &str) -> Result<(u64, u64), Fault> {
+    let (_, rest) = words.split_once(' ').unwrap_or((words, ""));
     let numbers = numbers_of(alloc, rest)?;
     let [low, high] = numbers.as_slice() else {
         return Err(Fault::Row(words.to_string(alloc)?));
     };
-    let tids = store.losses(alloc, &place, *low, *high)?;
-    let mut text = String::new(alloc);
-    for tid in tids.items.iter() {
-        let tid = tid.to_string(alloc)?;
-        add_part(&mut text, tid.as_str())?;
-    }
-    Ok(or_none(alloc, text)?)
+    Ok((*low, *high))
+}
+
+/// The steps that took a child of this place away, by the numbers of `PLACE LOW HIGH`.
+fn losses_at<S: ProvStore>(
+    alloc: Global,
+    store: &mut S,
+    place: &Loc,
+    words: &str,
+) -> Result<String, Fault> {
+    let (low, high) = bounds_of(alloc, words)?;
+    let tids = store.losses(alloc, place, low, high)?;
+    let text = tids_text(alloc, tids.items.as_slice());
+    drop(tids);
+    Ok(text?)
+}
+
+/// The steps that took a child of a place away, by `PLACE LOW HIGH`.
+fn losses<S: ProvStore>(alloc: Global, store: &mut S, words: &str) -> Result<String, Fault> {
+    let (place, _) = words.split_once(' ').unwrap_or((words, ""));
+    let place = read_place(alloc, place)?;
+    let text = losses_at(alloc, store, &place, words);
+    drop(place);
+    text
+}
+
+/// Whether a row is of the place at a label below this one, or of one below that.
+fn below_label<S: ProvStore>(
+    alloc: Global,
+    store: &mut S,
+    place: &Loc,
+    label: &str,
+) -> Result<bool, Fault> {
+    let label = read_label(alloc, label)?;
+    let told = store.tells_below(alloc, place, Some(&label));
+    drop(label);
+    Ok(told?)
 }
 
 /// Whether a row is of a place below one, by `PLACE`, or by `PLACE LABEL`.
@@ -91,12 +143,15 @@ fn below<S: ProvStore>(alloc: Global, store: &mut S, words: &str) -> Result<bool
     match words.split_once(' ') {
         None => {
             let place = read_place(alloc, words)?;
-            Ok(store.tells_below(alloc, &place, None)?)
+            let told = store.tells_below(alloc, &place, None);
+            drop(place);
+            Ok(told?)
         }
         Some((place, label)) => {
             let place = read_place(alloc, place)?;
-            let label = read_label(alloc, label)?;
-            Ok(store.tells_below(alloc, &place, Some(&label))?)
+            let told = below_label(alloc, store, &place, label);
+            drop(place);
+            told
         }
     }
 }
@@ -119,7 +174,7 @@ fn answer<S: ProvStore>(alloc: Global, store: &mut S, question: &str) -> Result<
     }
 }
 
-/// Adds a question and what the store tells. After an error the lines are as they were.
+/// Adds a question and what the store tells.
 pub(crate) fn add_told<S: ProvStore>(
     alloc: Global,
     store: &mut S,
@@ -127,7 +182,6 @@ pub(crate) fn add_told<S: ProvStore>(
     lines: &mut String,
 ) -> Result<(), Fault> {
     let answer = answer(alloc, store, question)?;
-    let line = format!(in alloc; "{question}: {answer}")?;
-    add_line(lines, line.as_str())?;
+    add_answer(lines, question, answer.as_str())?;
     Ok(())
 }

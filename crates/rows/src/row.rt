@@ -17,6 +17,13 @@ pub(crate) fn add_line(lines: &mut String, line: &str) -> Result<(), AllocError>
     Ok(())
 }
 
+/// Adds a line of what is asked and, after a colon, the answer. After an error the line may be there in part.
+pub(crate) fn add_answer(lines: &mut String, asked: &str, answer: &str) -> Result<(), AllocError> {
+    lines.push_str(asked)?;
+    lines.push_str(": ")?;
+    add_line(lines, answer)
+}
+
 /// Adds the rows as replies list them, each on a line.
 pub(crate) fn add_rows(
     alloc: Global,

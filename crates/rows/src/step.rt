@@ -1,11 +1,11 @@
 //! What is made of the rows of a step, or told by them.
 
 use crate::fault::Fault;
-use crate::row::{add_line, add_rows, first_line, question_of, rows_of};
+use crate::row::{add_answer, add_rows, first_line, question_of, rows_of};
 use cp_hier::inferred;
 use cp_json::tree_of_json;
 use cp_model::{Effect, Record};
-use cp_path::{Loc, Name};
+use cp_path::{Loc, Name, Path};
 use cp_reduce::{expand, reduce};
 use cp_spelling::{place_text, read_place};
 use cp_tree::TreeRep;
@@ -32,6 +32,23 @@ pub(crate) fn add_reduced(
     Ok(())
 }
 
+/// Adds the full rows of a step from its reduced ones in this text, and the trees before and after it.
+fn add_full(
+    alloc: Global,
+    before: &BoxTree,
+    after: &BoxTree,
+    text: &str,
+    lines: &mut String,
+) -> Result<(), Fault> {
+    let rows = rows_of(alloc, text)?;
+    let full = expand(alloc, rows.as_slice(), before, after);
+    drop(rows);
+    let full = full?;
+    let added = add_rows(alloc, lines, full.items.as_slice());
+    drop(full);
+    Ok(added?)
+}
+
 /// Adds the full rows of a step from its reduced ones. The text's first line is the tree before the step, the second the one
 /// after it.
 pub(crate) fn add_expanded(alloc: Global, text: &str, lines: &mut String) -> Result<(), Fault> {
@@ -39,10 +56,10 @@ pub(crate) fn add_expanded(alloc: Global, text: &str, lines: &mut String) -> Res
     let (after, rest) = first_line(rest);
     let before = tree_of(alloc, before)?;
     let after = tree_of(alloc, after)?;
-    let rows = rows_of(alloc, rest)?;
-    let full = expand(alloc, rows.as_slice(), &before, &after)?;
-    add_rows(alloc, lines, full.items.as_slice())?;
-    Ok(())
+    let added = add_full(alloc, &before, &after, rest, lines);
+    drop(after);
+    drop(before);
+    added
 }
 
 /// The name of an effect: `same`, `new`, or the place that the data comes from.
@@ -59,17 +76,18 @@ fn effect_at(
     alloc: Global,
     rows: &[Record],
     after: &BoxTree,
-    place: &str,
-) -> Result<String, Fault> {
-    let place = read_place(alloc, place)?;
-    if !after.is_there(&place.path) {
-        return Ok("not there".to_string(alloc)?);
+    place: &Path,
+) -> Result<String, AllocError> {
+    if !after.is_there(place) {
+        return "not there".to_string(alloc);
     }
-    let effect = inferred(rows, after, &place.path)?;
-    Ok(effect_text(alloc, &effect)?)
+    let effect = inferred(rows, after, place)?;
+    let text = effect_text(alloc, &effect);
+    drop(effect);
+    text
 }
 
-/// Adds a place and what the step has done to it. After an error the lines are as they were.
+/// Adds a place and what the step has done to it.
 fn add_effect(
     alloc: Global,
     rows: &[Record],
@@ -77,9 +95,23 @@ fn add_effect(
     place: &str,
     lines: &mut String,
 ) -> Result<(), Fault> {
-    let effect = effect_at(alloc, rows, after, place)?;
-    let line = format!(in alloc; "{place}: {effect}")?;
-    add_line(lines, line.as_str())?;
+    let loc = read_place(alloc, place)?;
+    let effect = effect_at(alloc, rows, after, &loc.path);
+    drop(loc);
+    let effect = effect?;
+    add_answer(lines, place, effect.as_str())?;
+    Ok(())
+}
+
+/// Adds what a step has done to each place that a line `? PLACE` names, by its reduced rows in this text, and the tree after
+/// it.
+fn add_each(alloc: Global, after: &BoxTree, text: &str, lines: &mut String) -> Result<(), Fault> {
+    let rows = rows_of(alloc, text)?;
+    for line in text.split_terminator('\n') {
+        if let Some(place) = question_of(line) {
+            add_effect(alloc, rows.as_slice(), after, place, lines)?;
+        }
+    }
     Ok(())
 }
 
@@ -88,11 +120,7 @@ fn add_effect(
 pub(crate) fn add_effects(alloc: Global, text: &str, lines: &mut String) -> Result<(), Fault> {
     let (after, rest) = first_line(text);
     let after = tree_of(alloc, after)?;
-    let rows = rows_of(alloc, rest)?;
-    for line in rest.split_terminator('\n') {
-        if let Some(place) = question_of(line) {
-            add_effect(alloc, rows.as_slice(), &after, place, lines)?;
-        }
-    }
-    Ok(())
+    let added = add_each(alloc, &after, rest, lines);
+    drop(after);
+    added
 }

@@ -64,8 +64,10 @@ fn left_in(alloc: Global, file: &[u8]) -> Result<String, AllocError> {
 fn add_images(alloc: Global, disk: &MemDisk, lines: &mut String) -> Result<(), AllocError> {
     for how in IMAGES {
         let image = disk.crash(alloc, how)?;
+        let left = left_in(alloc, image.bytes());
+        drop(image);
         lines.push_str("; ")?;
-        lines.push_str(left_in(alloc, image.bytes())?.as_str())?;
+        lines.push_str(left?.as_str())?;
     }
     lines.push('\n')
 }
@@ -88,7 +90,9 @@ fn add_run(
 fn run_line(alloc: Global, plan: Plan, lines: &mut String) -> Result<(), AllocError> {
     let mut disk = empty_disk(alloc, plan)?;
     let outcome = fill(alloc, &mut disk);
-    add_run(alloc, &disk, outcome, lines)
+    let added = add_run(alloc, &disk, outcome, lines);
+    drop(disk);
+    added
 }
 
 /// Makes the file of a disk one of version 2.
@@ -99,10 +103,12 @@ fn upgrade_on(alloc: Global, disk: &mut MemDisk) -> Result<(), JournalFault>
         return Err(JournalFault::NoStore(0));
     }
     let mut journal = Journal::open_on(alloc, disk, HEADER_SIZE as u64)?;
-    if let Some(at) = journal.broken() {
-        return Err(JournalFault::NoStore(at));
-    }
-    journal.upgrade(disk)
+    let upgraded = match journal.broken() {
+        Some(at) => Err(JournalFault::NoStore(at)),
+        None => journal.upgrade(disk),
+    };
+    drop(journal);
+    upgraded
 }
 
 /// A line for each call that fails, and for each fuse.
@@ -132,7 +138,9 @@ fn upgrade_line(
     }
     let mut disk = MemDisk::with_faults(alloc, file, &[call])?;
     let outcome = upgrade_on(alloc, &mut disk);
-    add_run(alloc, &disk, outcome, lines)
+    let added = add_run(alloc, &disk, outcome, lines);
+    drop(disk);
+    added
 }
 
 /// A line for each call that fails, from 0, which none has.

@@ -119,5 +119,7 @@ pub(crate) fn calls(alloc: Global, words: &str, text: &[u8]) -> Result<String, A
     } else {
         MemDisk::with_faults(alloc, &content, &numbers)?
     };
-    play(alloc, &mut disk, lines)
+    let written = play(alloc, &mut disk, lines);
+    drop(disk);
+    written
 }

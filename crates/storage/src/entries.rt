@@ -1,4 +1,5 @@
 //! Entries, and where bytes stop spelling one.
+ghost use Rattle.cp_frame.specs.Sound.{IsSoundEntry};
 
 use crate::ranges::Ranges;
 use crate::show::{content_line, entry_lines, op_line, record_line};
@@ -6,16 +7,28 @@ use cp_format::{take, take_content};
 use cp_frame::{Entry, FormatFault, entry_bytes, entry_of, take_op};
 use std::alloc::{AllocError, Global};
 
+/// Whether the entry is written as these bytes.
+fn is_written(alloc: Global, entry: &Entry, bytes: &[u8]) -> Result<bool, AllocError>
+    requires { IsSoundEntry entry.now }
+{
+    let again = entry_bytes(alloc, entry)?;
+    Ok(again.as_slice() == bytes)
+}
+
 /// The entry that the bytes are, or the offset at which they stop.
 fn read(alloc: Global, bytes: &[u8]) -> Result<Result<Entry, usize>, AllocError> {
     match entry_of(alloc, bytes) {
-        Ok(entry) => {
-            let again = entry_bytes(alloc, &entry)?;
-            if again.as_slice() != bytes {
-                return Ok(Err(usize::MAX));
+        Ok(entry) => match is_written(alloc, &entry, bytes) {
+            Ok(true) => Ok(Ok(entry)),
+            Ok(false) => {
+                drop(entry);
+                Ok(Err(usize::MAX))
             }
-            Ok(Ok(entry))
-        }
+            Err(error) => {
+                drop(entry);
+                Err(error)
+            }
+        },
         Err(FormatFault::BadByte(at)) => Ok(Err(at)),
         Err(FormatFault::Memory) => Err(AllocError),
     }
@@ -23,17 +36,31 @@ fn read(alloc: Global, bytes: &[u8]) -> Result<Result<Entry, usize>, AllocError>
 
 /// The lines of the entry that the bytes are, which is written back as it was read, or where they stop.
 pub(crate) fn entry(alloc: Global, bytes: &[u8]) -> Result<String, AllocError> {
-    match read(alloc, bytes)? {
-        Ok(entry) => entry_lines(alloc, &entry),
+    let found = read(alloc, bytes)?;
+    let lines = match &found {
+        Ok(entry) => entry_lines(alloc, entry),
         Err(at) => format!(in alloc; "stops at {at}\n"),
-    }
+    };
+    drop(found);
+    lines
+}
+
+/// The offset at which the bytes stop; `None` where they are an entry.
+fn stop_of(alloc: Global, bytes: &[u8]) -> Result<Option<usize>, AllocError> {
+    let found = read(alloc, bytes)?;
+    let stop = match &found {
+        Ok(_) => None,
+        Err(at) => Some(*at),
+    };
+    drop(found);
+    Ok(stop)
 }
 
 /// Whether the bytes are an entry, or where they stop.
 fn outcome(alloc: Global, bytes: &[u8]) -> Result<String, AllocError> {
-    match read(alloc, bytes)? {
-        Ok(_) => "entry".to_string(alloc),
-        Err(at) => format!(in alloc; "{at}"),
+    match stop_of(alloc, bytes)? {
+        None => "entry".to_string(alloc),
+        Some(at) => format!(in alloc; "{at}"),
     }
 }
 
@@ -42,10 +69,10 @@ pub(crate) fn fronts(alloc: Global, bytes: &[u8]) -> Result<String, AllocError> 
     let mut lines = String::new(alloc);
     let mut stopped = 0usize;
     for count in 0..bytes.len() {
-        match read(alloc, &bytes[..count])? {
-            Err(at) if at == count => stopped = stopped.saturating_add(1),
-            Err(at) => lines.push_str(format!(in alloc; "{count}: {at}\n")?.as_str())?,
-            Ok(_) => lines.push_str(format!(in alloc; "{count}: entry\n")?.as_str())?,
+        match stop_of(alloc, &bytes[..count])? {
+            Some(at) if at == count => stopped = stopped.saturating_add(1),
+            Some(at) => lines.push_str(format!(in alloc; "{count}: {at}\n")?.as_str())?,
+            None => lines.push_str(format!(in alloc; "{count}: entry\n")?.as_str())?,
         }
     }
     lines.push_str(format!(in alloc; "{stopped} stop at their end\n")?.as_str())?;
@@ -85,12 +112,15 @@ fn op_count(entry: &Entry) -> usize {
 
 /// How many bytes and operations the entry has that the bytes are, or where they stop.
 pub(crate) fn again(alloc: Global, bytes: &[u8]) -> Result<String, AllocError> {
-    match read(alloc, bytes)? {
+    let found = read(alloc, bytes)?;
+    let line = match &found {
         Ok(entry) => {
-            format!(in alloc; "{} bytes, {} operations\n", bytes.len(), op_count(&entry))
+            format!(in alloc; "{} bytes, {} operations\n", bytes.len(), op_count(entry))
         }
         Err(at) => format!(in alloc; "stops at {at}\n"),
-    }
+    };
+    drop(found);
+    line
 }
 
 /// A line and where it ends, or where the bytes stop.
@@ -107,17 +137,23 @@ fn with_end(
 
 fn record_in(alloc: Global, bytes: &[u8]) -> Result<(String, usize), FormatFault> {
     let (record, end) = take(alloc, bytes, 0)?;
-    Ok((record_line(alloc, &record)?, end))
+    let line = record_line(alloc, &record);
+    drop(record);
+    Ok((line?, end))
 }
 
 fn content_in(alloc: Global, bytes: &[u8], room: usize) -> Result<(String, usize), FormatFault> {
     let (content, end) = take_content(alloc, bytes, 0, room)?;
-    Ok((content_line(alloc, &content)?, end))
+    let line = content_line(alloc, &content);
+    drop(content);
+    Ok((line?, end))
 }
 
 fn operation_in(alloc: Global, bytes: &[u8], trees: bool) -> Result<(String, usize), FormatFault> {
     let (op, end) = take_op(alloc, bytes, 0, trees)?;
-    Ok((op_line(alloc, &op)?, end))
+    let line = op_line(alloc, &op);
+    drop(op);
+    Ok((line?, end))
 }
 
 /// The record at the front of the bytes.

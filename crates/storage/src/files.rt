@@ -81,12 +81,16 @@ pub(crate) struct Found {
 /// Walks the frames of a file.
 pub(crate) fn found_in(alloc: Global, file: &[u8]) -> Result<Found, JournalFault> {
     let mut disk = disk_of(alloc, file)?;
-    let journal = Journal::open_on(alloc, &mut disk, HEADER_SIZE as u64)?;
-    Ok(Found {
+    let journal = Journal::open_on(alloc, &mut disk, HEADER_SIZE as u64);
+    drop(disk);
+    let journal = journal?;
+    let found = Found {
         frames: journal.len(),
         next: journal.next(),
         broken: journal.broken(),
-    })
+    };
+    drop(journal);
+    Ok(found)
 }
 
 /// The gate that ends the frames.

@@ -46,26 +46,25 @@ fn answer(alloc: Global, step: &Step) -> Result<Option<String>, AllocError> {
     let bytes = bytes.as_slice();
     let words = step.rest.as_str();
     let answer = match step.key.as_str() {
-        "entry" => entries::entry(alloc, bytes)?,
-        "fronts" => entries::fronts(alloc, bytes)?,
-        "changes" => entries::changes(alloc, bytes)?,
-        "again" => entries::again(alloc, bytes)?,
-        "record" => entries::record(alloc, bytes)?,
-        "content" => entries::content(alloc, words, bytes)?,
-        "operation" => entries::operation(alloc, words, bytes)?,
-        "header" => files::header(alloc, bytes)?,
-        "headers" => files::headers(alloc, bytes)?,
-        "walk" => files::walk(alloc, bytes)?,
-        "walks" => files::walks(alloc, bytes)?,
-        "calls" => disks::calls(alloc, words, step.text.as_slice())?,
-        "sweep" => crashes::sweep(alloc, words)?,
-        "upgrade" => crashes::upgrade(alloc, words, bytes)?,
-        "large" => crashes::large(alloc, words)?,
-        "entries" => crashes::entries(alloc, words)?,
-
+        "entry" => entries::entry(alloc, bytes),
+        "fronts" => entries::fronts(alloc, bytes),
+        "changes" => entries::changes(alloc, bytes),
+        "again" => entries::again(alloc, bytes),
+        "record" => entries::record(alloc, bytes),
+        "content" => entries::content(alloc, words, bytes),
+        "operation" => entries::operation(alloc, words, bytes),
+        "header" => files::header(alloc, bytes),
+        "headers" => files::headers(alloc, bytes),
+        "walk" => files::walk(alloc, bytes),
+        "walks" => files::walks(alloc, bytes),
+        "calls" => disks::calls(alloc, words, step.text.as_slice()),
+        "sweep" => crashes::sweep(alloc, words),
+        "upgrade" => crashes::upgrade(alloc, words, bytes),
+        "large" => crashes::large(alloc, words),
+        "entries" => crashes::entries(alloc, words),
         _ => return Ok(None),
     };
-    Ok(Some(answer))
+    Ok(Some(answer?))
 }
 
 impl Player for Caller {

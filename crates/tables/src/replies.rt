@@ -244,11 +244,16 @@ fn from_answer(alloc: Global, request: &Request<'_>) -> Result<FromAnswer, PathF
 /// The reply to `from`.
 fn from(alloc: Global, request: &Request<'_>) -> Result<Reply, PathFault> {
     let place = read_place(alloc, line_at(request.text, 0))?;
-    let answer = from_answer(alloc, request)?;
-    Ok(Reply::Answered {
-        query: Query::From(place),
-        answer: Answer::From(answer),
-    })
+    match from_answer(alloc, request) {
+        Ok(answer) => Ok(Reply::Answered {
+            query: Query::From(place),
+            answer: Answer::From(answer),
+        }),
+        Err(fault) => {
+            drop(place);
+            Err(fault)
+        }
+    }
 }
 
 /// The reply that the tree of a store differs from the replay's.
@@ -265,47 +270,62 @@ fn tree_differs(alloc: Global, request: &Request<'_>) -> Result<Reply, PathFault
 /// The reply that a record of a store differs from the replay's.
 fn record_differs(alloc: Global, request: &Request<'_>) -> Result<Reply, PathFault> {
     let stored = record_or_none(alloc, line_at(request.text, 0))?;
-    let expected = record_or_none(alloc, line_at(request.text, 1))?;
-    Ok(Reply::Verified {
-        verdict: Verdict::Differs {
-            at: at(request.numbers, 0),
-            stored,
-            expected,
-        },
-    })
+    match record_or_none(alloc, line_at(request.text, 1)) {
+        Ok(expected) => Ok(Reply::Verified {
+            verdict: Verdict::Differs {
+                at: at(request.numbers, 0),
+                stored,
+                expected,
+            },
+        }),
+        Err(fault) => {
+            drop(stored);
+            Err(fault)
+        }
+    }
 }
 
 /// The replies that have places, records or commits; `None` for other words.
 fn reply_of_text(alloc: Global, request: &Request<'_>) -> Result<Option<Reply>, PathFault> {
     let reply = match request.word {
-        "records" => records(alloc, request)?,
-        "log" => log(alloc, request)?,
-        "mod" => tids(alloc, request)?,
-        "new" | "start" | "at" => from(alloc, request)?,
-        "tree" => tree_differs(alloc, request)?,
-        "differs" => record_differs(alloc, request)?,
+        "records" => records(alloc, request),
+        "log" => log(alloc, request),
+        "mod" => tids(alloc, request),
+        "new" | "start" | "at" => from(alloc, request),
+        "tree" => tree_differs(alloc, request),
+        "differs" => record_differs(alloc, request),
         _ => return Ok(None),
     };
-    Ok(Some(reply))
+    Ok(Some(reply?))
 }
 
 /// The reply of these words and this text; `None` where they are none.
 fn reply_of(alloc: Global, request: &Request<'_>) -> Result<Option<Reply>, PathFault> {
-    match reply_of_numbers(request).or(refusal(request.word)) {
-        Some(reply) => Ok(Some(reply)),
-        None => reply_of_text(alloc, request),
+    let reply = reply_of_numbers(request).or(refusal(request.word));
+    if reply.is_some() {
+        return Ok(reply);
     }
+    drop(reply);
+    reply_of_text(alloc, request)
 }
 
 /// The lines of a reply.
-pub(crate) fn lines_alone(alloc: Global, reply: Reply) -> Result<Vec<u8>, AllocError> {
-    let mut replies = Vec::new(alloc);
-    replies.push(reply)?;
+pub(crate) fn lines_alone(alloc: Global, reply: &Reply) -> Result<Vec<u8>, AllocError> {
     let mut out = Vec::new(alloc);
-    for reply in replies.iter() {
-        lines(alloc, reply, &mut out)?;
-    }
+    lines(alloc, reply, &mut out)?;
     Ok(out)
+}
+
+/// The lines of a reply, or of why its words or its text are refused; `None` where there is none.
+fn lines_found(
+    alloc: Global,
+    found: &Result<Option<Reply>, PathFault>,
+) -> Result<Option<Vec<u8>>, AllocError> {
+    match found {
+        Ok(Some(reply)) => Ok(Some(lines_alone(alloc, reply)?)),
+        Ok(None) => Ok(None),
+        Err(fault) => Ok(Some(bytes_of(alloc, fault.to_string(alloc)?.as_str())?)),
+    }
 }
 
 /// The lines of the reply of these words and this text; `None` where they are none.
@@ -322,9 +342,8 @@ pub(crate) fn lines_of(
         numbers: numbers.as_slice(),
         text: std::str::from_utf8(text).unwrap_or(""),
     };
-    match reply_of(alloc, &request) {
-        Ok(Some(reply)) => Ok(Some(lines_alone(alloc, reply)?)),
-        Ok(None) => Ok(None),
-        Err(fault) => Ok(Some(bytes_of(alloc, fault.to_string(alloc)?.as_str())?)),
-    }
+    let found = reply_of(alloc, &request);
+    let lines = lines_found(alloc, &found);
+    drop(found);
+    lines
 }

@@ -10,7 +10,9 @@ use std::alloc::{AllocError, Global};
 /// The statement that a text is, as it is printed.
 fn statement(alloc: Global, text: &str) -> Result<String, StmtFault> {
     let statement = parse(alloc, text)?;
-    Ok(print(alloc, &statement)?)
+    let text = print(alloc, &statement);
+    drop(statement);
+    Ok(text?)
 }
 
 /// Why a text is no statement, as a reply says it.
@@ -21,12 +23,15 @@ fn refusal(alloc: Global, fault: StmtFault) -> Result<Vec<u8>, AllocError> {
         StmtFault::Memory => return Err(AllocError),
     };
     let of = Of::Statement;
-    lines_alone(alloc, Reply::Refused { of, why })
+    let reply = Reply::Refused { of, why };
+    let lines = lines_alone(alloc, &reply);
+    drop(reply);
+    lines
 }
 
 /// The line of the statement that bytes are, as it is printed, or its refusal.
 pub(crate) fn printed(alloc: Global, bytes: &[u8]) -> Result<Option<Vec<u8>>, AllocError> {
-    if let Err(fault) = parse_bytes(alloc, bytes) {
+    if let Some(fault) = parse_bytes(alloc, bytes).err() {
         return Ok(Some(refusal(alloc, fault)?));
     }
     let text = std::str::from_utf8(bytes).unwrap_or("");

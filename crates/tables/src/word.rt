@@ -37,7 +37,10 @@ fn label(alloc: Global, word: &str) -> Result<String, PathFault> {
 
 /// The spelling of a value.
 fn value(alloc: Global, word: &str) -> Result<String, PathFault> {
-    Ok(value_text(alloc, &read_value(alloc, word)?)?)
+    let value = read_value(alloc, word)?;
+    let text = value_text(alloc, &value);
+    drop(value);
+    Ok(text?)
 }
 
 /// The name.
@@ -90,15 +93,15 @@ fn order(alloc: Global, words: &str) -> Result<String, PathFault> {
 /// What the call of this name reads the word as; `None` where there is no such call.
 fn line_of(alloc: Global, key: &str, word: &str) -> Result<Option<String>, PathFault> {
     let line = match key {
-        "place" => place(alloc, word)?,
-        "label" => label(alloc, word)?,
-        "value" => value(alloc, word)?,
-        "name" => name(alloc, word)?,
-        "text" => text(alloc, word)?,
-        "order" => order(alloc, word)?,
+        "place" => place(alloc, word),
+        "label" => label(alloc, word),
+        "value" => value(alloc, word),
+        "name" => name(alloc, word),
+        "text" => text(alloc, word),
+        "order" => order(alloc, word),
         _ => return Ok(None),
     };
-    Ok(Some(line))
+    Ok(Some(line?))
 }
 
 /// The line of what the call of this name reads the word as, or of why it refuses the word; `None`
