@@ -7,7 +7,7 @@ use cp_cases::{Step, number_of, numbers_of, words_of};
 use cp_clock::MemClock;
 use cp_disk::{DISK_MAX, Disk, MemDisk};
 use cp_host::{StdinSource, StdoutSink};
-use cp_outside::{Files, MemSink, Source};
+use cp_outside::{Files, Source};
 use cp_tree::TreeRep;
 use std::alloc::{AllocError, Global};
 
@@ -190,43 +190,20 @@ impl Call {
         }
     }
 
-    /// Makes the call over an output in memory, and gives the status and the output.
-    fn write_to_memory<P: Program, R: TreeRep, S: TreeRep, D: Disk, F: Files, I: Source>(
+    /// Makes the call over this input, and gives the status and the output.
+    fn make_over<P: Program, R: TreeRep, S: TreeRep, D: Disk, F: Files, I: Source>(
         &self,
         alloc: Global,
         program: &P,
-        disk: &mut D,
-        files: &mut F,
-        input: &mut I,
-    ) -> Result<(u8, Vec<u8>), AllocError> {
-        let mut clock = MemClock::with_faults(alloc, &self.moments, &self.failing_clock)?;
-        let mut output = MemSink::with_faults(alloc, &self.failing_writes)?;
-        let status = program.call::<R, S, D, F, _, I, _>(
-            alloc,
-            self.words.as_slice(),
-            disk,
-            files,
-            &mut clock,
-            input,
-            &mut output,
-        );
-        Ok((status, output.bytes().to_vec(alloc)?))
-    }
-
-    /// Makes the call over an output that takes so many bytes, one by one, and gives the status and
-    /// what it took.
-    fn write_to_screen<P: Program, R: TreeRep, S: TreeRep, D: Disk, F: Files, I: Source>(
-        &self,
-        alloc: Global,
-        program: &P,
-        room: usize,
         disk: &mut D,
         files: &mut F,
         input: &mut I,
     ) -> Result<(u8, Vec<u8>), AllocError> {
         let mut screen = Screen {
             took: Vec::new(alloc),
-            room,
+            room: self.room,
+            fails: self.failing_writes.to_vec(alloc)?,
+            writes: 0,
         };
         let mut clock = MemClock::with_faults(alloc, &self.moments, &self.failing_clock)?;
         let mut output = StdoutSink::new(&mut screen);
@@ -240,23 +217,6 @@ impl Call {
             &mut output,
         );
         Ok((status, screen.took))
-    }
-
-    /// Makes the call over this input, and gives the status and the output.
-    fn make_over<P: Program, R: TreeRep, S: TreeRep, D: Disk, F: Files, I: Source>(
-        &self,
-        alloc: Global,
-        program: &P,
-        disk: &mut D,
-        files: &mut F,
-        input: &mut I,
-    ) -> Result<(u8, Vec<u8>), AllocError> {
-        match self.room {
-            Some(room) => self.write_to_screen::<P, R, S, D, F, I>(
-                alloc, program, room, disk, files, input,
-            ),
-            None => self.write_to_memory::<P, R, S, D, F, I>(alloc, program, disk, files, input),
-        }
     }
 
     /// Makes the call over this disk and these files, with these forms of the committed tree and of the sources' trees.

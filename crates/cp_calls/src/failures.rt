@@ -1,12 +1,14 @@
 //! A call made over and over, each time with another call of the outside failing.
 
 use crate::call::{Call, Device, Outcome};
+use crate::files::CaseFiles;
 use crate::program::Program;
 use cp_disk::{Crash, MemDisk};
 use cp_outside::MemFiles;
 use cp_tree_arena::ArenaTree;
 use cp_tree_share::ShareTree;
 use std::alloc::{AllocError, Global};
+use std::rt;
 
 /// What a crash may leave that is looked at: the content of the last sync, the content now, and that with other bytes in
 /// place of those that are pending.
@@ -65,14 +67,14 @@ fn tid_in(output: &[u8]) -> Option<u64> {
 }
 
 /// The last Tid of the store that a crash leaves; `None` where it leaves no store.
-fn tid_left<P: Program>(
+fn tid_left<R: rt::Files + Drop, P: Program>(
     alloc: Global,
     program: &P,
     disk: &MemDisk,
     how: Crash,
 ) -> Result<Option<u64>, AllocError> {
     let mut image = disk.crash(alloc, how)?;
-    let mut files = MemFiles::new(alloc, &[])?;
+    let mut files: CaseFiles<R> = CaseFiles::Named(MemFiles::new(alloc, &[])?);
     let asking = Call::asking(alloc)?;
     let outcome = asking.make::<P, ShareTree, ArenaTree, _, _>(
         alloc, program, &mut image, &mut files,
@@ -85,7 +87,7 @@ fn tid_left<P: Program>(
 
 /// Says what a crash leaves other than a store with a last Tid from `low` to `high`; or no store, where one is made. `None`
 /// where it always leaves that.
-pub(crate) fn fault_left<P: Program>(
+pub(crate) fn fault_left<R: rt::Files + Drop, P: Program>(
     alloc: Global,
     program: &P,
     disk: &MemDisk,
@@ -94,7 +96,7 @@ pub(crate) fn fault_left<P: Program>(
     may_be_none: bool,
 ) -> Result<Option<String>, AllocError> {
     for how in CRASHES {
-        let fits = match tid_left(alloc, program, disk, how)? {
+        let fits = match tid_left::<R, P>(alloc, program, disk, how)? {
             Some(tid) => low <= tid && tid <= high,
             None => may_be_none,
         };

@@ -7,6 +7,7 @@
 mod call;
 mod failures;
 mod file;
+mod files;
 mod pieces;
 mod play;
 mod program;

@@ -31,6 +31,7 @@
 use crate::call::{Call, Device, Outcome, device_of};
 use crate::failures::{fault_left, is_ended_by, last_tid};
 use crate::file::StoreFiles;
+use crate::files::CaseFiles;
 use crate::program::Program;
 use cp_cases::{Player, Step, bytes_in, compare, numbers_of};
 use cp_disk::MemDisk;
@@ -136,11 +137,11 @@ impl<'a, R: Files, P: Program> Stage<'a, R, P> {
         call: &Call,
         disk: &mut MemDisk,
     ) -> Result<Outcome, AllocError> {
-        if self.real {
-            let mut files = HostFiles::new(self.runtime);
-            return call.make::<P, T, S, _, _>(alloc, self.program, disk, &mut files);
-        }
-        let mut files = MemFiles::with_faults(alloc, &self.files, call.failing_files())?;
+        let mut files = if self.real {
+            CaseFiles::Real(HostFiles::new(self.runtime))
+        } else {
+            CaseFiles::Named(MemFiles::with_faults(alloc, &self.files, call.failing_files())?)
+        };
         call.make::<P, T, S, _, _>(alloc, self.program, disk, &mut files)
     }
 
@@ -280,7 +281,9 @@ impl<'a, R: Files, P: Program> Stage<'a, R, P> {
                 return Ok(Some(format!(in alloc; "failing at {number}, it ends otherwise")?));
             }
             let low = last_tid(&outcome.output);
-            if let Some(text) = fault_left(alloc, self.program, &disk, low, high, is_made)? {
+            let program = self.program;
+            let fault = fault_left::<&'a R, P>(alloc, program, &disk, low, high, is_made)?;
+            if let Some(text) = fault {
                 return Ok(Some(format!(in alloc; "failing at {number}, {text}")?));
             }
         }
