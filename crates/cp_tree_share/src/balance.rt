@@ -96,6 +96,30 @@ impl Forest {
         }
     }
 
+    /// Puts siblings beside each other, of which the inner ones are a level higher than those on either side: takes them
+    /// apart, and makes a half of each side with the part that is next to it.
+    fn fork_halves(
+        alloc: Global,
+        left: Forest,
+        first: Entry,
+        inner: Forest,
+        last: Entry,
+        right: Forest,
+    ) -> Result<Forest, AllocError>
+        requires children { AreChildren (left.0 ++ first ∷ (inner.0 ++ last ∷ right.0)) }
+        requires left { inner.1 ≡ left.1 + 1 }
+        requires right { inner.1 ≡ right.1 + 1 }
+        ensures { IfOk result (λ t. t ≡ (left.0 ++ first ∷ (inner.0 ++ last ∷ right.0), inner.1 + 1)) }
+    {
+        let Parts::At(before, middle, after) = inner.parts()? else {
+            unreachable!()
+        };
+        drop(inner);
+        let left = Forest::fork(alloc, left, first, before)?;
+        let right = Forest::fork(alloc, after, last, right)?;
+        Forest::fork(alloc, left, middle, right)
+    }
+
     /// Rotates where the left side is two levels higher.
     fn lean_left(
         alloc: Global,
@@ -112,16 +136,12 @@ impl Forest {
         let Parts::At(outer, top, inner) = left.parts()? else {
             unreachable!()
         };
-        if outer.height() >= inner.height() {
-            let low = Forest::fork(alloc, inner, entry, right)?;
-            return Forest::fork(alloc, outer, top, low);
+        drop(left);
+        if outer.height() < inner.height() {
+            return Forest::fork_halves(alloc, outer, top, inner, entry, right);
         }
-        let Parts::At(before, middle, after) = inner.parts()? else {
-            unreachable!()
-        };
-        let first = Forest::fork(alloc, outer, top, before)?;
-        let last = Forest::fork(alloc, after, entry, right)?;
-        Forest::fork(alloc, first, middle, last)
+        let right = Forest::fork(alloc, inner, entry, right)?;
+        Forest::fork(alloc, outer, top, right)
     }
 
     /// Rotates where the right side is two levels higher.
@@ -140,16 +160,12 @@ impl Forest {
         let Parts::At(inner, top, outer) = right.parts()? else {
             unreachable!()
         };
-        if outer.height() >= inner.height() {
-            let low = Forest::fork(alloc, left, entry, inner)?;
-            return Forest::fork(alloc, low, top, outer);
+        drop(right);
+        if outer.height() < inner.height() {
+            return Forest::fork_halves(alloc, left, entry, inner, top, outer);
         }
-        let Parts::At(before, middle, after) = inner.parts()? else {
-            unreachable!()
-        };
-        let first = Forest::fork(alloc, left, entry, before)?;
-        let last = Forest::fork(alloc, after, top, outer)?;
-        Forest::fork(alloc, first, middle, last)
+        let left = Forest::fork(alloc, left, entry, inner)?;
+        Forest::fork(alloc, left, top, outer)
     }
 
     /// Puts siblings beside each other, of which one side may be two levels higher.
