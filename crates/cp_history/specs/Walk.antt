@@ -23,6 +23,8 @@ use Rattle.cp_history.specs.declared.walk.HistoryWalk.{HistoryWalk}
 use Rattle.cp_history.specs.declared.walk.CommitAt.{CommitAt}
 use Rattle.cp_history.specs.declared.walk.Findings.{Findings}
 use Rattle.cp_history.specs.declared.walk.Findings.TheVariants.{Log, Records}
+use Rattle.cp_history.specs.declared.walk.Wanted.{Wanted}
+use Rattle.cp_history.specs.declared.walk.Wanted.TheVariants as wanted
 use Rattle.cp_db.specs.declared.fault.OpenFault.{OpenFault}
 use Rattle.cp_db.specs.declared.fault.OpenFault.TheVariants.{NoStore, Disk, Memory}
 
@@ -32,6 +34,10 @@ use Rattle.cp_db.specs.declared.fault.OpenFault.TheVariants.{NoStore, Disk, Memo
 abbrev pub is_log : Findings → Bool
 is_log (Log lines) = true
 is_log (Records v) = false
+
+abbrev pub wants_log : Wanted → Bool
+wants_log wanted.Log = true
+wants_log wanted.Verdict = false
 
 -- nothing has been found yet
 abbrev pub AreFirst : Findings → Type 0

@@ -11,7 +11,7 @@ ghost use Rattle.cp_db.specs.Opening.{IsOpenDisk};
 ghost use Rattle.cp_history.specs.Log.{LogsAs};
 ghost use Rattle.cp_db.specs.declared.limits.TheConstants.{TIDS_MAX};
 
-use crate::walk::{CommitAt, Findings, findings_in};
+use crate::walk::{CommitAt, Findings, Wanted, findings_in};
 use cp_db::{OpenFault, replay_commit};
 use cp_disk::Disk;
 use cp_engine::steps_of;
@@ -77,10 +77,7 @@ pub fn log_of<R: TreeRep, S: TreeRep, D: Disk>(
     ensures rests { IsTrue D.is_known → Rests (D.view disk.old) (D.view disk.new) }
     ensures cause { Accounts IsOpenDisk (D.counts disk.old).faults (D.counts disk.new).faults result }
 {
-    let none = LogList {
-        items: Vec::new(alloc),
-    };
-    match findings_in::<R, S, D>(alloc, disk, Findings::Log(none))? {
+    match findings_in::<R, S, D>(alloc, disk, Wanted::Log)? {
         Findings::Log(lines) => Ok(lines),
         Findings::Records(_) => unreachable!(),
     }

@@ -14,7 +14,7 @@ ghost use Rattle.cp_history.specs.Verify.{IsDifference, VerifiesAs};
 ghost use Rattle.cp_history.specs.Walk.{Judges, JudgesCommit};
 ghost use Rattle.cp_db.specs.declared.limits.TheConstants.{TIDS_MAX};
 
-use crate::walk::{CommitAt, Findings, findings_in};
+use crate::walk::{CommitAt, Findings, Wanted, findings_in};
 use cp_db::{OpenFault, TIDS_MAX, look_at_labels, tids_lie_between};
 use cp_disk::Disk;
 use cp_engine::{replay_recording, steps_of};
@@ -148,7 +148,7 @@ pub fn verify<R: TreeRep, S: TreeRep, D: Disk>(
     ensures rests { IsTrue D.is_known → Rests (D.view disk.old) (D.view disk.new) }
     ensures cause { Accounts IsOpenDisk (D.counts disk.old).faults (D.counts disk.new).faults result }
 {
-    match findings_in::<R, S, D>(alloc, disk, Findings::Records(Verdict::Agrees(0)))? {
+    match findings_in::<R, S, D>(alloc, disk, Wanted::Verdict)? {
         Findings::Records(verdict) => Ok(verdict),
         Findings::Log(_) => unreachable!(),
     }

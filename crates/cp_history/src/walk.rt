@@ -14,7 +14,7 @@ ghost use Rattle.cp_operation.specs.Loaded.{sources_in};
 ghost use Rattle.cp_file.specs.Items.{Item, an_entry, entry_meant, no_stamp};
 ghost use Rattle.cp_db.specs.Committed.{HoldsBatch, ReplaysCommit};
 ghost use Rattle.cp_db.specs.Opening.{IsOpenDisk};
-ghost use Rattle.cp_history.specs.Walk.{AreFindings, AreFirst, CanReach, Finds, HasPassed, HasReached, FindsAs, PassesFrameAs, TellsPassedAs, committed_of, frame_place, is_log};
+ghost use Rattle.cp_history.specs.Walk.{AreFindings, AreFirst, CanReach, Finds, HasPassed, HasReached, FindsAs, PassesFrameAs, TellsPassedAs, committed_of, frame_place, is_log, wants_log};
 ghost use Rattle.cp_db.specs.declared.limits.TheConstants.{TIDS_MAX};
 
 use crate::log::log_commit;
@@ -31,6 +31,13 @@ use cp_path::Label;
 use cp_store::ProvStore;
 use cp_tree::TreeRep;
 use std::alloc::{AllocError, Global};
+
+/// What is to be found on the way.
+#[derive(Clone, Copy, Drop)]
+pub(crate) enum Wanted {
+    Log,
+    Verdict,
+}
 
 /// What is found on the way.
 #[derive(Drop)]
@@ -69,18 +76,34 @@ fn no_stamp(alloc: Global) -> Result<Stamp, AllocError>
     Ok(Stamp { curator, moment: 0 })
 }
 
+impl Findings {
+    /// What is found where nothing has been looked at.
+    fn none(alloc: Global, wanted: Wanted) -> Findings
+        ensures first { AreFirst result }
+        ensures sort { is_log result ≡ wants_log wanted }
+    {
+        match wanted {
+            Wanted::Log => Findings::Log(LogList {
+                items: Vec::new(alloc),
+            }),
+            Wanted::Verdict => Findings::Records(Verdict::Agrees(0)),
+        }
+    }
+}
+
 impl<R: TreeRep, S: TreeRep> HistoryWalk<R, S> {
     /// A walk that has come past the start, and has found nothing yet.
-    fn begin(first: Committed<R, S>, findings: Findings) -> HistoryWalk<R, S>
+    fn begin(alloc: Global, first: Committed<R, S>, wanted: Wanted) -> HistoryWalk<R, S>
         ensures first { committed_of result first.commits first.store.rows.list ≡ first }
-        ensures findings { result.findings ≡ findings }
+        ensures nothing { AreFirst result.findings }
+        ensures sort { is_log result.findings ≡ wants_log wanted }
     {
         HistoryWalk {
             kind: first.store.kind(),
             last: first.store.upto(),
             tree: first.tree,
             sources: first.sources,
-            findings,
+            findings: Findings::none(alloc, wanted),
         }
     }
 
@@ -256,21 +279,20 @@ impl<R: TreeRep, S: TreeRep> HistoryWalk<R, S> {
         disk: &mut D,
         journal: &Journal,
         version: u8,
-        findings: Findings,
+        wanted: Wanted,
     ) -> Result<HistoryWalk<R, S>, OpenFault>
         requires listed { IsTrue D.is_known
             → (from : ℕ) × (fs : List Frame) × Lists from fs journal.now (D.view disk.old).content }
-        requires nothing { AreFirst findings }
         ensures passed { IsTrue D.is_known → (from : ℕ) (fs : List Frame)
             → Lists from fs journal.now (D.view disk.old).content
             → TellsPassedAs R.contents S.contents from version fs result }
-        ensures sort { IfOk result (λ w. is_log w.findings ≡ is_log findings) }
+        ensures sort { IfOk result (λ w. is_log w.findings ≡ wants_log wanted) }
         ensures rests { IsTrue D.is_known → Rests (D.view disk.old) (D.view disk.new) }
         ensures cause { Accounts IsOpenDisk (D.counts disk.old).faults (D.counts disk.new).faults result }
     {
         let mut body = Vec::new(alloc);
         let first = Committed::first(alloc, disk, journal, &mut body)?;
-        let mut walk = HistoryWalk::begin(first, findings);
+        let mut walk = HistoryWalk::begin(alloc, first, wanted);
         for n in 1..journal.len() {
             walk.add_frame(alloc, disk, journal, n, version, &mut body)?;
         }
@@ -278,27 +300,24 @@ impl<R: TreeRep, S: TreeRep> HistoryWalk<R, S> {
     }
 }
 
-/// What a walk over the history in a file finds, where it begins with these findings. Refuses the files that an opening
-/// refuses.
+/// What a walk over the history in a file finds. Refuses the files that an opening refuses.
 pub(crate) fn findings_in<R: TreeRep, S: TreeRep, D: Disk>(
     alloc: Global,
     disk: &mut D,
-    findings: Findings,
+    wanted: Wanted,
 ) -> Result<Findings, OpenFault>
-    requires nothing { AreFirst findings }
     ensures found { IsTrue D.is_known → FindsAs (D.view disk.old).content result }
-    ensures sort { IfOk result (λ found. is_log found ≡ is_log findings) }
+    ensures sort { IfOk result (λ found. is_log found ≡ wants_log wanted) }
     ensures rests { IsTrue D.is_known → Rests (D.view disk.old) (D.view disk.new) }
     ensures cause { Accounts IsOpenDisk (D.counts disk.old).faults (D.counts disk.new).faults result }
 {
     let header = Journal::header(disk)?;
     if let Some(at) = open_slot(&header) {
-        drop(findings);
         return Err(OpenFault::NoStore(at));
     }
     let version = version_of(&header);
     let journal = Journal::open_on(alloc, disk, HEADER_SIZE as u64)?;
-    let walk: HistoryWalk<R, S> = HistoryWalk::over_all(alloc, disk, &journal, version, findings)?;
+    let walk: HistoryWalk<R, S> = HistoryWalk::over_all(alloc, disk, &journal, version, wanted)?;
     if let Some(at) = journal.broken() {
         drop(walk);
         return Err(OpenFault::NoStore(at));

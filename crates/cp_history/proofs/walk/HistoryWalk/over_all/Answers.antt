@@ -2,7 +2,7 @@ use Rattle.std.proofs.Common.{◌≡◌, ◌∙◌, ◌<◌, List, [], ◌∷◌
 use Rattle.std.proofs.lemmas.Result.{err_from_is_err_and}
 use Rattle.cp_disk.proofs.Composing.{rests_then}
 use Rattle.cp_journal.specs.Journals.{Lists}
-use Rattle.cp_history.specs.Walk.{AreFirst, TellsPassedAs, is_log}
+use Rattle.cp_history.specs.Walk.{TellsPassedAs}
 use Rattle.cp_db.proofs.OpeningFrames.{listed_frame, listed_length}
 use Rattle.cp_db.proofs.OpeningItems.{first_stops, passed}
 use Rattle.cp_history.proofs.Walking.{reached-first}
@@ -25,9 +25,9 @@ loop-n-init g c =
     record {
       some = omega arith;
       within = first.some;
-      come = λ known from fs lists. come_first view source_view c.args.version from fs c.in_ok-first.first c.begin-walk.result (first.started known from c.args.version fs lists) walk.first (subst AreFirst (sym walk.findings) c.requires.nothing);
+      come = λ known from fs lists. come_first view source_view c.args.version from fs c.in_ok-first.first c.begin-walk.result (first.started known from c.args.version fs lists) walk.first walk.nothing;
       reached = (first.taken.0 ∷ [], reached-first view source_view c.in_ok-first.first c.begin-walk.result first.taken.0 first.taken.1 walk.first);
-      sort = ap is_log walk.findings;
+      sort = walk.sort;
       rests = first.rests;
       steady = first.cause.steady;
     }

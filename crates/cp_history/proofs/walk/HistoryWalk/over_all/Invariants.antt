@@ -3,7 +3,7 @@ use Rattle.cp_disk.specs.Views.{Rests}
 use Rattle.cp_journal.specs.Frames.{Frame}
 use Rattle.cp_journal.specs.Journals.{Lists}
 use Rattle.cp_file.specs.Items.{Item}
-use Rattle.cp_history.specs.Walk.{HasReached, is_log}
+use Rattle.cp_history.specs.Walk.{HasReached, is_log, wants_log}
 use Rattle.cp_history.proofs.WalkingFrames.{HasCome}
 use Rattle.cp_history.proofs.walk.HistoryWalk.over_all.Given as goal
 
@@ -14,7 +14,7 @@ invariant-loop-n g l = record {
   come : IsTrue g.D.Disk.is_known → (from : ℕ) (fs : List Frame) → Lists from fs l.fn.journal (g.D.Disk.view l.fn.disk).content
       → HasCome g.R.TreeRep.contents g.S.TreeRep.contents l.fn.version from fs l.n l.walk;
   reached : (items : List Item) × HasReached g.R.TreeRep.contents g.S.TreeRep.contents l.walk items;
-  sort : is_log l.walk.findings ≡ is_log l.fn.findings;
+  sort : is_log l.walk.findings ≡ wants_log l.fn.wanted;
   rests : IsTrue g.D.Disk.is_known → Rests (g.D.Disk.view l.fn.disk) (g.D.Disk.view l.disk);
   steady : (g.D.Disk.counts l.disk).faults ≡ (g.D.Disk.counts l.fn.disk).faults;
 }
