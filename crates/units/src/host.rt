@@ -1,10 +1,8 @@
 use cp_clock::Clock;
-use cp_disk::{Disk, DiskFault};
-use cp_host::{FileDisk, HostClock, HostFiles, StdinSource, StdoutSink};
+use cp_host::{HostClock, HostFiles, StdinSource, StdoutSink};
 use cp_outside::{Failed, FileEnd, Files, FilesFault, Sink, SinkFault, Source, write_all};
 use std::alloc::{AllocError, Global};
 use std::io::{Error, ErrorKind, Read, Write};
-use std::os::unix::fs::PermissionsExt;
 use std::test::*;
 use std::{env, fs, io, process};
 
@@ -73,7 +71,7 @@ fn the_clock_tells_the_time(rt: HostRuntime) -> Result<(), Fail> {
 }
 
 // An empty folder of this process alone, for the test of this name.
-fn empty_folder(rt: &HostRuntime, test: &str) -> io::Result<String> {
+pub(crate) fn empty_folder(rt: &HostRuntime, test: &str) -> io::Result<String> {
     let temporary = env::temp_dir(rt)?;
     let number = process::id(rt.process());
     let folder = format!(in rt.alloc(); "{}/cp_host_{test}_{number}", temporary.display())?;
@@ -143,111 +141,6 @@ fn files_are_read_up_to_the_limit(rt: HostRuntime) -> Result<(), Fail> {
     let (end, into) = read(alloc, &mut files, "", 9)?;
     assert_eq!(rt; end, Ok(FileEnd::Missing));
     assert!(rt; into.is_empty());
-    fs::remove_dir_all(&rt, folder.as_str())?;
-    Ok(())
-}
-
-// A disk over the file of this name.
-fn disk_of<'a>(
-    rt: &'a HostRuntime,
-    folder: &str,
-    below: &str,
-) -> Result<FileDisk<&'a HostRuntime>, AllocError> {
-    Ok(FileDisk::new(rt, format!(in rt.alloc(); "{folder}{below}")?))
-}
-
-#[test]
-fn a_missing_file_is_an_empty_disk(rt: HostRuntime) -> Result<(), Fail> {
-    let folder = empty_folder(&rt, "missing")?;
-    let mut disk = disk_of(&rt, folder.as_str(), "/store")?;
-    let mut room = [0; 4];
-    assert_eq!(rt; disk.size(), Ok(0));
-    assert_eq!(rt; disk.sync(), Ok(()));
-    assert_eq!(rt; disk.cut(0), Ok(()));
-    assert_eq!(rt; disk.cut(1), Err(DiskFault::Failed));
-    assert_eq!(rt; disk.read(0, &mut room), Err(DiskFault::Failed));
-    let name = format!(in rt.alloc(); "{folder}/store")?;
-    assert!(rt; !fs::exists(&rt, name.as_str())?);
-    // what has come since is not written over
-    fs::write(&rt, name.as_str(), "west")?;
-    assert_eq!(rt; disk.write_at(0, b"east"), Err(DiskFault::Failed));
-    assert_eq!(rt;
-        fs::read(&rt, name.as_str())?.as_slice(),
-        b"west".as_slice()
-    );
-    // without its folder it can't be made
-    let mut disk = disk_of(&rt, folder.as_str(), "/none/store")?;
-    assert_eq!(rt; disk.size(), Ok(0));
-    assert_eq!(rt; disk.write_at(0, b"east"), Err(DiskFault::Failed));
-    fs::remove_dir_all(&rt, folder.as_str())?;
-    Ok(())
-}
-
-#[test]
-fn a_file_is_made_and_opened_again_as_a_disk(rt: HostRuntime) -> Result<(), Fail> {
-    let folder = empty_folder(&rt, "disk")?;
-    let mut disk = disk_of(&rt, folder.as_str(), "/store")?;
-    let mut room = [0; 4];
-    assert_eq!(rt; disk.write_at(0, b"harbour"), Ok(()));
-    assert_eq!(rt; disk.write_at(4, b"master"), Ok(()));
-    assert_eq!(rt; disk.sync(), Ok(()));
-    assert_eq!(rt; disk.size(), Ok(10));
-    assert_eq!(rt; disk.read(2, &mut room), Ok(()));
-    assert_eq!(rt; room, *b"rbma");
-    assert_eq!(rt; disk.cut(5), Ok(()));
-    assert_eq!(rt; disk.read(2, &mut room), Err(DiskFault::Failed));
-    assert_eq!(rt; disk.sync(), Ok(()));
-    drop(disk);
-    let mut again = disk_of(&rt, folder.as_str(), "/store")?;
-    assert_eq!(rt; again.size(), Ok(5));
-    assert_eq!(rt; again.read(1, &mut room), Ok(()));
-    assert_eq!(rt; room, *b"arbm");
-    assert_eq!(rt; again.write_at(5, b"our"), Ok(()));
-    assert_eq!(rt; again.size(), Ok(8));
-    fs::remove_dir_all(&rt, folder.as_str())?;
-    Ok(())
-}
-
-#[test]
-fn a_disk_that_is_no_file_fails(rt: HostRuntime) -> Result<(), Fail> {
-    let folder = empty_folder(&rt, "no_disk")?;
-    let file = format!(in rt.alloc(); "{folder}/file")?;
-    fs::write(&rt, file.as_str(), "north")?;
-    for below in ["", "/", "/file/below", "/fi\0le"] {
-        let mut disk = disk_of(&rt, folder.as_str(), below)?;
-        let mut room = [0; 1];
-        assert_eq!(rt; disk.size(), Err(DiskFault::Failed), "{below}");
-        assert_eq!(rt; disk.read(0, &mut room), Err(DiskFault::Failed), "{below}");
-        assert_eq!(rt;
-            disk.write_at(0, b"east"),
-            Err(DiskFault::Failed),
-            "{below}"
-        );
-        assert_eq!(rt; disk.cut(0), Err(DiskFault::Failed), "{below}");
-        assert_eq!(rt; disk.sync(), Err(DiskFault::Failed), "{below}");
-    }
-    fs::remove_dir_all(&rt, folder.as_str())?;
-    Ok(())
-}
-
-#[test]
-fn a_file_for_reading_alone_is_read(rt: HostRuntime) -> Result<(), Fail> {
-    let folder = empty_folder(&rt, "read_only")?;
-    let name = format!(in rt.alloc(); "{folder}/store")?;
-    fs::write(&rt, name.as_str(), "north")?;
-    fs::set_permissions(&rt, name.as_str(), fs::Permissions::from_mode(0o444))?;
-    // root may write it all the same
-    let may_write = fs::OpenOptions::new()
-        .write(true)
-        .open(&rt, name.as_str())
-        .is_ok();
-    let mut disk = disk_of(&rt, folder.as_str(), "/store")?;
-    let mut room = [0; 5];
-    assert_eq!(rt; disk.read(0, &mut room), Ok(()));
-    assert_eq!(rt; room, *b"north");
-    assert_eq!(rt; disk.sync(), Ok(()));
-    assert_eq!(rt; disk.write_at(0, b"s").is_ok(), may_write);
-    assert_eq!(rt; disk.cut(2).is_ok(), may_write);
     fs::remove_dir_all(&rt, folder.as_str())?;
     Ok(())
 }
