@@ -23,7 +23,7 @@ pub(crate) enum Device {
 
 /// A call to come.
 #[derive(Drop)]
-pub(crate) struct Call {
+pub struct Call {
     words: Vec<String>,
     input: Vec<u8>,
     /// The sizes of the pieces that the input comes in.
@@ -45,7 +45,7 @@ pub(crate) struct Call {
 
 /// What a call gave.
 #[derive(Drop)]
-pub(crate) struct Outcome {
+pub struct Outcome {
     pub(crate) status: u8,
     pub(crate) output: Vec<u8>,
     /// How much of the input was left.

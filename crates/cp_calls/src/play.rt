@@ -25,23 +25,20 @@
 //! | `size N`, `bytes AT HEX` | the length of the call's store, and bytes in it |
 //! | `each DEVICE` | made again with the device failing at its first call (a disk from that on), at its second and so on, until it makes fewer: each ends with the device's status and last line, and a crash leaves each commit whose line was written, and of the others the first |
 //!
-//! A call whose input and files have at most 65,536 bytes is made once more with each other form of trees, and has to give
-//! the same.
+//! A call whose input, files and store have at most 65,536 bytes is made once more in the other forms of trees that the
+//! program has it made in, and has to give the same.
 
 use crate::call::{Call, Device, Outcome, device_of};
 use crate::failures::{fault_left, is_ended_by, last_tid};
 use crate::file::StoreFiles;
-use crate::files::CaseFiles;
+use crate::forms::OtherForms;
 use crate::program::Program;
+use crate::setting::Setting;
 use cp_cases::{Player, Step, bytes_in, compare, numbers_of};
 use cp_disk::MemDisk;
-use cp_host::HostFiles;
-use cp_outside::{MemFile, MemFiles};
+use cp_outside::MemFile;
 use cp_path::{Bytes, Text};
-use cp_tree::TreeRep;
 use cp_tree_arena::ArenaTree;
-use cp_tree_box::BoxTree;
-use cp_tree_rows::RowTree;
 use cp_tree_share::ShareTree;
 use std::alloc::{AllocError, Global};
 use std::rt::Files;
@@ -52,16 +49,13 @@ const STORE: &str = "s";
 /// More calls of a device than any call of a case makes.
 const CALLS_MAX: u64 = 10_000;
 
-/// A case as far as it is played, over files in memory or the real ones of this runtime.
+/// A case as far as it is played, over files in memory or the real ones of a runtime.
 #[derive(Drop)]
-pub struct Stage<'a, R, P> {
-    runtime: &'a R,
-    program: &'a P,
-    real: bool,
-    files: Vec<MemFile>,
+pub struct Stage<'a, R, P, F> {
+    setting: Setting<'a, R, P>,
+    forms: &'a F,
     stores: StoreFiles,
-    /// The bytes of the disk before the last call and after it, and that call.
-    before: Vec<u8>,
+    /// The bytes of the disk after the last call, and that call.
     left: Vec<u8>,
     made: Option<Call>,
     call: Option<Call>,
@@ -111,16 +105,20 @@ fn file_of(alloc: Global, name: &str, bytes: &[u8]) -> Result<MemFile, AllocErro
     })
 }
 
-impl<'a, R: Files, P: Program> Stage<'a, R, P> {
-    /// A stage for this program, on which nothing is.
-    pub fn new(alloc: Global, runtime: &'a R, program: &'a P) -> Stage<'a, R, P> {
-        Stage {
+impl<'a, R: Files, P: Program, F: OtherForms> Stage<'a, R, P, F> {
+    /// A stage for this program, on which nothing is. Small calls are made once more in these other forms of trees.
+    pub fn new(alloc: Global, runtime: &'a R, program: &'a P, forms: &'a F) -> Stage<'a, R, P, F> {
+        let setting = Setting {
             runtime,
             program,
             real: false,
             files: Vec::new(alloc),
-            stores: StoreFiles::new(alloc),
             before: Vec::new(alloc),
+        };
+        Stage {
+            setting,
+            forms,
+            stores: StoreFiles::new(alloc),
             left: Vec::new(alloc),
             made: None,
             call: None,
@@ -129,76 +127,45 @@ impl<'a, R: Files, P: Program> Stage<'a, R, P> {
         }
     }
 
-    /// What the call gives, over this disk and the files of the case, with these forms of the committed tree and of sources'
-    /// trees.
-    fn outcome_on<T: TreeRep, S: TreeRep>(
-        &self,
-        alloc: Global,
-        call: &Call,
-        disk: &mut MemDisk,
-    ) -> Result<Outcome, AllocError> {
-        let mut files = if self.real {
-            CaseFiles::Real(HostFiles::new(self.runtime))
-        } else {
-            CaseFiles::Named(MemFiles::with_faults(alloc, &self.files, call.failing_files())?)
-        };
-        call.make::<P, T, S, _, _>(alloc, self.program, disk, &mut files)
-    }
-
-    /// What the call gives, over the store and the files of the case, with these forms of trees, and whether it leaves a
-    /// store like this.
-    fn outcome_of<T: TreeRep, S: TreeRep>(
-        &self,
-        alloc: Global,
-        call: &Call,
-        left: &[u8],
-    ) -> Result<(Outcome, bool), AllocError> {
-        let mut disk = call.disk_of(alloc, &self.before)?;
-        let outcome = self.outcome_on::<T, S>(alloc, call, &mut disk)?;
-        Ok((outcome, disk.bytes() == left))
-    }
-
-    /// Says whether the input, the files and the store of the case have at most 65,536 bytes.
-    fn is_small(&self, call: &Call) -> bool {
-        let mut bytes = call.input_len().saturating_add(self.before.len());
-        for file in &self.files {
-            bytes = bytes.saturating_add(file.bytes.items.len());
+    /// Says whether the call is small and gives another outcome, or leaves another store, in another form of trees.
+    fn has_other_outcome(&self, alloc: Global, call: &Call) -> Result<bool, AllocError> {
+        match &self.outcome {
+            Some(first) if self.setting.is_small(call) => {
+                let same = self
+                    .forms
+                    .are_same(alloc, &self.setting, call, first, &self.left)?;
+                Ok(!same)
+            }
+            _ => Ok(false),
         }
-        bytes <= 65_536
     }
 
-    /// Makes the call once more with each other form of trees, and says whether all gave the same as the first, and left
-    /// the same store.
-    fn is_same_in_all(
-        &self,
-        alloc: Global,
-        call: &Call,
-        first: &Outcome,
-    ) -> Result<bool, AllocError> {
-        let left = &self.left;
-        let (boxes, box_store) = self.outcome_of::<BoxTree, ShareTree>(alloc, call, left)?;
-        let (rows, row_store) = self.outcome_of::<RowTree, BoxTree>(alloc, call, left)?;
-        let (arena, arena_store) = self.outcome_of::<ArenaTree, RowTree>(alloc, call, left)?;
-        let same_outcomes = boxes.is_same(first) && rows.is_same(first) && arena.is_same(first);
-        Ok(same_outcomes && box_store && row_store && arena_store)
+    /// Makes a call, and keeps what it gives and the store that it leaves.
+    fn make(&mut self, alloc: Global, call: &Call) -> Result<(), AllocError> {
+        self.setting.before = self.stores.named(call.store_name()).to_vec(alloc)?;
+        let (outcome, disk) = self
+            .setting
+            .outcome_of::<ShareTree, ArenaTree>(alloc, call)?;
+        self.outcome = Some(outcome);
+        let left = disk.bytes().to_vec(alloc);
+        drop(disk);
+        self.left = left?;
+        if !self.left.is_empty() {
+            let bytes = self.left.as_slice().to_vec(alloc)?;
+            self.stores.set(alloc, call.store_name(), bytes)?;
+        }
+        self.differs = self.has_other_outcome(alloc, call)?;
+        Ok(())
     }
 
     /// Makes the call that is to come.
     fn settle(&mut self, alloc: Global) -> Result<(), AllocError> {
-        if let Some(call) = self.call.take() {
-            self.before = self.stores.named(call.store_name()).to_vec(alloc)?;
-            let mut disk = call.disk_of(alloc, &self.before)?;
-            let outcome = self.outcome_on::<ShareTree, ArenaTree>(alloc, &call, &mut disk)?;
-            self.left = disk.bytes().to_vec(alloc)?;
-            if !self.left.is_empty() {
-                let bytes = disk.bytes().to_vec(alloc)?;
-                self.stores.set(alloc, call.store_name(), bytes)?;
-            }
-            self.differs = self.is_small(&call) && !self.is_same_in_all(alloc, &call, &outcome)?;
-            self.outcome = Some(outcome);
-            self.made = Some(call);
-        }
-        Ok(())
+        let Some(call) = self.call.take() else {
+            return Ok(());
+        };
+        let made = self.make(alloc, &call);
+        self.made = Some(call);
+        made
     }
 
     /// Makes the call that is to come, and begins another.
@@ -213,7 +180,7 @@ impl<'a, R: Files, P: Program> Stage<'a, R, P> {
         if name == STORE {
             self.stores.set(alloc, name, bytes.to_vec(alloc)?)?;
         }
-        self.files.push(file_of(alloc, name, bytes)?)?;
+        self.setting.files.push(file_of(alloc, name, bytes)?)?;
         Ok(())
     }
 
@@ -246,19 +213,23 @@ impl<'a, R: Files, P: Program> Stage<'a, R, P> {
         }
     }
 
-    /// The call that was last made, over the store that it met, with the device failing at its call with this number: what
-    /// it gave, and its disk.
-    fn outcome_failing(
+    /// Says what a call gave, and what it left on the disk, other than what it has to where the device fails: the status, the
+    /// last line, and a store with each commit whose line was written.
+    fn compare_cut_short(
         &self,
         alloc: Global,
-        call: &mut Call,
+        whole: &Outcome,
         device: Device,
-        number: u64,
-    ) -> Result<(Outcome, MemDisk), AllocError> {
-        call.fail_at(alloc, device, number)?;
-        let mut disk = call.disk_of(alloc, &self.before)?;
-        let outcome = self.outcome_on::<ShareTree, ArenaTree>(alloc, call, &mut disk)?;
-        Ok((outcome, disk))
+        outcome: &Outcome,
+        disk: &MemDisk,
+    ) -> Result<Option<String>, AllocError> {
+        if !is_ended_by(device, outcome, whole) {
+            return Ok(Some("it ends otherwise".to_string(alloc)?));
+        }
+        let low = last_tid(&outcome.output);
+        let high = last_tid(&whole.output);
+        let is_made = whole.output.starts_with(b"created");
+        fault_left::<&'a R, P>(alloc, self.setting.program, disk, low, high, is_made)
     }
 
     /// Says what the call gave other than what it has to give as a device fails at its first call, at its second, and so on,
@@ -270,20 +241,23 @@ impl<'a, R: Files, P: Program> Stage<'a, R, P> {
         whole: &Outcome,
         device: Device,
     ) -> Result<Option<String>, AllocError> {
-        let high = last_tid(&whole.output);
-        let is_made = whole.output.starts_with(b"created");
         for number in 1..=CALLS_MAX {
-            let (outcome, disk) = self.outcome_failing(alloc, call, device, number)?;
-            if number > 1 && outcome.is_same(whole) {
+            call.fail_at(alloc, device, number)?;
+            let (outcome, disk) = self
+                .setting
+                .outcome_of::<ShareTree, ArenaTree>(alloc, call)?;
+            let is_past_all = number > 1 && outcome.is_same(whole);
+            let compared = if is_past_all {
+                Ok(None)
+            } else {
+                self.compare_cut_short(alloc, whole, device, &outcome, &disk)
+            };
+            drop(outcome);
+            drop(disk);
+            if is_past_all {
                 return Ok(None);
             }
-            if !is_ended_by(device, &outcome, whole) {
-                return Ok(Some(format!(in alloc; "failing at {number}, it ends otherwise")?));
-            }
-            let low = last_tid(&outcome.output);
-            let program = self.program;
-            let fault = fault_left::<&'a R, P>(alloc, program, &disk, low, high, is_made)?;
-            if let Some(text) = fault {
+            if let Some(text) = compared? {
                 return Ok(Some(format!(in alloc; "failing at {number}, {text}")?));
             }
         }
@@ -326,16 +300,16 @@ impl<'a, R: Files, P: Program> Stage<'a, R, P> {
     }
 }
 
-impl<R: Files, P: Program> Player for Stage<'_, R, P> {
+impl<R: Files, P: Program, F: OtherForms> Player for Stage<'_, R, P, F> {
     fn can_take(&self, _key: &str) -> bool {
         true
     }
 
     fn begin(&mut self, alloc: Global, real: bool) {
-        self.real = real;
-        self.files = Vec::new(alloc);
+        self.setting.real = real;
+        self.setting.files = Vec::new(alloc);
+        self.setting.before = Vec::new(alloc);
         self.stores = StoreFiles::new(alloc);
-        self.before = Vec::new(alloc);
         self.left = Vec::new(alloc);
         self.made = None;
         self.call = None;
