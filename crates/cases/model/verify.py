@@ -16,7 +16,7 @@ import random
 import sys
 from itertools import zip_longest
 
-sys.path.append(os.path.join(os.path.dirname(os.path.abspath(__file__)), "../../storage/model"))
+sys.path.append(os.path.join(os.path.dirname(os.path.abspath(__file__)), "../../tables/model"))
 
 import calls
 import draw

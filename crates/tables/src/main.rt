@@ -1,22 +1,13 @@
-//! Plays tables of calls of the layers below the program: words and statements as they are read,
-//! cuts of an input, the order of places, and the lines of replies.
+//! Plays tables of calls of the layers below the program.
 //!
-//! The words are those of every program that plays cases: the stage up to which they hold, and files.
-//! A part makes a call, and `out` with a text below it is what the call has to give:
-//!
-//! | Part | What it gives |
-//! |---|---|
-//! | `place`, `label`, `name`, `value`, `text` and a text | what the text is read as |
-//! | `order` and a text | whether the places in it are in their order |
-//! | `statement` and a text | the statement as it is printed, or its refusal |
-//! | `offset` and a text | where the first token begins |
-//! | `cuts SIZE` and a text | the cuts of an input that comes in pieces of this size |
-//! | `reply WORDS` and a text | the lines of a reply, as `replies` says |
+//! The words are those of every program that plays cases: the stage up to which they hold, and files. A part makes a call,
+//! and `out` with a text below it is what the call has to give. `spelled` has the calls of words, statements and replies,
+//! `provenance` those of rows and steps, `stored` those of entries, files and disks.
 #![tactic(auto)]
 
-mod replies;
-mod statement;
-mod word;
+mod provenance;
+mod spelled;
+mod stored;
 
 use cp_cases::{Player, Step, compare, play_files};
 use std::alloc::{AllocError, Global};
@@ -31,14 +22,13 @@ struct Caller {
 
 /// What the call of this keyword gives; `None` where there is no such call.
 fn answer(alloc: Global, step: &Step) -> Result<Option<Vec<u8>>, AllocError> {
-    let text = step.text.as_slice();
-    match step.key.as_str() {
-        "reply" => replies::lines_of(alloc, step.rest.as_str(), text),
-        "cuts" => statement::cuts(alloc, step.rest.as_str(), text),
-        "statement" => statement::printed(alloc, text),
-        "offset" => statement::offset(alloc, text),
-        key => word::read(alloc, key, text),
+    if let Some(output) = spelled::answer(alloc, step)? {
+        return Ok(Some(output));
     }
+    if let Some(output) = provenance::answer(alloc, step)? {
+        return Ok(Some(output));
+    }
+    stored::answer(alloc, step)
 }
 
 impl Player for Caller {
