@@ -1,11 +1,15 @@
 -- A program grows by a command as its description does, and a command by an operand.
-use Rattle.std.specs.Prelude.{true}
+use Rattle.std.specs.Prelude.{true, Result, Ok, Err, IfOk}
+use Rattle.std.specs.declared.alloc.AllocError.{AllocError}
 use Rattle.std.proofs.Common.{◌≡◌, ◌∙◌, ap}
 use Rattle.clap.specs.declared.builder.arg.Arg.{Arg}
-use Rattle.clap.specs.Words.{App, Text, new_rule, rule_of, with_subcommand}
+use Rattle.clap.specs.declared.builder.command.Command.{Command}
+use Rattle.clap.specs.Words.{App, Text, app_of, new_rule, rule_of, with_subcommand}
+use Rattle.cp_words.specs.Shapes.{Grows}
 
-pub grown : (c a b s t : App) → c ≡ with_subcommand a s.top → a ≡ b → s ≡ t → c ≡ with_subcommand b t.top
-grown c a b s t h e f = h ∙ ap (λ x. with_subcommand x s.top) e ∙ ap (λ x. with_subcommand b x.top) f
+pub grown : (made : Result Command AllocError) (c : Command) (a known s : App) → Grows a made c → a ≡ known → IfOk made (λ m. app_of m ≡ s) → app_of c ≡ with_subcommand known s.top
+grown (Ok m) c a known s h e f = h ∙ ap (λ x. with_subcommand x (app_of m).top) e ∙ ap (λ x. with_subcommand known x.top) f
+grown (Err e) c a known s h _ _ = absurd h
 
 -- a command that was made of one that is known
 pub changed : (f : App → App) (new old known : App) → new ≡ f old → old ≡ known → new ≡ f known

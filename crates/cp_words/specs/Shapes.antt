@@ -1,6 +1,8 @@
 -- The commands, as the parser of words is told of them.
-use Rattle.std.specs.Prelude.{codes, true}
-use Rattle.clap.specs.Words.{App, Text, new_app, new_rule, with_rule, with_subcommand}
+use Rattle.std.specs.Prelude.{codes, true, ◌≡◌, Result, Ok, Err}
+use Rattle.std.specs.declared.alloc.AllocError.{AllocError}
+use Rattle.clap.specs.declared.builder.command.Command.{Command}
+use Rattle.clap.specs.Words.{App, Text, app_of, new_app, new_rule, with_rule, with_subcommand}
 
 -- a command with one more operand, which has to be there
 abbrev pub with_wanted : Text → App → App
@@ -46,6 +48,11 @@ log_app = with_wanted (codes "STORE") (new_app (codes "log"))
 -- `verify STORE`
 abbrev pub verify_app : App
 verify_app = with_wanted (codes "STORE") (new_app (codes "verify"))
+
+-- a program with one more command, which could be made
+abbrev pub Grows : App → Result Command AllocError → Command → Type 0
+Grows a (Ok s) c = app_of c ≡ with_subcommand a (app_of s).top
+Grows a (Err e) c = ⊥
 
 -- the program, which has no help and wants a command
 abbrev pub top_app : App

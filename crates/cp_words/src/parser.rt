@@ -1,6 +1,6 @@
 //! The commands and their operands, as the parser of words is told of them.
 ghost use Rattle.std.specs.Prelude.{◌≡◌, false, IfOk};
-ghost use Rattle.clap.specs.Words.{app_of, with_subcommand};
+ghost use Rattle.clap.specs.Words.{app_of};
 ghost use Rattle.clap.specs.declared.builder.command.Command.TheViews.{out-Command as fields_of};
 ghost use Rattle.cp_words.specs.Shapes as shape;
 
@@ -31,12 +31,21 @@ fn with_optional<'a>(
     command.arg(Arg::new(alloc, id))
 }
 
-/// One more command.
-fn with_command<'a>(program: Command<'a>, command: Command<'a>) -> Result<Command<'a>, AllocError>
-    requires { (fields_of command).has_globals ≡ false }
-    ensures { IfOk result (λ c. app_of c ≡ with_subcommand (app_of program.entry) (app_of command.entry).top) }
+/// One more command, if it could be made.
+fn with_command<'a>(
+    program: Command<'a>,
+    command: Result<Command<'a>, AllocError>,
+) -> Result<Command<'a>, AllocError>
+    requires { IfOk command (λ c. (fields_of c).has_globals ≡ false) }
+    ensures { IfOk result (shape.Grows (app_of program.entry) command.entry) }
 {
-    program.subcommand(command)
+    match command {
+        Ok(command) => program.subcommand(command),
+        Err(fault) => {
+            drop(program);
+            Err(fault)
+        }
+    }
 }
 
 fn scratch_command<'a>(alloc: Global) -> Result<Command<'a>, AllocError>
@@ -137,21 +146,21 @@ fn top<'a>(alloc: Global) -> Command<'a>
 fn with_sessions<'a>(alloc: Global, program: Command<'a>) -> Result<Command<'a>, AllocError>
     ensures { IfOk result (λ c. app_of c ≡ shape.with_sessions (app_of program.entry)) }
 {
-    let one = with_command(program, scratch_command(alloc)?)?;
-    let two = with_command(one, init_command(alloc)?)?;
-    let three = with_command(two, run_command(alloc)?)?;
-    with_command(three, commit_command(alloc)?)
+    let one = with_command(program, scratch_command(alloc))?;
+    let two = with_command(one, init_command(alloc))?;
+    let three = with_command(two, run_command(alloc))?;
+    with_command(three, commit_command(alloc))
 }
 
 /// The other commands.
 fn with_others<'a>(alloc: Global, program: Command<'a>) -> Result<Command<'a>, AllocError>
     ensures { IfOk result (λ c. app_of c ≡ shape.with_others (app_of program.entry)) }
 {
-    let one = with_command(program, load_command(alloc)?)?;
-    let two = with_command(one, query_command(alloc)?)?;
-    let three = with_command(two, generate_command(alloc)?)?;
-    let four = with_command(three, log_command(alloc)?)?;
-    with_command(four, verify_command(alloc)?)
+    let one = with_command(program, load_command(alloc))?;
+    let two = with_command(one, query_command(alloc))?;
+    let three = with_command(two, generate_command(alloc))?;
+    let four = with_command(three, log_command(alloc))?;
+    with_command(four, verify_command(alloc))
 }
 
 /// All commands.
