@@ -25,8 +25,8 @@
 //! | `size N`, `bytes AT HEX` | the length of the call's store, and bytes in it |
 //! | `each DEVICE` | made again with the device failing at its first call (a disk from that on), at its second and so on, until it makes fewer: each ends with the device's status and last line, and a crash leaves each commit whose line was written, and of the others the first |
 //!
-//! A call whose input, files and store have at most 65,536 bytes is made once more in the other forms of trees that the
-//! program has it made in, and has to give the same.
+//! A call whose input, files and store have at most 65,536 bytes is made once more in each other form of trees that the
+//! stage was made with, and has to give the same.
 
 use crate::call::{Call, Device, Outcome, device_of};
 use crate::failures::{fault_left, is_ended_by, last_tid};

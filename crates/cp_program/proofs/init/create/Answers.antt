@@ -1,9 +1,8 @@
-use Rattle.std.proofs.Common.{◌∷◌, [], ap, subst, sym, inl, inr, refl}
+use Rattle.std.proofs.Common.{◌∷◌, [], ap, inl, inr, refl}
 use Rattle.cp_model.specs.History.{start}
 use Rattle.cp_reply.specs.declared.reply.Reply.TheVariants as reply
 use Rattle.cp_db.proofs.Keeping.{kept-images}
 use Rattle.cp_workspace.specs.Disks.{known_disk}
-use Rattle.cp_interpreter.specs.Begins.{CreatedAs}
 use Rattle.cp_program.proofs.init.create.Goals as goal
 
 pub returns-in-Ok-clause-created : goal.returns-in-Ok-clause-created
