@@ -3,6 +3,7 @@ use cp_host::{HostClock, HostFiles, StdinSource, StdoutSink};
 use cp_outside::{Failed, FileEnd, Files, FilesFault, Sink, SinkFault, Source, write_all};
 use std::alloc::{AllocError, Global};
 use std::io::{Error, ErrorKind, Read, Write};
+use std::process::Abort;
 use std::test::*;
 use std::{env, fs, io, process};
 
@@ -79,40 +80,30 @@ pub(crate) fn empty_folder(rt: &HostRuntime, test: &str) -> io::Result<String> {
     Ok(folder)
 }
 
-// Such a folder with a short file and a long one.
-fn folder(rt: &HostRuntime) -> io::Result<String> {
-    let folder = empty_folder(rt, "files")?;
-    let short = format!(in rt.alloc(); "{folder}/short")?;
-    fs::write(rt, short.as_str(), "north")?;
-    let long = format!(in rt.alloc(); "{folder}/long")?;
-    fs::write(rt, long.as_str(), long_bytes(rt.alloc())?)?;
-    Ok(folder)
-}
-
-// More than one read of the system gives.
-fn long_bytes(alloc: Global) -> Result<Vec<u8>, AllocError> {
-    vec![in alloc; 119; 200_000]
-}
-
 // What a read of this name answers and gives; nothing counts as given after an error.
-fn read(
-    alloc: Global,
+fn compare(
+    rt: &(impl Abort + AllocGlobal),
     files: &mut HostFiles<&HostRuntime>,
     name: &str,
     limit: u64,
-) -> Result<(Result<FileEnd, FilesFault>, Vec<u8>), AllocError> {
-    let mut into = b"left before".to_vec(alloc)?;
-    let end = files.read_file(name, limit, &mut into);
-    if end.is_err() {
+    end: Result<FileEnd, FilesFault>,
+    given: &[u8],
+) -> Result<(), AllocError> {
+    let mut into = b"left before".to_vec(rt.alloc())?;
+    let found = files.read_file(name, limit, &mut into);
+    if found.is_err() {
         into.clear();
     }
-    Ok((end, into))
+    assert_eq!(rt; found, end, "{name:?} up to {limit}");
+    assert_eq!(rt; into.as_slice(), given, "{name:?} up to {limit}");
+    Ok(())
 }
 
 #[test]
 fn files_are_read_up_to_the_limit(rt: HostRuntime) -> Result<(), Fail> {
-    let alloc = rt.alloc();
-    let folder = folder(&rt)?;
+    let folder = empty_folder(&rt, "files")?;
+    let short = format!(in rt.alloc(); "{folder}/short")?;
+    fs::write(&rt, short.as_str(), "north")?;
     let mut files = HostFiles::new(&rt);
     // what follows the folder's name, the most bytes, how the read ends, what it gives
     let cases: [(&str, u64, Result<FileEnd, FilesFault>, &str); 9] = [
@@ -126,21 +117,51 @@ fn files_are_read_up_to_the_limit(rt: HostRuntime) -> Result<(), Fail> {
         ("/sho\0rt", 9, Err(FilesFault::Failed), ""),
         ("/short/below", 9, Err(FilesFault::Failed), ""),
     ];
-    for (below, limit, want, bytes) in cases {
-        let name = format!(in alloc; "{folder}{below}")?;
-        let (end, into) = read(alloc, &mut files, name.as_str(), limit)?;
-        assert_eq!(rt; end, want, "{below} up to {limit}");
-        assert_eq!(rt; into.as_slice(), bytes.as_bytes(), "{below} up to {limit}");
+    for (below, limit, end, given) in cases {
+        let name = format!(in rt.alloc(); "{folder}{below}")?;
+        compare(&rt, &mut files, name.as_str(), limit, end, given.as_bytes())?;
     }
-    let long = format!(in alloc; "{folder}/long")?;
-    for (limit, want) in [(200_000, FileEnd::Whole), (199_999, FileEnd::TooLong)] {
-        let (end, into) = read(alloc, &mut files, long.as_str(), limit)?;
-        assert_eq!(rt; end, Ok(want), "{limit}");
-        assert_eq!(rt; into.len() as u64, limit);
-    }
-    let (end, into) = read(alloc, &mut files, "", 9)?;
-    assert_eq!(rt; end, Ok(FileEnd::Missing));
-    assert!(rt; into.is_empty());
     fs::remove_dir_all(&rt, folder.as_str())?;
+    Ok(())
+}
+
+#[test]
+fn long_files_are_read_up_to_the_limit(rt: HostRuntime) -> Result<(), Fail> {
+    let folder = empty_folder(&rt, "long_files")?;
+    let name = format!(in rt.alloc(); "{folder}/long")?;
+    // more than one read of the system gives
+    let long = [119; 200_000];
+    fs::write(&rt, name.as_str(), long)?;
+    let mut files = HostFiles::new(&rt);
+    compare(
+        &rt,
+        &mut files,
+        name.as_str(),
+        200_000,
+        Ok(FileEnd::Whole),
+        &long,
+    )?;
+    compare(
+        &rt,
+        &mut files,
+        name.as_str(),
+        199_999,
+        Ok(FileEnd::TooLong),
+        &long[..199_999],
+    )?;
+    fs::remove_dir_all(&rt, folder.as_str())?;
+    Ok(())
+}
+
+#[test]
+fn no_file_has_an_empty_name(rt: HostRuntime) -> Result<(), Fail> {
+    compare(
+        &rt,
+        &mut HostFiles::new(&rt),
+        "",
+        9,
+        Ok(FileEnd::Missing),
+        b"",
+    )?;
     Ok(())
 }
