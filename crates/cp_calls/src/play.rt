@@ -37,7 +37,6 @@ use crate::setting::Setting;
 use cp_cases::{Player, Step, bytes_in, compare, numbers_of};
 use cp_disk::MemDisk;
 use cp_outside::MemFile;
-use cp_path::{Bytes, Text};
 use cp_tree_arena::ArenaTree;
 use cp_tree_share::ShareTree;
 use std::alloc::{AllocError, Global};
@@ -100,8 +99,8 @@ fn compare_outcome(
 /// The file of this name and these bytes.
 fn file_of(alloc: Global, name: &str, bytes: &[u8]) -> Result<MemFile, AllocError> {
     Ok(MemFile {
-        name: Text::copy_of(alloc, name)?,
-        bytes: Bytes::copy_of(alloc, bytes)?,
+        name: name.to_string(alloc)?,
+        bytes: bytes.to_vec(alloc)?,
     })
 }
 

@@ -70,7 +70,7 @@ impl<R: Files, P: Program> Setting<'_, R, P> {
     pub(crate) fn is_small(&self, call: &Call) -> bool {
         let mut bytes = call.input_len().saturating_add(self.before.len());
         for file in &self.files {
-            bytes = bytes.saturating_add(file.bytes.items.len());
+            bytes = bytes.saturating_add(file.bytes.len());
         }
         bytes <= 65_536
     }

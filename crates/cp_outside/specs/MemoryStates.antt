@@ -1,9 +1,7 @@
 -- What callers see of a source, a sink and files in memory.
-use Rattle.std.specs.Prelude.{ℕ, List, [], ◌∷◌, ◌+◌, ◌++◌, drop, None, Some, if◌then◌else◌}
-use Rattle.cp_path.specs.Text.{text_eq}
+use Rattle.std.specs.Prelude.{ℕ, List, [], ◌∷◌, ◌+◌, ◌++◌, drop, None, Some, bytes_eq, if◌then◌else◌}
 use Rattle.cp_outside.specs.Causes.{one_more}
 use Rattle.cp_outside.specs.FileReads.{FileTable}
-use Rattle.cp_outside.specs.declared.memory_files.MemFile.{MemFile}
 
 -- The bytes that are left, how many were given, the numbers of the reads that fail, how many reads there were, and how many of them failed.
 pub record SourceState : Type 0 where
@@ -49,20 +47,25 @@ after_failed_write s = record s { calls = one_more s.calls; faults = one_more s.
 abbrev pub after_refused_write : SinkState → SinkState
 after_refused_write s = record s { calls = one_more s.calls; refusals = one_more s.refusals }
 
+-- A file in memory: the name that it is read by, and all of it.
+pub record FileState : Type 0 where
+  pub name : List ℕ
+  pub bytes : List ℕ
+
 -- What a name names among these files: the bytes of the first file that has it.
-abbrev pub file_named : List MemFile → FileTable
+abbrev pub file_named : List FileState → FileTable
 file_named [] name = None
-file_named (file ∷ files) name = if text_eq file.name name then Some file.bytes else file_named files name
+file_named (file ∷ files) name = if bytes_eq file.name name then Some file.bytes else file_named files name
 
 -- The files, the numbers of the reads that fail, how many reads there were, and how many of them failed.
 pub record FilesState : Type 0 where
-  pub files : List MemFile
+  pub files : List FileState
   pub fails : List ℕ
   pub calls : ℕ
   pub faults : ℕ
 
 -- Files before the first read.
-abbrev pub new_files : List MemFile → List ℕ → FilesState
+abbrev pub new_files : List FileState → List ℕ → FilesState
 new_files files fails = record { files = files; fails = fails; calls = 0; faults = 0 }
 
 -- Files after a read that did not fail, also where it ran out of memory.

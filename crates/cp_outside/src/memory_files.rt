@@ -7,7 +7,6 @@ ghost use Rattle.cp_outside.specs.MemoryStates.{file_named, new_files, after_fil
 
 use crate::files::{FileEnd, Files, FilesFault};
 use crate::plan::Plan;
-use cp_path::{Bytes, Text};
 use std::alloc::{AllocError, Global};
 use std::marker::Model;
 
@@ -15,9 +14,18 @@ use std::marker::Model;
 #[derive(Drop)]
 pub struct MemFile {
     /// The name that it is read by.
-    pub name: Text,
+    pub name: String,
     /// All of it.
-    pub bytes: Bytes,
+    pub bytes: Vec<u8>,
+}
+
+impl Model for MemFile {
+    ghost use Rattle.std.specs.Prelude.{string_bytes};
+    ghost use Rattle.cp_outside.specs.MemoryStates.{FileState};
+
+    ghost Value = { FileState };
+
+    ghost view = { λ f. record { name = string_bytes f.name; bytes = f.bytes.items } };
 }
 
 impl Clone for MemFile {
@@ -81,7 +89,7 @@ fn bytes_of<'a>(files: &'a [MemFile], name: &str) -> Option<&'a [u8]>
     ensures { option_map (λ bytes. bytes.now) result ≡ file_named files.now name.now }
 {
     for file in files {
-        if file.name.items.as_str() == name {
+        if file.name.as_str() == name {
             return Some(file.bytes.as_slice());
         }
     }

@@ -3,7 +3,6 @@ use cp_outside::{
     Failed, FileEnd, Files, FilesFault, MemFile, MemFiles, MemSink, MemSource, Sink, SinkFault,
     Source, write_all,
 };
-use cp_path::{Bytes, Text};
 use std::alloc::AllocError;
 use std::test::*;
 
@@ -32,8 +31,8 @@ fn bytes_are_written(rt: HostRuntime) -> Result<(), Fail> {
 fn files_are_read(rt: HostRuntime) -> Result<(), Fail> {
     let alloc = rt.alloc();
     let quay = MemFile {
-        name: Text::copy_of(alloc, "quay")?,
-        bytes: Bytes::copy_of(alloc, b"north")?,
+        name: "quay".to_string(alloc)?,
+        bytes: b"north".to_vec(alloc)?,
     };
     let mut files = MemFiles::new(alloc, &[quay])?;
     let mut into = b"left before".to_vec(alloc)?;
