@@ -1,5 +1,5 @@
 -- What one leg of a walk notes: the place, and the Tids of its events.
-use Rattle.std.specs.Prelude.{ℕ, suc, ◌-◌, ◌<◌, ◌≤◌, ◌≡◌, ◌||◌, ◌==◌, Bool, true, false, List, [], ◌∷◌, ◌++◌, map, refl, if◌then◌else◌}
+use Rattle.std.specs.Prelude.{ℕ, suc, ◌-◌, ◌<◌, ◌≤◌, ◌≡◌, ◌||◌, ◌==◌, Bool, true, false, List, [], ◌∷◌, ◌++◌, length, map, refl, slice_index_or, if◌then◌else◌}
 use Rattle.std.proofs.Common.{sym, ap, ◌∙◌, arith, append_assoc}
 use Rattle.std.proofs.Math.Bool.{or-false}
 use Rattle.std.proofs.lemmas.List.{map-append}
@@ -16,6 +16,8 @@ use Rattle.cp_model.specs.declared.record.Record.{Record}
 use Rattle.cp_model.specs.Place.{Path, in_target}
 use Rattle.cp_model.specs.Past.{copied}
 use Rattle.cp_model.specs.Rows.{Reading, left, gone}
+use Rattle.cp_model.specs.Subtrees.{is_there}
+use Rattle.cp_model.specs.Tree.{Tree}
 use Rattle.cp_model.specs.Leaps.{Readings, last, losts, before, leap, leap_back}
 use Rattle.cp_model.specs.Records.{loses}
 use Rattle.cp_model.specs.Answers.{tid_of, newest}
@@ -25,7 +27,7 @@ use Rattle.cp_query.specs.declared.walk.Came.{Came}
 use Rattle.cp_query.specs.declared.walk.Came.TheVariants.{Back, End}
 use Rattle.cp_query.specs.declared.walk.Leg.{Leg}
 use Rattle.cp_query.specs.declared.walk.Walk.{Walk}
-use Rattle.cp_query.specs.Events.{is_tid, leg_tids, places_of, places_from, source_at, tids_back}
+use Rattle.cp_query.specs.Events.{is_tid, leg_tids, places_of, places_from, source_at, source_of, tids_back}
 use Rattle.cp_query.specs.Following.{change_then, back}
 use Rattle.cp_query.specs.Legs.{leg_of, leg_with, leg_by, leg, origin_by, from_here}
 use Rattle.cp_query.proofs.Followed.{back-step}
@@ -78,12 +80,46 @@ places-kept E w l ps qs rs h e a n =
     ∙ a
 
 pub places-on : (E : Readings) (w next : Walk) (l : Leg) (ps qs rs : List Loc) → in_target w.at ≡ true → l ≡ leg E w → l.came ≡ Back next → ps ++ places_from E w ≡ qs →
-    rs ≡ ps ++ l.segment.loc ∷ [] → rs ++ places_from E next ≡ qs
-places-on E w next l ps qs rs h e k a n = ap (λ c. rs ++ places_then E c) (sym k) ∙ places-kept E w l ps qs rs h e a n
+    rs ≡ ps ++ l.segment.loc ∷ source_of l.came → rs ++ places_from E next ≡ qs
+places-on E w next l ps qs rs h e k a n =
+    ap (λ c. rs ++ places_then E c) (sym k) ∙ places-kept E w l ps qs rs h e a (n ∙ ap (λ c. ps ++ l.segment.loc ∷ source_of c) k)
 
 pub places-end : (E : Readings) (w : Walk) (l : Leg) (d : TraceEnd) (ps qs rs : List Loc) → in_target w.at ≡ true → l ≡ leg E w → l.came ≡ End d → ps ++ places_from E w ≡ qs →
-    rs ≡ ps ++ l.segment.loc ∷ [] → rs ++ source_at d ≡ qs
-places-end E w l d ps qs rs h e k a n = ap (λ c. rs ++ places_then E c) (sym k) ∙ places-kept E w l ps qs rs h e a n
+    rs ≡ ps ++ l.segment.loc ∷ source_of l.came → rs ≡ qs
+places-end E w l d ps qs rs h e k a n =
+    n
+    ∙ ap (λ c. ps ++ l.segment.loc ∷ source_of c) k
+    ∙ ap (λ c. ps ++ l.segment.loc ∷ places_then E c) (sym k)
+    ∙ ap (λ l. ps ++ l.segment.loc ∷ places_then E l.came) e
+    ∙ ap (λ xs. ps ++ xs) (sym (places-leg E w h))
+    ∙ a
+
+-- the first place is that of the walk
+starts-here : (E : Readings) (w : Walk) → (leg E w).segment.loc ≡ w.at
+starts-here E w = by_last (last E w.high w.at.path)
+  where
+    by_effect : (u : ℕ) (e : Reading) → (leg_with w u e).segment.loc ≡ w.at
+    by_effect u (left same) = refl
+    by_effect u (left made) = refl
+    by_effect u (left (from q)) = refl
+    by_effect u gone = refl
+
+    by_last : (o : Option (ℕ × Reading)) → (leg_by w o).segment.loc ≡ w.at
+    by_last None = refl
+    by_last (Some c) = by_effect c.0 c.1
+
+place-first : (E : Readings) (w : Walk) (ps qs : List Loc) → in_target w.at ≡ true → ps ≡ places_from E w → qs ≡ ps → qs ≡ w.at ∷ places_then E (leg E w).came
+place-first E w ps qs h e s = s ∙ e ∙ places-leg E w h ∙ ap (λ q. q ∷ places_then E (leg E w).came) (starts-here E w)
+
+pub some-place : (E : Readings) (w : Walk) (ps qs : List Loc) → in_target w.at ≡ true → ps ≡ places_from E w → qs ≡ ps → 0 < length qs
+some-place E w ps qs h e s = omega (arith, ap length (place-first E w ps qs h e s))
+
+pub first-is : (E : Readings) (w : Walk) (ps qs : List Loc) (q : Loc) → in_target w.at ≡ true → ps ≡ places_from E w → qs ≡ ps → q ≡ slice_index_or qs 0 q → q ≡ w.at
+first-is E w ps qs q h e s is = is ∙ ap (λ qs. slice_index_or qs 0 q) (place-first E w ps qs h e s)
+
+-- what stands at one place stands at another that is the same
+pub there-too : (tree : Tree) (q at : Loc) → q ≡ at → is_there tree at.path ≡ true → is_there tree q.path ≡ true
+there-too tree q at e h = ap (λ (q : Loc). is_there tree q.path) e ∙ h
 
 -- ---- the Tids
 

@@ -4,6 +4,7 @@ use Rattle.std.proofs.Common.{sym, ap, subst, ◌∙◌, arith, append_assoc}
 use Rattle.std.specs.List.{filter_map}
 use Rattle.std.specs.Option.{option_to_list}
 use Rattle.std.proofs.lemmas.List.{append-nil, reverse-append}
+use Rattle.std.proofs.lemmas.Option.{same_Some}
 use Rattle.std.specs.declared.option.Option.{Option}
 use Rattle.std.specs.declared.option.Option.TheVariants.{None, Some}
 use Rattle.cp_path.specs.declared.loc.Loc.{Loc}
@@ -30,7 +31,7 @@ use Rattle.cp_query.specs.declared.walk.Came.{Came}
 use Rattle.cp_query.specs.declared.walk.Came.TheVariants.{Back, End}
 use Rattle.cp_query.specs.Following.{change_then, back}
 use Rattle.cp_query.proofs.Followed.{back-step, src-more}
-use Rattle.cp_query.specs.Legs.{inserted_by, copied_by, leg_with, leg_by, leg, trace_from, src_from, hist_from}
+use Rattle.cp_query.specs.Legs.{inserted_by, copied_by, leg_with, leg_by, leg, trace_from, src_from, hist_from, walk_on}
 
 -- ---- a look-up
 
@@ -73,6 +74,16 @@ back-by E w (Some c) s = by_effect c.0 c.1 s.0 s.1
 
 pub goes-back : (E : Readings) (w next : Walk) (l : Leg) → l ≡ leg E w → l.came ≡ Back next → (in_target next.at ≡ true) × (next.high < w.high)
 goes-back E w next l e c = subst (GoesBack w) (ap (λ l. l.came) (sym e) ∙ c) (back-by E w (last E w.high w.at.path) (last-says E w.high w.at.path))
+
+-- a walk that goes on goes back to another place
+pub on-back : (c : Came) (next : Walk) → walk_on c ≡ Some next → c ≡ Back next
+on-back (Back w) next h = ap Back (same_Some w next h)
+on-back (End d) next h = absurd (cc)
+
+-- one that doesn't has come to an end
+pub on-end : (c : Came) → walk_on c ≡ None → (d : TraceEnd) × (c ≡ End d)
+on-end (Back w) h = absurd (cc)
+on-end (End d) h = (d, refl)
 
 -- ---- the trace
 

@@ -19,6 +19,8 @@ use Rattle.cp_store.specs.Below.{losses_at}
 use Rattle.cp_tree.specs.declared.reach.Reach.{Reach}
 use Rattle.cp_query.specs.declared.walk.Leg.{Leg}
 use Rattle.cp_query.specs.declared.walk.Walk.{Walk}
+use Rattle.cp_query.specs.declared.walk.Came.{Came}
+use Rattle.cp_query.specs.declared.walk.Came.TheVariants.{Back, End}
 use Rattle.cp_query.specs.Legs.{brought_by, trace_from}
 
 -- one of the Tids is t
@@ -47,6 +49,11 @@ abbrev pub source_at : TraceEnd → List Loc
 source_at end.New = []
 source_at end.Start = []
 source_at (end.Source q) = q ∷ []
+
+-- the place of a source at which a walk ends, if it does
+abbrev pub source_of : Came → List Loc
+source_of (Back w) = []
+source_of (End d) = source_at d
 
 -- the places of a trace, newest first, with that of a source at the end
 abbrev pub places_of : Trace → List Loc

@@ -77,6 +77,11 @@ origin_by u (End end.New) = origin.New u
 origin_by u (End end.Start) = origin.Start
 origin_by u (End (end.Source q)) = origin.At q u
 
+-- where a walk goes on to
+abbrev pub walk_on : Came → Option Walk
+walk_on (Back w) = Some w
+walk_on (End e) = None
+
 -- the trace, the insertion and the copies, newest first, that following the changes gives
 abbrev pub trace_from : Readings → Walk → Trace
 trace_from E w = trace_from_events w.at.path w.high (back E w.high w.at.path)

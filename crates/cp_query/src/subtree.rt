@@ -108,14 +108,14 @@ pub(crate) fn visit<P: ProvStore, R: TreeRep>(
         found.old.keys found.new.keys) }
     ensures asks { Asks P.ProvStore BlamesDisk store.old store.new result }
 {
-    if !tree.is_node(&walk.at.path) {
-        let _places = walk.note_past(alloc, store, found)?;
-        return Ok(());
-    }
-    let at = walk.at.clone()?;
+    let is_node = tree.is_node(&walk.at.path);
     let high = walk.high;
     let places = walk.note_past(alloc, store, found)?;
+    if !is_node {
+        return Ok(());
+    }
     let places = places.as_slice();
+    let at = &places[0];
     let together = have_room(places, tree.reach(&at.path));
     if came_along(alloc, store, together, places, None)? {
         return Ok(());
@@ -124,7 +124,7 @@ pub(crate) fn visit<P: ProvStore, R: TreeRep>(
         if came_along(alloc, store, together, places, Some(label))? {
             continue;
         }
-        let at = child_of(&at, label)?;
+        let at = child_of(at, label)?;
         visit(alloc, store, tree, Walk { at, high }, found)?;
     }
     Ok(())

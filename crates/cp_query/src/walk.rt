@@ -1,8 +1,9 @@
 //! The walk from the newest change of a place back to where its data came from.
-ghost use Rattle.std.specs.Prelude.{◌≡◌, ◌<◌, ◌||◌, ◌++◌, ℕ, true, reverse, IfSome, IfOk, OnOk};
+ghost use Rattle.std.specs.Prelude.{◌≡◌, ◌<◌, ◌||◌, ◌++◌, ◌∷◌, ℕ, true, reverse, IfSome, IfOk, OnOk};
+ghost use Rattle.std.specs.Option.{option_to_list};
 ghost use Rattle.cp_model.specs.Place.{in_target};
-ghost use Rattle.cp_query.specs.Legs.{came_with, inserted_by, copied_by, brought_by, origin_by, leg_of, leg_by, leg, readings_in, trace_from, src_from, hist_from, from_here};
-ghost use Rattle.cp_query.specs.Events.{is_tid, leg_tids, losses_in, places_from, source_at, tids_back};
+ghost use Rattle.cp_query.specs.Legs.{came_with, inserted_by, copied_by, brought_by, origin_by, leg_of, leg_by, leg, readings_in, trace_from, src_from, hist_from, from_here, walk_on};
+ghost use Rattle.cp_query.specs.Events.{is_tid, leg_tids, losses_in, places_from, source_at, source_of, tids_back};
 ghost use Rattle.cp_store.specs.Changes.{change_told};
 ghost use Rattle.cp_store.specs.Calls.{Asks};
 ghost use Rattle.cp_store.specs.Steps.{BlamesDisk};
@@ -67,6 +68,16 @@ impl Came {
         }
     }
 
+    /// The walk on from there, if it goes on.
+    fn walk_on(self) -> Option<Walk>
+        ensures { result ≡ walk_on self }
+    {
+        match self {
+            Came::Back(next) => Some(next),
+            Came::End(_end) => None,
+        }
+    }
+
     /// Where the data came from in the step `low` with which the leg begins.
     fn origin(self, low: u64) -> FromAnswer
         ensures { result ≡ origin_by low self }
@@ -100,6 +111,34 @@ impl Leg {
         let losses = store.losses(alloc, loc, self.since, *high)?;
         note_tids(found, losses.items.as_slice())?;
         Ok(())
+    }
+
+    /// Adds the step that copied the data here, if one did, and gives the walk on, if it goes on.
+    fn add_copy(self, tids: &mut Vec<u64>) -> Result<Option<Walk>, AllocError>
+        ensures tids { OnOk result (tids.new.items ≡ tids.old.items ++ option_to_list (copied_by self.segment.low self.came)) }
+        ensures on { IfOk result (λ next. next ≡ walk_on self.came) }
+    {
+        let Leg { segment, came, .. } = self;
+        if let Some(tid) = came.copy(segment.low) {
+            tids.push(tid)?;
+        }
+        Ok(came.walk_on())
+    }
+
+    /// Adds the place, and that of the source at which the walk ends, if it does; gives the walk on, if it goes on.
+    fn add_place(self, places: &mut Vec<Loc>) -> Result<Option<Walk>, AllocError>
+        ensures places { OnOk result (places.new.items ≡ places.old.items ++ self.segment.loc ∷ source_of self.came) }
+        ensures on { IfOk result (λ next. next ≡ walk_on self.came) }
+    {
+        let Leg { segment, came, .. } = self;
+        places.push(segment.loc)?;
+        match came {
+            Came::Back(next) => Ok(Some(next)),
+            Came::End(end) => {
+                add_source(places, end)?;
+                Ok(None)
+            }
+        }
     }
 }
 
@@ -214,13 +253,10 @@ impl Walk {
         let mut walk = self;
         let mut tids = Vec::new(alloc);
         loop {
-            let Leg { segment, came, .. } = walk.leg(alloc, store)?;
-            if let Some(tid) = came.copy(segment.low) {
-                tids.push(tid)?;
-            }
-            match came {
-                Came::Back(next) => walk = next,
-                Came::End(_end) => return Ok(tids),
+            let leg = walk.leg(alloc, store)?;
+            match leg.add_copy(&mut tids)? {
+                Some(next) => walk = next,
+                None => return Ok(tids),
             }
         }
     }
@@ -266,14 +302,9 @@ impl Walk {
         loop {
             let leg = walk.leg(alloc, store)?;
             leg.note_steps(alloc, store, found)?;
-            let Leg { segment, came, .. } = leg;
-            places.push(segment.loc)?;
-            match came {
-                Came::Back(next) => walk = next,
-                Came::End(end) => {
-                    add_source(&mut places, end)?;
-                    return Ok(places);
-                }
+            match leg.add_place(&mut places)? {
+                Some(next) => walk = next,
+                None => return Ok(places),
             }
         }
     }

@@ -7,33 +7,52 @@ use Rattle.cp_query.specs.Events.{losses_in}
 use Rattle.cp_query.specs.Legs.{readings_in}
 use Rattle.cp_query.proofs.Nearby.{listed-there, child-fits, next-target, next-there, next-falls}
 use Rattle.cp_query.proofs.Passing.{asked-first, leaf-found, turn-visited, turns-end, found-kept, quiet-found, label-passed}
+use Rattle.cp_query.proofs.Noting.{first-is, some-place, there-too}
 use Rattle.cp_query.proofs.Visiting.{noted-here}
 use Rattle.cp_query.proofs.subtree.+visit.Goals as goal
 
 pub returns-then-not-is_node-clause-found : goal.returns-then-not-is_node-clause-found
 returns-then-not-is_node-clause-found g t c =
-    leaf-found (readings_in g.P.ProvStore c.args.store.now) (losses_in g.P.ProvStore c.args.store.now) c.args.walk.high (g.R.TreeRep.contents c.args.tree.now) c.args.walk.at.path c.args.found.now.keys c.is_node.result c.note_past.new.found.keys
-    (g.met.R.TreeRep.is_tree c.args.tree.now) c.requires.there c.is_node.ensures c.if-not-is_node.true c.in_ok-_places.ensures.found
+    leaf-found (readings_in g.P.ProvStore c.args.store.now) (losses_in g.P.ProvStore c.args.store.now) c.args.walk.high (g.R.TreeRep.contents c.args.tree.now) c.args.walk.at.path c.args.found.now.keys c.is_node-is_node.result c.note_past.new.found.keys
+    (g.met.R.TreeRep.is_tree c.args.tree.now) c.requires.there c.is_node-is_node.ensures c.if-not-is_node.true c.in_ok-places.ensures.found
+
+pub bounds-places-0 : goal.bounds-places-0
+bounds-places-0 g t c =
+    some-place (readings_in g.P.ProvStore c.args.store.now) c.args.walk c.in_ok-places.places.items c.as_slice-places.result.now c.requires.target c.in_ok-places.ensures.places c.as_slice-places.ensures.value
+
+pub reach-requires : goal.reach-requires
+reach-requires g t c =
+    let same : c.index-places-0.result ≡ c.args.walk.at =
+    first-is (readings_in g.P.ProvStore c.args.store.now) c.args.walk c.in_ok-places.places.items c.as_slice-places.result.now c.index-places-0.result c.requires.target c.in_ok-places.ensures.places c.as_slice-places.ensures.value c.index-places-0.is in
+    record { there = there-too (g.R.TreeRep.contents c.args.tree.now) c.index-places-0.result c.args.walk.at same c.requires.there }
 
 pub returns-then-branch-clause-found : goal.returns-then-branch-clause-found
 returns-then-branch-clause-found g t c =
-    let same : c.in_ok-at.at ≡ c.args.walk.at = search rules in
-    quiet-found (g.P.ProvStore.kept_kind c.args.store.now) (g.P.ProvStore.kept_rows c.args.store.now) c.args.walk (g.R.TreeRep.contents c.args.tree.now) c.in_ok-at.at c.reach.result c.as_slice-places.result.now c.in_ok-places.places.items c.have_room-together.result
+    let same : c.index-places-0.result ≡ c.args.walk.at =
+    first-is (readings_in g.P.ProvStore c.args.store.now) c.args.walk c.in_ok-places.places.items c.as_slice-places.result.now c.index-places-0.result c.requires.target c.in_ok-places.ensures.places c.as_slice-places.ensures.value c.index-places-0.is in
+    quiet-found (g.P.ProvStore.kept_kind c.args.store.now) (g.P.ProvStore.kept_rows c.args.store.now) c.args.walk (g.R.TreeRep.contents c.args.tree.now) c.index-places-0.result c.reach.result c.as_slice-places.result.now c.in_ok-places.places.items c.have_room-together.result
     c.requires.target same c.as_slice-places.ensures.value c.in_ok-places.ensures.places c.reach.ensures c.have_room-together.ensures c.requires.there
-    (g.P.ProvStore.kept_rows c.note_past-2.new.store) c.in_ok-came_along.field-0 c.args.found.now.keys c.note_past-2.new.found.keys c.in_ok-places.ensures.asks.rows c.in_ok-came_along.ensures.along c.if-branch.true c.in_ok-places.ensures.found
+    (g.P.ProvStore.kept_rows c.note_past.new.store) c.in_ok-came_along.field-0 c.args.found.now.keys c.note_past.new.found.keys c.in_ok-places.ensures.asks.rows c.in_ok-came_along.ensures.along c.if-branch.true c.in_ok-places.ensures.found
+
+pub labels_of-requires : goal.labels_of-requires
+labels_of-requires g t c =
+    let same : c.index-places-0.result ≡ c.args.walk.at =
+    first-is (readings_in g.P.ProvStore c.args.store.now) c.args.walk c.in_ok-places.places.items c.as_slice-places.result.now c.index-places-0.result c.requires.target c.in_ok-places.ensures.places c.as_slice-places.ensures.value c.index-places-0.is in
+    search (rules, same)
 
 pub loop-label-init : goal.loop-label-init
 loop-label-init g t c = record {
-  found = noted-here (readings_in g.P.ProvStore c.args.store.now) (losses_in g.P.ProvStore c.args.store.now) c.args.walk.high (g.R.TreeRep.contents c.args.tree.now) c.args.walk.at.path c.requires.there c.args.found.now.keys c.note_past-2.new.found.keys c.in_ok-places.ensures.found;
-  asked = asked-on g.P.ProvStore c.args.store.now c.note_past-2.new.store c.came_along.new.store (asked-first g.P.ProvStore c.args.store.now c.note_past-2.new.store c.in_ok-places.ensures.asks) c.in_ok-came_along.ensures.asks;
+  found = noted-here (readings_in g.P.ProvStore c.args.store.now) (losses_in g.P.ProvStore c.args.store.now) c.args.walk.high (g.R.TreeRep.contents c.args.tree.now) c.args.walk.at.path c.requires.there c.args.found.now.keys c.note_past.new.found.keys c.in_ok-places.ensures.found;
+  asked = asked-on g.P.ProvStore c.args.store.now c.note_past.new.store c.came_along.new.store (asked-first g.P.ProvStore c.args.store.now c.note_past.new.store c.in_ok-places.ensures.asks) c.in_ok-came_along.ensures.asks;
 }
 
 pub loop-label-preserved-then-branch-2 : goal.loop-label-preserved-then-branch-2
 loop-label-preserved-then-branch-2 g t c =
-    let same : c.in_ok-at.at ≡ c.args.walk.at = search rules in
+    let same : c.index-places-0.result ≡ c.args.walk.at =
+    first-is (readings_in g.P.ProvStore c.args.store.now) c.args.walk c.in_ok-places.places.items c.as_slice-places.result.now c.index-places-0.result c.requires.target c.in_ok-places.ensures.places c.as_slice-places.ensures.value c.index-places-0.is in
     record {
       found =
-          label-passed (g.P.ProvStore.kept_kind c.args.store.now) (g.P.ProvStore.kept_rows c.args.store.now) c.args.walk (g.R.TreeRep.contents c.args.tree.now) c.in_ok-at.at c.reach.result c.as_slice-places.result.now c.in_ok-places.places.items c.have_room-together.result
+          label-passed (g.P.ProvStore.kept_kind c.args.store.now) (g.P.ProvStore.kept_rows c.args.store.now) c.args.walk (g.R.TreeRep.contents c.args.tree.now) c.index-places-0.result c.reach.result c.as_slice-places.result.now c.in_ok-places.places.items c.have_room-together.result
           c.requires.target same c.as_slice-places.ensures.value c.in_ok-places.ensures.places c.reach.ensures c.have_room-together.ensures c.requires.there
           (g.P.ProvStore.kept_rows c.loop-label.store) c.label-item.result c.in_ok-came_along-2.field-0 c.args.found.now.keys c.loop-label.found.keys c.deref-label-items.result.now c.loop-label.label-index
           c.loop-label.invariant.asked.rows c.in_ok-came_along-2.ensures.along c.if-branch-2.true c.loop-label-test.true c.label-item.is c.loop-label.invariant.found;
@@ -43,27 +62,29 @@ loop-label-preserved-then-branch-2 g t c =
 pub child_of-requires : goal.child_of-requires
 child_of-requires g t c =
     let tree = g.R.TreeRep.contents c.args.tree.now in
-    child-fits tree c.in_ok-at.at.path c.label-item.result (g.met.R.TreeRep.is_tree c.args.tree.now)
-    (listed-there tree c.in_ok-at.at.path c.deref-label-items.result.now c.in_ok-labels_of.field-0.items c.loop-label.label-index c.label-item.result c.deref-label-items.ensures.value c.in_ok-labels_of.ensures c.loop-label-test.true c.label-item.is)
+    child-fits tree c.index-places-0.result.path c.label-item.result (g.met.R.TreeRep.is_tree c.args.tree.now)
+    (listed-there tree c.index-places-0.result.path c.deref-label-items.result.now c.in_ok-labels_of.field-0.items c.loop-label.label-index c.label-item.result c.deref-label-items.ensures.value c.in_ok-labels_of.ensures c.loop-label-test.true c.label-item.is)
 
 pub visit-requires : goal.visit-requires
 visit-requires g t c κs within =
     let tree = g.R.TreeRep.contents c.args.tree.now in
-    let next = c.in_ok-at-2.at in
-    let at = c.in_ok-at.at in
+    let next = c.in_ok-at.at in
+    let at = c.index-places-0.result in
     let here = c.args.walk.at in
     let a = c.label-item.result in
-    let same : at ≡ here = search rules in
+    let same : at ≡ here =
+    first-is (readings_in g.P.ProvStore c.args.store.now) c.args.walk c.in_ok-places.places.items c.as_slice-places.result.now at c.requires.target c.in_ok-places.ensures.places c.as_slice-places.ensures.value c.index-places-0.is in
     let listed : is_there tree (child at.path a) ≡ true =
     listed-there tree at.path c.deref-label-items.result.now c.in_ok-labels_of.field-0.items c.loop-label.label-index a c.deref-label-items.ensures.value c.in_ok-labels_of.ensures c.loop-label-test.true c.label-item.is in
-    let falls : LABELS_MAX - length next.path < LABELS_MAX - length here.path = next-falls tree next at here a c.in_ok-at-2.ensures same (g.met.R.TreeRep.is_tree c.args.tree.now) listed in
-    let target : in_target next ≡ true = next-target tree next at here a c.in_ok-at-2.ensures same c.requires.target in
-    let there : is_there tree next.path ≡ true = next-there tree next at here a c.in_ok-at-2.ensures same listed in
+    let falls : LABELS_MAX - length next.path < LABELS_MAX - length here.path = next-falls tree next at here a c.in_ok-at.ensures same (g.met.R.TreeRep.is_tree c.args.tree.now) listed in
+    let target : in_target next ≡ true = next-target tree next at here a c.in_ok-at.ensures same c.requires.target in
+    let there : is_there tree next.path ≡ true = next-there tree next at here a c.in_ok-at.ensures same listed in
     search rules
 
 pub loop-label-preserved : goal.loop-label-preserved
 loop-label-preserved g t c =
-    let same : c.in_ok-at.at ≡ c.args.walk.at = search rules in
+    let same : c.index-places-0.result ≡ c.args.walk.at =
+    first-is (readings_in g.P.ProvStore c.args.store.now) c.args.walk c.in_ok-places.places.items c.as_slice-places.result.now c.index-places-0.result c.requires.target c.in_ok-places.ensures.places c.as_slice-places.ensures.value c.index-places-0.is in
     let store = c.came_along-in-loop-label.new.store in
     let asked = asked-on g.P.ProvStore c.args.store.now c.loop-label.store c.came_along-in-loop-label.new.store c.loop-label.invariant.asked c.in_ok-came_along-2.ensures.asks in
     record {
@@ -72,13 +93,14 @@ loop-label-preserved g t c =
           c.args.found.now.keys c.deref-label-items.result.now c.loop-label.label-index c.label-item.result c.loop-label.found.keys c.visit.new.found.keys
           c.loop-label-test.true c.label-item.is c.loop-label.invariant.found
           (found-kept (g.P.ProvStore.kept_kind c.args.store.now) (g.P.ProvStore.kept_kind store) (g.P.ProvStore.kept_rows c.args.store.now) (g.P.ProvStore.kept_rows store) c.args.walk.high (g.R.TreeRep.contents c.args.tree.now)
-          c.in_ok-at-2.at c.in_ok-at.at c.args.walk.at c.label-item.result c.loop-label.found.keys c.visit.new.found.keys asked.kind asked.rows c.in_ok-at-2.ensures same c.in_ok-visit.ensures.found);
+          c.in_ok-at.at c.index-places-0.result c.args.walk.at c.label-item.result c.loop-label.found.keys c.visit.new.found.keys asked.kind asked.rows c.in_ok-at.ensures same c.in_ok-visit.ensures.found);
       asked = asked-on g.P.ProvStore c.args.store.now c.came_along-in-loop-label.new.store c.visit.new.store asked c.in_ok-visit.ensures.asks;
     }
 
 pub returns-clause-found : goal.returns-clause-found
 returns-clause-found g t c =
-    let same : c.in_ok-at.at ≡ c.args.walk.at = search rules in
+    let same : c.index-places-0.result ≡ c.args.walk.at =
+    first-is (readings_in g.P.ProvStore c.args.store.now) c.args.walk c.in_ok-places.places.items c.as_slice-places.result.now c.index-places-0.result c.requires.target c.in_ok-places.ensures.places c.as_slice-places.ensures.value c.index-places-0.is in
     let tree = g.R.TreeRep.contents c.args.tree.now in
-    turns-end (readings_in g.P.ProvStore c.args.store.now) (losses_in g.P.ProvStore c.args.store.now) c.args.walk.high tree c.in_ok-at.at c.args.walk.at c.deref-label-items.result.now c.in_ok-labels_of.field-0.items c.loop-label.label-index
+    turns-end (readings_in g.P.ProvStore c.args.store.now) (losses_in g.P.ProvStore c.args.store.now) c.args.walk.high tree c.index-places-0.result c.args.walk.at c.deref-label-items.result.now c.in_ok-labels_of.field-0.items c.loop-label.label-index
     c.args.found.now.keys c.loop-label.found.keys (g.met.R.TreeRep.is_tree c.args.tree.now) same c.deref-label-items.ensures.value c.in_ok-labels_of.ensures c.loop-label-test.false c.loop-label.invariant.found
