@@ -30,11 +30,12 @@ use Rattle.cp_db.specs.declared.fault.OpenFault.TheVariants.{NoStore, Disk, Memo
 
 -- ---- what is found
 
--- a log is wanted, and not a verdict on the records
+-- a log is found, and not a verdict on the records
 abbrev pub is_log : Findings → Bool
 is_log (Log lines) = true
 is_log (Records v) = false
 
+-- a log is wanted, and not a verdict on the records
 abbrev pub wants_log : Wanted → Bool
 wants_log wanted.Log = true
 wants_log wanted.Verdict = false

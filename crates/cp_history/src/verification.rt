@@ -2,6 +2,7 @@
 ghost use Rattle.std.specs.Prelude.{◌≡◌, ◌≤◌, ◌+◌, ◌↔◌, Bool, IsTrue, IfOk, OnOk};
 ghost use Rattle.std.specs.List.{slice_get};
 ghost use Rattle.std.specs.declared.option.Option.TheVariants.{None, Some};
+ghost use Rattle.cp_model.specs.declared.record.Verdict.TheVariants.{Agrees};
 ghost use Rattle.cp_outside.specs.Causes.{Accounts};
 ghost use Rattle.cp_model.specs.Laws.{AreSources};
 ghost use Rattle.cp_disk.specs.Views.{Rests};
@@ -73,8 +74,42 @@ fn record_at(records: &[Record], n: usize) -> Result<Option<Record>, AllocError>
     }
 }
 
-/// The verdict after the records of one commit more, whose frame is at this offset. Costs the records up to the first that
-/// differs.
+/// The verdict on records that differ first at a position.
+fn differing(
+    at: u64,
+    stored: &[Record],
+    expected: &[Record],
+    n: usize,
+) -> Result<Verdict, AllocError>
+    requires differ { IsDifference stored.now expected.now (Some n) }
+    ensures { IfOk result (Judges at stored.now expected.now (Agrees 0)) }
+{
+    Ok(Verdict::Differs {
+        at,
+        stored: record_at(stored, n)?,
+        expected: record_at(expected, n)?,
+    })
+}
+
+/// The verdict after the records of one commit more, where so many agreed before.
+fn judged(
+    at: u64,
+    stored: &[Record],
+    expected: &[Record],
+    count: u64,
+) -> Result<Verdict, AllocError>
+    ensures { IfOk result (Judges at stored.now expected.now (Agrees count)) }
+{
+    match first_difference(stored, expected) {
+        None => match count.checked_add(stored.len() as u64) {
+            Some(more) => Ok(Verdict::Agrees(more)),
+            None => Err(AllocError),
+        },
+        Some(n) => differing(at, stored, expected, n),
+    }
+}
+
+/// Judges the records of one commit more, whose frame is at this offset. Costs the records up to the first that differs.
 fn judge(
     at: u64,
     stored: &[Record],
@@ -83,23 +118,9 @@ fn judge(
 ) -> Result<(), AllocError>
     ensures { OnOk result (Judges at stored.now expected.now verdict.old verdict.new) }
 {
-    let Verdict::Agrees(count) = verdict else {
-        return Ok(());
-    };
-    match first_difference(stored, expected) {
-        None => {
-            let Some(more) = count.checked_add(stored.len() as u64) else {
-                return Err(AllocError);
-            };
-            *verdict = Verdict::Agrees(more);
-        }
-        Some(n) => {
-            *verdict = Verdict::Differs {
-                at,
-                stored: record_at(stored, n)?,
-                expected: record_at(expected, n)?,
-            };
-        }
+    if let Verdict::Agrees(count) = verdict {
+        let judged = judged(at, stored, expected, *count)?;
+        drop(std::mem::replace(verdict, judged));
     }
     Ok(())
 }

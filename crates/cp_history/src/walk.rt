@@ -294,7 +294,10 @@ impl<R: TreeRep, S: TreeRep> HistoryWalk<R, S> {
         let first = Committed::first(alloc, disk, journal, &mut body)?;
         let mut walk = HistoryWalk::begin(alloc, first, wanted);
         for n in 1..journal.len() {
-            walk.add_frame(alloc, disk, journal, n, version, &mut body)?;
+            if let Err(fault) = walk.add_frame(alloc, disk, journal, n, version, &mut body) {
+                drop(walk);
+                return Err(fault);
+            }
         }
         Ok(walk)
     }

@@ -32,8 +32,8 @@ loop-n-init g c =
       steady = first.cause.steady;
     }
 
-pub returns-in_err-add_frame-clause-passed : goal.returns-in_err-add_frame-clause-passed
-returns-in_err-add_frame-clause-passed g c = λ known from fs lists.
+pub returns-in-Err-clause-passed : goal.returns-in-Err-clause-passed
+returns-in-Err-clause-passed g c = λ known from fs lists.
     let view = g.R.TreeRep.contents in
     let source_view = g.S.TreeRep.contents in
     let come = c.loop-n.invariant.come known from fs lists in
@@ -41,13 +41,11 @@ returns-in_err-add_frame-clause-passed g c = λ known from fs lists.
     subst (λ (b : List ℕ). Lists from fs c.args.journal.now b) (sym (c.loop-n.invariant.rests known).content) lists in
     let lt : c.loop-n.n < length c.args.journal.now.frames = omega arith in
     let f = listed_frame from fs c.args.journal.now _ lists c.loop-n.n lt in
-    passed (TellsPassedAs view source_view from c.args.version fs) c.from_residual-in_err-add_frame.result c.in_err-add_frame.field-0.0
-    (err_from_is_err_and c.from_residual-in_err-add_frame.result c.from_residual-in_err-add_frame.ensures.1)
-    (come_stops view source_view c.args.version from fs c.loop-n.n f.0 c.loop-n.walk c.add_frame.new.self come f.1 c.in_err-add_frame.field-0.0
-    (c.in_err-add_frame.ensures.added known from fs f.0 come.items now f.1 come.count come.passed))
+    come_stops view source_view c.args.version from fs c.loop-n.n f.0 c.loop-n.walk c.add_frame.new.self come f.1 c.in-Err.fault
+    (c.in-Err.ensures.added known from fs f.0 come.items now f.1 come.count come.passed)
 
-pub returns-in_err-add_frame-clause-rests : goal.returns-in_err-add_frame-clause-rests
-returns-in_err-add_frame-clause-rests g c = λ known. rests_then _ _ _ (c.loop-n.invariant.rests known) (c.in_err-add_frame.ensures.rests known)
+pub returns-in-Err-clause-rests : goal.returns-in-Err-clause-rests
+returns-in-Err-clause-rests g c = λ known. rests_then _ _ _ (c.loop-n.invariant.rests known) (c.in-Err.ensures.rests known)
 
 pub loop-n-preserved : goal.loop-n-preserved
 loop-n-preserved g c = record {
@@ -60,11 +58,11 @@ loop-n-preserved g c = record {
       let lt : c.loop-n.n < length c.args.journal.now.frames = omega arith in
       let f = listed_frame from fs c.args.journal.now _ lists c.loop-n.n lt in
       come_on g.R.TreeRep.contents g.S.TreeRep.contents c.args.version from fs c.loop-n.n f.0 c.loop-n.walk c.add_frame.new.self come f.1
-      (c.in_ok-add_frame.ensures.added known from fs f.0 come.items now f.1 come.count come.passed);
-  reached = c.in_ok-add_frame.ensures.reached;
-  sort = c.in_ok-add_frame.ensures.sort ∙ c.loop-n.invariant.sort;
-  rests = λ known. rests_then _ _ _ (c.loop-n.invariant.rests known) (c.in_ok-add_frame.ensures.rests known);
-  steady = c.in_ok-add_frame.ensures.cause.steady ∙ c.loop-n.invariant.steady;
+      (c.in_default.ensures.added known from fs f.0 come.items now f.1 come.count come.passed);
+  reached = c.in_default.ensures.reached;
+  sort = c.in_default.ensures.sort ∙ c.loop-n.invariant.sort;
+  rests = λ known. rests_then _ _ _ (c.loop-n.invariant.rests known) (c.in_default.ensures.rests known);
+  steady = c.in_default.ensures.cause.steady ∙ c.loop-n.invariant.steady;
 }
 
 pub returns-clause-passed : goal.returns-clause-passed
