@@ -42,7 +42,10 @@ impl<R: TreeRep, S: TreeRep> Workspace<R, S> {
         ensures stays { OnOk result (IsWorkspace R.contents S.contents self.new) }
         ensures same { self.new.db ≡ self.old.db }
     {
-        let mut transaction = self.take_opened(alloc)?;
+        let Ok(mut transaction) = self.take_opened(alloc) else {
+            drop(op);
+            return Err(AllocError);
+        };
         let applied = transaction.apply(alloc, &op, self.db.sources());
         self.transaction = Some(transaction);
         match applied {

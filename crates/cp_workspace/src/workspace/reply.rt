@@ -31,8 +31,13 @@ impl<R: TreeRep, S: TreeRep> Workspace<R, S> {
         ensures stays { OnOk result (IsWorkspace R.contents S.contents self.new) }
         ensures same { self.new.db ≡ self.old.db }
     {
-        self.spoil(alloc)?;
-        Ok(refused(why))
+        match self.spoil(alloc) {
+            Ok(()) => Ok(refused(why)),
+            Err(fault) => {
+                drop(why);
+                Err(fault)
+            }
+        }
     }
 
     /// Runs what a text says. Costs the text's bytes, and what its statement costs.

@@ -119,9 +119,16 @@ fn is_born<R: TreeRep, S: TreeRep>(
     ensures same { HasAnswered R.contents S.contents db.old db.new }
 {
     let place = place_at(alloc, path)?;
-    let found = answer_in(alloc, db, &Query::Src(place))?;
+    let query = Query::Src(place);
+    let found = answer_in(alloc, db, &query);
+    drop(query);
+    let found = found?;
     match found {
-        Some(answer) => Ok(has_tid(&answer)),
+        Some(answer) => {
+            let born = has_tid(&answer);
+            drop(answer);
+            Ok(born)
+        }
         None => Ok(false),
     }
 }
@@ -137,9 +144,16 @@ fn copies_at<R: TreeRep, S: TreeRep>(
     ensures same { HasAnswered R.contents S.contents db.old db.new }
 {
     let place = place_at(alloc, path)?;
-    let found = answer_in(alloc, db, &Query::Hist(place))?;
+    let query = Query::Hist(place);
+    let found = answer_in(alloc, db, &query);
+    drop(query);
+    let found = found?;
     match found {
-        Some(answer) => Ok(tid_count(&answer)),
+        Some(answer) => {
+            let copies = tid_count(&answer);
+            drop(answer);
+            Ok(copies)
+        }
         None => Ok(0),
     }
 }

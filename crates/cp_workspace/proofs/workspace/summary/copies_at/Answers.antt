@@ -8,7 +8,7 @@ use Rattle.cp_workspace.proofs.workspace.summary.copies_at.Goals as goal
 pub returns-in-Some-clause-copies : goal.returns-in-Some-clause-copies
 returns-in-Some-clause-copies g c = λ t z.
     let asked = subst (λ (q : Loc). c.in_ok-found.found ≡ answer_to t (Hist q)) c.in_ok-place.ensures (c.in_ok-found.ensures.answer t z) in
-    c.tid_count.ensures ∙ copies-given t c.args.path.now c.in-Some.answer (sym c.in-Some.is ∙ asked)
+    c.tid_count-copies.ensures ∙ copies-given t c.args.path.now c.in-Some.answer (sym c.in-Some.is ∙ asked)
 
 pub returns-in-None-clause-copies : goal.returns-in-None-clause-copies
 returns-in-None-clause-copies g c = λ t z.

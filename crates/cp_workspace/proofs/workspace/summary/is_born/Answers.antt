@@ -8,7 +8,7 @@ use Rattle.cp_workspace.proofs.workspace.summary.is_born.Goals as goal
 pub returns-in-Some-clause-born : goal.returns-in-Some-clause-born
 returns-in-Some-clause-born g c = λ t z.
     let asked = subst (λ (q : Loc). c.in_ok-found.found ≡ answer_to t (Src q)) c.in_ok-place.ensures (c.in_ok-found.ensures.answer t z) in
-    c.has_tid.ensures ∙ born-given t c.args.path.now c.in-Some.answer (sym c.in-Some.is ∙ asked)
+    c.has_tid-born.ensures ∙ born-given t c.args.path.now c.in-Some.answer (sym c.in-Some.is ∙ asked)
 
 pub returns-in-None-clause-born : goal.returns-in-None-clause-born
 returns-in-None-clause-born g c = λ t z.
