@@ -4,13 +4,15 @@
 //! hold, and files. `Stage` of cp_calls says what the parts of a case mean.
 #![tactic(auto)]
 
-use cp_calls::{EveryForm, Stage};
+mod program;
+
+use cp_calls::Stage;
 use cp_cases::play_files;
-use cp_played::Cpdb;
+use program::Cpdb;
 use std::io;
 use std::process::ExitCode;
 
 fn main(rt: HostRuntime) -> io::Result<ExitCode> {
-    let mut stage = Stage::new(rt.alloc(), &rt, &Cpdb, &EveryForm);
+    let mut stage = Stage::new(rt.alloc(), &rt, &Cpdb);
     play_files(&rt, &mut stage)
 }

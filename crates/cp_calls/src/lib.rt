@@ -8,13 +8,11 @@ mod call;
 mod failures;
 mod file;
 mod files;
-mod forms;
 mod pieces;
 mod play;
 mod program;
 mod screen;
 mod setting;
 
-pub use forms::{EveryForm, NoOtherForm};
 pub use play::Stage;
 pub use program::Program;

@@ -25,13 +25,12 @@
 //! | `size N`, `bytes AT HEX` | the length of the call's store, and bytes in it |
 //! | `each DEVICE` | made again with the device failing at its first call (a disk from that on), at its second and so on, until it makes fewer: each ends with the device's status and last line, and a crash leaves each commit whose line was written, and of the others the first |
 //!
-//! A call whose input, files and store have at most 65,536 bytes is made once more in each other form of trees that the
-//! stage was made with, and has to give the same.
+//! A call whose input, files and store have at most 65,536 bytes is made once more in each other form of trees, and has to
+//! give the same.
 
 use crate::call::{Call, Device, Outcome, device_of};
 use crate::failures::{fault_left, is_ended_by, last_tid};
 use crate::file::StoreFiles;
-use crate::forms::OtherForms;
 use crate::program::Program;
 use crate::setting::Setting;
 use cp_cases::{Player, Step, bytes_in, compare, numbers_of};
@@ -50,9 +49,8 @@ const CALLS_MAX: u64 = 10_000;
 
 /// A case as far as it is played, over files in memory or the real ones of a runtime.
 #[derive(Drop)]
-pub struct Stage<'a, R, P, F> {
+pub struct Stage<'a, R, P> {
     setting: Setting<'a, R, P>,
-    forms: &'a F,
     stores: StoreFiles,
     /// The bytes of the disk after the last call, and that call.
     left: Vec<u8>,
@@ -104,9 +102,9 @@ fn file_of(alloc: Global, name: &str, bytes: &[u8]) -> Result<MemFile, AllocErro
     })
 }
 
-impl<'a, R: Files, P: Program, F: OtherForms> Stage<'a, R, P, F> {
-    /// A stage for this program, on which nothing is. Small calls are made once more in these other forms of trees.
-    pub fn new(alloc: Global, runtime: &'a R, program: &'a P, forms: &'a F) -> Stage<'a, R, P, F> {
+impl<'a, R: Files, P: Program> Stage<'a, R, P> {
+    /// A stage for this program, on which nothing is.
+    pub fn new(alloc: Global, runtime: &'a R, program: &'a P) -> Stage<'a, R, P> {
         let setting = Setting {
             runtime,
             program,
@@ -116,7 +114,6 @@ impl<'a, R: Files, P: Program, F: OtherForms> Stage<'a, R, P, F> {
         };
         Stage {
             setting,
-            forms,
             stores: StoreFiles::new(alloc),
             left: Vec::new(alloc),
             made: None,
@@ -131,8 +128,8 @@ impl<'a, R: Files, P: Program, F: OtherForms> Stage<'a, R, P, F> {
         match &self.outcome {
             Some(first) if self.setting.is_small(call) => {
                 let same = self
-                    .forms
-                    .are_same(alloc, &self.setting, call, first, &self.left)?;
+                    .setting
+                    .is_same_in_every_form(alloc, call, first, &self.left)?;
                 Ok(!same)
             }
             _ => Ok(false),
@@ -299,7 +296,7 @@ impl<'a, R: Files, P: Program, F: OtherForms> Stage<'a, R, P, F> {
     }
 }
 
-impl<R: Files, P: Program, F: OtherForms> Player for Stage<'_, R, P, F> {
+impl<R: Files, P: Program> Player for Stage<'_, R, P> {
     fn can_take(&self, _key: &str) -> bool {
         true
     }

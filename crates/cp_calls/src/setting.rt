@@ -7,6 +7,10 @@ use cp_disk::MemDisk;
 use cp_host::HostFiles;
 use cp_outside::{MemFile, MemFiles};
 use cp_tree::TreeRep;
+use cp_tree_arena::ArenaTree;
+use cp_tree_box::BoxTree;
+use cp_tree_rows::RowTree;
+use cp_tree_share::ShareTree;
 use std::alloc::{AllocError, Global};
 use std::rt::Files;
 
@@ -55,7 +59,7 @@ impl<R: Files, P: Program> Setting<'_, R, P> {
     }
 
     /// Says whether the call gives the same as another, with these forms of trees, and leaves the same store.
-    pub(crate) fn is_same<T: TreeRep, S: TreeRep>(
+    fn is_same<T: TreeRep, S: TreeRep>(
         &self,
         alloc: Global,
         call: &Call,
@@ -64,6 +68,21 @@ impl<R: Files, P: Program> Setting<'_, R, P> {
     ) -> Result<bool, AllocError> {
         let (outcome, disk) = self.outcome_of::<T, S>(alloc, call)?;
         Ok(outcome.is_same(other) && disk.bytes() == left)
+    }
+
+    /// Says whether the call gives the same as the first in every other form of trees, and leaves the same store. The program
+    /// is compiled for each pair of forms.
+    pub(crate) fn is_same_in_every_form(
+        &self,
+        alloc: Global,
+        call: &Call,
+        first: &Outcome,
+        left: &[u8],
+    ) -> Result<bool, AllocError> {
+        let boxes = self.is_same::<BoxTree, ShareTree>(alloc, call, first, left)?;
+        let rows = self.is_same::<RowTree, BoxTree>(alloc, call, first, left)?;
+        let arena = self.is_same::<ArenaTree, RowTree>(alloc, call, first, left)?;
+        Ok(boxes && rows && arena)
     }
 
     /// Says whether the input, the files and the store have at most 65,536 bytes.

@@ -1,5 +1,4 @@
 //! The program as one whose whole calls are played.
-#![tactic(auto)]
 
 use cp_calls::Program;
 use cp_clock::Clock;
