@@ -3,4 +3,3 @@ mod Leaf
 mod Fitting
 mod Rows
 mod Written
-mod Growing

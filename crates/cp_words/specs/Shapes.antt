@@ -1,7 +1,8 @@
 -- The commands, as the parser of words is told of them.
-use Rattle.std.specs.Prelude.{codes, true, ◌≡◌, Result, Ok, Err}
+use Rattle.std.specs.Prelude.{codes, true, false, ◌≡◌, Result, IfOk}
 use Rattle.std.specs.declared.alloc.AllocError.{AllocError}
 use Rattle.clap.specs.declared.builder.command.Command.{Command}
+use Rattle.clap.specs.declared.builder.command.Command.TheViews.{out-Command as fields_of}
 use Rattle.clap.specs.Words.{App, Text, app_of, new_app, new_rule, with_rule, with_subcommand}
 
 -- a command with one more operand, which has to be there
@@ -49,10 +50,21 @@ log_app = with_wanted (codes "STORE") (new_app (codes "log"))
 abbrev pub verify_app : App
 verify_app = with_wanted (codes "STORE") (new_app (codes "verify"))
 
--- a program with one more command, which could be made
-abbrev pub Grows : App → Result Command AllocError → Command → Type 0
-Grows a (Ok s) c = app_of c ≡ with_subcommand a (app_of s).top
-Grows a (Err e) c = ⊥
+-- a program with one more command
+abbrev pub with_command : App → App → App
+with_command a b = with_subcommand a b.top
+
+-- a command of which no operand is one of all commands
+abbrev pub IsLocal : Command → Type 0
+IsLocal c = (fields_of c).has_globals ≡ false
+
+-- a program of this description, if it could be made
+abbrev pub IsProgram : App → Result Command AllocError → Type 0
+IsProgram a made = IfOk made (λ c. app_of c ≡ a)
+
+-- a command of this description, if it could be made
+abbrev pub IsCommand : App → Result Command AllocError → Type 0
+IsCommand a made = IfOk made (λ c. (app_of c ≡ a) × IsLocal c)
 
 -- the program, which has no help and wants a command
 abbrev pub top_app : App
@@ -62,12 +74,11 @@ top_app =
 
 -- a program with the commands of sessions
 abbrev pub with_sessions : App → App
-with_sessions a = with_subcommand (with_subcommand (with_subcommand (with_subcommand a scratch_app.top) init_app.top) run_app.top) commit_app.top
+with_sessions a = with_command (with_command (with_command (with_command a scratch_app) init_app) run_app) commit_app
 
 -- a program with the other commands
 abbrev pub with_others : App → App
-with_others a =
-    with_subcommand (with_subcommand (with_subcommand (with_subcommand (with_subcommand a load_app.top) query_app.top) generate_app.top) log_app.top) verify_app.top
+with_others a = with_command (with_command (with_command (with_command (with_command a load_app) query_app) generate_app) log_app) verify_app
 
 -- the program with all commands
 abbrev pub whole : App

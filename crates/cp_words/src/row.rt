@@ -100,7 +100,10 @@ fn asked_in(statement: Stmt) -> Option<Command>
     match statement {
         Stmt::Ask(query) => Some(Command::Ask(query)),
         Stmt::Show(place) => Some(Command::Show(place)),
-        _ => None,
+        other => {
+            drop(other);
+            None
+        }
     }
 }
 
