@@ -186,7 +186,12 @@ impl<R: TreeRep, S: TreeRep> Committed<R, S> {
         let mut body = Vec::new(alloc);
         let mut committed = Committed::first(alloc, disk, journal, &mut body)?;
         for n in 1..journal.len() {
-            committed.replay_frame(alloc, disk, journal, n, version, &mut body)?;
+            if let Err(fault) = committed.replay_frame(
+                alloc, disk, journal, n, version, &mut body,
+            ) {
+                drop(committed);
+                return Err(fault);
+            }
         }
         Ok(committed)
     }

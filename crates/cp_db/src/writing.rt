@@ -397,12 +397,19 @@ impl<R: TreeRep, S: TreeRep> Db<R, S> {
             ops: step.ops,
             records: step.rows,
         };
-        let body = entry_bytes(alloc, &entry)?;
+        let Ok(body) = entry_bytes(alloc, &entry) else {
+            drop(entry);
+            return Err(WriteFault::Memory);
+        };
         if !self.has_room(body.len()) {
+            drop(entry);
             return Err(WriteFault::TooLarge);
         }
-        self.committed
-            .keep_records(alloc, step.tids, entry.records())?;
+        let kept = self
+            .committed
+            .keep_records(alloc, step.tids, entry.records());
+        drop(entry);
+        kept?;
         self.committed.tree = step.tree;
         self.append(alloc, disk, &body)?;
         Ok(Tids {

@@ -24,8 +24,8 @@ loop-n-init g c = record {
   steady = c.in_ok-committed.ensures.cause.steady;
 }
 
-pub returns-in_err-replay_frame-clause-replayed : goal.returns-in_err-replay_frame-clause-replayed
-returns-in_err-replay_frame-clause-replayed g c = λ known from fs lists.
+pub returns-in-Err-clause-replayed : goal.returns-in-Err-clause-replayed
+returns-in-Err-clause-replayed g c = λ known from fs lists.
     let view = g.R.TreeRep.contents in
     let source_view = g.S.TreeRep.contents in
     let gone = c.loop-n.invariant.gone known from fs lists in
@@ -33,10 +33,8 @@ returns-in_err-replay_frame-clause-replayed g c = λ known from fs lists.
     subst (λ (b : List ℕ). Lists from fs c.args.journal.now b) (sym (c.loop-n.invariant.rests known).content) lists in
     let lt : c.loop-n.n < length c.args.journal.now.frames = omega arith in
     let f = listed_frame from fs c.args.journal.now _ lists c.loop-n.n lt in
-    passed (TellsAs view source_view c.args.version fs) c.from_residual-in_err-replay_frame.result c.in_err-replay_frame.field-0.0
-    (err_from_is_err_and c.from_residual-in_err-replay_frame.result c.from_residual-in_err-replay_frame.ensures.1)
-    (gone_stops view source_view c.args.version fs c.loop-n.n f.0 c.loop-n.committed c.replay_frame.new.self gone f.1 c.in_err-replay_frame.field-0.0
-    (c.in_err-replay_frame.ensures.replayed known from fs f.0 gone.items now f.1 gone.taken))
+    gone_stops view source_view c.args.version fs c.loop-n.n f.0 c.loop-n.committed c.replay_frame.new.self gone f.1 c.in-Err.fault
+    (c.in-Err.ensures.replayed known from fs f.0 gone.items now f.1 gone.taken)
 
 pub loop-n-preserved : goal.loop-n-preserved
 loop-n-preserved g c = record {
@@ -49,10 +47,10 @@ loop-n-preserved g c = record {
       let lt : c.loop-n.n < length c.args.journal.now.frames = omega arith in
       let f = listed_frame from fs c.args.journal.now _ lists c.loop-n.n lt in
       gone_on g.R.TreeRep.contents g.S.TreeRep.contents c.args.version fs c.loop-n.n f.0 c.loop-n.committed c.replay_frame.new.self gone f.1
-      (c.in_ok-replay_frame.ensures.replayed known from fs f.0 gone.items now f.1 gone.taken);
-  taken = c.in_ok-replay_frame.ensures.taken;
-  rests = λ known. rests_then _ _ _ (c.loop-n.invariant.rests known) (c.in_ok-replay_frame.ensures.rests known);
-  steady = c.in_ok-replay_frame.ensures.cause.steady ∙ c.loop-n.invariant.steady;
+      (c.in_default.ensures.replayed known from fs f.0 gone.items now f.1 gone.taken);
+  taken = c.in_default.ensures.taken;
+  rests = λ known. rests_then _ _ _ (c.loop-n.invariant.rests known) (c.in_default.ensures.rests known);
+  steady = c.in_default.ensures.cause.steady ∙ c.loop-n.invariant.steady;
 }
 
 pub returns-clause-replayed : goal.returns-clause-replayed
