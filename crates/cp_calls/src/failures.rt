@@ -66,23 +66,31 @@ fn tid_in(output: &[u8]) -> Option<u64> {
     tid.parse::<u64>().ok()
 }
 
-/// The last Tid of the store that a crash leaves; `None` where it leaves no store.
+/// The last Tid that a call which asks for the numbers tells; `None` where there is no store.
+fn tid_told(outcome: &Outcome) -> Option<u64> {
+    if outcome.status == 6 {
+        return None;
+    }
+    Some(tid_in(&outcome.output).unwrap_or(u64::MAX))
+}
+
+/// The last Tid of the store that a crash leaves; `None` where it leaves no store. The files of the call are those of a
+/// runtime `R`, of which it reads none.
 fn tid_left<R: rt::Files + Drop, P: Program>(
     alloc: Global,
     program: &P,
     disk: &MemDisk,
     how: Crash,
 ) -> Result<Option<u64>, AllocError> {
-    let mut image = disk.crash(alloc, how)?;
-    let mut files: CaseFiles<R> = CaseFiles::Named(MemFiles::new(alloc, &[])?);
     let asking = Call::asking(alloc)?;
-    let outcome = asking.make::<P, ShareTree, ArenaTree, _, _>(
-        alloc, program, &mut image, &mut files,
-    )?;
-    if outcome.status == 6 {
-        return Ok(None);
-    }
-    Ok(Some(tid_in(&outcome.output).unwrap_or(u64::MAX)))
+    let mut files: CaseFiles<R> = CaseFiles::Named(MemFiles::new(alloc, &[])?);
+    let mut image = disk.crash(alloc, how)?;
+    let made = asking.make::<P, ShareTree, ArenaTree, _, _>(alloc, program, &mut image, &mut files);
+    drop(image);
+    drop(files);
+    drop(asking);
+    let outcome = made?;
+    Ok(tid_told(&outcome))
 }
 
 /// Says what a crash leaves other than a store with a last Tid from `low` to `high`; or no store, where one is made. `None`

@@ -61,6 +61,21 @@ pub struct Stage<'a, R, P> {
     differs: bool,
 }
 
+/// A difference of this text.
+fn difference(alloc: Global, text: &str) -> Result<Option<String>, AllocError> {
+    Ok(Some(text.to_string(alloc)?))
+}
+
+/// The difference that a part has no call to be compared with, or isn't one.
+fn misplaced(alloc: Global) -> Result<Option<String>, AllocError> {
+    difference(alloc, "this part can't stand here")
+}
+
+/// The difference with this text of the call that failed at this number.
+fn failing_at(alloc: Global, number: u64, text: &str) -> Result<Option<String>, AllocError> {
+    Ok(Some(format!(in alloc; "failing at {number}, {text}")?))
+}
+
 /// Says that the number isn't one of those on the line; `None` where it is.
 fn compare_number(
     alloc: Global,
@@ -164,11 +179,15 @@ impl<'a, R: Files, P: Program> Stage<'a, R, P> {
         made
     }
 
-    /// Makes the call that is to come, and begins another.
-    fn begin_call(&mut self, alloc: Global, call: Call) -> Result<(), AllocError> {
-        self.settle(alloc)?;
-        self.call = Some(call);
-        Ok(())
+    /// Makes the call that is to come, and begins another, if that could be made.
+    fn begin_call(
+        &mut self,
+        alloc: Global,
+        next: Result<Call, AllocError>,
+    ) -> Result<(), AllocError> {
+        let settled = self.settle(alloc);
+        self.call = Some(next?);
+        settled
     }
 
     /// There is a file of this name and these bytes, which may be the store.
@@ -193,9 +212,9 @@ impl<'a, R: Files, P: Program> Stage<'a, R, P> {
                 self.settle(alloc)?;
                 return self.stores.spoil(alloc, step.key.as_str(), rest);
             }
-            "words" => self.begin_call(alloc, Call::new(alloc, rest)?)?,
-            "bare" => self.begin_call(alloc, Call::bare(alloc)?)?,
-            "in" if self.call.is_none() => self.call = Some(Call::new(alloc, "scratch n")?),
+            "words" => self.begin_call(alloc, Call::new(alloc, rest))?,
+            "bare" => self.begin_call(alloc, Call::bare(alloc))?,
+            "in" if self.call.is_none() => self.begin_call(alloc, Call::new(alloc, "scratch n"))?,
             _ => return Ok(false),
         }
         Ok(step.key.as_str() != "in")
@@ -220,7 +239,7 @@ impl<'a, R: Files, P: Program> Stage<'a, R, P> {
         disk: &MemDisk,
     ) -> Result<Option<String>, AllocError> {
         if !is_ended_by(device, outcome, whole) {
-            return Ok(Some("it ends otherwise".to_string(alloc)?));
+            return difference(alloc, "it ends otherwise");
         }
         let low = last_tid(&outcome.output);
         let high = last_tid(&whole.output);
@@ -254,45 +273,54 @@ impl<'a, R: Files, P: Program> Stage<'a, R, P> {
                 return Ok(None);
             }
             if let Some(text) = compared? {
-                return Ok(Some(format!(in alloc; "failing at {number}, {text}")?));
+                return failing_at(alloc, number, text.as_str());
             }
         }
-        Ok(Some("it fails too often".to_string(alloc)?))
+        difference(alloc, "it fails too often")
     }
 
     /// Says what the call that was last made gave other than what it has to give as the device fails.
     fn compare_each(&mut self, alloc: Global, word: &str) -> Result<Option<String>, AllocError> {
-        let (Some(mut call), Some(whole), Some(device)) = (
-            self.made.take(),
-            self.outcome.take(),
-            device_of(word),
-        ) else {
-            return Ok(Some("this part can't stand here".to_string(alloc)?));
+        let Some(device) = device_of(word) else {
+            return misplaced(alloc);
         };
-        let answer = self.compare_failing(alloc, &mut call, &whole, device)?;
+        let Some(whole) = self.outcome.take() else {
+            return misplaced(alloc);
+        };
+        let Some(mut call) = self.made.take() else {
+            drop(whole);
+            return misplaced(alloc);
+        };
+        let answer = self.compare_failing(alloc, &mut call, &whole, device);
         self.outcome = Some(whole);
         self.made = Some(call);
-        Ok(answer)
+        answer
+    }
+
+    /// Says what the call that was last made gave, or left, other than the part.
+    fn compare_part(&self, alloc: Global, step: &Step) -> Result<Option<String>, AllocError> {
+        let Some(outcome) = &self.outcome else {
+            return misplaced(alloc);
+        };
+        let rest = step.rest.as_str();
+        match step.key.as_str() {
+            "out" | "starts" | "ends" | "status" | "left" => compare_outcome(alloc, outcome, step),
+            "bytes" => self.stores.differs(alloc, rest),
+            "size" => compare_number(alloc, "size", self.stores.last().len() as u64, rest),
+            _ => misplaced(alloc),
+        }
     }
 
     /// Makes the call if it is to come, and says what it gave other than the part.
     fn take_last(&mut self, alloc: Global, step: &Step) -> Result<Option<String>, AllocError> {
         self.settle(alloc)?;
         if self.differs {
-            return Ok(Some("other trees, another outcome".to_string(alloc)?));
+            return difference(alloc, "other trees, another outcome");
         }
-        let rest = step.rest.as_str();
-        match (&self.outcome, step.key.as_str()) {
-            (Some(outcome), "out" | "starts" | "ends" | "status" | "left") => {
-                compare_outcome(alloc, outcome, step)
-            }
-            (Some(_), "each") => self.compare_each(alloc, rest),
-            (Some(_), "bytes") => self.stores.differs(alloc, rest),
-            (Some(_), "size") => {
-                compare_number(alloc, "size", self.stores.last().len() as u64, rest)
-            }
-            _ => Ok(Some("this part can't stand here".to_string(alloc)?)),
+        if step.key.as_str() == "each" {
+            return self.compare_each(alloc, step.rest.as_str());
         }
+        self.compare_part(alloc, step)
     }
 }
 
