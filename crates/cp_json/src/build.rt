@@ -1,5 +1,5 @@
 //! A tree grown from a value, place by place.
-ghost use Rattle.std.specs.Prelude.{◌≡◌, ◌≤◌, ◌<◌, [], ◌∷◌, length, IfOk, OnOk, Some};
+ghost use Rattle.std.specs.Prelude.{◌≡◌, ◌≤◌, ◌<◌, [], ◌∷◌, length, IfOk, IsOkAnd, OnOk, Some};
 ghost use Rattle.serde_json.specs.View.{view, items_view, members_view};
 ghost use Rattle.cp_model.specs.Tree.{text_bytes};
 ghost use Rattle.cp_model.specs.Place.{child};
@@ -84,6 +84,26 @@ fn add_under<R: TreeRep>(
     }
 }
 
+/// Adds the value's place at a label, if that could be made, and the places below it.
+#[cycle(grow)]
+fn add_at<R: TreeRep>(
+    alloc: Global,
+    tree: &mut R,
+    at: &Path,
+    label: Result<Label, AllocError>,
+    value: &Value,
+) -> Result<(), AllocError>
+    requires place { IfOk label (λ a. CanPut at.now a (content_of (view value.now)) (R.contents tree.old)) }
+    requires below { IfOk label (λ a. NeedsBelow child with_leaf CanPut (child at.now a) (view value.now)
+        (with_leaf (child at.now a) (content_of (view value.now)) (R.contents tree.old))) }
+    ensures { OnOk result (IsOkAnd label (λ a. R.contents tree.new ≡ walk_below child with_leaf (child at.now a) (view value.now)
+        (with_leaf (child at.now a) (content_of (view value.now)) (R.contents tree.old)))) }
+{
+    let label = label?;
+    add(alloc, tree, at, &label, value)?;
+    add_under(alloc, tree, at, &label, value)
+}
+
 #[cycle(grow)]
 fn add_items<R: TreeRep>(
     alloc: Global,
@@ -96,10 +116,7 @@ fn add_items<R: TreeRep>(
 {
     let mut i = 0u64;
     for item in items {
-        let name = index_label(alloc, i)?;
-        let label = Label::copy_of(alloc, name.as_str())?;
-        add(alloc, tree, at, &label, item)?;
-        add_under(alloc, tree, at, &label, item)?;
+        add_at(alloc, tree, at, index_label(alloc, i), item)?;
         i += 1;
     }
     Ok(())
@@ -116,9 +133,7 @@ fn add_members<R: TreeRep>(
     ensures { OnOk result (R.contents tree.new ≡ walk_members child with_leaf at.now (members_view members.now.entries) (R.contents tree.old)) }
 {
     for (key, member) in members.iter() {
-        let label = Label::copy_of(alloc, key.as_str())?;
-        add(alloc, tree, at, &label, member)?;
-        add_under(alloc, tree, at, &label, member)?;
+        add_at(alloc, tree, at, Label::copy_of(alloc, key.as_str()), member)?;
     }
     Ok(())
 }

@@ -1,5 +1,5 @@
 //! The first number that isn't whole.
-ghost use Rattle.std.specs.Prelude.{◌≡◌, ◌≤◌, [], ◌∷◌, ◌++◌, IfOk, OnOk, length, false, is_some};
+ghost use Rattle.std.specs.Prelude.{◌≡◌, ◌≤◌, [], ◌∷◌, ◌++◌, IfOk, IsOkAnd, OnOk, length, false, is_some};
 ghost use Rattle.serde_json.specs.View.{view, items_view, members_view};
 ghost use Rattle.cp_json.specs.Places.{content_of, value_places};
 ghost use Rattle.cp_model.specs.Place.{child};
@@ -66,6 +66,26 @@ fn look_below(
     }
 }
 
+/// Looks at the value's place at a label, if that could be made, and at the places below it.
+#[cycle(look)]
+fn look_at_label(
+    alloc: Global,
+    first: &mut Option<Path>,
+    at: &Path,
+    label: Result<Label, AllocError>,
+    value: &Value,
+) -> Result<(), AllocError>
+    requires place { IfOk label (λ a. IsWithinLimits at.now a (content_of (view value.now)) first.old) }
+    requires below { IfOk label (λ a. NeedsBelow child with_place IsWithinLimits (child at.now a) (view value.now)
+        (with_place (child at.now a) (content_of (view value.now)) first.old)) }
+    ensures { OnOk result (IsOkAnd label (λ a. first.new ≡ walk_below child with_place (child at.now a) (view value.now)
+        (with_place (child at.now a) (content_of (view value.now)) first.old))) }
+{
+    let below = at.child(&label?)?;
+    look_at(first, &below, value)?;
+    look_below(alloc, first, &below, value)
+}
+
 #[cycle(look)]
 fn look_at_items(
     alloc: Global,
@@ -78,11 +98,7 @@ fn look_at_items(
 {
     let mut i = 0u64;
     for item in items {
-        let name = index_label(alloc, i)?;
-        let label = Label::copy_of(alloc, name.as_str())?;
-        let below = at.child(&label)?;
-        look_at(first, &below, item)?;
-        look_below(alloc, first, &below, item)?;
+        look_at_label(alloc, first, at, index_label(alloc, i), item)?;
         i += 1;
     }
     Ok(())
@@ -99,10 +115,13 @@ fn look_at_members(
     ensures { OnOk result (first.new ≡ walk_members child with_place at.now (members_view members.now.entries) first.old) }
 {
     for (key, member) in members.iter() {
-        let label = Label::copy_of(alloc, key.as_str())?;
-        let below = at.child(&label)?;
-        look_at(first, &below, member)?;
-        look_below(alloc, first, &below, member)?;
+        look_at_label(
+            alloc,
+            first,
+            at,
+            Label::copy_of(alloc, key.as_str()),
+            member,
+        )?;
     }
     Ok(())
 }

@@ -5,7 +5,7 @@ ghost use Rattle.cp_json.specs.Places.{content_of};
 ghost use Rattle.cp_json.specs.Surveys.{spot_below, survey_of, survey_place};
 ghost use Rattle.cp_json.specs.Walks.{walk_below, walk_items, walk_members};
 
-use crate::value::{index_label, is_whole, text_bytes};
+use crate::value::{index_text, is_whole, text_bytes};
 use cp_model::PLACE_WEIGHT;
 use serde_json::{Map, Value};
 use std::alloc::{AllocError, Global};
@@ -109,7 +109,7 @@ fn note_items(
 {
     let mut i = 0u64;
     for item in items {
-        let label = index_label(alloc, i)?;
+        let label = index_text(alloc, i)?;
         let below = at.child(label.as_str());
         seen.note(below, item);
         note_below(alloc, seen, below, item)?;

@@ -1,12 +1,13 @@
 //! What one value of a JSON text is as the content of a place.
-ghost use Rattle.std.specs.Prelude.{◌≡◌, true, IfOk, Some, is_some, decimal, string_bytes};
+ghost use Rattle.std.specs.Prelude.{◌≡◌, ◌≤◌, true, IfOk, Some, is_some, decimal, length, string_bytes};
 ghost use Rattle.serde_json.specs.View.{view, number_view};
+ghost use Rattle.cp_path.specs.declared.limits.TheConstants.{LABEL_MAX};
 ghost use Rattle.cp_path.specs.declared.value.Value.TheVariants as leaf;
 ghost use Rattle.cp_model.specs.declared.row.Content.TheVariants as content;
 ghost use Rattle.cp_json.specs.Places.{content_of, number_content, bytes_of};
 
 use cp_model::Content;
-use cp_path::{Text, Value as Leaf, Whole};
+use cp_path::{Label, Text, Value as Leaf, Whole};
 use serde_json::{Number, Value};
 use std::alloc::{AllocError, Global};
 
@@ -65,9 +66,18 @@ pub(crate) fn content_of(alloc: Global, value: &Value) -> Result<Content, AllocE
     }
 }
 
-/// The label of an array's item.
-pub(crate) fn index_label(alloc: Global, index: u64) -> Result<String, AllocError>
+/// The number of an array's item, as a text.
+pub(crate) fn index_text(alloc: Global, index: u64) -> Result<String, AllocError>
     ensures { IfOk result (λ s. string_bytes s ≡ decimal index) }
 {
     index.to_string(alloc)
+}
+
+/// The label of an array's item.
+pub(crate) fn index_label(alloc: Global, index: u64) -> Result<Label, AllocError>
+    requires short { length (decimal index) ≤ LABEL_MAX }
+    ensures { IfOk result (λ a. a ≡ decimal index) }
+{
+    let text = index_text(alloc, index)?;
+    Label::copy_of(alloc, text.as_str())
 }
