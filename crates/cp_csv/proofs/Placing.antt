@@ -29,7 +29,7 @@ use Rattle.cp_csv.specs.CsvTrees.{Fields, is_long_label, is_long_text, repeated_
 use Rattle.cp_model.specs.Cases.{unless}
 use Rattle.cp_csv.specs.Steps.{IsEmptyRow, IsShallow, fields_weight}
 use Rattle.cp_csv.specs.declared.fault.CsvFault.{CsvFault}
-use Rattle.cp_csv.specs.declared.fault.CsvFault.TheVariants.{NoHeader, NotUtf8, LabelTooLong, Ragged, TextTooLong, RepeatedKey, TooMany, TooBig, Memory}
+use Rattle.cp_csv.specs.declared.fault.CsvFault.TheVariants.{NotUtf8, LabelTooLong, Ragged, TextTooLong, RepeatedKey, TooMany, TooBig, Memory}
 use Rattle.cp_csv.proofs.Lists.{none_pass}
 
 -- ---- a leaf
@@ -228,26 +228,24 @@ within t name s n p i =
 
 -- ---- the whole
 
--- a text without a record
-pub no_header : (bytes : List ℕ) (key : Option Label) → records default_config (strip_bom bytes) ≡ [] → csv_tree bytes key ≡ Err NoHeader
+-- the tree of a text is that of its records
+pub records_are : (bytes : List ℕ) (key : Option Label) (rs : List Fields) → rs ≡ records default_config (strip_bom bytes) → records_tree rs key ≡ csv_tree bytes key
 unfolding csv_tree
-no_header bytes key e = ap (λ rs. records_tree rs key) e
+records_are bytes key rs e = ap (λ z. records_tree z key) e
 
-module _ (bytes : List ℕ) (key : Option Label) (h : Fields) (rest : List Fields) (e : records default_config (strip_bom bytes) ≡ h ∷ rest) where
-  -- a text whose header is refused
-  pub bad_header : (f : CsvFault) → header_fault h key ≡ Some f → csv_tree bytes key ≡ Err f
-  unfolding csv_tree
-  bad_header f is = ap (λ rs. records_tree rs key) e ∙ ap (λ o. unless o (rows_tree h key 1 rest (single Node))) is
+module _ (rs : List Fields) (key : Option Label) (h : Fields) (rest : List Fields) (e : rs ≡ h ∷ rest) where
+  -- records whose header is refused
+  pub bad_header : (f : CsvFault) → header_fault h key ≡ Some f → records_tree rs key ≡ Err f
+  bad_header f is = ap (λ z. records_tree z key) e ∙ ap (λ o. unless o (rows_tree h key 1 rest (single Node))) is
 
-  -- and one whose header is not
-  pub good_header : header_fault h key ≡ None → csv_tree bytes key ≡ rows_tree h key 1 rest (single Node)
-  unfolding csv_tree
-  good_header is = ap (λ rs. records_tree rs key) e ∙ ap (λ o. unless o (rows_tree h key 1 rest (single Node))) is
+  -- and those whose header is not
+  pub good_header : header_fault h key ≡ None → records_tree rs key ≡ rows_tree h key 1 rest (single Node)
+  good_header is = ap (λ z. records_tree z key) e ∙ ap (λ o. unless o (rows_tree h key 1 rest (single Node))) is
 
 -- a refusal of the header, or out of memory
-pub header_told : (bytes : List ℕ) (key : Option Label) (h : Fields) (rest : List Fields) (f : CsvFault) → records default_config (strip_bom bytes) ≡ h ∷ rest → (f ≡ Memory) ⊎ (header_fault h key ≡ Some f) → (f ≡ Memory) ⊎ (csv_tree bytes key ≡ Err f)
-header_told bytes key h rest f e (inl m) = inl m
-header_told bytes key h rest f e (inr is) = inr (bad_header bytes key h rest e f is)
+pub header_told : (rs : List Fields) (key : Option Label) (h : Fields) (rest : List Fields) (f : CsvFault) → rs ≡ h ∷ rest → (f ≡ Memory) ⊎ (header_fault h key ≡ Some f) → (f ≡ Memory) ⊎ (records_tree rs key ≡ Err f)
+header_told rs key h rest f e (inl m) = inl m
+header_told rs key h rest f e (inr is) = inr (bad_header rs key h rest e f is)
 
 -- a refusal of a row, or out of memory
 pub rows_told : (r s : Result Tree CsvFault) (f : CsvFault) → s ≡ r → (f ≡ Memory) ⊎ (r ≡ Err f) → (f ≡ Memory) ⊎ (s ≡ Err f)

@@ -7,7 +7,7 @@ ghost use Rattle.cp_model.specs.Keyed.{get, len};
 ghost use Rattle.cp_model.specs.Place.{Path, over_limit, option_map};
 ghost use Rattle.cp_model.specs.Subtrees.{is_there};
 ghost use Rattle.cp_model.specs.declared.row.Content.TheVariants.{Node};
-ghost use Rattle.cp_csv.specs.CsvTrees.{csv_tree, row_fault, row_label, rows_tree, with_row};
+ghost use Rattle.cp_csv.specs.CsvTrees.{csv_tree, records_tree, row_fault, row_label, rows_tree, with_row};
 ghost use Rattle.cp_csv.specs.Steps.{IsColumns, IsOpen, IsShallow, TellsRefusal, key_of, records_left};
 
 use crate::columns::{Columns, columns_of};
@@ -68,6 +68,28 @@ fn put_rows<R: TreeRep>(
     Ok(())
 }
 
+/// The tree of the records that are left, of which the first is the header. Costs for each field a search among the rows and
+/// the headers.
+fn tree_of_records<R: TreeRep>(
+    alloc: Global,
+    records: &mut ByteRecordsIntoIter<&[u8]>,
+    key: Option<&Label>,
+) -> Result<R, CsvFault>
+    requires open { IsOpen records.old }
+    ensures answers { let defined = records_tree (records_left records.old) (option_map (λ k. k.now) key.entry) in
+        Answers CsvFault.Memory defined (result_map_both R.contents (λ e. e) result) }
+    ensures shallow { IfOk result (λ t. IsShallow (R.contents t)) }
+{
+    let header = match next_record(records)? {
+        Some(header) => header,
+        None => return Err(CsvFault::NoHeader),
+    };
+    let columns = columns_of(alloc, header, key)?;
+    let mut tree = R::single(alloc, &Content::Node)?;
+    put_rows(alloc, &columns, records, &mut tree)?;
+    Ok(tree)
+}
+
 /// Reads the tree of a CSV text that is loaded under `name`, its rows named by the key column, or else numbered. The
 /// first record is the header, and each later one a row below the root, with its fields as texts under their headers.
 /// A text that can't be read because memory runs out is refused with `Memory`, and so would be one whose reader fails,
@@ -83,13 +105,5 @@ pub fn tree_of_csv<R: TreeRep>(
     ensures places { IfOk result (λ t. (p : Path) → is_there (R.contents t) p ≡ true → over_limit (record { db = name.now; path = p }) ≡ false) }
 {
     let _short = name.as_str();
-    let mut records = records_of(alloc, bytes);
-    let header = match next_record(&mut records)? {
-        Some(header) => header,
-        None => return Err(CsvFault::NoHeader),
-    };
-    let columns = columns_of(alloc, header, key)?;
-    let mut tree = R::single(alloc, &Content::Node)?;
-    put_rows(alloc, &columns, &mut records, &mut tree)?;
-    Ok(tree)
+    tree_of_records(alloc, &mut records_of(alloc, bytes), key)
 }
