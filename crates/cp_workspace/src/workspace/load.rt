@@ -111,6 +111,7 @@ impl<R: TreeRep, S: TreeRep> Workspace<R, S> {
         ensures untouched { IsErrOf result WorkspaceFault.File → disk.new ≡ disk.old }
     {
         if let Some(why) = self.why_not_loaded(&load.name)? {
+            drop(load);
             return Ok(refused_load(why));
         }
         match fetch::<S, F>(
@@ -121,7 +122,10 @@ impl<R: TreeRep, S: TreeRep> Workspace<R, S> {
             load.file.items.as_str(),
         )? {
             Ok(tree) => self.keep_source(alloc, load.name, tree, disk),
-            Err(why) => Ok(refused_load(why)),
+            Err(why) => {
+                drop(load);
+                Ok(refused_load(why))
+            }
         }
     }
 }
