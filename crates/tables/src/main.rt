@@ -2,17 +2,21 @@
 //!
 //! The words are those of every program that plays cases: the stage up to which they hold, and files. A part makes a call,
 //! and `out` with a text below it is what the call has to give. `spelled` has the calls of words, statements and replies,
-//! `provenance` those of rows and steps, `stored` those of entries, files and disks.
+//! `provenance` those of rows and steps, `stored` those of entries, files and disks, `trees` those of trees in every form.
+//!
+//! With the words `csv`, a form's name, a CSV file and its key column, it makes the file's tree alone, so that its time and
+//! memory can be measured.
 #![tactic(auto)]
 
 mod provenance;
 mod spelled;
 mod stored;
+mod trees;
 
 use cp_cases::{Player, Step, compare, play_files};
 use std::alloc::{AllocError, Global};
-use std::io;
 use std::process::ExitCode;
+use std::{env, io};
 
 /// Makes calls, and keeps what the last one gave.
 #[derive(Drop)]
@@ -27,6 +31,9 @@ fn answer(alloc: Global, step: &Step) -> Result<Option<Vec<u8>>, AllocError> {
     }
     if let Some(output) = provenance::answer(alloc, step)? {
         return Ok(Some(output));
+    }
+    if let Some(output) = trees::answer(alloc, step)? {
+        return Ok(Some(output.as_bytes().to_vec(alloc)?));
     }
     stored::answer(alloc, step)
 }
@@ -56,7 +63,22 @@ impl Player for Caller {
     }
 }
 
+/// Makes the tree of a CSV file in a form, and writes how many places it has.
+fn make_tree(rt: &HostRuntime, form: &str, file: &str, key: &str) -> io::Result<ExitCode> {
+    match trees::count_in_file(rt, form, file, key)? {
+        Some(count) => println!(rt; "{count} places")?,
+        None => return Ok(ExitCode::FAILURE),
+    }
+    Ok(ExitCode::SUCCESS)
+}
+
 fn main(rt: HostRuntime) -> io::Result<ExitCode> {
+    let words = env::args(&rt)?.collect::<Vec<String>>(rt.alloc())?;
+    if let [_, command, form, file, key] = words.as_slice() {
+        if command.as_str() == "csv" {
+            return make_tree(&rt, form.as_str(), file.as_str(), key.as_str());
+        }
+    }
     let mut caller = Caller {
         output: Vec::new(rt.alloc()),
     };

@@ -76,7 +76,7 @@ pub(crate) fn are_same<R: TreeRep, O: TreeRep>(
 pub(crate) fn copy_often<R: TreeRep>(
     alloc: Global,
     tree: &R,
-    times: u32,
+    times: u64,
 ) -> Result<u64, AllocError> {
     let mut places = 0u64;
     for _ in 0..times {

@@ -3,12 +3,12 @@
 use std::alloc::{AllocError, Global};
 
 /// Adds the last digit of a number.
-fn push_digit(text: &mut String, number: u32) -> Result<(), AllocError> {
+fn push_digit(text: &mut String, number: u64) -> Result<(), AllocError> {
     text.push((b'0' + (number % 10) as u8) as char)
 }
 
 /// Adds a member's name: a letter and seven digits.
-fn push_name(text: &mut String, number: u32) -> Result<(), AllocError> {
+fn push_name(text: &mut String, number: u64) -> Result<(), AllocError> {
     text.push_str("\"n")?;
     push_digit(text, number / 1_000_000)?;
     push_digit(text, number / 100_000)?;
@@ -21,7 +21,7 @@ fn push_name(text: &mut String, number: u32) -> Result<(), AllocError> {
 }
 
 /// Adds one of five leaves.
-fn push_leaf(text: &mut String, number: u32) -> Result<(), AllocError> {
+fn push_leaf(text: &mut String, number: u64) -> Result<(), AllocError> {
     text.push_str(match number % 5 {
         0 => "null",
         1 => "true",
@@ -32,7 +32,7 @@ fn push_leaf(text: &mut String, number: u32) -> Result<(), AllocError> {
 }
 
 /// Gives an object with that many leaves.
-pub(crate) fn wide(alloc: Global, count: u32) -> Result<String, AllocError> {
+pub(crate) fn wide(alloc: Global, count: u64) -> Result<String, AllocError> {
     let mut text = "{".to_string(alloc)?;
     for number in 0..count {
         if number > 0 {
@@ -46,7 +46,7 @@ pub(crate) fn wide(alloc: Global, count: u32) -> Result<String, AllocError> {
 }
 
 /// Gives that many objects, each the only member of the one before, and a leaf in the last.
-pub(crate) fn deep(alloc: Global, count: u32) -> Result<String, AllocError> {
+pub(crate) fn deep(alloc: Global, count: u64) -> Result<String, AllocError> {
     let mut text = "null".to_string(alloc)?;
     for number in 0..count {
         let mut outer = "{".to_string(alloc)?;
@@ -59,7 +59,7 @@ pub(crate) fn deep(alloc: Global, count: u32) -> Result<String, AllocError> {
 }
 
 /// Gives an object of that many members, which have other names each, that don't rise, and all this text.
-fn object_of(alloc: Global, member: &str, width: u32) -> Result<String, AllocError> {
+fn object_of(alloc: Global, member: &str, width: u64) -> Result<String, AllocError> {
     let mut text = "{".to_string(alloc)?;
     for number in 0..width {
         if number > 0 {
@@ -73,7 +73,7 @@ fn object_of(alloc: Global, member: &str, width: u32) -> Result<String, AllocErr
 }
 
 /// Gives objects that many levels deep, of that many members each, with leaves in the last ones.
-pub(crate) fn nested(alloc: Global, levels: u32, width: u32) -> Result<String, AllocError> {
+pub(crate) fn nested(alloc: Global, levels: u64, width: u64) -> Result<String, AllocError> {
     let mut text = String::new(alloc);
     push_leaf(&mut text, 2)?;
     for _ in 0..levels {

@@ -1,7 +1,7 @@
 use Rattle.std.proofs.Common.{◌∙◌, sym, subst}
 use Rattle.cp_model.specs.Tree.{IsTree}
 use Rattle.cp_tree.proofs.Found.{whole_put}
-use Rattle.forms.proofs.copies.moved.Goals as goal
+use Rattle.tables.proofs.trees.copies.moved.Goals as goal
 
 pub graft-requires-clause-from : goal.graft-requires-clause-from
 graft-requires-clause-from g c = rw c.root-top.ensures (g.met.O.TreeRep.is_tree c.args.tree.now).rooted.root
