@@ -21,7 +21,7 @@ edges_of : (g : Fork) (l : Edges × ℕ) (j : Label × Tree) (r : Edges × ℕ) 
 edges_of g l j r h = ap (λ z. z.0 ++ g.entry ∷ g.right.0) h.left ∙ ap (λ z. l.0 ++ z ∷ g.right.0) h.entry ∙ ap (λ z. l.0 ++ j ∷ z.0) h.right
 
 module _ (s : Edges × ℕ) (f : Fork) (at : AtFork s f) where
-  parts_full : IsFull s f.left f.entry f.right
+  pub parts_full : IsFull s f.left f.entry f.right
   parts_full =
       let n = children_len-append f.left.0 (f.entry ∷ f.right.0) in
       record {

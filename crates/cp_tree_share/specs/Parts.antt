@@ -1,8 +1,6 @@
 -- What siblings that are taken apart say of the whole.
 use Rattle.std.specs.Prelude.{◌≡◌, Bool, true, false, ℕ, ◌+◌, ◌<◌, max, [], ◌∷◌, ◌++◌}
 use Rattle.std.specs.FinMap.Entries.{put}
-use Rattle.std.specs.declared.option.Option.{Option}
-use Rattle.std.specs.declared.option.Option.TheVariants.{None, Some}
 use Rattle.cp_path.specs.Text.{text_cmp}
 use Rattle.cp_model.specs.Keyed.{len}
 use Rattle.cp_model.specs.Place.{Label}
@@ -11,8 +9,6 @@ use Rattle.cp_tree.specs.Branch.{children_len, without_child}
 use Rattle.cp_tree.specs.Sums.{AreChildren}
 use Rattle.cp_tree_share.specs.Siblings.{Edges, Near}
 use Rattle.cp_tree_share.specs.declared.forest.Fork.{Fork}
-use Rattle.cp_tree_share.specs.declared.balance.Parts.{Parts}
-use Rattle.cp_tree_share.specs.declared.balance.Parts.TheVariants.{Empty, At}
 
 -- a sibling, those before it, and those after it
 pub record IsFull (s : Edges × ℕ) (l : Edges × ℕ) (e : Label × Tree) (r : Edges × ℕ) : Type 0 where
@@ -28,21 +24,16 @@ pub record IsEmpty (s : Edges × ℕ) : Type 0 where
   pub edges : s.0 ≡ []
   pub high : s.1 ≡ 0
 
--- these parts are all there is
-abbrev pub ArePartsOf : Edges × ℕ → Parts → Type 0
-ArePartsOf s Empty = IsEmpty s
-ArePartsOf s (At l e r) = IsFull s l e r
-
 -- the fork has these parts
 pub record HasParts (f : Fork) (l : Edges × ℕ) (e : Label × Tree) (r : Edges × ℕ) : Type 0 where
   pub left : f.left ≡ l
   pub entry : f.entry ≡ e
   pub right : f.right ≡ r
 
--- an edge was put in the place of one with its label, or it is given back and nothing has changed
-abbrev pub IsPutOrGivenBack : Edges × ℕ → Label × Tree → Edges × ℕ → Option (Label × Tree) → Type 0
-IsPutOrGivenBack old e new None = new ≡ (put text_cmp e.0 e.1 old.0, old.1)
-IsPutOrGivenBack old e new (Some back) = (new ≡ old) × (back ≡ e)
+-- the edge was put in the place of one with its label, or nothing has changed
+abbrev pub IsPutOrSame : Edges × ℕ → Label × Tree → Edges × ℕ → Bool → Type 0
+IsPutOrSame old e new true = new ≡ (put text_cmp e.0 e.1 old.0, old.1)
+IsPutOrSame old e new false = new ≡ old
 
 -- the edge with the label was taken out, or nothing has changed
 abbrev pub IsCutOrSame : Edges × ℕ → Label → Edges × ℕ → Bool → Type 0

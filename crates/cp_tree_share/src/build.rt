@@ -1,4 +1,4 @@
-ghost use Rattle.std.specs.Prelude.{◌≡◌, ◌≤◌, IfOk};
+ghost use Rattle.std.specs.Prelude.{◌≡◌, ◌≤◌, ◌++◌, [], ◌∷◌, IfOk, OnOk};
 ghost use Rattle.cp_model.specs.History.{IsLiteral};
 ghost use Rattle.cp_model.specs.Tree.{text_bytes};
 ghost use Rattle.cp_tree.specs.Rows.{entries_in, tree_of_rows};
@@ -7,7 +7,7 @@ ghost use Rattle.cp_tree_share.specs.Reading.{AreShort, HaveEdges, HaveTree, Hav
 
 use crate::forest::{Entry, Forest, ShareNode};
 use cp_model::{Content, Row};
-use cp_path::TEXT_MAX;
+use cp_path::{Label, TEXT_MAX};
 use cp_shared::{SharedContent, SharedLabel};
 use std::alloc::{AllocError, Global};
 
@@ -34,6 +34,20 @@ fn read_edges<'a>(
     Ok(left)
 }
 
+/// Puts an edge behind the entries.
+fn push_edge(
+    alloc: Global,
+    label: &Label,
+    node: ShareNode,
+    entries: &mut Vec<Entry>,
+) -> Result<(), AllocError>
+    ensures { OnOk result (entries.new.items ≡ entries.old.items ++ (label.now, node) ∷ []) }
+{
+    let label = SharedLabel::of(alloc, label)?;
+    entries.push(Entry { label, node })?;
+    Ok(())
+}
+
 /// Reads the edge that leads to this row, and puts it behind the entries. Gives the rows after its tree.
 #[cycle(reading)]
 fn read_edge<'a>(
@@ -52,8 +66,7 @@ fn read_edge<'a>(
     match labels.split_last() {
         None => unreachable!(),
         Some((label, _)) => {
-            let label = SharedLabel::of(alloc, label)?;
-            entries.push(Entry { label, node })?;
+            push_edge(alloc, label, node, entries)?;
             Ok(left)
         }
     }

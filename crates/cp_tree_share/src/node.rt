@@ -16,6 +16,23 @@ use cp_shared::{SharedContent, SharedLabel};
 use cp_tree::Reach;
 use std::alloc::{AllocError, Global};
 
+/// Adds the row of a place. Costs its labels and the bytes of a text.
+fn place_into(
+    alloc: Global,
+    content: &SharedContent,
+    at: &[Label],
+    out: &mut Vec<Row>,
+) -> Result<(), AllocError>
+    ensures { OnOk result (out.new.items ≡ out.old.items ++ entry_row (at.now, content.now) ∷ []) }
+{
+    let content = content.to_content()?;
+    let Ok(path) = Path::of(alloc, at) else {
+        return Err(AllocError);
+    };
+    out.push(Row { path, content })?;
+    Ok(())
+}
+
 impl ShareNode {
     /// Makes a root alone.
     pub(crate) fn leaf(content: SharedContent) -> ShareNode
@@ -68,7 +85,7 @@ impl ShareNode {
         ensures tree { IfOk result (λ t. t ≡ with_subtree (entry.0 ∷ []) (entries entry.1) self.now) }
         ensures rooted { IfOk result (λ t. IsRooted t) }
     {
-        let children = self.children.put(alloc, entry)?;
+        let children = self.children.put(alloc, &entry)?;
         let content = self.content.share()?;
         Ok(ShareNode { content, children })
     }
@@ -82,7 +99,7 @@ impl ShareNode {
         ensures ok { OnOk result (self.new ≡ with_subtree (entry.0 ∷ []) (entries entry.1) self.old) }
         ensures err { OnErr result (self.new ≡ self.old) }
     {
-        self.children.set(alloc, entry)?;
+        self.children.set(alloc, &entry)?;
         Ok(())
     }
 
@@ -244,11 +261,7 @@ impl ShareNode {
         ensures rows { OnOk result (out.new.items ≡ out.old.items ++ map entry_row (entries_under at.old.items (entries self.now))) }
         ensures same_place { OnOk result (at.new.items ≡ at.old.items) }
     {
-        let content = self.content.to_content()?;
-        let Ok(path) = Path::of(alloc, at.as_slice()) else {
-            return Err(AllocError);
-        };
-        out.push(Row { path, content })?;
+        place_into(alloc, &self.content, at.as_slice(), out)?;
         self.children.rows_into(alloc, at, out)
     }
 }

@@ -4,9 +4,8 @@ ghost use Rattle.std.specs.FinMap.Entries.{find, put};
 ghost use Rattle.cp_path.specs.Text.{text_cmp};
 ghost use Rattle.cp_tree.specs.Branch.{without_child};
 ghost use Rattle.cp_tree.specs.Sums.{AreChildren};
-ghost use Rattle.cp_tree_share.specs.Parts.{IsPutOrGivenBack, IsCutOrSame};
+ghost use Rattle.cp_tree_share.specs.Parts.{IsPutOrSame, IsCutOrSame};
 
-use crate::balance::Parts;
 use crate::forest::{Entry, Forest, Fork, Open};
 use cp_path::Label;
 use std::alloc::{AllocError, Global};
@@ -33,113 +32,103 @@ impl Forest {
         }
     }
 
-    /// Puts the sibling in the place of one with its label, or beside the others. Costs a logarithm.
-    pub(crate) fn put(&self, alloc: Global, entry: Entry) -> Result<Forest, AllocError>
-        requires { AreChildren (put text_cmp entry.0 entry.1 self.now.0) }
-        ensures edges { IfOk result (λ t. t.0 ≡ put text_cmp entry.0 entry.1 self.now.0) }
+    /// Puts the sibling in the place of one with its label, or beside the others, and shares it. Costs a logarithm.
+    pub(crate) fn put(&self, alloc: Global, entry: &Entry) -> Result<Forest, AllocError>
+        requires { AreChildren (put text_cmp entry.now.0 entry.now.1 self.now.0) }
+        ensures edges { IfOk result (λ t. t.0 ≡ put text_cmp entry.now.0 entry.now.1 self.now.0) }
         ensures not_lower { IfOk result (λ t. self.now.1 ≤ t.1) }
         ensures at_most_one_higher { IfOk result (λ t. t.1 ≤ self.now.1 + 1) }
     {
-        match self.parts()? {
-            Parts::Empty => Forest::fork(alloc, Forest::new(), entry, Forest::new()),
-            Parts::At(left, middle, right) => match middle.order_of_entry(&entry) {
-                Ordering::Less => {
-                    let left = left.put(alloc, entry)?;
-                    Forest::balance(alloc, left, middle, right)
-                }
-                Ordering::Equal => Forest::fork(alloc, left, entry, right),
-                Ordering::Greater => {
-                    let right = right.put(alloc, entry)?;
-                    Forest::balance(alloc, left, middle, right)
-                }
-            },
+        let Some(fork) = self.root() else {
+            return Forest::fork_shared(alloc, &Forest::new(), entry, &Forest::new());
+        };
+        match fork.entry.order_of_entry(entry) {
+            Ordering::Less => {
+                let left = fork.left.put(alloc, entry)?;
+                Forest::balance(alloc, &left, &fork.entry, &fork.right)
+            }
+            Ordering::Equal => Forest::fork_shared(alloc, &fork.left, entry, &fork.right),
+            Ordering::Greater => {
+                let right = fork.right.put(alloc, entry)?;
+                Forest::balance(alloc, &fork.left, &fork.entry, &right)
+            }
         }
     }
 
     /// Puts the sibling in the place of one with its label, or beside the others, where that leaves the height as it is:
-    /// in place as far as nothing is shared. Gives it back otherwise, and has changed nothing. Costs a logarithm. After an
-    /// error the siblings are as they were.
-    fn place(&mut self, alloc: Global, entry: Entry) -> Result<Option<Entry>, AllocError>
-        requires { AreChildren (put text_cmp entry.0 entry.1 self.old.0) }
-        ensures ok { IfOk result (λ back. IsPutOrGivenBack self.old entry self.new back) }
+    /// in place as far as nothing is shared. Says whether it has; otherwise nothing has changed. Costs a logarithm. After
+    /// an error the siblings are as they were.
+    fn place(&mut self, alloc: Global, entry: &Entry) -> Result<bool, AllocError>
+        requires { AreChildren (put text_cmp entry.now.0 entry.now.1 self.old.0) }
+        ensures ok { IfOk result (λ done. IsPutOrSame self.old entry.now self.new done) }
         ensures err { OnErr result (self.new ≡ self.old) }
     {
         let Open::Full(shared) = &mut self.open else {
-            return Ok(Some(entry));
+            return Ok(false);
         };
         let Some(fork) = Rc::get_mut(shared) else {
             return self.place_anew(alloc, entry);
         };
         let even = fork.left.height() == fork.right.height();
-        match fork.entry.order_of_entry(&entry) {
+        match fork.entry.order_of_entry(entry) {
             Ordering::Less => {
-                let back = fork.left.place(alloc, entry)?;
-                match back {
-                    None => {
-                        fork.settle();
-                        Ok(None)
-                    }
-                    Some(entry) => self.place_unless(even, alloc, entry),
+                let done = fork.left.place(alloc, entry)?;
+                if done {
+                    fork.settle();
+                    return Ok(true);
                 }
+                self.place_unless(even, alloc, entry)
             }
             Ordering::Equal => {
-                fork.entry = entry;
+                fork.entry = entry.share()?;
                 fork.settle();
-                Ok(None)
+                Ok(true)
             }
             Ordering::Greater => {
-                let back = fork.right.place(alloc, entry)?;
-                match back {
-                    None => {
-                        fork.settle();
-                        Ok(None)
-                    }
-                    Some(entry) => self.place_unless(even, alloc, entry),
+                let done = fork.right.place(alloc, entry)?;
+                if done {
+                    fork.settle();
+                    return Ok(true);
                 }
+                self.place_unless(even, alloc, entry)
             }
         }
     }
 
     /// The same where one of the two sides would grow: so do they as a whole, if the two are of one height.
-    fn place_unless(
-        &mut self,
-        even: bool,
-        alloc: Global,
-        entry: Entry,
-    ) -> Result<Option<Entry>, AllocError>
-        requires { AreChildren (put text_cmp entry.0 entry.1 self.old.0) }
-        ensures ok { IfOk result (λ back. IsPutOrGivenBack self.old entry self.new back) }
+    fn place_unless(&mut self, even: bool, alloc: Global, entry: &Entry) -> Result<bool, AllocError>
+        requires { AreChildren (put text_cmp entry.now.0 entry.now.1 self.old.0) }
+        ensures ok { IfOk result (λ done. IsPutOrSame self.old entry.now self.new done) }
         ensures err { OnErr result (self.new ≡ self.old) }
     {
         if even {
-            return Ok(Some(entry));
+            return Ok(false);
         }
         self.place_anew(alloc, entry)
     }
 
     /// The same with all on the way made anew.
-    fn place_anew(&mut self, alloc: Global, entry: Entry) -> Result<Option<Entry>, AllocError>
-        requires { AreChildren (put text_cmp entry.0 entry.1 self.old.0) }
-        ensures ok { IfOk result (λ back. IsPutOrGivenBack self.old entry self.new back) }
+    fn place_anew(&mut self, alloc: Global, entry: &Entry) -> Result<bool, AllocError>
+        requires { AreChildren (put text_cmp entry.now.0 entry.now.1 self.old.0) }
+        ensures ok { IfOk result (λ done. IsPutOrSame self.old entry.now self.new done) }
         ensures err { OnErr result (self.new ≡ self.old) }
     {
-        let kept = entry.share()?;
         let changed = self.put(alloc, entry)?;
         if changed.height() != self.height() {
-            return Ok(Some(kept));
+            return Ok(false);
         }
         *self = changed;
-        Ok(None)
+        Ok(true)
     }
 
     /// Puts the sibling in the place of one with its label, or beside the others: in place as far as nothing is shared,
     /// where the height stays. Costs a logarithm. After an error the siblings are as they were.
-    pub(crate) fn set(&mut self, alloc: Global, entry: Entry) -> Result<(), AllocError>
-        requires { AreChildren (put text_cmp entry.0 entry.1 self.old.0) }
-        ensures ok { OnOk result (self.new.0 ≡ put text_cmp entry.0 entry.1 self.old.0) }
+    pub(crate) fn set(&mut self, alloc: Global, entry: &Entry) -> Result<(), AllocError>
+        requires { AreChildren (put text_cmp entry.now.0 entry.now.1 self.old.0) }
+        ensures ok { OnOk result (self.new.0 ≡ put text_cmp entry.now.0 entry.now.1 self.old.0) }
         ensures err { OnErr result (self.new ≡ self.old) }
     {
-        if let Some(entry) = self.place(alloc, entry)? {
+        if !self.place(alloc, entry)? {
             *self = self.put(alloc, entry)?;
         }
         Ok(())
@@ -152,19 +141,19 @@ impl Forest {
         ensures not_higher { IfOk result (λ t. t.1 ≤ self.now.1) }
         ensures at_most_one_lower { IfOk result (λ t. self.now.1 ≤ t.1 + 1) }
     {
-        match self.parts()? {
-            Parts::Empty => Ok(Forest::new()),
-            Parts::At(left, middle, right) => match middle.order_of(label) {
-                Ordering::Less => {
-                    let left = left.remove(alloc, label)?;
-                    Forest::balance(alloc, left, middle, right)
-                }
-                Ordering::Equal => Forest::join(alloc, left, right),
-                Ordering::Greater => {
-                    let right = right.remove(alloc, label)?;
-                    Forest::balance(alloc, left, middle, right)
-                }
-            },
+        let Some(fork) = self.root() else {
+            return Ok(Forest::new());
+        };
+        match fork.entry.order_of(label) {
+            Ordering::Less => {
+                let left = fork.left.remove(alloc, label)?;
+                Forest::balance(alloc, &left, &fork.entry, &fork.right)
+            }
+            Ordering::Equal => Forest::join(alloc, &fork.left, &fork.right),
+            Ordering::Greater => {
+                let right = fork.right.remove(alloc, label)?;
+                Forest::balance(alloc, &fork.left, &fork.entry, &right)
+            }
         }
     }
 

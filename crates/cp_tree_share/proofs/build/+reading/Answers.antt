@@ -1,4 +1,4 @@
-use Rattle.std.proofs.Common.{◌≡◌, ◌+◌, ◌-◌, ◌<◌, length, ap, sym, ◌∙◌, subst, arith, rules}
+use Rattle.std.proofs.Common.{◌≡◌, ◌+◌, ◌-◌, ◌<◌, length, ap, sym, ◌∙◌, subst, refl, arith, rules}
 use Rattle.cp_tree_share.proofs.Read.{have_edge, texts_here, shorter_here, next_shorter, one_read, all_read, have_tree, no_root, edge_read, more_entries, have_siblings, good_node, same_entries, node_read, begins_above, none_above}
 use Rattle.cp_tree.specs.Branch.{branch}
 use Rattle.cp_tree.specs.Good.{IsGood}
@@ -46,7 +46,7 @@ read_edge-unreachable-requires t c = no_root c.args.row.now c.args.rows.now c.la
 
 pub read_edge-returns : goal.read_edge-returns
 read_edge-returns t c =
-    edge_read c.args.row.now c.args.rows.now c.labels-labels.result.now _ c.in-Some.label.now _ _ _ _ _ _ c.labels-labels.ensures.labels c.in-Some.ensures.cases.0 c.in_ok-label-in-Some.ensures c.in_ok-node.ensures.tree c.in_ok-node.ensures.same_entries c.in_ok-push-in-Some.ensures.items
+    edge_read c.args.row.now c.args.rows.now c.labels-labels.result.now _ c.in-Some.label.now _ _ _ _ _ _ c.labels-labels.ensures.labels c.in-Some.ensures.cases.0 refl c.in_ok-node.ensures.tree c.in_ok-node.ensures.same_entries c.in_ok-push_edge-in-Some.ensures
 
 pub read_node-overflow_sub-len : goal.read_node-overflow_sub-len
 read_node-overflow_sub-len t c =

@@ -1,4 +1,5 @@
-use Rattle.std.proofs.Common.{◌≡◌, ◌∙◌, sym, ap, subst, [], ◌++◌, ◌∷◌}
+use Rattle.std.proofs.Common.{◌≡◌, ◌∙◌, refl, sym, ap, subst, [], ◌++◌, ◌∷◌}
+use Rattle.cp_tree.specs.Rows.{entry_row}
 use Rattle.cp_tree.proofs.Walking.{pop_push}
 use Rattle.cp_tree_share.specs.Siblings.{siblings_of}
 use Rattle.cp_tree_share.proofs.At.{at_full}
@@ -20,4 +21,4 @@ Forest::rows_into-returns-in_ok-rows_into-in-Full-2-clause-rows t c =
 
 pub ShareNode::rows_into-returns-clause-rows : goal.ShareNode::rows_into-returns-clause-rows
 ShareNode::rows_into-returns-clause-rows t c =
-    rows_node c.rows_into.result _ _ _ _ (record { path = c.in-Ok.path; content = c.in_ok-content.content }) _ _ _ c.self.view_is c.self.invariant c.in_ok-push.ensures.items (c.in-Ok.ensures.value ∙ c.as_slice.ensures.value) c.in_ok-content.ensures c.rows_into.ensures.rows
+    rows_node c.rows_into.result _ _ _ _ (entry_row (c.as_slice.result.now, c.self.inside.content)) _ _ _ c.self.view_is c.self.invariant c.in_ok-place_into.ensures c.as_slice.ensures.value refl c.rows_into.ensures.rows

@@ -1,9 +1,8 @@
-use Rattle.std.proofs.Common.{◌∷◌, subst}
-use Rattle.cp_tree_share.specs.Parts.{ArePartsOf}
+use Rattle.std.proofs.Common.{◌∷◌}
 use Rattle.cp_tree_share.proofs.At.{inner_right}
 use Rattle.cp_tree_share.proofs.forest.Forest.lean_left.Goals as goal
 
-pub fork-requires-clause-children : goal.fork-requires-clause-children
-fork-requires-clause-children c =
-    let f = subst (ArePartsOf c.args.left) c.in-At.is c.in_ok-outer.ensures in
-    inner_right c.in-At.outer.0 c.in-At.top c.in-At.inner.0 (c.args.entry ∷ c.args.right.0) (rw f.edges at c.requires.children)
+pub fork_shared-requires-clause-children : goal.fork_shared-requires-clause-children
+fork_shared-requires-clause-children c =
+    let f = c.in-Some.ensures.full in
+    inner_right c.in-Some.fork.now.left.0 c.in-Some.fork.now.entry c.in-Some.fork.now.right.0 (c.args.entry.now ∷ c.args.right.now.0) (rw f.edges at c.requires.children)
