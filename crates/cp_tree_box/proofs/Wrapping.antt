@@ -201,10 +201,6 @@ module _ (m : Tree) (t : IsTree m) where
 pub near_new : (m n k : Tree) (p : Path) (s : Spot) → s ≡ spot_at root_spot p → IsTree (with_subtree p (keyed.entries n) m) → k ≡ n → AreNear s k
 near_new m n k p s e fits is = subst (λ z. AreNear z k) (sym e) (subst (AreNear (spot_at root_spot p)) (sym is) (near_put m n p fits))
 
--- the tree with a subtree at a label
-pub insert_is : (new m n : Tree) (p : Path) (a b : Label) → b ≡ a → new ≡ with_subtree (child p b) (keyed.entries n) m → new ≡ with_subtree (child p a) (keyed.entries n) m
-insert_is new m n p a b e is = is ∙ ap (λ z. with_subtree (child p z) (keyed.entries n) m) e
-
 -- that subtree
 pub insert_child : (new m n k : Tree) (p : Path) → new ≡ with_subtree p (keyed.entries n) m → k ≡ sub new p → k ≡ n
 insert_child new m n k p is e = e ∙ ap (λ z. sub z p) is ∙ sub-replaced m n p

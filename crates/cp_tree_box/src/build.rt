@@ -18,10 +18,12 @@ fn add_row(alloc: Global, root: &mut BoxNode, row: &Row) -> Result<(), AllocErro
     requires parent { (p : Path) (a : Label) → row.now.path ≡ child p a → get root.old p ≡ Some Node }
     ensures { OnOk result (root.new ≡ with_subtree row.now.path (root_entries row.now.content) root.old) }
 {
-    let leaf = BoxNode::leaf(alloc, copy_content(&row.content)?);
     match row.path.labels().split_last() {
         None => unreachable!(),
-        Some((label, parent)) => root.insert(parent, label.clone()?, leaf),
+        Some((label, parent)) => {
+            let leaf = BoxNode::leaf(alloc, copy_content(&row.content)?);
+            root.insert(parent, label, leaf)
+        }
     }
 }
 

@@ -1,5 +1,7 @@
-ghost use Rattle.std.specs.Prelude.{◌≡◌, [], ◌++◌, true, map, IfOk, OnOk, OnErr, IfSome, IfNone};
+ghost use Rattle.std.specs.Prelude.{◌≡◌, [], ◌∷◌, ◌++◌, true, map, IfOk, OnOk, OnErr, IfSome, IfNone};
 ghost use Rattle.std.specs.declared.option.Option.TheVariants.{None, Some};
+ghost use Rattle.std.specs.BTreeMap.{insert_entry};
+ghost use Rattle.cp_path.specs.Text.{text_cmp};
 ghost use Rattle.cp_model.specs.Place.{child};
 ghost use Rattle.cp_model.specs.Keyed.{get, entries};
 ghost use Rattle.cp_model.specs.Subtrees.{entries_under, without, with_subtree, is_there};
@@ -63,6 +65,44 @@ pub(crate) fn number_range(content: &Content)
     }
 }
 
+/// Adds the row of a place. Costs its labels and the bytes of a text.
+fn place_into(
+    alloc: Global,
+    content: &Content,
+    at: &[Label],
+    out: &mut Vec<Row>,
+) -> Result<(), AllocError>
+    ensures { OnOk result (out.new.items ≡ out.old.items ++ entry_row (at.now, content.now) ∷ []) }
+{
+    let content = copy_content(content)?;
+    let Ok(path) = Path::of(alloc, at) else {
+        return Err(AllocError);
+    };
+    out.push(Row { path, content })?;
+    Ok(())
+}
+
+/// Adds the label at the end. Costs its bytes.
+fn push_label(labels: &mut Vec<Label>, label: &Label) -> Result<(), AllocError>
+    ensures { OnOk result (labels.new.items ≡ labels.old.items ++ label.now ∷ []) }
+{
+    labels.push(label.clone()?)?;
+    Ok(())
+}
+
+/// Puts a child at the label, in the place of one that is there or beside the others. Costs a search, and the label.
+fn put_child(
+    children: &mut BTreeMap<Label, BoxNode>,
+    label: &Label,
+    new: BoxNode,
+) -> Result<(), AllocError>
+    ensures ok { OnOk result (children.new.entries ≡ insert_entry text_cmp children.old.entries label.now new) }
+    ensures err { OnErr result (children.new.entries ≡ children.old.entries) }
+{
+    children.insert(label.clone()?, new)?;
+    Ok(())
+}
+
 impl BoxNode {
     /// Makes a root alone.
     pub(crate) fn leaf(alloc: Global, content: Content) -> BoxNode
@@ -108,18 +148,18 @@ impl BoxNode {
     pub(crate) fn insert(
         &mut self,
         place: &[Label],
-        label: Label,
+        label: &Label,
         new: BoxNode,
     ) -> Result<(), AllocError>
         requires node { get self.old place.now ≡ Some Node }
         requires rooted { IsRooted new }
-        ensures ok { OnOk result (self.new ≡ with_subtree (child place.now label) (entries new) self.old) }
+        ensures ok { OnOk result (self.new ≡ with_subtree (child place.now label.now) (entries new) self.old) }
         ensures err { OnErr result (self.new ≡ self.old) }
         ensures whole { IsRooted self.new }
     {
         match place.split_first() {
             None => {
-                self.children.insert(label, new)?;
+                put_child(&mut self.children, label, new)?;
                 Ok(())
             }
             Some((first, rest)) => match self.children.get_mut(first) {
@@ -181,7 +221,7 @@ impl BoxNode {
     {
         let mut labels = Vec::new(alloc);
         for (label, _) in &self.children {
-            labels.push(label.clone()?)?;
+            push_label(&mut labels, label)?;
         }
         Ok(labels)
     }
@@ -192,7 +232,7 @@ impl BoxNode {
     {
         let mut children = BTreeMap::new(alloc);
         for (label, child) in &self.children {
-            children.insert(label.clone()?, child.copy(alloc)?)?;
+            put_child(&mut children, label, child.copy(alloc)?)?;
         }
         let content = copy_content(&self.content)?;
         Ok(BoxNode { content, children })
@@ -208,13 +248,9 @@ impl BoxNode {
         ensures rows { OnOk result (out.new.items ≡ out.old.items ++ map entry_row (entries_under at.old.items (entries self.now))) }
         ensures same_place { OnOk result (at.new.items ≡ at.old.items) }
     {
-        let content = copy_content(&self.content)?;
-        let Ok(path) = Path::of(alloc, at.as_slice()) else {
-            return Err(AllocError);
-        };
-        out.push(Row { path, content })?;
+        place_into(alloc, &self.content, at.as_slice(), out)?;
         for (label, child) in &self.children {
-            at.push(label.clone()?)?;
+            push_label(at, label)?;
             child.rows_into(alloc, at, out)?;
             at.pop();
         }

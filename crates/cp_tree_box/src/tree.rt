@@ -42,7 +42,7 @@ impl BoxTree {
         ensures err { OnErr result (self.new.root ≡ self.old.root) }
     {
         let at = Spot::root().below(place).child(label);
-        self.root.insert(place, label.clone()?, new)?;
+        self.root.insert(place, label, new)?;
         match self.root.find_child(place, label) {
             Some(child) => self.tally.add(at, child),
             None => unreachable!(),

@@ -1,4 +1,4 @@
-use Rattle.std.proofs.Common.{◌∙◌, ap, ◌++◌}
+use Rattle.std.proofs.Common.{◌∙◌, ap, ◌++◌, refl}
 use Rattle.std.specs.Map.Iter.{deref_pair}
 use Rattle.std.proofs.lemmas.Map.Iter.{rest_more, rest_all}
 use Rattle.cp_tree_box.proofs.Copies.{copied, children_fewer, still_fewer, sorted_as, good_copy, same_copy}
@@ -10,19 +10,11 @@ loop-label-init t c = record {
   fewer = children_fewer _ _ _ c.into_iter-label-iterator.result c.self.view_is c.self.invariant c.into_iter-label-iterator.ensures.into_iter_gives.0;
 }
 
-pub loop-label-preserved-in_ok-insert : goal.loop-label-preserved-in_ok-insert
-loop-label-preserved-in_ok-insert t c =
-    let more = rest_more deref_pair c.loop-label.label-iterator c.next.new.self c.next.result (c.in-Some.label, c.in-Some.child) c.in-Some.is c.next.ensures.steps in
-    record {
-      all = copied _ _ _ _ _ _ _ _ _ (sorted_as c.into_iter-label-iterator.ensures.into_iter_gives.0 c.self.invariant.sorted) c.loop-label.invariant.all more c.in_ok-clone.ensures.cases c.in_ok-copy.ensures c.in_ok-insert.ensures.entries;
-      fewer = still_fewer _ _ _ _ _ c.loop-label.invariant.fewer more;
-    }
-
 pub loop-label-preserved : goal.loop-label-preserved
 loop-label-preserved t c =
     let more = rest_more deref_pair c.loop-label.label-iterator c.next.new.self c.next.result (c.in-Some.label, c.in-Some.child) c.in-Some.is c.next.ensures.steps in
     record {
-      all = copied _ _ _ _ _ _ _ _ _ (sorted_as c.into_iter-label-iterator.ensures.into_iter_gives.0 c.self.invariant.sorted) c.loop-label.invariant.all more c.in_ok-clone.ensures.cases c.in_ok-copy.ensures c.in_ok-insert.ensures.entries;
+      all = copied _ _ _ _ _ _ _ _ _ (sorted_as c.into_iter-label-iterator.ensures.into_iter_gives.0 c.self.invariant.sorted) c.loop-label.invariant.all more refl c.in_ok-copy.ensures c.in_ok-put_child.ensures.ok;
       fewer = still_fewer _ _ _ _ _ c.loop-label.invariant.fewer more;
     }
 

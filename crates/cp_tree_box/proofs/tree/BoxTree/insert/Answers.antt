@@ -3,7 +3,7 @@ use Rattle.cp_model.specs.Place.{child}
 use Rattle.cp_model.specs.Tree.{IsTree}
 use Rattle.cp_tree_box.specs.Tallies.{IsTallyOf}
 use Rattle.cp_tree.proofs.Answering.{put_there}
-use Rattle.cp_tree_box.proofs.Wrapping.{spot_of, spot_child, near_there, near_child, near_new, insert_is, insert_child, insert_found, insert_room, inserted_tally}
+use Rattle.cp_tree_box.proofs.Wrapping.{spot_of, spot_child, near_there, near_child, near_new, insert_child, insert_found, insert_room, inserted_tally}
 use Rattle.cp_tree_box.proofs.tree.BoxTree.insert.Goals as goal
 
 pub below-requires : goal.below-requires
@@ -15,24 +15,21 @@ child-at-requires c = near_child _ c.requires.fits _ c.args.place.now c.args.lab
 pub add-requires-clause-near : goal.add-requires-clause-near
 add-requires-clause-near c =
     let spot = spot_child _ _ c.args.place.now c.args.label.now (spot_of _ _ c.args.place.now c.args.place.now c.root.ensures c.below.ensures refl) c.child-at.ensures in
-    let is = insert_is c.insert.new.self c.args.self.now.root c.args.new c.args.place.now c.args.label.now _ c.in_ok-clone.ensures.cases c.in_ok-insert.ensures.ok in
-    near_new c.args.self.now.root c.args.new _ (child c.args.place.now c.args.label.now) _ spot c.requires.fits (insert_child c.insert.new.self c.args.self.now.root c.args.new _ (child c.args.place.now c.args.label.now) is c.in-Some.ensures.there)
+    near_new c.args.self.now.root c.args.new _ (child c.args.place.now c.args.label.now) _ spot c.requires.fits (insert_child c.insert.new.self c.args.self.now.root c.args.new _ (child c.args.place.now c.args.label.now) c.in_ok-insert.ensures.ok c.in-Some.ensures.there)
 
 pub add-requires-clause-room : goal.add-requires-clause-room
 add-requires-clause-room c =
     let spot = spot_child _ _ c.args.place.now c.args.label.now (spot_of _ _ c.args.place.now c.args.place.now c.root.ensures c.below.ensures refl) c.child-at.ensures in
-    let is = insert_is c.insert.new.self c.args.self.now.root c.args.new c.args.place.now c.args.label.now _ c.in_ok-clone.ensures.cases c.in_ok-insert.ensures.ok in
-    rw spot (insert_room c.args.self.now.tally c.args.self.now.root c.args.new (child c.args.place.now c.args.label.now) c.args.self.now.tree c.args.self.now.tallied c.requires.fits c.requires.free _ (insert_child c.insert.new.self c.args.self.now.root c.args.new _ (child c.args.place.now c.args.label.now) is c.in-Some.ensures.there))
+    rw spot (insert_room c.args.self.now.tally c.args.self.now.root c.args.new (child c.args.place.now c.args.label.now) c.args.self.now.tree c.args.self.now.tallied c.requires.fits c.requires.free _ (insert_child c.insert.new.self c.args.self.now.root c.args.new _ (child c.args.place.now c.args.label.now) c.in_ok-insert.ensures.ok c.in-Some.ensures.there))
 
 pub invariant_of-self-in-Some : goal.invariant_of-self-in-Some
 invariant_of-self-in-Some c =
     let spot = spot_child _ _ c.args.place.now c.args.label.now (spot_of _ _ c.args.place.now c.args.place.now c.root.ensures c.below.ensures refl) c.child-at.ensures in
-    let is = insert_is c.insert.new.self c.args.self.now.root c.args.new c.args.place.now c.args.label.now _ c.in_ok-clone.ensures.cases c.in_ok-insert.ensures.ok in
     let more = rw spot at c.add.ensures in
     record {
-      tree = subst IsTree (sym is) c.requires.fits;
-      tallied = subst (IsTallyOf c.add.new.self) (sym is) (inserted_tally c.args.self.now.tally c.args.self.now.root c.args.new (child c.args.place.now c.args.label.now) c.args.self.now.tree c.args.self.now.tallied c.requires.fits c.requires.free _ (insert_child c.insert.new.self c.args.self.now.root c.args.new _ (child c.args.place.now c.args.label.now) is c.in-Some.ensures.there) c.add.new.self more);
+      tree = subst IsTree (sym c.in_ok-insert.ensures.ok) c.requires.fits;
+      tallied = subst (IsTallyOf c.add.new.self) (sym c.in_ok-insert.ensures.ok) (inserted_tally c.args.self.now.tally c.args.self.now.root c.args.new (child c.args.place.now c.args.label.now) c.args.self.now.tree c.args.self.now.tallied c.requires.fits c.requires.free _ (insert_child c.insert.new.self c.args.self.now.root c.args.new _ (child c.args.place.now c.args.label.now) c.in_ok-insert.ensures.ok c.in-Some.ensures.there) c.add.new.self more);
     }
 
 pub unreachable-requires : goal.unreachable-requires
-unreachable-requires c = insert_found c.insert.new.self c.args.self.now.root c.args.new (child c.args.place.now c.args.label.now) (insert_is c.insert.new.self c.args.self.now.root c.args.new c.args.place.now c.args.label.now _ c.in_ok-clone.ensures.cases c.in_ok-insert.ensures.ok) c.requires.rooted c.in-None.ensures.gone
+unreachable-requires c = insert_found c.insert.new.self c.args.self.now.root c.args.new (child c.args.place.now c.args.label.now) c.in_ok-insert.ensures.ok c.requires.rooted c.in-None.ensures.gone
