@@ -8,6 +8,7 @@ ghost use Rattle.cp_model.specs.declared.row.Content.TheVariants.{Node};
 ghost use Rattle.cp_tree.specs.Rows.{root_entries, single};
 ghost use Rattle.cp_tree_rows.specs.Forest.{is_part, tree_of};
 ghost use Rattle.cp_tree_rows.specs.Branches.{tree_in};
+ghost use Rattle.cp_tree_rows.specs.Spots.{IsPiece, piece_entries};
 
 use crate::branch::RowBranch;
 use crate::change::settle;
@@ -26,6 +27,24 @@ fn copy_rows(alloc: Global, rows: &[TreeRow]) -> Result<Vec<TreeRow>, AllocError
         copies.push(row.share()?)?;
     }
     Ok(copies)
+}
+
+/// Makes the rows of a child: its own, and after it those of its tree, which it moves.
+fn piece_of(alloc: Global, label: &Label, tree: RowBranch) -> Result<Vec<TreeRow>, AllocError>
+    requires { length tree.rows.items ≤ NODES_MAX }
+    ensures piece { IfOk result (λ v. IsPiece label.now v.items) }
+    ensures entries { IfOk result (λ v. piece_entries v.items ≡ entries (tree_in tree)) }
+    ensures count { IfOk result (λ v. length v.items ≡ length tree.rows.items + 1) }
+{
+    let mut rows = tree.rows;
+    let row = TreeRow {
+        label: SharedLabel::of(alloc, label)?,
+        item: tree.item,
+        below: rows.len() as u32,
+        last: tree.last,
+    };
+    rows.insert(0, row)?;
+    Ok(rows)
 }
 
 impl RowBranch {
@@ -108,14 +127,7 @@ impl RowBranch {
         ensures ok { OnOk result (tree_in self.new ≡ with_subtree (child place.now label.now) (entries (tree_in new)) (tree_in self.old)) }
         ensures err { OnErr result (tree_in self.new ≡ tree_in self.old) }
     {
-        let mut rows = new.rows;
-        let row = TreeRow {
-            label: SharedLabel::of(alloc, label)?,
-            item: new.item,
-            below: rows.len() as u32,
-            last: new.last,
-        };
-        rows.insert(0, row)?;
+        let mut rows = piece_of(alloc, label, new)?;
         let len = self.rows.len();
         self.rows.append(&mut rows)?;
         settle(&mut self.rows, &mut self.last, len, place, label);

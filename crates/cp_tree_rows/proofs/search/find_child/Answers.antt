@@ -27,3 +27,12 @@ slice_bounds-rows-end c =
     let f = facts p.item.now p.last p.rows.now c.requires.part in
     let d = inside p.rows.now c.args.label.now c.in-Ok.at r.result _ f.nested f.sorted c.in-Ok.ensures r.is (sym r.is) in
     omega (arith, d.fits)
+
+pub child-requires-clause-nested : goal.child-requires-clause-nested
+child-requires-clause-nested c = (let p = c.args.part in (facts p.item.now p.last p.rows.now c.requires.part).nested)
+
+pub child-requires-clause-sorted : goal.child-requires-clause-sorted
+child-requires-clause-sorted c = (let p = c.args.part in (facts p.item.now p.last p.rows.now c.requires.part).sorted)
+
+pub child-requires-clause-points : goal.child-requires-clause-points
+child-requires-clause-points c = (let p = c.args.part in (facts p.item.now p.last p.rows.now c.requires.part).points)
