@@ -7,7 +7,7 @@
 //! whose store it opens. The clock tells `FIRST_MOMENT` in the first call of a case and a minute more in each later one, and a
 //! second more at each further commit of a call, of which it tells three.
 
-use crate::sheet::{Case, Part, Sheet};
+use crate::sheet::{Case, Sheet};
 use std::alloc::{AllocError, Global};
 
 /// When the clock begins, in seconds since 1970-01-01 00:00 UTC: 2026-11-29 00:00 UTC.
@@ -40,16 +40,24 @@ fn moments_of(alloc: Global, number: usize) -> Result<String, AllocError> {
     format!(in alloc; "{first} {second} {third}")
 }
 
+/// Adds the clock of the call of a case with this number, from 0.
+fn add_clock(
+    alloc: Global,
+    case: &mut Case,
+    line: Line<'_>,
+    number: usize,
+) -> Result<(), AllocError> {
+    let moments = moments_of(alloc, number)?;
+    case.begin_part(alloc, line.number, "clock", moments.as_str())
+}
+
 /// Adds a call with these words to a case whose calls before it are whole, with no input and no output yet.
 fn add_call(alloc: Global, case: &mut Case, line: Line<'_>, words: &str) -> Result<(), AllocError> {
-    let moments = moments_of(alloc, case.parts.len() / PARTS_OF_CALL)?;
-    let clock = Part::new(alloc, line.number, "clock", moments.as_str())?;
-    case.parts
-        .push(Part::new(alloc, line.number, "words", words)?)?;
-    case.parts.push(clock)?;
-    case.parts.push(Part::new(alloc, line.number, "in", "-")?)?;
-    case.parts.push(Part::new(alloc, line.number, "out", "")?)?;
-    Ok(())
+    let number = case.parts.len() / PARTS_OF_CALL;
+    case.begin_part(alloc, line.number, "words", words)?;
+    add_clock(alloc, case, line, number)?;
+    case.begin_part(alloc, line.number, "in", "-")?;
+    case.begin_part(alloc, line.number, "out", "")
 }
 
 /// Whether a session with these words opens the store of the call before it.
@@ -69,6 +77,17 @@ fn call_of(alloc: Global, line: Line<'_>, words: &str) -> Result<Case, AllocErro
     Ok(case)
 }
 
+/// Begins a case of one call with these words.
+fn begin_case(
+    alloc: Global,
+    cases: &mut Vec<Case>,
+    line: Line<'_>,
+    words: &str,
+) -> Result<(), AllocError> {
+    cases.push(call_of(alloc, line, words)?)?;
+    Ok(())
+}
+
 /// Begins a session with these words, in a case of its own or in that of the call before it.
 fn begin_session(
     alloc: Global,
@@ -80,8 +99,7 @@ fn begin_session(
         add_status(alloc, case)?;
         return add_call(alloc, case, line, words);
     }
-    cases.push(call_of(alloc, line, words)?)?;
-    Ok(())
+    begin_case(alloc, cases, line, words)
 }
 
 /// Adds a line to the input or the output of the last call.
@@ -101,6 +119,19 @@ fn add_to_last(
     }
 }
 
+/// Adds the lines of a text to the input or the output of the last call.
+fn add_all_to_last(
+    alloc: Global,
+    cases: &mut Vec<Case>,
+    goes_in: bool,
+    text: &str,
+) -> Result<(), AllocError> {
+    for line in text.split_terminator('\n') {
+        add_to_last(alloc, cases, goes_in, line)?;
+    }
+    Ok(())
+}
+
 /// Takes the next line of a block.
 fn add_line(
     alloc: Global,
@@ -109,7 +140,7 @@ fn add_line(
     line: Line<'_>,
 ) -> Result<Block, AllocError> {
     if let Some(input) = line.text.strip_prefix("< ") {
-        cases.push(call_of(alloc, line, "scratch n")?)?;
+        begin_case(alloc, cases, line, "scratch n")?;
         add_to_last(alloc, cases, true, input)?;
         return Ok(Block::Example);
     }
@@ -140,8 +171,7 @@ fn refuses(case: &Case) -> bool {
 /// Adds the status that goes with the output of the case's last call.
 fn add_status(alloc: Global, case: &mut Case) -> Result<(), AllocError> {
     let status = if refuses(case) { "1" } else { "0" };
-    case.parts.push(Part::new(alloc, 0, "ends", status)?)?;
-    Ok(())
+    case.begin_part(alloc, 0, "ends", status)
 }
 
 /// Adds the status that goes with the output of each case's last call.
@@ -178,12 +208,8 @@ pub(crate) fn add_script(
         number: 1,
         text: "the whole script",
     };
-    sheet.cases.push(call_of(alloc, line, "scratch n")?)?;
-    for line in script.split_terminator('\n') {
-        add_to_last(alloc, &mut sheet.cases, true, line)?;
-    }
-    for line in output.split_terminator('\n') {
-        add_to_last(alloc, &mut sheet.cases, false, line)?;
-    }
+    begin_case(alloc, &mut sheet.cases, line, "scratch n")?;
+    add_all_to_last(alloc, &mut sheet.cases, true, script)?;
+    add_all_to_last(alloc, &mut sheet.cases, false, output)?;
     add_statuses(alloc, &mut sheet.cases)
 }

@@ -138,18 +138,53 @@ fn add_script(
     Ok(document::add_script(alloc, sheet, script, output.as_str())?)
 }
 
+/// Adds the cases of a file with this name and this text.
+fn add_cases(
+    rt: &(impl Files + AllocGlobal),
+    sheet: &mut Sheet,
+    name: &str,
+    text: &str,
+) -> io::Result<()> {
+    if let Some(stem) = name.strip_suffix(".cpdb") {
+        return add_script(rt, sheet, stem, text);
+    }
+    let added = if name.ends_with(".md") {
+        document::add_examples(rt.alloc(), sheet, text)
+    } else {
+        sheet.add_lines(rt.alloc(), text)
+    };
+    Ok(added?)
+}
+
+/// Adds the cases of a file.
+fn add_file(rt: &(impl Files + AllocGlobal), sheet: &mut Sheet, name: &str) -> io::Result<()> {
+    let text = fs::read_to_string(rt, name)?;
+    add_cases(rt, sheet, name, text.as_str())
+}
+
 /// The cases of a file.
 fn read_sheet(rt: &(impl Files + AllocGlobal), name: &str) -> io::Result<Sheet> {
-    let text = fs::read_to_string(rt, name)?;
     let mut sheet = Sheet::new(rt.alloc(), name)?;
-    if let Some(stem) = name.strip_suffix(".cpdb") {
-        add_script(rt, &mut sheet, stem, text.as_str())?;
-    } else if name.ends_with(".md") {
-        document::add_examples(rt.alloc(), &mut sheet, text.as_str())?;
-    } else {
-        sheet.add_lines(rt.alloc(), text.as_str())?;
-    }
+    add_file(rt, &mut sheet, name)?;
     Ok(sheet)
+}
+
+/// Plays the cases of a sheet that hold up to this stage, and writes a line for each that differs.
+fn play_sheet<P: Player>(
+    rt: &(impl Eprint + AllocGlobal),
+    player: &mut P,
+    sheet: &Sheet,
+    upto: u64,
+    counts: &mut Counts,
+) -> io::Result<()> {
+    for case in sheet.cases.iter() {
+        if case.since > upto || !is_playable(player, case) {
+            counts.skipped = counts.skipped.saturating_add(1);
+        } else {
+            play_case(rt, player, sheet, case, counts)?;
+        }
+    }
+    Ok(())
 }
 
 /// Plays the cases of a file that hold up to this stage, and writes a line for each that differs.
@@ -161,14 +196,48 @@ fn play_file<P: Player>(
     counts: &mut Counts,
 ) -> io::Result<()> {
     let sheet = read_sheet(rt, file)?;
-    for case in sheet.cases.iter() {
-        if case.since > upto || !is_playable(player, case) {
-            counts.skipped = counts.skipped.saturating_add(1);
-        } else {
-            play_case(rt, player, &sheet, case, counts)?;
-        }
+    play_sheet(rt, player, &sheet, upto, counts)
+}
+
+/// Plays the cases of files that hold up to this stage, and counts them.
+fn play_all<P: Player>(
+    rt: &(impl Files + Eprint + AllocGlobal),
+    player: &mut P,
+    files: &[String],
+    upto: u64,
+) -> io::Result<Counts> {
+    let mut counts = Counts {
+        passed: 0,
+        failed: 0,
+        skipped: 0,
+    };
+    for file in files {
+        play_file(rt, player, file.as_str(), upto, &mut counts)?;
     }
-    Ok(())
+    Ok(counts)
+}
+
+/// Writes the line with the counts.
+fn write_counts(rt: &impl Print, counts: &Counts) -> io::Result<()> {
+    println!(rt;
+        "{} passed, {} failed, {} skipped",
+        counts.passed, counts.failed, counts.skipped
+    )
+}
+
+/// Plays the cases that these words name, and gives the exit status.
+fn play_words<P: Player>(
+    rt: &(impl Files + Eprint + Print + AllocGlobal),
+    player: &mut P,
+    words: &[String],
+) -> io::Result<ExitCode> {
+    let [_, upto, files @ ..] = words else {
+        return Ok(ExitCode::from(2));
+    };
+    let upto = upto.as_str().parse::<u64>().unwrap_or(0);
+    let counts = play_all(rt, player, files, upto)?;
+    write_counts(rt, &counts)?;
+    Ok(ExitCode::from(u8::from(counts.failed > 0)))
 }
 
 /// Plays the cases that the program's words name, writes a line of standard error for each that
@@ -178,22 +247,6 @@ pub fn play_files<P: Player>(
     rt: &(impl Files + Env + Eprint + Print + AllocGlobal),
     player: &mut P,
 ) -> io::Result<ExitCode> {
-    let mut counts = Counts {
-        passed: 0,
-        failed: 0,
-        skipped: 0,
-    };
     let words = std::env::args(rt)?.collect::<Vec<String>>(rt.alloc())?;
-    let [_, upto, files @ ..] = words.as_slice() else {
-        return Ok(ExitCode::from(2));
-    };
-    let upto = upto.as_str().parse::<u64>().unwrap_or(0);
-    for file in files {
-        play_file(rt, player, file.as_str(), upto, &mut counts)?;
-    }
-    println!(rt;
-        "{} passed, {} failed, {} skipped",
-        counts.passed, counts.failed, counts.skipped
-    )?;
-    Ok(ExitCode::from(u8::from(counts.failed > 0)))
+    play_words(rt, player, words.as_slice())
 }

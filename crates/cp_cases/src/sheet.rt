@@ -86,7 +86,7 @@ fn filled(alloc: Global, line: &str, row: Option<&Row>) -> Result<String, AllocE
 }
 
 impl Part {
-    pub(crate) fn new(alloc: Global, line: u64, key: &str, rest: &str) -> Result<Part, AllocError> {
+    fn new(alloc: Global, line: u64, key: &str, rest: &str) -> Result<Part, AllocError> {
         Ok(Part {
             line,
             key: key.to_string(alloc)?,
@@ -147,6 +147,24 @@ impl Case {
         })
     }
 
+    /// Begins a part with this keyword and this rest of its line.
+    pub(crate) fn begin_part(
+        &mut self,
+        alloc: Global,
+        line: u64,
+        key: &str,
+        rest: &str,
+    ) -> Result<(), AllocError> {
+        begin_part(alloc, &mut self.parts, line, key, rest)
+    }
+
+    /// Adds a row of a table.
+    fn add_row(&mut self, alloc: Global, line: u64, columns: &str) -> Result<(), AllocError> {
+        let columns = columns.to_string(alloc)?;
+        self.rows.push(Row { line, columns })?;
+        Ok(())
+    }
+
     /// Takes a line below the case's name.
     fn add(&mut self, alloc: Global, number: u64, line: &str) -> Result<(), AllocError> {
         if let Some(since) = line.strip_prefix("since ") {
@@ -154,14 +172,22 @@ impl Case {
             return Ok(());
         }
         if let Some(columns) = line.strip_prefix("- ") {
-            self.rows.push(Row {
-                line: number,
-                columns: columns.to_string(alloc)?,
-            })?;
-            return Ok(());
+            return self.add_row(alloc, number, columns);
         }
         add_part(alloc, &mut self.parts, number, line)
     }
+}
+
+/// Begins a part after these.
+fn begin_part(
+    alloc: Global,
+    parts: &mut Vec<Part>,
+    line: u64,
+    key: &str,
+    rest: &str,
+) -> Result<(), AllocError> {
+    parts.push(Part::new(alloc, line, key, rest)?)?;
+    Ok(())
 }
 
 /// Takes a line of a text, or a new part.
@@ -174,10 +200,7 @@ fn add_part(
     let (key, rest) = line.split_once(' ').unwrap_or((line, ""));
     match parts.last_mut() {
         Some(part) if key == "|" => part.add(alloc, rest),
-        _ => {
-            parts.push(Part::new(alloc, number, key, rest)?)?;
-            Ok(())
-        }
+        _ => begin_part(alloc, parts, number, key, rest),
     }
 }
 
@@ -190,6 +213,12 @@ impl Sheet {
         })
     }
 
+    /// Begins a case with this name.
+    fn begin_case(&mut self, alloc: Global, name: &str) -> Result<(), AllocError> {
+        self.cases.push(Case::new(alloc, name)?)?;
+        Ok(())
+    }
+
     /// Takes the next line.
     fn add(&mut self, alloc: Global, number: u64, line: &str) -> Result<(), AllocError> {
         if line.is_empty() || line == "common" || line.starts_with('#') {
@@ -197,8 +226,7 @@ impl Sheet {
         }
         let name = line.strip_prefix("case ");
         if let Some(name) = name.or(line.strip_prefix("table ")) {
-            self.cases.push(Case::new(alloc, name)?)?;
-            return Ok(());
+            return self.begin_case(alloc, name);
         }
         match self.cases.last_mut() {
             Some(case) => case.add(alloc, number, line),
