@@ -1,9 +1,9 @@
-ghost use Rattle.std.specs.Prelude.{◌≡◌, ◌≤◌, ◌<◌, ◌+◌, [], length, IfOk, OnOk, IfSome, IfNone, if◌then◌else◌};
+ghost use Rattle.std.specs.Prelude.{◌≡◌, ◌≤◌, ◌<◌, ◌+◌, ℕ, List, [], length, IfOk, OnOk, MatchResult, IfSome, IfNone, if◌then◌else◌};
 ghost use Rattle.cp_path.specs.Answers.{Answers};
 ghost use Rattle.cp_lang.specs.Lexer as lexer;
 ghost use Rattle.cp_lang.specs.Lexer.{tokens_of};
-ghost use Rattle.cp_lang.specs.Grammar.{Spot, Move, takes, refused_or, reads, end_of, at_open, at_close, at_colon, at_word, at_label, at_place, at_name, at_file, has_edge, rows_of_edges, node, tree, first_edge, edge_end, after_tree, statement_reading, bytes_reading, csv_load, start, ended, ins_open, ins_close, del_label, copy_origin, load_name, json_file, csv_file, show_place, records_tid};
-ghost use Rattle.cp_lang.specs.Parser.{reading, GivesToken, Passes, Steps, ReadsPart, ReadsEnd, IsEdgeLabel, ReadsTree, ReadsEdges, ReadsMore, within, after_verb};
+ghost use Rattle.cp_lang.specs.Grammar.{Spot, Move, takes, refused_or, reads, end_of, at_open, at_close, at_colon, at_word, at_label, at_place, at_name, at_file, has_edge, rows_of_edges, node, tree, first_edge, edge_end, after_tree, statement_reading, bytes_reading, csv_load, start, ended, ins_open, ins_close, del_label, copy_origin, load_name, json_file, csv_file, csv_by, show_place, records_tid};
+ghost use Rattle.cp_lang.specs.Parser.{reading, GivesToken, Passes, Steps, ReadsPart, ReadsEnd, Stops, IsEdgeLabel, ReadsTree, ReadsEdges, ReadsMore, within, after_verb};
 ghost use Rattle.cp_lang.specs.Printer.{IsSpellable};
 ghost use Rattle.cp_lang.specs.Tokenized.{shape_of};
 ghost use Rattle.cp_lang.specs.Written.{IsWrittenStmt};
@@ -305,21 +305,28 @@ impl<'a> Parser<'a> {
         }))
     }
 
+    /// The key column behind `by`, or the end of the text.
+    fn key_column(&mut self) -> Result<Option<Label>, StmtFault>
+        ensures reads { MatchResult result
+            (λ key. (n f : List ℕ) → reading self.old (csv_by n f) ≡ reading self.new (ended (csv_load n f key)))
+            (λ e. (n f : List ℕ) → Stops self.old (csv_by n f) e) }
+    {
+        let Some(token) = self.next() else {
+            return Ok(None);
+        };
+        if !is_word(token, "by") {
+            return Err(StmtFault::Syntax(token.at));
+        }
+        Ok(Some(self.label()?))
+    }
+
     /// The file behind `csv`, and perhaps the key column.
     fn csv(&mut self, name: Name) -> Result<Stmt, StmtFault>
         ensures reads { ReadsPart self.old self.new (csv_file name) ended result }
     {
         let file = self.file()?;
-        match self.next() {
-            None => Ok(csv_load(name, file, None)),
-            Some(token) => {
-                if !is_word(token, "by") {
-                    return Err(StmtFault::Syntax(token.at));
-                }
-                let key = self.label()?;
-                Ok(csv_load(name, file, Some(key)))
-            }
-        }
+        let key = self.key_column()?;
+        Ok(csv_load(name, file, key))
     }
 
     /// `show` or `show PLACE`, behind its first word.
@@ -437,8 +444,13 @@ pub fn parse(alloc: Global, text: &str) -> Result<Stmt, StmtFault>
 {
     let mut parser = Parser::new(alloc, text);
     let statement = parser.statement()?;
-    parser.finish()?;
-    Ok(statement)
+    match parser.finish() {
+        Ok(()) => Ok(statement),
+        Err(fault) => {
+            drop(statement);
+            Err(fault)
+        }
+    }
 }
 
 /// The statement that bytes are; the first that isn't UTF-8 can't stand.

@@ -137,24 +137,30 @@ fn push_op(alloc: Global, out: &mut String, op: &Op) -> Result<(), AllocError>
     }
 }
 
+/// Puts this word, and the file.
+fn push_source(alloc: Global, out: &mut String, word: &str, file: &Text) -> Result<(), AllocError>
+    ensures { OnOk result (string_bytes out.new ≡ string_bytes out.old ++ (word.now ++ quoted file.now)) }
+{
+    out.push_str(word)?;
+    push_file(alloc, out, file)
+}
+
+/// Puts a CSV file, and its key column.
+fn push_keyed(alloc: Global, out: &mut String, key: &Label, file: &Text) -> Result<(), AllocError>
+    ensures { OnOk result (string_bytes out.new ≡ string_bytes out.old ++ (codes " csv " ++ (quoted file.now ++ (codes " by " ++ label_text key.now)))) }
+{
+    push_source(alloc, out, " csv ", file)?;
+    out.push_str(" by ")?;
+    push_label(alloc, out, key)
+}
+
 fn push_form(alloc: Global, out: &mut String, form: &Form, file: &Text) -> Result<(), AllocError>
     ensures { OnOk result (string_bytes out.new ≡ string_bytes out.old ++ form_text form.now file.now) }
 {
     match form {
-        Form::Json => {
-            out.push_str(" json ")?;
-            push_file(alloc, out, file)
-        }
-        Form::Csv(None) => {
-            out.push_str(" csv ")?;
-            push_file(alloc, out, file)
-        }
-        Form::Csv(Some(key)) => {
-            out.push_str(" csv ")?;
-            push_file(alloc, out, file)?;
-            out.push_str(" by ")?;
-            push_label(alloc, out, key)
-        }
+        Form::Json => push_source(alloc, out, " json ", file),
+        Form::Csv(None) => push_source(alloc, out, " csv ", file),
+        Form::Csv(Some(key)) => push_keyed(alloc, out, key, file),
     }
 }
 

@@ -28,20 +28,14 @@ pub(crate) enum Verb {
 fn verb_from(word: &str) -> Option<Verb>
     ensures { after_start word.now ≡ at_verb result }
 {
-    if word == "ins" {
-        Some(Verb::Ins)
-    } else if word == "del" {
-        Some(Verb::Del)
-    } else if word == "copy" {
-        Some(Verb::Copy)
-    } else if word == "commit" {
-        Some(Verb::Commit)
-    } else if word == "abort" {
-        Some(Verb::Abort)
-    } else if word == "load" {
-        Some(Verb::Load)
-    } else {
-        question(word)
+    match word {
+        "ins" => Some(Verb::Ins),
+        "del" => Some(Verb::Del),
+        "copy" => Some(Verb::Copy),
+        "commit" => Some(Verb::Commit),
+        "abort" => Some(Verb::Abort),
+        "load" => Some(Verb::Load),
+        _ => question(word),
     }
 }
 
@@ -49,24 +43,16 @@ fn verb_from(word: &str) -> Option<Verb>
 fn question(word: &str) -> Option<Verb>
     ensures { after_question word.now ≡ at_verb result }
 {
-    if word == "src" {
-        Some(Verb::Src)
-    } else if word == "hist" {
-        Some(Verb::Hist)
-    } else if word == "mod" {
-        Some(Verb::Mod)
-    } else if word == "trace" {
-        Some(Verb::Trace)
-    } else if word == "from" {
-        Some(Verb::From)
-    } else if word == "show" {
-        Some(Verb::Show)
-    } else if word == "records" {
-        Some(Verb::Records)
-    } else if word == "stats" {
-        Some(Verb::Stats)
-    } else {
-        None
+    match word {
+        "src" => Some(Verb::Src),
+        "hist" => Some(Verb::Hist),
+        "mod" => Some(Verb::Mod),
+        "trace" => Some(Verb::Trace),
+        "from" => Some(Verb::From),
+        "show" => Some(Verb::Show),
+        "records" => Some(Verb::Records),
+        "stats" => Some(Verb::Stats),
+        _ => None,
     }
 }
 

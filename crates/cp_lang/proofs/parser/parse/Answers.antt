@@ -9,22 +9,22 @@ pub returns-in_err-statement-clause-answers : goal.returns-in_err-statement-clau
 unfolding statement_reading
 returns-in_err-statement-clause-answers c = let p = err_from_is_err_and c.from_residual.result c.from_residual.ensures.1 in rw (p.1, p.2) (past _ _ _ (sym (c.new-parser.ensures start)) c.in_err-statement.ensures.reads)
 
-pub returns-in_err-finish-clause-answers : goal.returns-in_err-finish-clause-answers
+pub returns-in-Err-clause-answers : goal.returns-in-Err-clause-answers
 unfolding statement_reading
-returns-in_err-finish-clause-answers c = let p = err_from_is_err_and c.from_residual-in_err-finish.result c.from_residual-in_err-finish.ensures.1 in rw (p.1, p.2) (inr (sym (c.new-parser.ensures start) ∙ c.in_ok-statement.ensures.reads ∙ c.in_err-finish.ensures.reads c.in_ok-statement.statement))
+returns-in-Err-clause-answers c = inr (sym (c.new-parser.ensures start) ∙ c.in_ok-statement.ensures.reads ∙ c.in-Err.ensures.reads c.in_ok-statement.statement)
 
-pub returns-clause-answers : goal.returns-clause-answers
+pub returns-in-Ok-clause-answers : goal.returns-in-Ok-clause-answers
 unfolding statement_reading
-returns-clause-answers c = sym (c.new-parser.ensures start) ∙ c.in_ok-statement.ensures.reads ∙ c.in_ok-finish.ensures.reads c.in_ok-statement.statement
+returns-in-Ok-clause-answers c = sym (c.new-parser.ensures start) ∙ c.in_ok-statement.ensures.reads ∙ c.in-Ok.ensures.reads c.in_ok-statement.statement
 
-pub returns-clause-spellable : goal.returns-clause-spellable
+pub returns-in-Ok-clause-spellable : goal.returns-in-Ok-clause-spellable
 unfolding statement_reading
-returns-clause-spellable c =
+returns-in-Ok-clause-spellable c =
     read_spellable c.args.text.now c.in_ok-statement.statement
-    (sym (c.new-parser.ensures start) ∙ c.in_ok-statement.ensures.reads ∙ c.in_ok-finish.ensures.reads c.in_ok-statement.statement)
+    (sym (c.new-parser.ensures start) ∙ c.in_ok-statement.ensures.reads ∙ c.in-Ok.ensures.reads c.in_ok-statement.statement)
 
-pub returns-clause-written : goal.returns-clause-written
+pub returns-in-Ok-clause-written : goal.returns-in-Ok-clause-written
 unfolding statement_reading
-returns-clause-written c =
+returns-in-Ok-clause-written c =
     read_written c.args.text.now c.in_ok-statement.statement
-    (sym (c.new-parser.ensures start) ∙ c.in_ok-statement.ensures.reads ∙ c.in_ok-finish.ensures.reads c.in_ok-statement.statement)
+    (sym (c.new-parser.ensures start) ∙ c.in_ok-statement.ensures.reads ∙ c.in-Ok.ensures.reads c.in_ok-statement.statement)
