@@ -3,7 +3,7 @@ ghost use Rattle.cp_path.specs.Spelling.{place_text, label_text};
 ghost use Rattle.cp_reply.specs.Lines.{place_fault_text, failed_text, why_text};
 
 use crate::reply::{Of, Why};
-use cp_path::{Label, Loc, PathFault};
+use cp_path::{Label, Loc, Name, PathFault};
 use cp_spelling::{label_text, place_text};
 use std::alloc::{AllocError, Global};
 
@@ -76,6 +76,26 @@ fn failed_text(alloc: Global, of: Of, number: u32) -> Result<String, AllocError>
     }
 }
 
+fn no_source(alloc: Global, name: &Name) -> Result<String, AllocError>
+    ensures { IfOk result (λ s. string_bytes s ≡ codes "no source " ++ name.now) }
+{
+    let name = name.as_str();
+    format!(in alloc; "no source {name}")
+}
+
+fn source_there(alloc: Global, name: &Name) -> Result<String, AllocError>
+    ensures { IfOk result (λ s. string_bytes s ≡ codes "source " ++ (name.now ++ codes " is there")) }
+{
+    let name = name.as_str();
+    format!(in alloc; "source {name} is there")
+}
+
+fn ragged(alloc: Global, row: u64) -> Result<String, AllocError>
+    ensures { IfOk result (λ s. string_bytes s ≡ codes "row " ++ (decimal row ++ codes " is ragged")) }
+{
+    format!(in alloc; "row {row} is ragged")
+}
+
 /// Why something is refused. Costs the text's bytes a few times.
 pub(crate) fn why_text(alloc: Global, of: Of, why: &Why) -> Result<String, AllocError>
     ensures { IfOk result (λ s. string_bytes s ≡ why_text of why.now) }
@@ -86,7 +106,7 @@ pub(crate) fn why_text(alloc: Global, of: Of, why: &Why) -> Result<String, Alloc
         Why::NoLabel(label, place) => no_label(alloc, label, place),
         Why::NotANode(place) => with_place(alloc, "not a node ", place),
         Why::ReadOnly(place) => with_place(alloc, "read only ", place),
-        Why::NoSource(name) => format!(in alloc; "no source {}", name.as_str()),
+        Why::NoSource(name) => no_source(alloc, name),
         Why::NoOrigin(place) => with_place(alloc, "no origin ", place),
         Why::TooDeep => words(alloc, "too deep"),
         Why::TooMany => words(alloc, "too many nodes"),
@@ -101,7 +121,7 @@ pub(crate) fn why_text(alloc: Global, of: Of, why: &Why) -> Result<String, Alloc
         Why::NoFile => words(alloc, "no file"),
         Why::FileTooLong => words(alloc, "file too long"),
         Why::TransactionOpen => words(alloc, "a transaction is open"),
-        Why::SourceThere(name) => format!(in alloc; "source {} is there", name.as_str()),
+        Why::SourceThere(name) => source_there(alloc, name),
         Why::TooManySources => words(alloc, "too many sources"),
         Why::NotJson => words(alloc, "not JSON"),
         Why::LabelTooLong => words(alloc, "label too long"),
@@ -113,7 +133,7 @@ pub(crate) fn why_text(alloc: Global, of: Of, why: &Why) -> Result<String, Alloc
         Why::NotUtf8(row) => with_number(alloc, "not UTF-8 at row ", *row),
         Why::RepeatedHeader(column) => with_number(alloc, "repeated header at column ", *column),
         Why::NoColumn => words(alloc, "no column"),
-        Why::Ragged(row) => format!(in alloc; "row {row} is ragged"),
+        Why::Ragged(row) => ragged(alloc, *row),
         Why::RepeatedKey(row) => with_number(alloc, "repeated key at row ", *row),
         Why::StoreTooLarge => words(alloc, "store too large"),
         Why::StoreExists => words(alloc, "store exists"),

@@ -1,4 +1,4 @@
-ghost use Rattle.std.specs.Prelude.{◌≡◌, ◌++◌, ◌∷◌, [], OnOk, IfOk, codes, decimal, flat_map, length, string_bytes};
+ghost use Rattle.std.specs.Prelude.{◌≡◌, ◌++◌, ◌∷◌, [], ℕ, List, OnOk, IfOk, codes, decimal, flat_map, length, string_bytes};
 ghost use Rattle.cp_path.specs.Spelling.{place_text};
 ghost use Rattle.cp_model.specs.Trees.{tree_text};
 ghost use Rattle.cp_reply.specs.Front.{Begins};
@@ -76,15 +76,45 @@ fn put_answer(alloc: Global, query: &Query, text: &str, out: &mut Vec<u8>) -> Re
     put_line(text, out)
 }
 
+/// Puts the line that this text is, if it could be made.
+fn put_made(text: Result<String, AllocError>, out: &mut Vec<u8>) -> Result<(), AllocError>
+    ensures ok { OnOk result ((bytes : List ℕ) → IfOk text (λ s. string_bytes s ≡ bytes) → out.new.items ≡ out.old.items ++ line bytes) }
+    ensures front { Begins out.old.items out.new.items }
+{
+    let text = text?;
+    put_line(text.as_str(), out)
+}
+
+/// Puts the line of an answer with this text, if it could be made.
+fn put_made_answer(
+    alloc: Global,
+    query: &Query,
+    text: Result<String, AllocError>,
+    out: &mut Vec<u8>,
+) -> Result<(), AllocError>
+    ensures ok { OnOk result ((bytes : List ℕ) → IfOk text (λ s. string_bytes s ≡ bytes) → out.new.items ≡ out.old.items ++ line (query_text query.now ++ bytes)) }
+    ensures front { Begins out.old.items out.new.items }
+{
+    let text = text?;
+    put_answer(alloc, query, text.as_str(), out)
+}
+
+/// Puts the line of a record.
+fn put_record(alloc: Global, entry: &Record, out: &mut Vec<u8>) -> Result<(), AllocError>
+    ensures ok { OnOk result (out.new.items ≡ out.old.items ++ line (record_text entry.now)) }
+    ensures front { Begins out.old.items out.new.items }
+{
+    let text = record_text(alloc, entry)?;
+    put_line(text.as_str(), out)
+}
+
 /// Puts a line for each record.
-#[tactic(auto, using(crate::proofs::Front::begins_same, crate::proofs::Front::begins_then))]
 fn put_records(alloc: Global, records: &[Record], out: &mut Vec<u8>) -> Result<(), AllocError>
     ensures ok { OnOk result (out.new.items ≡ out.old.items ++ flat_map (λ r. line (record_text r)) records.now) }
     ensures front { Begins out.old.items out.new.items }
 {
     for entry in records {
-        let text = record_text(alloc, entry)?;
-        put_line(text.as_str(), out)?;
+        put_record(alloc, entry, out)?;
     }
     Ok(())
 }
@@ -104,15 +134,22 @@ fn put_counted_records(
     put_line(text.as_str(), out)
 }
 
+/// Puts the line of a commit.
+fn put_commit(alloc: Global, commit: &LogLine, out: &mut Vec<u8>) -> Result<(), AllocError>
+    ensures ok { OnOk result (out.new.items ≡ out.old.items ++ line (commit_text commit.now)) }
+    ensures front { Begins out.old.items out.new.items }
+{
+    let text = commit_text(alloc, commit)?;
+    put_line(text.as_str(), out)
+}
+
 /// Puts a line for each commit.
-#[tactic(auto, using(crate::proofs::Front::begins_same, crate::proofs::Front::begins_then))]
 fn put_commits(alloc: Global, commits: &[LogLine], out: &mut Vec<u8>) -> Result<(), AllocError>
     ensures ok { OnOk result (out.new.items ≡ out.old.items ++ flat_map (λ c. line (commit_text c)) commits.now) }
     ensures front { Begins out.old.items out.new.items }
 {
     for commit in commits {
-        let text = commit_text(alloc, commit)?;
-        put_line(text.as_str(), out)?;
+        put_commit(alloc, commit, out)?;
     }
     Ok(())
 }
@@ -136,6 +173,21 @@ fn put_stats(alloc: Global, stats: &Stats, out: &mut Vec<u8>) -> Result<(), Allo
     put_line(text.as_str(), out)
 }
 
+/// Puts the numbers of a generated history.
+fn put_history(
+    alloc: Global,
+    places: u32,
+    born: u32,
+    copies: u64,
+    out: &mut Vec<u8>,
+) -> Result<(), AllocError>
+    ensures ok { OnOk result (out.new.items ≡ out.old.items ++ line (codes "gen: places " ++ (decimal places ++ (codes ", born " ++ (decimal born ++ (codes ", copies " ++ decimal copies)))))) }
+    ensures front { Begins out.old.items out.new.items }
+{
+    let text = format!(in alloc; "gen: places {places}, born {born}, copies {copies}")?;
+    put_line(text.as_str(), out)
+}
+
 /// Puts the numbers of a state and of a generated history.
 fn put_summary(
     alloc: Global,
@@ -149,8 +201,7 @@ fn put_summary(
     ensures front { Begins out.old.items out.new.items }
 {
     put_stats(alloc, stats, out)?;
-    let text = format!(in alloc; "gen: places {places}, born {born}, copies {copies}")?;
-    put_line(text.as_str(), out)
+    put_history(alloc, places, born, copies, out)
 }
 
 /// Puts the line of a tree. Costs each row once for each level above it, and the text a few times.
@@ -176,15 +227,10 @@ fn put_answer_lines(
     ensures front { Begins out.old.items out.new.items }
 {
     match answer {
-        Answer::Src(tid) => put_answer(alloc, query, tid_or_none(alloc, *tid)?.as_str(), out),
-        Answer::Tids(tids) => put_answer(
-            alloc,
-            query,
-            tids_text(alloc, &tids.items)?.as_str(),
-            out,
-        ),
-        Answer::Trace(trace) => put_answer(alloc, query, trace_text(alloc, trace)?.as_str(), out),
-        Answer::From(from) => put_answer(alloc, query, from_text(alloc, from)?.as_str(), out),
+        Answer::Src(tid) => put_made_answer(alloc, query, tid_or_none(alloc, *tid), out),
+        Answer::Tids(tids) => put_made_answer(alloc, query, tids_text(alloc, &tids.items), out),
+        Answer::Trace(trace) => put_made_answer(alloc, query, trace_text(alloc, trace), out),
+        Answer::From(from) => put_made_answer(alloc, query, from_text(alloc, from), out),
         Answer::Records(records) => put_counted_records(alloc, &records.items, out),
         Answer::Stats(stats) => put_stats(alloc, stats, out),
     }
@@ -198,14 +244,14 @@ pub fn lines(alloc: Global, reply: &Reply, out: &mut Vec<u8>) -> Result<(), Allo
     ensures front { Begins out.old.items out.new.items }
 {
     match reply {
-        Reply::Created { kind, nodes } => put_line(created(alloc, *kind, *nodes)?.as_str(), out),
-        Reply::Loaded { name, nodes } => put_line(loaded(alloc, name, *nodes)?.as_str(), out),
-        Reply::Committed { low, high } => put_line(committed(alloc, *low, *high)?.as_str(), out),
-        Reply::Aborted { count } => put_line(aborted(alloc, *count)?.as_str(), out),
+        Reply::Created { kind, nodes } => put_made(created(alloc, *kind, *nodes), out),
+        Reply::Loaded { name, nodes } => put_made(loaded(alloc, name, *nodes), out),
+        Reply::Committed { low, high } => put_made(committed(alloc, *low, *high), out),
+        Reply::Aborted { count } => put_made(aborted(alloc, *count), out),
         Reply::Answered { query, answer } => put_answer_lines(alloc, query, answer, out),
         Reply::Show { place, rows } => put_tree(alloc, place, &rows.items, out),
-        Reply::Checkpoint { tid } => put_line(checkpoint(alloc, *tid)?.as_str(), out),
-        Reply::Verified { verdict } => put_line(verdict_text(alloc, verdict)?.as_str(), out),
+        Reply::Checkpoint { tid } => put_made(checkpoint(alloc, *tid), out),
+        Reply::Verified { verdict } => put_made(verdict_text(alloc, verdict), out),
         Reply::Logged { commits } => put_log(alloc, &commits.items, out),
         Reply::Gen {
             stats,
@@ -213,6 +259,6 @@ pub fn lines(alloc: Global, reply: &Reply, out: &mut Vec<u8>) -> Result<(), Allo
             born,
             copies,
         } => put_summary(alloc, stats, *places, *born, *copies, out),
-        Reply::Refused { of, why } => put_line(refused(alloc, *of, why)?.as_str(), out),
+        Reply::Refused { of, why } => put_made(refused(alloc, *of, why), out),
     }
 }

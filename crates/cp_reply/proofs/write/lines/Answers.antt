@@ -1,0 +1,24 @@
+use Rattle.std.proofs.Common.{◌++◌, ap, sym, ◌∙◌}
+use Rattle.cp_reply.specs.Lines.{lines}
+use Rattle.cp_reply.proofs.Front.{on_ok}
+use Rattle.cp_reply.proofs.write.lines.Goals as goal
+
+pub returns-in-Created-clause-ok : goal.returns-in-Created-clause-ok
+unfolding lines
+returns-in-Created-clause-ok c = on_ok c.put_made.result _ _ (λ put. put _ c.created.ensures ∙ ap (λ r. c.args.out.now.items ++ lines r) (sym c.in-Created.is)) c.put_made.ensures.ok
+
+pub returns-in-Loaded-clause-ok : goal.returns-in-Loaded-clause-ok
+unfolding lines
+returns-in-Loaded-clause-ok c = on_ok c.put_made-in-Loaded.result _ _ (λ put. put _ c.loaded.ensures ∙ ap (λ r. c.args.out.now.items ++ lines r) (sym c.in-Loaded.is)) c.put_made-in-Loaded.ensures.ok
+
+pub returns-in-Committed-clause-ok : goal.returns-in-Committed-clause-ok
+unfolding lines
+returns-in-Committed-clause-ok c = on_ok c.put_made-in-Committed.result _ _ (λ put. put _ c.committed.ensures ∙ ap (λ r. c.args.out.now.items ++ lines r) (sym c.in-Committed.is)) c.put_made-in-Committed.ensures.ok
+
+pub returns-in-Aborted-clause-ok : goal.returns-in-Aborted-clause-ok
+unfolding lines
+returns-in-Aborted-clause-ok c = on_ok c.put_made-in-Aborted.result _ _ (λ put. put _ c.aborted.ensures ∙ ap (λ r. c.args.out.now.items ++ lines r) (sym c.in-Aborted.is)) c.put_made-in-Aborted.ensures.ok
+
+pub returns-in-Checkpoint-clause-ok : goal.returns-in-Checkpoint-clause-ok
+unfolding lines
+returns-in-Checkpoint-clause-ok c = on_ok c.put_made-in-Checkpoint.result _ _ (λ put. put _ c.checkpoint.ensures ∙ ap (λ r. c.args.out.now.items ++ lines r) (sym c.in-Checkpoint.is)) c.put_made-in-Checkpoint.ensures.ok
