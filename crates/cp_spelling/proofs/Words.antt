@@ -1,6 +1,8 @@
 -- What the reading of words rests on, at the calls' results.
 use Rattle.cp_path.specs.declared.limits.TheConstants.{LABELS_MAX, LABEL_MAX, LOC_MAX}
-use Rattle.std.proofs.Common.{◌≡◌, ℕ, List, ◌∷◌, true, false, ap, sym, ◌∙◌, subst, Option, Some, None, Result, Ok, Err, MatchResult, MatchOption, IfOk, IfErr, ◌≤◌, length}
+use Rattle.std.proofs.Common.{◌≡◌, ℕ, List, ◌∷◌, true, false, ap, sym, ◌∙◌, subst, Option, Some, None, Result, Ok, Err, MatchResult, MatchOption, IfOk, IfErr, ◌≤◌, ◌<◌, ◌⊎◌, inl, inr, length, get_or, nat_lt}
+use Rattle.std.proofs.lemmas.Bool.{lt-ltb}
+use Rattle.std.proofs.lemmas.List.Folds.{list_any_at}
 use Rattle.cp_spelling.specs.Scan.{Accepts, StopsAt, place_from}
 use Rattle.cp_path.specs.Answers.{Answers}
 use Rattle.cp_spelling.specs.Reading.{IsLabelSpelling, IsPlaceSpelling, SpellsPlace, IsBadAt, IsOver, PlaceFault, LabelFault, any_long}
@@ -53,3 +55,15 @@ label_answers w (Ok a) h k s = subst (λ v. label_reading v ≡ Ok a) h (label_r
 pub place_answers : (w : List ℕ) (r : Result Loc PathFault) → IfOk r (λ q. place_reading w ≡ Ok q) → IfErr r (λ e. PlaceFault e w) → Answers fault.Memory (place_reading w) r
 place_answers w (Err f) h k = place_fault_reading f w k
 place_answers w (Ok q) h k = h
+
+-- ---- labels
+
+-- a label that is too long
+pub long_label : (ps : List (List ℕ)) (i : ℕ) (d : List ℕ) → i < length ps → LABEL_MAX < length (get_or ps i d) → any_long ps ≡ true
+long_label ps i d within long = list_any_at (λ a. nat_lt LABEL_MAX (length a)) ps i d within (lt-ltb LABEL_MAX (length (get_or ps i d)) long)
+
+-- a label can be too long, or memory ran out
+pub long_or_memory : (e : PathFault) (ps : List (List ℕ)) → (e ≡ fault.LabelTooLong → any_long ps ≡ true)
+    → (e ≡ fault.LabelTooLong) ⊎ (e ≡ fault.Memory) → ((e ≡ fault.LabelTooLong) × (any_long ps ≡ true)) ⊎ (e ≡ fault.Memory)
+long_or_memory e ps f (inl q) = inl (q, f q)
+long_or_memory e ps f (inr q) = inr q
