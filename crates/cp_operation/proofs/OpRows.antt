@@ -146,8 +146,8 @@ op-added result tid ss t o op x y e h = subst (λ o. OnOk result (Appended x y (
 -- ---- the place that an operation writes, alone
 
 -- the record below a place at its root is the one of the place
-root_record : (tid : ℕ) (o : RecOp) (base root p : Path) → base ≡ p → root ≡ [] → record_below tid o base root None ≡ record { tid = tid; op = o; loc = at_target p; src = None }
-root_record tid o base root p e r = ap (λ q. record_below tid o base q None) r ∙ ap (λ q. record { tid = tid; op = o; loc = at_target q; src = None }) (append-nil base ∙ e)
+root_record : (tid : ℕ) (o : RecOp) (p : Path) → record_below tid o p [] None ≡ record { tid = tid; op = o; loc = at_target p; src = None }
+root_record tid o p = ap (λ q. record { tid = tid; op = o; loc = at_target q; src = None }) (append-nil p)
 
 -- and so is the one of a copy
 root_copied : (tid : ℕ) (p root : Path) (q : Loc) → root ≡ [] → record_below tid letter.C p root (Some q) ≡ record_of tid p (mark.Copied q)
@@ -177,27 +177,26 @@ one_added (Ok u) tid o op r x y e t h = record { is = h ∙ ap (λ rs. x ++ rs) 
 one_added (Err d) tid o op r x y e t h = tt
 
 -- the record of what is inserted
-pub ins-topped : {E : Type 0} (result : Result (Unit {0}) E) (tid : ℕ) (base root : Path) (p : Loc) (a : Label) (l : Literal) (op : Op) (x y : List Record) → op ≡ Ins p a l → base ≡ child p.path a → root ≡ [] →
-    OnOk result (y ≡ x ++ record_below tid letter.I base root None ∷ []) → OnOk result (Appended x y (with_tid tid (top_rows op)))
-ins-topped result tid base root p a l op x y e b r h =
-    one_added result tid (Ins p a l) op (record_below tid letter.I base root None) x y e (ap (λ d. d ∷ []) (root_record tid letter.I base root (child p.path a) b r) ∙ ins_top tid p a l) h
+pub ins-topped : {E : Type 0} (result : Result (Unit {0}) E) (tid : ℕ) (p : Loc) (a : Label) (l : Literal) (op : Op) (x y : List Record) → op ≡ Ins p a l →
+    OnOk result (y ≡ x ++ record_below tid letter.I (child p.path a) [] None ∷ []) → OnOk result (Appended x y (with_tid tid (top_rows op)))
+ins-topped result tid p a l op x y e h =
+    one_added result tid (Ins p a l) op (record_below tid letter.I (child p.path a) [] None) x y e (ap (λ d. d ∷ []) (root_record tid letter.I (child p.path a)) ∙ ins_top tid p a l) h
 
 -- the record of what is gone
-pub del-topped : {E : Type 0} (result : Result (Unit {0}) E) (tid : ℕ) (base root : Path) (p : Loc) (a : Label) (op : Op) (x y : List Record) → op ≡ Del a p → base ≡ child p.path a → root ≡ [] →
-    OnOk result (y ≡ x ++ record_below tid letter.D base root None ∷ []) → OnOk result (Appended x y (with_tid tid (top_rows op)))
-del-topped result tid base root p a op x y e b r h =
-    one_added result tid (Del a p) op (record_below tid letter.D base root None) x y e (ap (λ d. d ∷ []) (root_record tid letter.D base root (child p.path a) b r) ∙ del_top tid p a) h
+pub del-topped : {E : Type 0} (result : Result (Unit {0}) E) (tid : ℕ) (p : Loc) (a : Label) (op : Op) (x y : List Record) → op ≡ Del a p →
+    OnOk result (y ≡ x ++ record_below tid letter.D (child p.path a) [] None ∷ []) → OnOk result (Appended x y (with_tid tid (top_rows op)))
+del-topped result tid p a op x y e h =
+    one_added result tid (Del a p) op (record_below tid letter.D (child p.path a) [] None) x y e (ap (λ d. d ∷ []) (root_record tid letter.D (child p.path a)) ∙ del_top tid p a) h
 
 -- the record of what is copied from another place
-pub copy-topped : {E : Type 0} (result : Result (Unit {0}) E) (tid : ℕ) (root : Path) (q p : Loc) (op : Op) (x y : List Record) → op ≡ Copy q p → ¬ (q ≡ p) → root ≡ [] →
-    OnOk result (y ≡ x ++ record_below tid letter.C p.path root (Some q) ∷ []) → OnOk result (Appended x y (with_tid tid (top_rows op)))
-copy-topped result tid root q p op x y e d r h =
-    one_added result tid (Copy q p) op (record_below tid letter.C p.path root (Some q)) x y e (ap (λ d. d ∷ []) (root_copied tid p.path root q r) ∙ copy_top tid q p (elsewhere q p d)) h
+pub copy-topped : {E : Type 0} (result : Result (Unit {0}) E) (tid : ℕ) (root : Path) (q p : Loc) (x y : List Record) → ¬ (q ≡ p) → root ≡ [] →
+    OnOk result (y ≡ x ++ record_below tid letter.C p.path root (Some q) ∷ []) → OnOk result (Appended x y (with_tid tid (top_rows (Copy q p))))
+copy-topped result tid root q p x y d r h =
+    one_added result tid (Copy q p) (Copy q p) (record_below tid letter.C p.path root (Some q)) x y refl (ap (λ d. d ∷ []) (root_copied tid p.path root q r) ∙ copy_top tid q p (elsewhere q p d)) h
 
 -- a place that is copied onto itself is not written
-pub itself-topped : (tid : ℕ) (q p : Loc) (op : Op) (x : List Record) → op ≡ Copy q p → q ≡ p → Appended x x (with_tid tid (top_rows op))
-itself-topped tid q p op x e s =
-    subst (Appended x x) (itself_top tid q p (ap (λ r. place_eq q r) (sym s) ∙ place_eq-refl q) ∙ ap (λ o. with_tid tid (top_rows o)) (sym e)) (appended-none x)
+pub itself-topped : (tid : ℕ) (q p : Loc) (x : List Record) → q ≡ p → Appended x x (with_tid tid (top_rows (Copy q p)))
+itself-topped tid q p x s = subst (Appended x x) (itself_top tid q p (ap (λ r. place_eq q r) (sym s) ∙ place_eq-refl q)) (appended-none x)
 
 -- an accepted operation has room for the label of its place
 pub accepted-room : (ss : List Source) (t : Tree) (op : Op) → IsTree t → refusal ss t op ≡ None → HasRoom op

@@ -1,5 +1,5 @@
 //! The records of one operation, by its kind.
-ghost use Rattle.std.specs.Prelude.{◌≡◌, true, false, ◌≤◌, ◌<◌, ◌+◌, List, length, map, OnOk, OnErr, IfOk};
+ghost use Rattle.std.specs.Prelude.{◌≡◌, true, false, ◌≤◌, ◌<◌, ◌+◌, ◌++◌, ◌∷◌, [], List, length, map, OnOk, OnErr, IfOk};
 ghost use Rattle.std.specs.declared.option.Option.TheVariants.{None, Some};
 ghost use Rattle.cp_model.specs.Place.{child, below_place};
 ghost use Rattle.cp_model.specs.Subtrees.{below, is_there, entries_under};
@@ -9,6 +9,7 @@ ghost use Rattle.cp_model.specs.Tree.{Source, database, reaches_over};
 ghost use Rattle.cp_model.specs.declared.op.Op.TheVariants.{Del, Copy};
 ghost use Rattle.cp_model.specs.declared.record.RecOp.TheVariants as letter;
 ghost use Rattle.cp_record.specs.Bytes.{record_below};
+ghost use Rattle.cp_record.specs.Kept.{is_copy};
 ghost use Rattle.cp_tree.specs.Rows.{greatest};
 ghost use Rattle.cp_operation.specs.Appending.{Appended, Grown};
 ghost use Rattle.cp_operation.specs.RowsAlone.{HasRoom, marks_below, op_rows, top_rows};
@@ -90,25 +91,51 @@ pub(crate) fn push_top(
     ensures ok { OnOk result (Appended rows.old rows.new (with_tid tid (top_rows op.now))) }
     ensures err { OnErr result (rows.new ≡ rows.old) }
 {
-    let root = Path::root(alloc);
     match op {
-        Op::Ins { into, label, .. } => {
-            let place = into.path.child(label)?;
-            rows.push(tid, RecOp::I, &place, &root, None)
-        }
-        Op::Del { label, from } => {
-            let place = from.path.child(label)?;
-            rows.push(tid, RecOp::D, &place, &root, None)
-        }
-        Op::Copy { from, into } => {
-            if from.is_at(into) {
-                return Ok(());
-            }
-            let _ = from.path.labels();
-            let _ = into.path.labels();
-            rows.push(tid, RecOp::C, &into.path, &root, Some(from))
-        }
+        Op::Ins { into, label, .. } => push_child(alloc, rows, tid, RecOp::I, into, label),
+        Op::Del { label, from } => push_child(alloc, rows, tid, RecOp::D, from, label),
+        Op::Copy { from, into } => push_copied(alloc, rows, tid, from, into),
     }
+}
+
+/// Appends the record of the place at the label below another, which isn't of a copy. After an error the records are as they
+/// were.
+fn push_child(
+    alloc: Global,
+    rows: &mut PackedRecords,
+    tid: u64,
+    op: RecOp,
+    above: &Loc,
+    label: &Label,
+) -> Result<(), AllocError>
+    requires room { length above.now.path < LABELS_MAX }
+    requires sourceless { is_copy op ≡ false }
+    ensures ok { OnOk result (rows.new ≡ rows.old ++ record_below tid op (child above.now.path label.now) [] None ∷ []) }
+    ensures err { OnErr result (rows.new ≡ rows.old) }
+{
+    let place = above.path.child(label)?;
+    let root = Path::root(alloc);
+    rows.push(tid, op, &place, &root, None)
+}
+
+/// Appends the record of a place that is copied, unless it is copied onto itself. After an error the records are as they were.
+fn push_copied(
+    alloc: Global,
+    rows: &mut PackedRecords,
+    tid: u64,
+    from: &Loc,
+    into: &Loc,
+) -> Result<(), AllocError>
+    ensures ok { OnOk result (Appended rows.old rows.new (with_tid tid (top_rows (Copy from.now into.now)))) }
+    ensures err { OnErr result (rows.new ≡ rows.old) }
+{
+    if from.is_at(into) {
+        return Ok(());
+    }
+    let _ = from.path.labels();
+    let _ = into.path.labels();
+    let root = Path::root(alloc);
+    rows.push(tid, RecOp::C, &into.path, &root, Some(from))
 }
 
 /// Appends a record for each place of a literal tree whose root stands at `at` below the base.
