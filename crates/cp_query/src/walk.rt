@@ -1,9 +1,9 @@
 //! The walk from the newest change of a place back to where its data came from.
-ghost use Rattle.std.specs.Prelude.{◌≡◌, ◌<◌, ◌||◌, ◌++◌, ◌∷◌, ℕ, true, reverse, IfSome, IfOk, OnOk};
+ghost use Rattle.std.specs.Prelude.{◌≡◌, ◌<◌, ◌||◌, ◌++◌, ◌∷◌, [], ℕ, true, reverse, IfSome, IfOk, OnOk};
 ghost use Rattle.std.specs.Option.{option_to_list};
 ghost use Rattle.cp_model.specs.Place.{in_target};
 ghost use Rattle.cp_query.specs.Legs.{came_with, inserted_by, copied_by, brought_by, origin_by, leg_of, leg_by, leg, readings_in, trace_from, src_from, hist_from, from_here, walk_on};
-ghost use Rattle.cp_query.specs.Events.{is_tid, leg_tids, losses_in, places_from, source_at, source_of, tids_back};
+ghost use Rattle.cp_query.specs.Events.{is_tid, leg_tids, losses_in, places_from, source_of, tids_back};
 ghost use Rattle.cp_store.specs.Changes.{change_told};
 ghost use Rattle.cp_store.specs.Calls.{Asks};
 ghost use Rattle.cp_store.specs.Steps.{BlamesDisk};
@@ -78,6 +78,21 @@ impl Came {
         }
     }
 
+    /// Adds the place of the source at which the walk ends, if it does; gives the walk on, if it goes on.
+    fn add_source(self, places: &mut Vec<Loc>) -> Result<Option<Walk>, AllocError>
+        ensures places { OnOk result (places.new.items ≡ places.old.items ++ source_of self) }
+        ensures on { IfOk result (λ next. next ≡ walk_on self) }
+    {
+        match self {
+            Came::Back(next) => Ok(Some(next)),
+            Came::End(TraceEnd::Source(place)) => {
+                places.push(place)?;
+                Ok(None)
+            }
+            Came::End(TraceEnd::New | TraceEnd::Start) => Ok(None),
+        }
+    }
+
     /// Where the data came from in the step `low` with which the leg begins.
     fn origin(self, low: u64) -> FromAnswer
         ensures { result ≡ origin_by low self }
@@ -113,16 +128,40 @@ impl Leg {
         Ok(())
     }
 
+    /// The walk on from there, if it goes on.
+    fn walk_on(self) -> Option<Walk>
+        ensures { result ≡ walk_on self.came }
+    {
+        let Leg { segment, came, .. } = self;
+        drop(segment);
+        came.walk_on()
+    }
+
     /// Adds the step that copied the data here, if one did, and gives the walk on, if it goes on.
     fn add_copy(self, tids: &mut Vec<u64>) -> Result<Option<Walk>, AllocError>
         ensures tids { OnOk result (tids.new.items ≡ tids.old.items ++ option_to_list (copied_by self.segment.low self.came)) }
         ensures on { IfOk result (λ next. next ≡ walk_on self.came) }
     {
-        let Leg { segment, came, .. } = self;
-        if let Some(tid) = came.copy(segment.low) {
-            tids.push(tid)?;
+        if let Some(tid) = self.came.copy(self.segment.low) {
+            if tids.push(tid).is_err() {
+                drop(self);
+                return Err(AllocError);
+            }
         }
-        Ok(came.walk_on())
+        Ok(self.walk_on())
+    }
+
+    /// Adds the segment, and gives where the data came from.
+    fn add_segment(self, segments: &mut Vec<Segment>) -> Result<Came, AllocError>
+        ensures segments { OnOk result (segments.new.items ≡ segments.old.items ++ self.segment ∷ []) }
+        ensures came { IfOk result (λ came. came ≡ self.came) }
+    {
+        let Leg { segment, came, .. } = self;
+        if segments.push(segment).is_err() {
+            drop(came);
+            return Err(AllocError);
+        }
+        Ok(came)
     }
 
     /// Adds the place, and that of the source at which the walk ends, if it does; gives the walk on, if it goes on.
@@ -131,14 +170,32 @@ impl Leg {
         ensures on { IfOk result (λ next. next ≡ walk_on self.came) }
     {
         let Leg { segment, came, .. } = self;
-        places.push(segment.loc)?;
-        match came {
-            Came::Back(next) => Ok(Some(next)),
-            Came::End(end) => {
-                add_source(places, end)?;
-                Ok(None)
-            }
+        if places.push(segment.loc).is_err() {
+            drop(came);
+            return Err(AllocError);
         }
+        came.add_source(places)
+    }
+
+    /// Notes the steps that changed the data here, and adds the place as `add_place` does. Costs a look-up of losses.
+    fn note<P: ProvStore>(
+        self,
+        alloc: Global,
+        store: &mut P,
+        found: &mut Tids,
+        places: &mut Vec<Loc>,
+    ) -> Result<Option<Walk>, StoreFault>
+        ensures found { OnOk result ((t : ℕ) → is_tid t found.new.keys
+            ≡ (is_tid t found.old.keys || is_tid t (leg_tids (P.kept_rows store.old) self))) }
+        ensures places { OnOk result (places.new.items ≡ places.old.items ++ self.segment.loc ∷ source_of self.came) }
+        ensures on { IfOk result (λ next. next ≡ walk_on self.came) }
+        ensures asks { Asks P.ProvStore BlamesDisk store.old store.new result }
+    {
+        if let Err(fault) = self.note_steps(alloc, store, found) {
+            drop(self);
+            return Err(fault);
+        }
+        Ok(self.add_place(places)?)
     }
 }
 
@@ -155,16 +212,6 @@ fn came_with(tid: u64, q: Loc) -> Came
     } else {
         Came::End(TraceEnd::Source(q))
     }
-}
-
-/// Adds the place of the source at which a walk ends, if it does.
-fn add_source(places: &mut Vec<Loc>, end: TraceEnd) -> Result<(), AllocError>
-    ensures { OnOk result (places.new.items ≡ places.old.items ++ source_at end) }
-{
-    if let TraceEnd::Source(place) = end {
-        places.push(place)?;
-    }
-    Ok(())
 }
 
 impl Walk {
@@ -215,9 +262,8 @@ impl Walk {
         let mut walk = self;
         let mut segments = Vec::new(alloc);
         loop {
-            let Leg { segment, came, .. } = walk.leg(alloc, store)?;
-            segments.push(segment)?;
-            match came {
+            let leg = walk.leg(alloc, store)?;
+            match leg.add_segment(&mut segments)? {
                 Came::Back(next) => walk = next,
                 Came::End(end) => {
                     let segments = SegmentList { items: segments };
@@ -235,11 +281,11 @@ impl Walk {
     {
         let mut walk = self;
         loop {
-            let Leg { segment, came, .. } = walk.leg(alloc, store)?;
-            let inserted = came.insertion(segment.low);
-            match came {
-                Came::Back(next) => walk = next,
-                Came::End(_end) => return Ok(inserted),
+            let leg = walk.leg(alloc, store)?;
+            let inserted = leg.came.insertion(leg.segment.low);
+            match leg.walk_on() {
+                Some(next) => walk = next,
+                None => return Ok(inserted),
             }
         }
     }
@@ -301,8 +347,7 @@ impl Walk {
         let mut places = Vec::new(alloc);
         loop {
             let leg = walk.leg(alloc, store)?;
-            leg.note_steps(alloc, store, found)?;
-            match leg.add_place(&mut places)? {
+            match leg.note(alloc, store, found, &mut places)? {
                 Some(next) => walk = next,
                 None => return Ok(places),
             }

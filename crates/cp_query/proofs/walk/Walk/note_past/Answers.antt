@@ -17,8 +17,8 @@ loop-places-preserved g c =
       here = (goes-back _ c.loop-places.walk c.in-Some.next c.in_ok-leg.leg l (on-back c.in_ok-leg.leg.came c.in-Some.next (sym c.in_ok-next.ensures.on ∙ c.in-Some.is))).0;
       places = places-on _ c.loop-places.walk c.in-Some.next c.in_ok-leg.leg c.loop-places.places.items _ _ i.here l (on-back c.in_ok-leg.leg.came c.in-Some.next (sym c.in_ok-next.ensures.on ∙ c.in-Some.is)) i.places c.in_ok-next.ensures.places;
       found = λ t. found-on _ _ c.loop-places.walk c.in-Some.next c.in_ok-leg.leg t _ _ _ i.here l (on-back c.in_ok-leg.leg.came c.in-Some.next (sym c.in_ok-next.ensures.on ∙ c.in-Some.is)) (i.found t)
-          (noted-kept t _ _ c.in_ok-leg.leg _ _ (c.in_ok-leg.ensures.asks.rows ∙ i.asked.rows) (c.in_ok-note_steps.ensures.found t));
-      asked = asked-on g.P.ProvStore _ _ _ (asked-on g.P.ProvStore _ _ _ i.asked c.in_ok-leg.ensures.asks) c.in_ok-note_steps.ensures.asks;
+          (noted-kept t _ _ c.in_ok-leg.leg _ _ (c.in_ok-leg.ensures.asks.rows ∙ i.asked.rows) (c.in_ok-next.ensures.found t));
+      asked = asked-on g.P.ProvStore _ _ _ (asked-on g.P.ProvStore _ _ _ i.asked c.in_ok-leg.ensures.asks) c.in_ok-next.ensures.asks;
     }
 
 pub returns-in-None-clause-places : goal.returns-in-None-clause-places
@@ -34,4 +34,4 @@ returns-in-None-clause-found g c = λ t.
     let end = on-end c.in_ok-leg.leg.came (sym c.in_ok-next.ensures.on ∙ c.in-None.is) in
     let l = leg-kept _ _ _ _ c.loop-places.walk c.in_ok-leg.leg i.asked.kind i.asked.rows c.in_ok-leg.ensures.leg in
     found-end _ _ c.loop-places.walk c.in_ok-leg.leg end.0 t _ _ _ i.here l end.1 (i.found t)
-    (noted-kept t _ _ c.in_ok-leg.leg _ _ (c.in_ok-leg.ensures.asks.rows ∙ i.asked.rows) (c.in_ok-note_steps.ensures.found t))
+    (noted-kept t _ _ c.in_ok-leg.leg _ _ (c.in_ok-leg.ensures.asks.rows ∙ i.asked.rows) (c.in_ok-next.ensures.found t))
