@@ -29,6 +29,11 @@ and_itself : (b : Bool) → b ≡ true → (b && true) ≡ true
 and_itself true e = refl
 and_itself false e = e
 
+-- the paths of two lists of keys
+pub paths-append : (ks js : List (Vec Label)) → paths (ks ++ js) ≡ paths ks ++ paths js
+paths-append [] js = refl
+paths-append (k ∷ ks) js = ap (λ ps. k.items ∷ ps) (paths-append ks js)
+
 module _ {X : Type 0} where
   keys-filter : (p : Vec Label → Bool) (es : List (Vec Label × X)) → filter p (keys_of es) ≡ keys_of (filter (λ e. p e.0) es)
   keys-filter p [] = refl
@@ -61,15 +66,13 @@ module _ {X : Type 0} where
   shown-append (e ∷ es) fs = ap (λ xs. (e.0.items, e.1) ∷ xs) (shown-append es fs)
 
   -- one entry of the run
-  pub turned : (q : Path) (out : List (Vec Label × X)) (k : Vec Label) (o : X) (rest it : List (Vec Label × X)) (key : Vec Label) (s : Path) → it ≡ (k, o) ∷ rest → Some s ≡ strip q k.items → key.items ≡ s →
-      shown (out ++ (key, o) ∷ []) ++ run q rest ≡ shown out ++ run q it
+  pub turned : (q : Path) (out : List (Path × X)) (k : Vec Label) (o : X) (rest it : List (Vec Label × X)) (s : Path) → it ≡ (k, o) ∷ rest → Some s ≡ strip q k.items →
+      (out ++ (s, o) ∷ []) ++ run q rest ≡ out ++ run q it
   unfolding run
-  turned q out k o rest it key s i e f =
-      ap (λ xs. xs ++ run q rest) (shown-append out ((key, o) ∷ []))
-      ∙ append_assoc (shown out) ((key.items, o) ∷ []) (run q rest)
-      ∙ ap (λ p. shown out ++ (p, o) ∷ run q rest) f
-      ∙ ap (λ d. shown out ++ cons_option (option_map (λ s. (s, o)) d) (run q rest)) e
-      ∙ ap (λ xs. shown out ++ run q xs) (sym i)
+  turned q out k o rest it s i e =
+      append_assoc out ((s, o) ∷ []) (run q rest)
+      ∙ ap (λ d. out ++ cons_option (option_map (λ s. (s, o)) d) (run q rest)) e
+      ∙ ap (λ xs. out ++ run q xs) (sym i)
 
   -- no entry is left
   pub ended : (q : Path) (out it es : List (Vec Label × X)) → shown out ++ run q it ≡ run q es → it ≡ [] → shown out ≡ run q es
@@ -94,22 +97,17 @@ module _ {X : Type 0} where
   unfolding IsStrictlySortedBy
   rest_rises k o rest it i r = (subst Rises i r).1
 
-  paths_append : (p : Path) (ks : List (Vec Label)) (k : Vec Label) (rest : List (Path × X)) → paths (ks ++ k ∷ []) ++ paths_under p rest ≡ paths ks ++ (k.items ∷ paths_under p rest)
-  paths_append p [] k rest = refl
-  paths_append p (x ∷ ks) k rest = ap (λ xs. x.items ∷ xs) (paths_append p ks k rest)
-
   -- one key of the run
-  pub key_turned : (q : Path) (ks : List (Vec Label)) (k key : Vec Label) (o : X) (rest it : List (Vec Label × X)) → it ≡ (k, o) ∷ rest → is_some (strip q k.items) ≡ true → key.items ≡ k.items →
-      paths (ks ++ key ∷ []) ++ paths_under q (run q rest) ≡ paths ks ++ paths_under q (run q it)
+  pub key_turned : (q : Path) (ks : List Path) (k : Vec Label) (o : X) (rest it : List (Vec Label × X)) → it ≡ (k, o) ∷ rest → is_some (strip q k.items) ≡ true →
+      (ks ++ k.items ∷ []) ++ paths_under q (run q rest) ≡ ks ++ paths_under q (run q it)
   unfolding run
-  key_turned q ks k key o rest it i e f =
-      paths_append q ks key (run q rest)
-      ∙ ap (λ p. paths ks ++ (p ∷ paths_under q (run q rest))) f
-      ∙ elim (strip q k.items) as (λ d. strip q k.items ≡ d → is_some d ≡ true → paths ks ++ (k.items ∷ paths_under q (run q rest)) ≡ paths ks ++ paths_under q (cons_option (option_map (λ s. (s, o)) d) (run q rest))) [
+  key_turned q ks k o rest it i e =
+      append_assoc ks (k.items ∷ []) (paths_under q (run q rest))
+      ∙ elim (strip q k.items) as (λ d. strip q k.items ≡ d → is_some d ≡ true → ks ++ (k.items ∷ paths_under q (run q rest)) ≡ ks ++ paths_under q (cons_option (option_map (λ s. (s, o)) d) (run q rest))) [
         | None ↦ λ _ e. absurd (cc)
-        | Some s ↦ λ h _. ap (λ p. paths ks ++ (p ∷ paths_under q (run q rest))) (strip_is q k.items s h)
+        | Some s ↦ λ h _. ap (λ p. ks ++ (p ∷ paths_under q (run q rest))) (strip_is q k.items s h)
       ] refl e
-      ∙ ap (λ xs. paths ks ++ paths_under q (run q xs)) (sym i)
+      ∙ ap (λ xs. ks ++ paths_under q (run q xs)) (sym i)
 
   -- no key is left
   pub keys_ended : (q : Path) (ks : List (Vec Label)) (it es : List (Vec Label × X)) → paths ks ++ paths_under q (run q it) ≡ paths_under q (run q es) → it ≡ [] → paths ks ≡ paths_under q (run q es)

@@ -80,14 +80,10 @@ pub take_next : {A : Type 0} (xs : List A) (i : ℕ) (x : A) → i < length xs �
 take_next xs i x h e = let s : i + 1 ≡ suc i = omega arith in ap (λ n. take n xs) s ∙ take-suc xs i x h ∙ ap (λ y. take i xs ++ y ∷ []) (sym e)
 
 -- one more row behind p
-pub under_more : (p : Path) (done : List (Vec Label × Option Origin)) (rest it : List (Vec Label × Option Origin)) (k key : Vec Label) (o : Option Origin) → it ≡ (k, o) ∷ rest → key.items ≡ p ++ k.items
-    → shown (done ++ (key, o) ∷ []) ++ entries_under p (shown rest) ≡ shown done ++ entries_under p (shown it)
+pub under_more : (p : Path) (done : List (Path × Option Origin)) (row : Vec Label × Option Origin) (rest it : List (Vec Label × Option Origin)) → it ≡ row ∷ rest
+    → (done ++ (p ++ row.0.items, row.1) ∷ []) ++ entries_under p (shown rest) ≡ done ++ entries_under p (shown it)
 unfolding entries_under
-under_more p done rest it k key o i e =
-    ap (λ xs. xs ++ entries_under p (shown rest)) (shown-append done ((key, o) ∷ []))
-    ∙ append_assoc (shown done) ((key.items, o) ∷ []) (entries_under p (shown rest))
-    ∙ ap (λ q. shown done ++ ((q, o) ∷ entries_under p (shown rest))) e
-    ∙ ap (λ xs. shown done ++ entries_under p (shown xs)) (sym i)
+under_more p done row rest it i = append_assoc done ((p ++ row.0.items, row.1) ∷ []) (entries_under p (shown rest)) ∙ ap (λ xs. done ++ entries_under p (shown xs)) (sym i)
 
 -- one more blank row behind p
 pub blank_more : (p : Path) (start : List (Path × Option Origin)) (out done all : List (Vec Label × Option Origin)) (row : Vec Label × Option Origin) (key : Vec Label) →

@@ -1,13 +1,15 @@
 //! Rows by place, as they are found.
-ghost use Rattle.std.specs.Prelude.{◌≡◌, ◌++◌, ◌∷◌, [], cond, IfOk, OnOk};
-ghost use Rattle.std.specs.declared.option.Option.TheVariants.{Some};
+ghost use Rattle.std.specs.Prelude.{◌≡◌, ◌++◌, ◌∷◌, [], false, cond, IfOk, OnOk};
+ghost use Rattle.std.specs.declared.option.Option.TheVariants.{None, Some};
 ghost use Rattle.std.specs.BTreeMap.{IsOrdered};
-ghost use Rattle.cp_model.specs.Place.{Path as PathValue, path_cmp, path_eq};
+ghost use Rattle.cp_model.specs.Place.{Path as PathValue, at_target, path_cmp, path_eq};
 ghost use Rattle.cp_model.specs.Keyed.{look};
 ghost use Rattle.cp_model.specs.History.{record_of, with_tid};
+ghost use Rattle.cp_model.specs.declared.record.RowMark.TheVariants.{Copied};
+ghost use Rattle.cp_record.specs.Kept.{is_copy};
 
 use cp_model::{RecOp, RowMark};
-use cp_path::Path;
+use cp_path::{Loc, Path};
 use cp_record::PackedRecords;
 use std::alloc::{AllocError, Global};
 use std::collections::BTreeMap;
@@ -19,10 +21,8 @@ pub(crate) type Marks = BTreeMap<Path, RowMark>;
 pub(crate) fn note(marks: &mut Marks, place: Path, mark: RowMark) -> Result<(), AllocError>
     ensures { OnOk result ((r : PathValue) → look r marks.new.entries ≡ cond (path_eq r place) (Some mark) (look r marks.old.entries)) }
 {
-    match marks.insert(place, mark) {
-        Ok(_) => Ok(()),
-        Err(_) => Err(AllocError),
-    }
+    drop(marks.insert(place, mark)?);
+    Ok(())
 }
 
 /// The rows as records of a step, in the order of their places. Costs their bytes.
@@ -33,13 +33,29 @@ pub(crate) fn records(alloc: Global, tid: u64, marks: Marks) -> Result<PackedRec
     let _ = marks.len();
     let mut marks = marks;
     let mut records = PackedRecords::new(alloc);
-    while let Some((place, mark)) = marks.pop_first() {
-        push(alloc, &mut records, tid, &place, &mark)?;
+    while let Some(row) = marks.pop_first() {
+        push_row(alloc, &mut records, tid, row)?;
     }
     Ok(records)
 }
 
 /// Appends the record of a row.
+fn push_row(
+    alloc: Global,
+    records: &mut PackedRecords,
+    tid: u64,
+    row: (Path, RowMark),
+) -> Result<(), AllocError>
+    ensures { OnOk result (records.new ≡ records.old ++ record_of tid row.0 row.1 ∷ []) }
+{
+    let (place, mark) = row;
+    let pushed = push(alloc, records, tid, &place, &mark);
+    drop(place);
+    drop(mark);
+    pushed
+}
+
+/// Appends the record that says this of a place.
 fn push(
     alloc: Global,
     records: &mut PackedRecords,
@@ -49,15 +65,42 @@ fn push(
 ) -> Result<(), AllocError>
     ensures { OnOk result (records.new ≡ records.old ++ record_of tid place.now mark.now ∷ []) }
 {
+    match mark {
+        RowMark::Made => push_sourceless(alloc, records, tid, RecOp::I, place),
+        RowMark::Copied(from) => push_copied(alloc, records, tid, place, from),
+        RowMark::Gone => push_sourceless(alloc, records, tid, RecOp::D, place),
+        RowMark::Kept => push_sourceless(alloc, records, tid, RecOp::K, place),
+    }
+}
+
+/// Appends the record of a place, which isn't of a copy.
+fn push_sourceless(
+    alloc: Global,
+    records: &mut PackedRecords,
+    tid: u64,
+    op: RecOp,
+    place: &Path,
+) -> Result<(), AllocError>
+    requires { is_copy op ≡ false }
+    ensures { OnOk result (records.new ≡ records.old ++ record { tid = tid; op = op; loc = at_target place.now; src = None } ∷ []) }
+{
     let root = Path::root(alloc);
     let _ = place.labels();
-    match mark {
-        RowMark::Made => records.push(tid, RecOp::I, place, &root, None),
-        RowMark::Copied(from) => {
-            let _ = from.path.labels();
-            records.push(tid, RecOp::C, place, &root, Some(from))
-        }
-        RowMark::Gone => records.push(tid, RecOp::D, place, &root, None),
-        RowMark::Kept => records.push(tid, RecOp::K, place, &root, None),
-    }
+    records.push(tid, op, place, &root, None)
+}
+
+/// Appends the record of a place that was copied from another.
+fn push_copied(
+    alloc: Global,
+    records: &mut PackedRecords,
+    tid: u64,
+    place: &Path,
+    from: &Loc,
+) -> Result<(), AllocError>
+    ensures { OnOk result (records.new ≡ records.old ++ record_of tid place.now (Copied from.now) ∷ []) }
+{
+    let root = Path::root(alloc);
+    let _ = place.labels();
+    let _ = from.path.labels();
+    records.push(tid, RecOp::C, place, &root, Some(from))
 }

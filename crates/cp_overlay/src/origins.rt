@@ -1,5 +1,5 @@
 //! The origins that are kept, by place.
-ghost use Rattle.std.specs.Prelude.{◌≡◌, ◌↔◌, ◌≤◌, ◌<◌, ◌+◌, ◌++◌, true, length, drop, cond, is_some, IsTrue, OnOk, OnErr, IfOk, IfSome, IfNone};
+ghost use Rattle.std.specs.Prelude.{◌≡◌, ◌↔◌, ◌≤◌, ◌<◌, ◌+◌, ◌++◌, ◌∷◌, [], true, length, drop, cond, is_some, IsTrue, OnOk, OnErr, IfOk, IfSome, IfNone};
 ghost use Rattle.std.specs.declared.option.Option.TheVariants.{None, Some};
 ghost use Rattle.std.specs.Option.{option_copied, MatchOption};
 ghost use Rattle.std.specs.List.{list_any};
@@ -82,11 +82,24 @@ pub(crate) fn entries_below(
         let Some(rest) = rest_of(key.as_slice(), place) else {
             break;
         };
-        let rest = rest.to_vec(alloc)?;
-        let value = copy_of(origin)?;
-        rows.push((rest, value))?;
+        push_row(alloc, &mut rows, rest, origin)?;
     }
     Ok(rows)
+}
+
+/// Appends a row of these labels, with a copy of what a key keeps. Costs their size.
+fn push_row(
+    alloc: Global,
+    rows: &mut Vec<Row>,
+    labels: &[Label],
+    origin: &Option<Origin>,
+) -> Result<(), AllocError>
+    ensures { OnOk result (shown rows.new.items ≡ shown rows.old.items ++ (labels.now, origin.now) ∷ []) }
+{
+    let key = labels.to_vec(alloc)?;
+    let value = copy_of(origin)?;
+    rows.push((key, value))?;
+    Ok(())
 }
 
 /// Makes room for a key; what is kept stays.
@@ -157,11 +170,27 @@ fn rows_under(alloc: Global, place: &[Label], rows: Vec<Row>) -> Result<Vec<Row>
     ensures { IfOk result (λ v. shown v.items ≡ entries_under place.now (shown rows.items)) }
 {
     let mut all = Vec::new(alloc);
-    for (rest, origin) in rows {
-        let key = both(alloc, place, rest.as_slice())?;
-        all.push((key, origin))?;
+    for row in rows {
+        push_under(alloc, place, row, &mut all)?;
     }
     Ok(all)
+}
+
+/// Appends a row, with its place below a place.
+fn push_under(
+    alloc: Global,
+    place: &[Label],
+    row: Row,
+    all: &mut Vec<Row>,
+) -> Result<(), AllocError>
+    ensures { OnOk result (shown all.new.items ≡ shown all.old.items ++ (place.now ++ row.0.items, row.1) ∷ []) }
+{
+    let (rest, origin) = row;
+    let made = both(alloc, place, rest.as_slice());
+    drop(rest);
+    let key = made?;
+    all.push((key, origin))?;
+    Ok(())
 }
 
 /// Appends blank rows for what is there now below a place. After an error some of them are there.
@@ -244,10 +273,18 @@ pub(crate) fn keys_below(
         if rest_of(key.as_slice(), place).is_none() {
             break;
         }
-        let key = key.as_slice().to_vec(alloc)?;
-        keys.push(key)?;
+        push_key(alloc, &mut keys, key.as_slice())?;
     }
     Ok(keys)
+}
+
+/// Appends a copy of a key. Costs its bytes.
+fn push_key(alloc: Global, keys: &mut Vec<Vec<Label>>, key: &[Label]) -> Result<(), AllocError>
+    ensures { OnOk result (paths keys.new.items ≡ paths keys.old.items ++ key.now ∷ []) }
+{
+    let key = key.to_vec(alloc)?;
+    keys.push(key)?;
+    Ok(())
 }
 
 /// Gives up what is kept at these keys. Costs a logarithm of those kept for each.

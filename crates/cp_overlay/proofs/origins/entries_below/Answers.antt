@@ -14,10 +14,9 @@ loop-key-init c =
 pub loop-key-preserved : goal.loop-key-preserved
 loop-key-preserved c = record {
   whole =
-      ap (λ es. shown es ++ run c.args.place.now c.next.new.self) c.in_ok-push.ensures.items
-      ∙ ap (λ v. shown (c.loop-key.rows.items ++ (c.in_ok-rest.rest, v) ∷ []) ++ run c.args.place.now c.next.new.self) c.in_ok-value.ensures
-      ∙ turned c.args.place.now c.loop-key.rows.items c.in-Some.key.now c.in-Some.origin.now c.next.new.self c.loop-key.key-iterator c.in_ok-rest.rest c.in-Some-rest_of.rest.now c.in-Some.ensures.steps
-      (c.in-Some-rest_of.ensures ∙ ap (strip c.args.place.now) c.as_slice.ensures.value) (c.in_ok-rest.ensures.items_if_clones_equal (λ x y h. h))
+      ap (λ rs. rs ++ run c.args.place.now c.next.new.self) c.in_ok-push_row.ensures
+      ∙ turned c.args.place.now (shown c.loop-key.rows.items) c.in-Some.key.now c.in-Some.origin.now c.next.new.self c.loop-key.key-iterator c.in-Some-rest_of.rest.now c.in-Some.ensures.steps
+      (c.in-Some-rest_of.ensures ∙ ap (strip c.args.place.now) c.as_slice.ensures.value)
       ∙ c.loop-key.invariant.whole;
   from = rest_from c.args.place.now c.in-Some.key.now c.in-Some.origin.now c.next.new.self c.loop-key.key-iterator c.in-Some.ensures.steps c.loop-key.invariant.from;
   rises = rest_rises c.in-Some.key.now c.in-Some.origin.now c.next.new.self c.loop-key.key-iterator c.in-Some.ensures.steps c.loop-key.invariant.rises;

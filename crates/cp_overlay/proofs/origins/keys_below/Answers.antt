@@ -1,4 +1,4 @@
-use Rattle.std.proofs.Common.{◌≡◌, true, sym, ap, ◌∙◌, ◌++◌, not}
+use Rattle.std.proofs.Common.{◌≡◌, true, sym, ap, ◌∙◌, ◌++◌, ◌∷◌, [], not}
 use Rattle.std.specs.Prelude.{is_some}
 use Rattle.cp_model.specs.Place.{strip}
 use Rattle.cp_overlay.specs.Shown.{paths, paths_under, run}
@@ -21,8 +21,8 @@ loop-key-preserved c =
     let inside : is_some (strip q k.items) ≡ true = ap (λ l. is_some (strip q l)) (sym c.as_slice.ensures.value) ∙ some_copied c.rest_of.result (strip q c.as_slice.result.now) c.is_none.result c.rest_of.ensures c.is_none.ensures ∙ ap not c.if-is_none.false in
     record {
       whole =
-          ap (λ ks. paths ks ++ paths_under q (run q c.next.new.self)) c.in_ok-push.ensures.items
-          ∙ key_turned q c.loop-key.keys.items k c.in_ok-key.key o c.next.new.self c.loop-key.key-iterator c.in-Some.ensures.steps inside (c.in_ok-key.ensures.items_if_clones_equal (λ x y h. h) ∙ c.as_slice-in-loop-key.ensures.value)
+          ap (λ ks. ks ++ paths_under q (run q c.next.new.self)) (c.in_ok-push_key.ensures ∙ ap (λ k. paths c.loop-key.keys.items ++ k ∷ []) c.as_slice-in-loop-key.ensures.value)
+          ∙ key_turned q (paths c.loop-key.keys.items) k o c.next.new.self c.loop-key.key-iterator c.in-Some.ensures.steps inside
           ∙ c.loop-key.invariant.whole;
       from = rest_from q k o c.next.new.self c.loop-key.key-iterator c.in-Some.ensures.steps c.loop-key.invariant.from;
       rises = rest_rises k o c.next.new.self c.loop-key.key-iterator c.in-Some.ensures.steps c.loop-key.invariant.rises;
