@@ -98,11 +98,20 @@ impl<R: TreeRep, S: TreeRep> HistoryWalk<R, S> {
         ensures nothing { AreFirst result.findings }
         ensures sort { is_log result.findings ≡ wants_log wanted }
     {
+        let Committed {
+            tree,
+            sources,
+            store,
+            ..
+        } = first;
+        let kind = store.kind();
+        let last = store.upto();
+        drop(store);
         HistoryWalk {
-            kind: first.store.kind(),
-            last: first.store.upto(),
-            tree: first.tree,
-            sources: first.sources,
+            tree,
+            sources,
+            kind,
+            last,
             findings: Findings::none(alloc, wanted),
         }
     }
@@ -122,8 +131,15 @@ impl<R: TreeRep, S: TreeRep> HistoryWalk<R, S> {
         ensures sort { OnOk result (is_log self.new.findings ≡ is_log self.old.findings) }
     {
         match entry {
-            Entry::Start { .. } => Ok(false),
-            Entry::Load { name, tree } => load_source(alloc, &mut self.sources, name, &tree),
+            Entry::Start { tree, .. } => {
+                drop(tree);
+                Ok(false)
+            }
+            Entry::Load { name, tree } => {
+                let loaded = load_source(alloc, &mut self.sources, name, &tree);
+                drop(tree);
+                loaded
+            }
             Entry::Commit { ops, records } => {
                 let stamp = no_stamp(alloc)?;
                 let commit = CommitAt {
@@ -273,6 +289,21 @@ impl<R: TreeRep, S: TreeRep> HistoryWalk<R, S> {
         self.add_entry(alloc, body, frame.at, version)
     }
 
+    /// What was found.
+    fn into_findings(self) -> Findings
+        ensures { result ≡ self.findings }
+    {
+        let HistoryWalk {
+            tree,
+            sources,
+            findings,
+            ..
+        } = self;
+        drop(tree);
+        drop(sources);
+        findings
+    }
+
     /// The walk over all frames.
     pub(crate) fn over_all<D: Disk>(
         alloc: Global,
@@ -325,5 +356,5 @@ pub(crate) fn findings_in<R: TreeRep, S: TreeRep, D: Disk>(
         drop(walk);
         return Err(OpenFault::NoStore(at));
     }
-    Ok(walk.findings)
+    Ok(walk.into_findings())
 }

@@ -48,7 +48,8 @@ returns-clause-found g c = λ known.
     let whole : j.broken ≡ None = sym c.broken.ensures ∙ c.in_default-broken.is in
     let tells = subst (λ (n : ℕ). TellsPassedAs view source_view HEADER_SIZE n frames (Ok c.in_ok-walk.walk)) same
     (c.in_ok-walk.ensures.passed known HEADER_SIZE frames (lists_after u v w x uv vw wx j walked)) in
-    finds view source_view u.content c.in_ok-header.header header.0 header.1 j c.in_ok-walk.walk (sym c.open_slot.ensures ∙ c.in_default.is) whole (walked_first u v w x uv vw wx j walked) tells
+    subst (λ found. FindsAs u.content (Ok found)) (sym c.into_findings.ensures)
+    (finds view source_view u.content c.in_ok-header.header header.0 header.1 j c.in_ok-walk.walk (sym c.open_slot.ensures ∙ c.in_default.is) whole (walked_first u v w x uv vw wx j walked) tells)
 
 pub returns-clause-rests : goal.returns-clause-rests
 returns-clause-rests g c = λ known.
