@@ -1,10 +1,9 @@
 -- The end of a transaction.
 use Rattle.cp_model.specs.declared.limits.TheConstants.{ENTRY_MAX}
-use Rattle.std.specs.Prelude.{ℕ, ◌+◌, ◌≤◌, ◌<◌, ◌≡◌, List, length, Ok, Err}
-use Rattle.std.proofs.Common.{sym, ap, ◌∙◌, arith}
+use Rattle.std.specs.Prelude.{ℕ, ◌+◌, ◌≤◌, ◌<◌, ◌≡◌, ◌⊎◌, List, length, Ok, Err, refl}
+use Rattle.std.proofs.Common.{sym, ap, subst, ◌∙◌, arith, inl, inr}
 use Rattle.std.specs.declared.option.Option.TheVariants.{Some}
 use Rattle.cp_model.specs.Tree.{Tree, Source}
-use Rattle.cp_model.specs.History.{steps_of}
 use Rattle.cp_model.specs.declared.kind.Kind.{Kind}
 use Rattle.cp_model.specs.declared.op.Op.{Op}
 use Rattle.cp_model.specs.declared.record.Record.{Record}
@@ -12,12 +11,39 @@ use Rattle.cp_record.specs.Bytes.{records_bytes, commit_length}
 use Rattle.cp_overlay.specs.Seen.{seen}
 use Rattle.cp_operation.specs.Passed.{records_of}
 use Rattle.cp_engine.specs.Transactions.{Progress, going, failed, IsGoing, Stands, Packs, PacksNothing, AreGivenUp, Finishes}
+use Rattle.cp_model.specs.Step.{Working, contents}
+use Rattle.cp_model.specs.History.{steps_of, with_tid, rows_of}
+use Rattle.cp_model.specs.declared.kind.Kind.TheVariants as kind
+use Rattle.cp_overlay.specs.Kept.{Kept}
+use Rattle.cp_overlay.specs.Kept as overlay
+use Rattle.cp_engine.specs.declared.kept.StepRecords.{StepRecords}
+use Rattle.cp_engine.specs.declared.kept.StepRecords.TheVariants.{Held}
 use Rattle.cp_engine.specs.declared.state.Failure.{Failure}
 use Rattle.cp_engine.specs.declared.txn.Txn.{Txn}
-use Rattle.cp_engine.specs.declared.txn.Step.{Step}
 use Rattle.cp_engine.specs.declared.fault.FinishFault.{FinishFault}
 use Rattle.cp_engine.specs.declared.fault.FinishFault.TheVariants.{Empty, Failed, TooLarge, Memory}
 use Rattle.cp_engine.proofs.Going.{packed-going, large-going}
+
+module _ (k : Kind) (rows : StepRecords) (o : Kept) (a t : Tree) (n : ℕ) where
+  -- the records of the steps are packed in the kinds n and h
+  pub packs-held : (rs : List Record) → ((k ≡ kind.N) ⊎ (k ≡ kind.H)) → rows ≡ Held rs → Packs k rows o a t n rs
+  packs-held rs (inl e) h = subst (λ k. Packs k rows o a t n rs) (sym e) h
+  packs-held rs (inr e) h = subst (λ k. Packs k rows o a t n rs) (sym e) h
+
+  -- and those of the net effect in the others
+  pub packs-net : (rs : List Record) → ((k ≡ kind.T) ⊎ (k ≡ kind.HT)) → ((w : Working) → overlay.IsWorking w → overlay.Stands o a w → contents w ≡ t → rs ≡ with_tid n (rows_of k a w)) → Packs k rows o a t n rs
+  packs-net rs (inl e) h = subst (λ k. Packs k rows o a t n rs) (sym e) (λ w i s c. h w i s c ∙ ap (λ k. with_tid n (rows_of k a w)) e)
+  packs-net rs (inr e) h = subst (λ k. Packs k rows o a t n rs) (sym e) (λ w i s c. h w i s c ∙ ap (λ k. with_tid n (rows_of k a w)) e)
+
+  -- what is packed is within the limit
+  pub packed-within : (ops : List Op) (limit : ℕ) (qs rs : List Record) → Packs k rows o a t n qs → (rs ≡ qs) × (commit_length ops qs ≤ limit) → Packs k rows o a t n rs × (commit_length ops rs ≤ limit)
+  packed-within ops limit qs rs p q = subst (λ rs. Packs k rows o a t n rs × (commit_length ops rs ≤ limit)) (sym q.0) (p, q.1)
+
+  -- or over it, where memory doesn't run out
+  pub packed-over : (ops : List Op) (limit : ℕ) (qs : List Record) (e : FinishFault) → Packs k rows o a t n qs → ((e ≡ Memory) ⊎ ((e ≡ TooLarge) × (limit < commit_length ops qs))) →
+      PacksNothing k rows e ⊎ ((e ≡ TooLarge) × (rs : List Record) × Packs k rows o a t n rs × (limit < commit_length ops rs))
+  packed-over ops limit qs e p (inl m) = inl (subst (PacksNothing k rows) (sym m) tt)
+  packed-over ops limit qs e p (inr z) = inr (z.0, qs, p, z.1)
 
 -- what is packed of a transaction that hasn't failed and holds some operations, with the bytes of the commit
 pub record IsPacked {R : Type 0} (view : R → Tree) (x : Txn R) (tid size : ℕ) (rs : List Record) : Type 0 where
@@ -64,17 +90,27 @@ module _ {R : Type 0} (view : R → Tree) (x : Txn R) (tid size : ℕ) (rs : Lis
   finishes-large (failed j c) limit l g = h.sound _ g.failure
 
   -- one within it makes its step
-  pub finishes-step : (p : Progress) (limit : ℕ) (st : Step R) → size ≤ limit → st.ops ≡ x.ops → view st.tree ≡ view x.tree → st.rows ≡ rs → ((ops : List Op) → length ops ≡ length x.ops → st.tids ≡ length (steps_of x.kind ops)) →
-      Stands view x k ss t n p → Finishes view k ss t n p limit (Ok st)
-  finishes-step (going ops) limit st l o e r i g =
+  pub finishes-step : (p : Progress) (limit : ℕ) → size ≤ limit → Stands view x k ss t n p →
+      Finishes view k ss t n p limit (Ok (record { ops = x.ops; tree = x.tree; rows = rs; tids = length (steps_of x.kind x.ops) }))
+  finishes-step (going ops) limit l g =
       let bytes = size_is ops g in
       let some = h.some in
       record {
         some = omega (arith, some, ap length g.held);
-        held = o ∙ g.held;
-        tree = e ∙ g.tree;
-        rows = r ∙ packed-going view ss x k t n tid ops rs h.first g h.packs;
-        tids = i ops (sym (ap length g.held)) ∙ ap (λ d. length (steps_of d ops)) g.kind;
+        held = g.held;
+        tree = g.tree;
+        rows = packed-going view ss x k t n tid ops rs h.first g h.packs;
+        tids = ap (λ os. length (steps_of x.kind os)) g.held ∙ ap (λ d. length (steps_of d ops)) g.kind;
         small = omega (arith, l, bytes);
       }
-  finishes-step (failed j c) limit st l o e r i g = h.sound _ g.failure
+  finishes-step (failed j c) limit l g = h.sound _ g.failure
+
+module _ {R : Type 0} (view : R → Tree) (x : Txn R) (tid : ℕ) (sound : (f : Failure) → x.failure ≡ Some f → ⊥) (some : 1 ≤ length x.ops) (first : tid ≡ x.first + 0) (k : Kind) (ss : List Source) (t : Tree) (n : ℕ) where
+  -- it makes nothing where nothing is packed, or what is packed is over the limit
+  pub finishes-not : (e : FinishFault) (p : Progress) (limit : ℕ) → limit ≤ ENTRY_MAX →
+      (PacksNothing x.kind x.rows e ⊎ ((e ≡ TooLarge) × (rs : List Record) × Packs x.kind x.rows (seen x.overlay) (view x.start) (view x.tree) tid rs × (limit < commit_length x.ops rs))) →
+      Stands view x k ss t n p → Finishes view k ss t n p limit (Err e)
+  finishes-not e p limit l (inl u) h = finishes-unpacked view x k ss t n e (record { sound = sound; some = some; nothing = u }) p limit l h
+  finishes-not e p limit l (inr z) h =
+      let packed : IsPacked view x tid (commit_length x.ops z.1) z.1 = record { sound = sound; some = some; first = first; packs = z.2; bytes = refl } in
+      subst (λ e. Finishes view k ss t n p limit (Err e)) (sym z.0) (finishes-large view x tid (commit_length x.ops z.1) z.1 packed k ss t n p limit z.3 h)

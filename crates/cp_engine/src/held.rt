@@ -91,17 +91,15 @@ impl HeldOps {
         ensures ok { OnOk result (self.new ≡ self.old ++ op ∷ []) }
         ensures err { OnErr result (self.new ≡ self.old) }
     {
-        match self.list.push(op) {
-            Ok(()) => Ok(()),
-            Err(_) => Err(AllocError),
-        }
+        self.list.push(op)?;
+        Ok(())
     }
 
     /// Gives up the last operation.
     pub(crate) fn pop(&mut self)
         ensures { (ops : List Op) (op : Op) → self.old ≡ ops ++ op ∷ [] → self.new ≡ ops }
     {
-        self.list.pop();
+        drop(self.list.pop());
     }
 
     /// The bytes of the operations in a commit. Costs their places.

@@ -1,4 +1,4 @@
-ghost use Rattle.std.specs.Prelude.{◌≡◌, ◌==◌, ◌≤◌, ◌<◌, ◌+◌, ◌^◌, ℕ, List, [], ◌∷◌, ◌++◌, length, if◌then◌else◌, IfOk, IfErr, OnOk, OnErr};
+ghost use Rattle.std.specs.Prelude.{◌≡◌, ◌==◌, ◌≤◌, ◌<◌, ◌+◌, ◌^◌, ◌⊎◌, ℕ, List, Ok, Err, [], ◌∷◌, ◌++◌, length, if◌then◌else◌, IfOk, IfErr, OnOk, OnErr};
 ghost use Rattle.std.specs.declared.option.Option.TheVariants.{None, Some};
 ghost use Rattle.cp_model.specs.Laws.{AreSources};
 ghost use Rattle.cp_model.specs.Tree.{Tree, Source, refusal, tree_after};
@@ -7,6 +7,8 @@ ghost use Rattle.cp_model.specs.declared.kind.Kind.{Kind as KindValue};
 ghost use Rattle.cp_model.specs.declared.op.Op.{Op};
 ghost use Rattle.cp_model.specs.declared.refusal.Cause.{Cause};
 ghost use Rattle.cp_model.specs.declared.refusal.Refusal.TheVariants.{TooManyOps};
+ghost use Rattle.cp_model.specs.declared.record.Record.{Record};
+ghost use Rattle.cp_engine.specs.declared.fault.FinishFault.TheVariants.{TooLarge, Memory};
 ghost use Rattle.cp_record.specs.Bytes.{commit_length};
 ghost use Rattle.cp_overlay.specs.Seen.{seen};
 ghost use Rattle.cp_operation.specs.Loaded.{sources_in};
@@ -207,6 +209,23 @@ impl<R: TreeRep> Txn<R> {
         requires within { limit ≤ ENTRY_MAX }
         ensures { (k : KindValue) (ss : List Source) (t : Tree) (n : ℕ) (p : Progress) → Stands R.contents self k ss t n p → Finishes R.contents k ss t n p limit result }
     {
+        match self.packed(alloc, limit) {
+            Ok(rows) => Ok(self.into_step(rows)),
+            Err(fault) => {
+                drop(self);
+                Err(fault)
+            }
+        }
+    }
+
+    /// The records of the step that the transaction makes, if it makes one, whose bytes in a commit are at most `limit`.
+    fn packed(&self, alloc: Global, limit: u64) -> Result<RecordList, FinishFault>
+        requires within { limit ≤ ENTRY_MAX }
+        ensures step { (k : KindValue) (ss : List Source) (t : Tree) (n : ℕ) (p : Progress) → Stands R.contents self.now k ss t n p
+            → IfOk result (λ rs. Finishes R.contents k ss t n p limit (Ok (record { ops = self.now.ops; tree = self.now.tree; rows = rs; tids = length (steps_of self.now.kind self.now.ops) }))) }
+        ensures nothing { (k : KindValue) (ss : List Source) (t : Tree) (n : ℕ) (p : Progress) → Stands R.contents self.now k ss t n p
+            → IfErr result (λ e. Finishes R.contents k ss t n p limit (Err e)) }
+    {
         if let Some(failure) = self.failure {
             return Err(FinishFault::Failed(failure.number, failure.cause));
         }
@@ -214,26 +233,53 @@ impl<R: TreeRep> Txn<R> {
             return Err(FinishFault::Empty);
         }
         let first = self.first.after(0);
-        let rows = pack(
-            alloc,
-            self.kind,
-            self.rows,
-            &self.overlay,
-            &self.start,
-            &self.tree,
-            first,
-        )?;
-        if commit_length(&self.ops, &rows) > limit {
-            return Err(FinishFault::TooLarge);
+        self.pack(alloc, first, limit)
+    }
+
+    /// The records of a commit, whose first step has the Tid `first`: those of the steps, unless they were given up, or those
+    /// of the overlay's net effect between the two trees.
+    fn pack(&self, alloc: Global, first: u64, limit: u64) -> Result<RecordList, FinishFault>
+        ensures packed { IfOk result (λ rs. Packs self.now.kind self.now.rows (seen self.now.overlay) (R.contents self.now.start) (R.contents self.now.tree) first rs
+            × (commit_length self.now.ops rs ≤ limit)) }
+        ensures nothing { IfErr result (λ e. PacksNothing self.now.kind self.now.rows e ⊎ ((e ≡ TooLarge) × (rs : List Record)
+            × Packs self.now.kind self.now.rows (seen self.now.overlay) (R.contents self.now.start) (R.contents self.now.tree) first rs × (limit < commit_length self.now.ops rs))) }
+    {
+        match self.kind {
+            Kind::N | Kind::H => match &self.rows {
+                StepRecords::Held(held) => records_within(alloc, &self.ops, held, limit),
+                StepRecords::GivenUp => Err(FinishFault::TooLarge),
+            },
+            Kind::T | Kind::HT => {
+                let net = self
+                    .overlay
+                    .net(alloc, &self.start, &self.tree, self.kind, first)?;
+                records_within(alloc, &self.ops, &net, limit)
+            }
         }
-        let rows = rows.records(alloc)?;
+    }
+
+    /// What the transaction makes, with these records.
+    fn into_step(self, rows: RecordList) -> Step<R>
+        ensures { result ≡ record { ops = self.ops; tree = self.tree; rows = rows; tids = length (steps_of self.kind self.ops) } }
+    {
         let tids = steps_of(self.kind, self.ops.len());
-        Ok(Step {
-            ops: self.ops.into_list(),
-            tree: self.tree,
+        let Txn {
+            start,
+            tree,
+            ops,
+            rows: kept,
+            overlay,
+            ..
+        } = self;
+        drop(start);
+        drop(kept);
+        drop(overlay);
+        Step {
+            ops: ops.into_list(),
+            tree,
             rows,
             tids,
-        })
+        }
     }
 
     /// Gives the transaction up, and says how many accepted operations it held.
@@ -247,29 +293,20 @@ impl<R: TreeRep> Txn<R> {
     }
 }
 
-/// The records of a commit, whose first step has the Tid `first`: those of the steps, unless they were given up, or those
-/// of the overlay's net effect between the two trees.
-fn pack<R: TreeRep>(
+/// The records that are packed, if their commit with these operations has at most `limit` bytes. Costs the places of both.
+fn records_within(
     alloc: Global,
-    kind: Kind,
-    rows: StepRecords,
-    overlay: &Overlay,
-    start: &R,
-    tree: &R,
-    first: u64,
-) -> Result<PackedRecords, FinishFault>
-    ensures ok { IfOk result (λ rs. Packs kind rows (seen overlay.now) (R.contents start.now) (R.contents tree.now) first rs) }
-    ensures err { IfErr result (PacksNothing kind rows) }
+    ops: &HeldOps,
+    rows: &PackedRecords,
+    limit: u64,
+) -> Result<RecordList, FinishFault>
+    ensures within { IfOk result (λ rs. (rs ≡ rows.now) × (commit_length ops.now rows.now ≤ limit)) }
+    ensures over { IfErr result (λ e. (e ≡ Memory) ⊎ ((e ≡ TooLarge) × (limit < commit_length ops.now rows.now))) }
 {
-    match kind {
-        Kind::N | Kind::H => {
-            match rows {
-                StepRecords::Held(held) => Ok(held),
-                StepRecords::GivenUp => Err(FinishFault::TooLarge),
-            }
-        }
-        Kind::T | Kind::HT => Ok(overlay.net(alloc, start, tree, kind, first)?),
+    if commit_length(ops, rows) > limit {
+        return Err(FinishFault::TooLarge);
     }
+    Ok(rows.records(alloc)?)
 }
 
 /// The bytes of the commit. Costs the places of its operations.
