@@ -1,11 +1,16 @@
 -- The two writes of a frame, one behind the other.
-use Rattle.std.proofs.Common.{◌≡◌, ◌≤◌, ◌+◌, inl, ℕ, List, [], ◌∷◌, length, ◌∙◌, ap, subst, arith}
+use Rattle.std.proofs.Common.{◌≡◌, ◌≤◌, ◌+◌, inl, ℕ, List, [], ◌∷◌, length, ◌∙◌, ap, subst, arith, Result, Ok, Err, OnOk}
 use Rattle.cp_disk.specs.Views.{View, Only, Steps, Keeps}
 use Rattle.cp_disk.specs.Writes.{Torn, with_bytes}
 use Rattle.cp_disk.proofs.Composing.{keeps_none, keeps_steps}
 use Rattle.cp_journal.specs.Frames.{Frame, after_gate, spelled}
 use Rattle.cp_journal.specs.Holding.{IsLawful, IsAtRest, IsAdded, IsBeforeOrAfter}
 use Rattle.cp_journal.proofs.Adding.{now_before, torn_behind, staged, torn_gate, is_added, length-staged}
+
+-- what follows from two facts of a call that succeeds
+pub of_success : {T E P Q R : Type 0} (result : Result T E) → (P → Q → R) → OnOk result P → OnOk result Q → OnOk result R
+of_success (Ok v) follows p q = follows p q
+of_success (Err e) follows p q = tt
 
 pub before_writes : (e : ℕ) (v : View) (f : Frame) (rest : IsAtRest e v) → Keeps (IsBeforeOrAfter e v.content f) v v
 before_writes e v f rest = keeps_none (IsBeforeOrAfter e v.content f) v (λ c im. inl (now_before e v rest c (rest.settled c im)))

@@ -3,7 +3,7 @@ use Rattle.std.proofs.Common.{◌≡◌, ◌≤◌, ◌+◌, ◌⊎◌, inl, inr
 use Rattle.std.proofs.lemmas.List.{take_at, drop_at, drop_more, drop-take, drop-append-le, get_or_at}
 use Rattle.std.proofs.lemmas.Bool.{cases_eq}
 use Rattle.cp_disk.specs.Calls.{Wrote}
-use Rattle.cp_disk.specs.Views.{View, Only, Rests, Steps, Keeps}
+use Rattle.cp_disk.specs.Views.{View, Only, IsDurable, Rests, Steps, Keeps}
 use Rattle.cp_disk.specs.Writes.{Torn, CutShort, with_bytes}
 use Rattle.cp_disk.specs.declared.disk.DiskFault.{DiskFault}
 use Rattle.cp_disk.proofs.Composing.{keeps_none, keeps_steps, keeps_rests, keeps_wider, keeps_then}
@@ -115,22 +115,23 @@ module _ (f : Frame) (ok : IsLawful f) where
     pub made_file : y.content ≡ with_bytes x.content 0 (1 ∷ []) → y.content ≡ new_file f
     made_file made = made ∙ ap (λ (l : List ℕ). 1 ∷ l) rest_x
 
-    making_holds : (next : ℕ) → next ≡ 192 + length (spelled f) → y.content ≡ with_bytes x.content 0 (1 ∷ []) → Only y.content y.images → Holds header (f ∷ []) next y
-    making_holds next size made only =
-        let front = header ++ spelled f in
-        let whole : y.content ≡ front ++ 0 ∷ [] = made ∙ ap (λ (l : List ℕ). 1 ∷ l) rest_x in
-        let len : length front ≡ next = omega (arith, size, length-append header (spelled f), header_long) in
-        let gate : get_or y.content next 0 ≡ 0 = ap (λ (l : List ℕ). get_or l next 0) whole ∙ get_or_at front 0 [] 0 next len in
-        record {
-          lawful = (ok, tt);
-          size = omega (arith, size, header_long, length-append (spelled f) []);
-          front = ap (take next) whole ∙ take_at front (0 ∷ []) next len ∙ ap (λ (l : List ℕ). header ++ l) (sym (append-nil (spelled f)));
-          at_rest = record {
-            inside = omega (arith, ap length whole, length-append front (0 ∷ []), len);
-            closed = λ one. let no : 0 ≡ 1 = sym gate ∙ one in absurd (omega (arith, no));
-            settled = λ c im. ap (take (next + 1)) (only c im);
-          };
-        }
+  -- a disk with the file of the store and nothing else holds the frame
+  new_file_holds : (y : View) → IsDurable (new_file f) y → (next : ℕ) → next ≡ 192 + length (spelled f) → Holds header (f ∷ []) next y
+  new_file_holds y durable next size =
+      let front = header ++ spelled f in
+      let whole : y.content ≡ front ++ 0 ∷ [] = durable.content in
+      let len : length front ≡ next = omega (arith, size, length-append header (spelled f), header_long) in
+      let gate : get_or y.content next 0 ≡ 0 = ap (λ (l : List ℕ). get_or l next 0) whole ∙ get_or_at front 0 [] 0 next len in
+      record {
+        lawful = (ok, tt);
+        size = omega (arith, size, header_long, length-append (spelled f) []);
+        front = ap (take next) whole ∙ take_at front (0 ∷ []) next len ∙ ap (λ (l : List ℕ). header ++ l) (sym (append-nil (spelled f)));
+        at_rest = record {
+          inside = omega (arith, ap length whole, length-append front (0 ∷ []), len);
+          closed = λ one. let no : 0 ≡ 1 = sym gate ∙ one in absurd (omega (arith, no));
+          settled = λ c im. ap (take (next + 1)) (durable.only c im ∙ sym whole);
+        };
+      }
 
-    pub making_describes : (j : JournalState) → j.next ≡ 192 + length (spelled f) → j.frames ≡ place 192 f.tag (length f.body) ∷ [] → y.content ≡ with_bytes x.content 0 (1 ∷ []) → Only y.content y.images → Describes header (f ∷ []) j y
-    making_describes j size listed made only = describes header (f ∷ []) j y (making_holds j.next size made only) listed
+  pub new_file_describes : (y : View) → IsDurable (new_file f) y → (j : JournalState) → j.next ≡ 192 + length (spelled f) → j.frames ≡ place 192 f.tag (length f.body) ∷ [] → Describes header (f ∷ []) j y
+  new_file_describes y durable j size listed = describes header (f ∷ []) j y (new_file_holds y durable j.next size) listed

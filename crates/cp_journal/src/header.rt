@@ -2,13 +2,14 @@
 ghost use Rattle.std.specs.Prelude.{◌≡◌, ◌≤◌, ◌⊎◌, ◌↔◌, ◌+◌, ◌==◌, if◌then◌else◌, IsTrue, IsErrOf, ℕ, length, take, None, Some, IfOk, OnOk, IfErr, MatchOption};
 ghost use Rattle.std.specs.Int.{w64, from_be_bytes};
 ghost use Rattle.cp_outside.specs.Causes.{Accounts};
+ghost use Rattle.cp_disk.specs.Counts.{Counted};
 ghost use Rattle.cp_disk.specs.Views.{Only, Rests};
 ghost use Rattle.cp_journal.specs.Headers.{slot_in as slot_of, header_in, IsSlot, IsFront, HasOwnNumbers, IsHeader, HasHeader};
 ghost use Rattle.cp_journal.specs.Journals.{IsDiskFault};
 
 use crate::fault::JournalFault;
 use crate::limits::{HEADER_SIZE, VERSION_AT};
-use cp_disk::Disk;
+use cp_disk::{Disk, DiskFault};
 
 /// An open slot: its number, and the offset of the gate of a checkpoint.
 #[derive(Clone, Copy, Debug, Drop, PartialEq, Eq)]
@@ -110,6 +111,24 @@ fn parse(bytes: &[u8; HEADER_SIZE]) -> Option<Header>
     None
 }
 
+// Waits until the file is on the disk, and reads its header, if it has one.
+fn look_up<D: Disk>(disk: &mut D) -> Result<Option<Header>, DiskFault>
+    ensures found { IsTrue D.is_known → IfOk result (λ o. MatchOption o (HasHeader (D.view disk.old).content → ⊥)
+        (λ h. HasHeader (D.view disk.old).content × (h ≡ header_in (take HEADER_SIZE (D.view disk.old).content)))) }
+    ensures durable { IsTrue D.is_known → OnOk result (Only (D.view disk.new).content (D.view disk.new).images) }
+    ensures rests { IsTrue D.is_known → Rests (D.view disk.old) (D.view disk.new) }
+    ensures cause { Counted (D.counts disk.old) (D.counts disk.new) result }
+    ensures reads { (D.counts disk.new).reads ≤ (D.counts disk.old).reads + 1 }
+{
+    disk.sync()?;
+    if disk.size()? < HEADER_SIZE as u64 {
+        return Ok(None);
+    }
+    let mut bytes = [0u8; HEADER_SIZE];
+    disk.read(0, &mut bytes)?;
+    Ok(parse(&bytes))
+}
+
 // Waits until the file is on the disk, and reads its header.
 pub(crate) fn read_header<D: Disk>(disk: &mut D) -> Result<Header, JournalFault>
     ensures header { IsTrue D.is_known → IfOk result (λ h. HasHeader (D.view disk.old).content
@@ -123,14 +142,7 @@ pub(crate) fn read_header<D: Disk>(disk: &mut D) -> Result<Header, JournalFault>
     ensures cause { Accounts IsDiskFault (D.counts disk.old).faults (D.counts disk.new).faults result }
     ensures reads { (D.counts disk.new).reads ≤ (D.counts disk.old).reads + 1 }
 {
-    disk.sync()?;
-    let size = disk.size()?;
-    if size < HEADER_SIZE as u64 {
-        return Err(JournalFault::NoStore(0));
-    }
-    let mut bytes = [0u8; HEADER_SIZE];
-    disk.read(0, &mut bytes)?;
-    match parse(&bytes) {
+    match look_up(disk)? {
         Some(header) => Ok(header),
         None => Err(JournalFault::NoStore(0)),
     }

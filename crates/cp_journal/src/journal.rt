@@ -3,7 +3,7 @@ ghost use Rattle.std.specs.Prelude.{◌≡◌, ◌≤◌, ◌<◌, ◌⊎◌, �
 ghost use Rattle.std.specs.List.{slice_get};
 ghost use Rattle.cp_outside.specs.Causes.{Accounts, Rose};
 ghost use Rattle.cp_disk.specs.Views.{Only, IsDurable, Rests, Steps, Keeps};
-ghost use Rattle.cp_journal.specs.Frames.{Frame, entry, frames_of};
+ghost use Rattle.cp_journal.specs.Frames.{Frame, entry, frames_of, after_gate};
 ghost use Rattle.cp_journal.specs.Holding.{HasFrames, IsAtRest, IsAdded, IsBeforeOrAfter, IsLawful, Holds, StandsWithOrWithout};
 ghost use Rattle.cp_journal.specs.Journals.{Lists, entry_body, HasWalked, Describes, IsDiskFault};
 ghost use Rattle.cp_journal.specs.Headers.{HasHeader, header_in};
@@ -12,16 +12,16 @@ ghost use Rattle.cp_journal.specs.Upgrading.{upgraded, HasOtherVersion, SaysHead
 ghost use Rattle.cp_journal.specs.declared.frame.FrameAt.{FrameAt as frame_at};
 ghost use Rattle.cp_journal.specs.declared.header.Header.{Header as header_state};
 
-use crate::calls::put;
+use crate::calls::{put, put_frame};
 use crate::fault::JournalFault;
 use crate::frame::{ENTRY, FrameAt, bytes_after_gate};
 use crate::header::{Header, read_header};
 use crate::limits::{BODY_MAX, FRAME_HEAD, HEADER_SIZE, VERSION_AT};
-use crate::new_store::{file_bytes, fill, is_vacant, settle};
+use crate::new_store::{file_bytes, is_vacant, put_store};
 use crate::reading::read_range;
 use crate::walk::{kept_gate, walk_frames};
 use cp_disk::{DISK_MAX, Disk, READ_MAX};
-use std::alloc::Global;
+use std::alloc::{AllocError, Global};
 use std::marker::Model;
 
 /// Where the frames of a file stand. It keeps numbers alone: each call takes the disk on which the journal was made.
@@ -83,17 +83,28 @@ impl Journal {
         ensures memory { IsErrOf result JournalFault.Memory
             → (disk.new ≡ disk.old) ⊎ Rose (D.counts disk.old).wants (D.counts disk.new).wants }
     {
-        let len = body.len() as u64;
         let bytes = file_bytes(alloc, body)?;
+        let journal = Journal::of_one(alloc, body.len() as u64)?;
+        put_store(disk, &bytes)?;
+        Ok(journal)
+    }
+
+    // The journal of a new store, whose one frame is an entry with so long a body.
+    fn of_one(alloc: Global, len: u64) -> Result<Journal, AllocError>
+        requires { len ≤ BODY_MAX }
+        ensures { IfOk result (λ j. j ≡ record {
+          frames = record { at = HEADER_SIZE; tag = ENTRY; len = len } ∷ [];
+          next = HEADER_SIZE + FRAME_HEAD + len;
+          broken = None;
+          spent = false;
+        }) }
+    {
         let mut frames = Vec::new(alloc);
         frames.push(FrameAt {
             at: HEADER_SIZE as u64,
             tag: ENTRY,
             len,
         })?;
-        let settled = settle(disk)?;
-        fill(disk, settled.start, settled.size, &bytes)?;
-        put(disk, 0, &[1])?;
         Ok(Journal {
             frames,
             next: HEADER_SIZE as u64 + FRAME_HEAD + len,
@@ -315,6 +326,24 @@ impl Journal {
         }
     }
 
+    // Lists the frame that comes next, and gives what is written after its gate.
+    fn list_frame(&mut self, alloc: Global, tag: u8, body: &[u8]) -> Result<Vec<u8>, AllocError>
+        requires room { self.old.next + length body.now + FRAME_HEAD ≤ DISK_MAX }
+        ensures bytes { IfOk result (λ v. v.items ≡ after_gate (record { tag = tag; body = body.now })) }
+        ensures frames { OnOk result (self.new.frames ≡
+            self.old.frames ++ record { at = self.old.next; tag = tag; len = length body.now } ∷ []) }
+        ensures same { (self.new.next ≡ self.old.next) × (self.new.broken ≡ self.old.broken)
+            × (self.new.spent ≡ self.old.spent) }
+    {
+        let bytes = bytes_after_gate(alloc, tag, body)?;
+        self.frames.push(FrameAt {
+            at: self.next,
+            tag,
+            len: body.len() as u64,
+        })?;
+        Ok(bytes)
+    }
+
     // Takes its memory, writes the frame after its closed gate, and opens the gate.
     fn write_frame<D: Disk>(
         &mut self,
@@ -343,12 +372,9 @@ impl Journal {
         ensures reads { (D.counts disk.new).reads ≡ (D.counts disk.old).reads }
     {
         let at = self.next;
-        let len = body.len() as u64;
-        let bytes = bytes_after_gate(alloc, tag, body)?;
-        self.frames.push(FrameAt { at, tag, len })?;
-        put(disk, at + 1, &bytes)?;
-        put(disk, at, &[1])?;
-        self.next = at + len + FRAME_HEAD;
+        let bytes = self.list_frame(alloc, tag, body)?;
+        put_frame(disk, at, &bytes)?;
+        self.next = at + body.len() as u64 + FRAME_HEAD;
         Ok(at)
     }
 }

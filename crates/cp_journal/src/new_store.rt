@@ -1,10 +1,11 @@
 //! A new store in a file that is vacant.
 ghost use Rattle.std.specs.Prelude.{◌≡◌, ◌≤◌, ◌<◌, ◌⊎◌, ◌↔◌, ◌+◌, ◌++◌, [], ◌∷◌, List, ℕ, IsTrue, IsErrOf, length, take, drop, get_or, IfOk, OnOk};
 ghost use Rattle.cp_disk.specs.Counts.{Counted};
-ghost use Rattle.cp_disk.specs.Views.{Only, Rests, Steps, Keeps};
+ghost use Rattle.cp_disk.specs.Views.{Only, IsDurable, Rests, Steps, Keeps};
 ghost use Rattle.cp_disk.specs.Writes.{CutShort};
-ghost use Rattle.cp_journal.specs.Frames.{entry};
-ghost use Rattle.cp_journal.specs.NewStores.{HasNoStore, IsVacant, StaysVacant, IsOldOrVacant, new_file};
+ghost use Rattle.cp_journal.specs.Frames.{Frame, entry};
+ghost use Rattle.cp_journal.specs.Holding.{IsLawful};
+ghost use Rattle.cp_journal.specs.NewStores.{HasNoStore, IsVacant, StaysVacant, IsOldOrVacant, IsOldOrVacantOrNew, new_file};
 
 use crate::calls::put;
 use crate::frame::{ENTRY, bytes_after_gate};
@@ -40,9 +41,9 @@ pub(crate) fn is_vacant<D: Disk>(disk: &mut D) -> Result<bool, DiskFault>
 
 // A vacant file that is on the disk: how many of its first bytes have to stay, and its size.
 #[derive(Clone, Copy, Drop)]
-pub(crate) struct Settled {
-    pub(crate) start: u64,
-    pub(crate) size: u64,
+struct Settled {
+    start: u64,
+    size: u64,
 }
 
 // How many of the first bytes of a vacant file keep it vacant, where this is its gate.
@@ -55,7 +56,7 @@ fn start_of(gate: u8) -> u64
 }
 
 // Waits until the file is on the disk, and gives one without a second byte its closed gate.
-pub(crate) fn settle<D: Disk>(disk: &mut D) -> Result<Settled, DiskFault>
+fn settle<D: Disk>(disk: &mut D) -> Result<Settled, DiskFault>
     requires { IsTrue D.is_known → IsVacant (D.view disk.old).content }
     ensures range { IfOk result (λ o. (1 ≤ o.start) × (o.start ≤ 6) × (o.size ≤ DISK_MAX)) }
     ensures vacant { IsTrue D.is_known → IfOk result (λ o. StaysVacant o.start (D.view disk.new).content
@@ -89,12 +90,7 @@ fn trim<D: Disk>(disk: &mut D, size: u64, len: u64) -> Result<(), DiskFault>
 }
 
 // Writes all bytes but the first `start`, cuts the file after them, and waits until it is on the disk.
-pub(crate) fn fill<D: Disk>(
-    disk: &mut D,
-    start: u64,
-    size: u64,
-    bytes: &[u8],
-) -> Result<(), DiskFault>
+fn fill<D: Disk>(disk: &mut D, start: u64, size: u64, bytes: &[u8]) -> Result<(), DiskFault>
     requires room { length bytes.now ≤ DISK_MAX }
     requires range { (start ≤ length bytes.now) × (size ≤ DISK_MAX) }
     requires vacant { IsTrue D.is_known → StaysVacant start (D.view disk.old).content
@@ -110,6 +106,22 @@ pub(crate) fn fill<D: Disk>(
     trim(disk, size.max(len), len)?;
     disk.sync()?;
     Ok(())
+}
+
+// Makes a vacant file one of these bytes, of which the gate is opened when all others are on the disk.
+pub(crate) fn put_store<D: Disk>(disk: &mut D, bytes: &[u8]) -> Result<(), DiskFault>
+    requires room { length bytes.now ≤ DISK_MAX }
+    requires long { 6 ≤ length bytes.now }
+    requires vacant { IsTrue D.is_known → IsVacant (D.view disk.old).content }
+    ensures durable { IsTrue D.is_known → (f : Frame) → IsLawful f → bytes.now ≡ new_file f
+        → OnOk result (IsDurable (new_file f) (D.view disk.new)) }
+    ensures crash { IsTrue D.is_known → (f : Frame) → IsLawful f → bytes.now ≡ new_file f
+        → Keeps (IsOldOrVacantOrNew (D.view disk.old) f) (D.view disk.old) (D.view disk.new) }
+    ensures cause { Counted (D.counts disk.old) (D.counts disk.new) result }
+{
+    let settled = settle(disk)?;
+    fill(disk, settled.start, settled.size, bytes)?;
+    put(disk, 0, &[1])
 }
 
 // All bytes of a new store: the header, the first frame and the closed gate after it.

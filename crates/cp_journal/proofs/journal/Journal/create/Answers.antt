@@ -1,39 +1,33 @@
-use Rattle.std.proofs.Common.{rules, ◌≡◌, ◌∙◌, arith}
+use Rattle.std.proofs.Common.{rules, arith, ap, ◌≡◌}
 use Rattle.cp_journal.specs.Frames.{entry}
-use Rattle.cp_journal.specs.NewStores.{new_file}
 use Rattle.cp_journal.specs.Holding.{IsLawful}
+use Rattle.cp_journal.specs.Journals.{JournalState}
+use Rattle.cp_journal.specs.NewStores.{new_file}
 use Rattle.cp_journal.proofs.Places.{length-spelled}
-use Rattle.cp_journal.proofs.NewStores.{making_crash, making_describes, made_file}
+use Rattle.cp_journal.proofs.NewStores.{new_file_describes}
 use Rattle.cp_journal.proofs.journal.Journal.create.Goals as goal
 
-pub returns-in_err-put-clause-crash : goal.returns-in_err-put-clause-crash
-returns-in_err-put-clause-crash g c = λ known.
+pub returns-in_err-put_store-clause-crash : goal.returns-in_err-put_store-clause-crash
+returns-in_err-put_store-clause-crash g c = λ known.
     let ok : IsLawful (entry c.args.body.now) = search rules in
-    let o = c.in_ok-settled.ensures.vacant known in
     let bytes : c.deref.result.now ≡ new_file (entry c.args.body.now) = search rules in
-    making_crash (entry c.args.body.now) ok (g.D.Disk.view c.args.disk.now) (g.D.Disk.view c.settle.new.disk) (g.D.Disk.view c.fill.new.disk) (g.D.Disk.view c.put.new.disk) _ o.0 (c.in_ok-fill.ensures.durable known) _ bytes (c.in_ok-fill.ensures.content known)
-    (c.settle.ensures.crash known) (c.fill.ensures.crash known) (c.put.ensures.crash known)
+    c.put_store.ensures.crash known _ ok bytes
 
 pub returns-clause-crash : goal.returns-clause-crash
 returns-clause-crash g c = λ known.
     let ok : IsLawful (entry c.args.body.now) = search rules in
-    let o = c.in_ok-settled.ensures.vacant known in
     let bytes : c.deref.result.now ≡ new_file (entry c.args.body.now) = search rules in
-    making_crash (entry c.args.body.now) ok (g.D.Disk.view c.args.disk.now) (g.D.Disk.view c.settle.new.disk) (g.D.Disk.view c.fill.new.disk) (g.D.Disk.view c.put.new.disk) _ o.0 (c.in_ok-fill.ensures.durable known) _ bytes (c.in_ok-fill.ensures.content known)
-    (c.settle.ensures.crash known) (c.fill.ensures.crash known) (c.put.ensures.crash known)
-
-pub returns-clause-described : goal.returns-clause-described
-returns-clause-described g c = λ known.
-    let ok : IsLawful (entry c.args.body.now) = search rules in
-    let o = c.in_ok-settled.ensures.vacant known in
-    let bytes : c.deref.result.now ≡ new_file (entry c.args.body.now) = search rules in
-    making_describes (entry c.args.body.now) ok (g.D.Disk.view c.args.disk.now) (g.D.Disk.view c.settle.new.disk) (g.D.Disk.view c.fill.new.disk) (g.D.Disk.view c.put.new.disk) _ o.0 (c.in_ok-fill.ensures.durable known) _ bytes (c.in_ok-fill.ensures.content known)
-    _ (omega (arith, length-spelled (entry c.args.body.now))) (search rules) (c.in_ok-put.ensures.content known) (c.in_ok-put.ensures.durable known)
+    c.put_store.ensures.crash known _ ok bytes
 
 pub returns-clause-durable : goal.returns-clause-durable
 returns-clause-durable g c = λ known.
     let ok : IsLawful (entry c.args.body.now) = search rules in
-    let o = c.in_ok-settled.ensures.vacant known in
     let bytes : c.deref.result.now ≡ new_file (entry c.args.body.now) = search rules in
-    let is = made_file (entry c.args.body.now) ok (g.D.Disk.view c.args.disk.now) (g.D.Disk.view c.settle.new.disk) (g.D.Disk.view c.fill.new.disk) (g.D.Disk.view c.put.new.disk) _ o.0 (c.in_ok-fill.ensures.durable known) _ bytes (c.in_ok-fill.ensures.content known) (c.in_ok-put.ensures.content known) in
-    record { content = is; only = λ left im. c.in_ok-put.ensures.durable known left im ∙ is }
+    c.in_ok-put_store.ensures.durable known _ ok bytes
+
+pub returns-clause-described : goal.returns-clause-described
+returns-clause-described g c = λ known.
+    let ok : IsLawful (entry c.args.body.now) = search rules in
+    let made = returns-clause-durable g c known in
+    let is = c.in_ok-journal.ensures in
+    new_file_describes (entry c.args.body.now) ok _ made _ (omega (arith, length-spelled (entry c.args.body.now), ap (λ (j : JournalState). j.next) is)) (ap (λ (j : JournalState). j.frames) is)
