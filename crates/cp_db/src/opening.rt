@@ -7,7 +7,8 @@ ghost use Rattle.cp_journal.specs.Frames.{Frame};
 ghost use Rattle.cp_journal.specs.Journals.{Lists};
 ghost use Rattle.cp_journal.specs.declared.frame.TheConstants.{ENTRY};
 ghost use Rattle.cp_file.specs.Items.{Item, IsOfVersion};
-ghost use Rattle.cp_frame.specs.Entries.{WrittenEntry, IsEntry};
+ghost use Rattle.cp_frame.specs.Entries.{WrittenEntry, IsEntry, entry_format};
+ghost use Rattle.cp_format.specs.Formats.{Reads};
 ghost use Rattle.cp_frame.specs.Sound.{IsSoundEntry};
 ghost use Rattle.cp_db.specs.Committed.{HasTaken};
 ghost use Rattle.cp_db.specs.Databases.{IsDatabase, IsReady, is_spent, version_in};
@@ -103,10 +104,26 @@ impl<R: TreeRep, S: TreeRep> Committed<R, S> {
         ensures taken { IfOk result (λ c. (i : Item) × HasTaken R.contents S.contents c (i ∷ [])) }
         ensures disk { IfErr result (λ e. e ≡ OpenFault.Disk → ⊥) }
     {
-        match entry_in(alloc, body, at)? {
+        let entry = entry_in(alloc, body, at)?;
+        let started = Committed::started_by(alloc, &entry, at);
+        drop(entry);
+        started
+    }
+
+    /// What this entry of the frame at this offset starts from, if it is a start.
+    fn started_by(alloc: Global, entry: &Entry, at: u64) -> Result<Committed<R, S>, OpenFault>
+        requires sound { IsSoundEntry entry.now }
+        requires spelled { (bytes : List ℕ) × (w : WrittenEntry) × IsEntry entry.now w × Reads entry_format bytes w [] }
+        ensures started { (version : ℕ) (f : Frame) (rest : List Frame) (w : WrittenEntry) → f.tag ≡ ENTRY
+            → IsEntry entry.now w → Reads entry_format f.body w []
+            → StartsAs R.contents S.contents version (f ∷ rest) result }
+        ensures taken { IfOk result (λ c. (i : Item) × HasTaken R.contents S.contents c (i ∷ [])) }
+        ensures disk { IfErr result (λ e. e ≡ OpenFault.Disk → ⊥) }
+    {
+        match entry {
             Entry::Start { kind, tree } => {
-                let tree = tree_of(alloc, &tree)?;
-                Ok(Committed::start(alloc, kind, tree)?)
+                let tree = tree_of(alloc, tree)?;
+                Ok(Committed::start(alloc, *kind, tree)?)
             }
             _ => Err(OpenFault::NoStore(at)),
         }

@@ -1,8 +1,11 @@
 //! The calls that write: a new store, one entry more, and the version of the file.
-ghost use Rattle.std.specs.Prelude.{◌≡◌, ◌+◌, ◌++◌, ◌∷◌, ◌⊎◌, ◌↔◌, [], true, false, Bool, IsTrue, IsErrOf, IsOk, List, ℕ, length, IfOk, OnOk};
+ghost use Rattle.std.specs.Prelude.{◌≡◌, ◌≤◌, ◌+◌, ◌++◌, ◌∷◌, ◌⊎◌, ◌↔◌, [], true, false, Bool, IsTrue, IsErrOf, IsOk, List, ℕ, length, IfOk, OnOk};
 ghost use Rattle.std.specs.declared.option.Option.TheVariants.{None};
 ghost use Rattle.cp_outside.specs.Causes.{Accounts, Rose};
-ghost use Rattle.cp_model.specs.History.{Entry as HistoryEntry, CanLoad, start, load, commit};
+ghost use Rattle.cp_model.specs.History.{Entry as HistoryEntry, State, CanLoad, IsLiteral, start, load, commit};
+ghost use Rattle.cp_model.specs.Keyed.{from_entries};
+ghost use Rattle.cp_model.specs.Literals.{literal_rows};
+ghost use Rattle.cp_model.specs.declared.literal.Literal.{Literal as LiteralValue};
 ghost use Rattle.cp_model.specs.declared.op.Op.{Op as OpValue};
 ghost use Rattle.cp_disk.specs.Views.{Keeps, Only, Rests};
 ghost use Rattle.cp_journal.specs.Frames.{Frame, entry};
@@ -10,6 +13,10 @@ ghost use Rattle.cp_journal.specs.Holding.{Holds, StandsWithOrWithout as HasFram
 ghost use Rattle.cp_journal.specs.Journals.{Describes};
 ghost use Rattle.cp_journal.specs.NewStores.{IsVacant};
 ghost use Rattle.cp_engine.specs.Transactions.{Progress, going};
+ghost use Rattle.cp_format.specs.Formats.{Reads};
+ghost use Rattle.cp_frame.specs.Entries.{WrittenEntry, IsEntry, entry_format};
+ghost use Rattle.cp_frame.specs.declared.entry.Entry.TheVariants.{Load as LoadEntry};
+ghost use Rattle.cp_file.specs.Items.{Tell};
 ghost use Rattle.cp_file.specs.Stands.{StandsFor, StandsWithOrWithout};
 ghost use Rattle.cp_file.specs.Sizes.{has_room, load_size, start_size};
 ghost use Rattle.cp_db.specs.Databases.{Stands, IsDatabase, IsReady, IsKept, HasCome, end_in, is_spent, version_in};
@@ -27,13 +34,47 @@ use cp_model::{Kind, Stamp};
 use cp_path::Name;
 use cp_store::ProvStore;
 use cp_tree::TreeRep;
-use std::alloc::Global;
+use std::alloc::{AllocError, Global};
 
 /// The most bytes of a commit without its stamp, which takes nine and those of the curator.
 fn commit_limit(stamp: &Stamp) -> u64
     ensures { result + 9 + length stamp.now.curator ≡ BODY_MAX }
 {
     BODY_MAX as u64 - 9 - stamp.curator.as_str().len() as u64
+}
+
+/// The bytes of the entry with which a store of a kind starts from this tree. Costs the tree.
+fn start_bytes<R: TreeRep>(alloc: Global, kind: Kind, tree: &R) -> Result<Vec<u8>, AllocError>
+    ensures told { IfOk result (λ v. Tell true 2 (entry v.items ∷ []) (start kind (R.contents tree.now) ∷ [])) }
+    ensures size { IfOk result (λ v. length v.items ≡ start_size (R.contents tree.now)) }
+    ensures few { IfOk result (λ v. length v.items ≤ BODY_MAX) }
+{
+    let literal = literal_of(alloc, tree)?;
+    let entry = Entry::Start {
+        kind,
+        tree: literal,
+    };
+    let body = entry_bytes(alloc, &entry);
+    drop(entry);
+    body
+}
+
+/// The bytes of the entry that loads this tree as a source under this name. Costs the tree.
+fn load_bytes<S: TreeRep>(alloc: Global, name: &Name, tree: &S) -> Result<Vec<u8>, AllocError>
+    requires { (s : State) × CanLoad s name.now (S.contents tree.now) }
+    ensures spells { IfOk result (λ v. (l : LiteralValue) × (w : WrittenEntry) × IsLiteral (literal_rows l)
+        × (from_entries (literal_rows l) ≡ S.contents tree.now) × IsEntry (LoadEntry name.now l) w
+        × Reads entry_format v.items w []) }
+    ensures size { IfOk result (λ v. length v.items ≡ load_size name.now (S.contents tree.now)) }
+{
+    let literal = literal_of(alloc, tree)?;
+    let entry = Entry::Load {
+        name: name.clone()?,
+        tree: literal,
+    };
+    let body = entry_bytes(alloc, &entry);
+    drop(entry);
+    body
 }
 
 impl<R: TreeRep, S: TreeRep> Db<R, S> {
@@ -67,14 +108,7 @@ impl<R: TreeRep, S: TreeRep> Db<R, S> {
         if !Journal::vacant(disk)? {
             return Err(InitFault::Exists);
         }
-        let literal = literal_of(alloc, &tree)?;
-        let entry = Entry::Start {
-            kind,
-            tree: literal,
-        };
-        let body = entry_bytes(alloc, &entry);
-        drop(entry);
-        let body = body?;
+        let body = start_bytes(alloc, kind, &tree)?;
         let committed = Committed::start(alloc, kind, tree)?;
         let journal = Journal::create(alloc, disk, &body)?;
         Ok(Db {
@@ -295,14 +329,7 @@ impl<R: TreeRep, S: TreeRep> Db<R, S> {
             → (disk.new ≡ disk.old) ⊎ Rose (D.counts disk.old).wants (D.counts disk.new).wants }
         ensures reads { (D.counts disk.new).reads ≡ (D.counts disk.old).reads }
     {
-        let literal = literal_of(alloc, &tree)?;
-        let entry = Entry::Load {
-            name: name.clone()?,
-            tree: literal,
-        };
-        let body = entry_bytes(alloc, &entry);
-        drop(entry);
-        let body = body?;
+        let body = load_bytes(alloc, &name, &tree)?;
         if !self.has_room(body.len()) {
             return Err(WriteFault::TooLarge);
         }

@@ -1,36 +1,25 @@
 use Rattle.std.proofs.Common.{◌≡◌, ◌+◌, [], ap, sym, ◌∙◌, subst, true, false, length, List, ℕ, refl, arith}
 use Rattle.cp_format.specs.Formats.{Reads}
-use Rattle.cp_frame.specs.Entries.{IsEntry, entry_format}
+use Rattle.cp_frame.specs.Entries.{entry_format}
 use Rattle.cp_journal.specs.declared.limits.TheConstants.{FRAME_HEAD}
 use Rattle.cp_db.specs.Databases.{end_in}
-use Rattle.cp_frame.specs.Sound.{IsSoundEntry}
-use Rattle.cp_frame.specs.declared.entry.Entry.TheVariants as frame
 use Rattle.cp_file.specs.Sizes.{has_room, load_size}
 use Rattle.cp_db.proofs.WritingFrames.{crash-none, crash-added, kept-added}
-use Rattle.cp_db.proofs.WritingLoads.{load-sound, load-next, load-length, load-new, load-few, replayed-loaded}
+use Rattle.cp_db.proofs.WritingLoads.{load-next, load-new, load-few, replayed-loaded}
 use Rattle.cp_db.proofs.WritingStanding.{stands-appended}
 use Rattle.cp_db.proofs.database.Db.add_source.Goals as goal
 
-pub returns-in_err-literal-clause-crash : goal.returns-in_err-literal-clause-crash
-returns-in_err-literal-clause-crash g c = λ known h z k. crash-none c.args.self.now h _ k _
-
-pub returns-in_err-clone-clause-crash : goal.returns-in_err-clone-clause-crash
-returns-in_err-clone-clause-crash g c = λ known h z k. crash-none c.args.self.now h _ k _
-
-pub entry_bytes-body-requires : goal.entry_bytes-body-requires
-entry_bytes-body-requires g c =
+pub load_bytes-requires : goal.load_bytes-requires
+load_bytes-requires g c =
     let z = c.requires.stands.1 in
-    subst (λ (m : List ℕ). IsSoundEntry (frame.Load m c.in_ok-literal.literal)) (sym c.in_ok-clone.ensures.cases)
-    (load-sound c.args.name c.in_ok-literal.literal (g.S.TreeRep.contents c.args.tree) c.in_ok-literal.ensures.literal c.in_ok-literal.ensures.tree z.committed.state (c.requires.can false c.requires.stands.0 z))
+    (z.committed.state, c.requires.can false c.requires.stands.0 z)
 
 pub returns-in_err-body-clause-crash : goal.returns-in_err-body-clause-crash
 returns-in_err-body-clause-crash g c = λ known h z k. crash-none c.args.self.now h _ k _
 
 pub returns-then-not-has_room-clause-loaded : goal.returns-then-not-has_room-clause-loaded
 returns-then-not-has_room-clause-loaded g c = λ right h z.
-    let e = subst (λ (m : List ℕ). IsEntry (frame.Load m c.in_ok-literal.literal) c.in_ok-body.ensures.0) c.in_ok-clone.ensures.cases c.in_ok-body.ensures.1 in
-    let size = load-length c.args.name c.in_ok-literal.literal (g.S.TreeRep.contents c.args.tree) c.in_ok-literal.ensures.literal c.in_ok-literal.ensures.tree c.in_ok-body.body.items c.in_ok-body.ensures.0 e c.in_ok-body.ensures.2 in
-    let counted : c.len.result ≡ load_size c.args.name (g.S.TreeRep.contents c.args.tree) = omega (arith, c.len.ensures, c.in_ok-body.body.ok, size) in
+    let counted : c.len.result ≡ load_size c.args.name (g.S.TreeRep.contents c.args.tree) = omega (arith, c.len.ensures, c.in_ok-body.body.ok, c.in_ok-body.ensures.size) in
     (ap (has_room (end_in c.args.self.now)) (sym counted) ∙ sym c.has_room.ensures ∙ c.if-not-has_room.true, refl)
 
 pub returns-then-not-has_room-clause-crash : goal.returns-then-not-has_room-clause-crash
@@ -51,19 +40,17 @@ returns-in_err-add-clause-crash g c = λ known h z k. crash-none c.args.self.now
 
 pub returns-in_err-append-clause-crash : goal.returns-in_err-append-clause-crash
 returns-in_err-append-clause-crash g c = λ known h z k.
-    let w = c.in_ok-body.ensures.0 in
-    let e = subst (λ (m : List ℕ). IsEntry (frame.Load m c.in_ok-literal.literal) w) c.in_ok-clone.ensures.cases c.in_ok-body.ensures.1 in
+    let s = c.in_ok-body.ensures.spells in
     let body = c.deref.result.now in
-    let read : Reads entry_format body w [] = subst (λ (b : List ℕ). Reads entry_format b w []) (sym c.deref.ensures.value) c.in_ok-body.ensures.2 in
-    let next = load-next c.args.name c.in_ok-literal.literal (g.S.TreeRep.contents c.args.tree) c.in_ok-literal.ensures.literal c.in_ok-literal.ensures.tree c.args.self.now.version h z.committed.state body w z.committed.replayed (c.requires.can true h z) e read in
+    let read : Reads entry_format body s.1 [] = subst (λ (b : List ℕ). Reads entry_format b s.1 []) (sym c.deref.ensures.value) s.5 in
+    let next = load-next c.args.name s.0 (g.S.TreeRep.contents c.args.tree) s.2 s.3 c.args.self.now.version h z.committed.state body s.1 z.committed.replayed (c.requires.can true h z) s.4 read in
     crash-added c.args.self.now.version h _ body next c.args.self.now _ _ refl k (c.append.ensures.crash known)
 
 pub returns-clause-loaded : goal.returns-clause-loaded
 returns-clause-loaded g c = λ right h z.
     let view = g.R.TreeRep.contents in
     let source_view = g.S.TreeRep.contents in
-    let e = subst (λ (m : List ℕ). IsEntry (frame.Load m c.in_ok-literal.literal) c.in_ok-body.ensures.0) c.in_ok-clone.ensures.cases c.in_ok-body.ensures.1 in
-    let size = load-length c.args.name c.in_ok-literal.literal (g.S.TreeRep.contents c.args.tree) c.in_ok-literal.ensures.literal c.in_ok-literal.ensures.tree c.in_ok-body.body.items c.in_ok-body.ensures.0 e c.in_ok-body.ensures.2 in
+    let size = c.in_ok-body.ensures.size in
     let counted : c.len.result ≡ load_size c.args.name (g.S.TreeRep.contents c.args.tree) = omega (arith, c.len.ensures, c.in_ok-body.body.ok, size) in (
       ap (has_room (end_in c.args.self.now)) (sym counted) ∙ sym c.has_room.ensures ∙ c.if-not-has_room.false,
       record {
@@ -75,34 +62,28 @@ returns-clause-loaded g c = λ right h z.
 
 pub returns-clause-kept : goal.returns-clause-kept
 returns-clause-kept g c = λ known h z k.
-    let w = c.in_ok-body.ensures.0 in
-    let e = subst (λ (m : List ℕ). IsEntry (frame.Load m c.in_ok-literal.literal) w) c.in_ok-clone.ensures.cases c.in_ok-body.ensures.1 in
+    let s = c.in_ok-body.ensures.spells in
     let body = c.deref.result.now in
-    let read : Reads entry_format body w [] = subst (λ (b : List ℕ). Reads entry_format b w []) (sym c.deref.ensures.value) c.in_ok-body.ensures.2 in
-    let next = load-next c.args.name c.in_ok-literal.literal (g.S.TreeRep.contents c.args.tree) c.in_ok-literal.ensures.literal c.in_ok-literal.ensures.tree c.args.self.now.version h z.committed.state body w z.committed.replayed (c.requires.can true h z) e read in
+    let read : Reads entry_format body s.1 [] = subst (λ (b : List ℕ). Reads entry_format b s.1 []) (sym c.deref.ensures.value) s.5 in
+    let next = load-next c.args.name s.0 (g.S.TreeRep.contents c.args.tree) s.2 s.3 c.args.self.now.version h z.committed.state body s.1 z.committed.replayed (c.requires.can true h z) s.4 read in
     kept-added c.args.self.now.version h _ body next c.args.self.now _ _ refl k c.append.new.self (ap (λ d. d.version) c.append.ensures.same) (c.in_ok-append.ensures.described known)
 
 pub returns-clause-crash : goal.returns-clause-crash
 returns-clause-crash g c = λ known h z k.
-    let w = c.in_ok-body.ensures.0 in
-    let e = subst (λ (m : List ℕ). IsEntry (frame.Load m c.in_ok-literal.literal) w) c.in_ok-clone.ensures.cases c.in_ok-body.ensures.1 in
+    let s = c.in_ok-body.ensures.spells in
     let body = c.deref.result.now in
-    let read : Reads entry_format body w [] = subst (λ (b : List ℕ). Reads entry_format b w []) (sym c.deref.ensures.value) c.in_ok-body.ensures.2 in
-    let next = load-next c.args.name c.in_ok-literal.literal (g.S.TreeRep.contents c.args.tree) c.in_ok-literal.ensures.literal c.in_ok-literal.ensures.tree c.args.self.now.version h z.committed.state body w z.committed.replayed (c.requires.can true h z) e read in
+    let read : Reads entry_format body s.1 [] = subst (λ (b : List ℕ). Reads entry_format b s.1 []) (sym c.deref.ensures.value) s.5 in
+    let next = load-next c.args.name s.0 (g.S.TreeRep.contents c.args.tree) s.2 s.3 c.args.self.now.version h z.committed.state body s.1 z.committed.replayed (c.requires.can true h z) s.4 read in
     crash-added c.args.self.now.version h _ body next c.args.self.now _ _ refl k (c.append.ensures.crash known)
 
 pub returns-in_err-append-clause-room : goal.returns-in_err-append-clause-room
 returns-in_err-append-clause-room g c = λ full.
-    let e = subst (λ (m : List ℕ). IsEntry (frame.Load m c.in_ok-literal.literal) c.in_ok-body.ensures.0) c.in_ok-clone.ensures.cases c.in_ok-body.ensures.1 in
-    let size = load-length c.args.name c.in_ok-literal.literal (g.S.TreeRep.contents c.args.tree) c.in_ok-literal.ensures.literal c.in_ok-literal.ensures.tree c.in_ok-body.body.items c.in_ok-body.ensures.0 e c.in_ok-body.ensures.2 in
-    let counted : c.len.result ≡ load_size c.args.name (g.S.TreeRep.contents c.args.tree) = omega (arith, c.len.ensures, c.in_ok-body.body.ok, size) in
+    let counted : c.len.result ≡ load_size c.args.name (g.S.TreeRep.contents c.args.tree) = omega (arith, c.len.ensures, c.in_ok-body.body.ok, c.in_ok-body.ensures.size) in
     let none : true ≡ false = sym (ap (has_room (end_in c.args.self.now)) (sym counted) ∙ sym c.has_room.ensures ∙ c.if-not-has_room.false) ∙ full in
     absurd (cc none)
 
 pub returns-clause-room : goal.returns-clause-room
 returns-clause-room g c = λ full.
-    let e = subst (λ (m : List ℕ). IsEntry (frame.Load m c.in_ok-literal.literal) c.in_ok-body.ensures.0) c.in_ok-clone.ensures.cases c.in_ok-body.ensures.1 in
-    let size = load-length c.args.name c.in_ok-literal.literal (g.S.TreeRep.contents c.args.tree) c.in_ok-literal.ensures.literal c.in_ok-literal.ensures.tree c.in_ok-body.body.items c.in_ok-body.ensures.0 e c.in_ok-body.ensures.2 in
-    let counted : c.len.result ≡ load_size c.args.name (g.S.TreeRep.contents c.args.tree) = omega (arith, c.len.ensures, c.in_ok-body.body.ok, size) in
+    let counted : c.len.result ≡ load_size c.args.name (g.S.TreeRep.contents c.args.tree) = omega (arith, c.len.ensures, c.in_ok-body.body.ok, c.in_ok-body.ensures.size) in
     let none : true ≡ false = sym (ap (has_room (end_in c.args.self.now)) (sym counted) ∙ sym c.has_room.ensures ∙ c.if-not-has_room.false) ∙ full in
     absurd (cc none)

@@ -1,23 +1,20 @@
-use Rattle.std.proofs.Common.{◌≡◌, [], ap, sym, ◌∙◌, subst, length, List, ℕ, refl, arith, Err}
+use Rattle.std.proofs.Common.{◌≡◌, ◌∙◌, true, [], ◌∷◌, ap, sym, subst, length, List, ℕ, refl, arith, Err}
 use Rattle.std.proofs.lemmas.Result.{err_from_is_err_and}
-use Rattle.cp_format.specs.Formats.{Reads}
-use Rattle.cp_frame.specs.Entries.{entry_format}
+use Rattle.cp_model.specs.History.{start}
+use Rattle.cp_journal.specs.Frames.{entry}
+use Rattle.cp_file.specs.Items.{Tell}
 use Rattle.cp_db.specs.declared.fault.InitFault.TheVariants as init
-use Rattle.cp_db.proofs.WritingStarts.{start-told, start-length, start-fits, kept-started, crash-started, memory-started}
+use Rattle.cp_db.proofs.WritingStarts.{kept-started, crash-started, memory-started}
 use Rattle.cp_db.proofs.database.Db.init.Goals as goal
 
 pub create-requires-clause-short : goal.create-requires-clause-short
-create-requires-clause-short g c =
-    rw (c.deref.ensures.value)
-    (start-fits c.args.kind c.in_ok-literal.literal (g.R.TreeRep.contents c.args.tree) c.in_ok-literal.ensures.literal c.in_ok-literal.ensures.tree c.in_ok-body.body.items c.in_ok-body.ensures.0 c.in_ok-body.ensures.1 c.in_ok-body.ensures.2)
+create-requires-clause-short g c = rw (c.deref.ensures.value) c.in_ok-body.ensures.few
 
 pub returns-in_err-journal-clause-crash : goal.returns-in_err-journal-clause-crash
 returns-in_err-journal-clause-crash g c = λ known.
-    let w = c.in_ok-body.ensures.0 in
-    let body = c.deref.result.now in
-    let read : Reads entry_format body w [] = subst (λ (b : List ℕ). Reads entry_format b w []) (sym c.deref.ensures.value) c.in_ok-body.ensures.2 in
-    let told = start-told c.args.kind c.in_ok-literal.literal (g.R.TreeRep.contents c.args.tree) c.in_ok-literal.ensures.literal c.in_ok-literal.ensures.tree body w (g.met.R.TreeRep.is_tree c.args.tree) c.in_ok-body.ensures.1 read in
-    crash-started c.args.kind (g.R.TreeRep.contents c.args.tree) body told _ _ _ (c.vacant.ensures.rests known) (c.create.ensures.crash known)
+    let tree = g.R.TreeRep.contents c.args.tree in
+    let told = subst (λ (b : List ℕ). Tell true 2 (entry b ∷ []) (start c.args.kind tree ∷ [])) (sym c.deref.ensures.value) c.in_ok-body.ensures.told in
+    crash-started c.args.kind tree c.deref.result.now told _ _ _ (c.vacant.ensures.rests known) (c.create.ensures.crash known)
 
 pub returns-in_err-journal-clause-memory : goal.returns-in_err-journal-clause-memory
 returns-in_err-journal-clause-memory g c = λ known memory.
@@ -33,21 +30,15 @@ returns-clause-stands g c = λ right.
 
 pub returns-clause-kept : goal.returns-clause-kept
 returns-clause-kept g c = λ known.
-    let w = c.in_ok-body.ensures.0 in
-    let body = c.deref.result.now in
-    let read : Reads entry_format body w [] = subst (λ (b : List ℕ). Reads entry_format b w []) (sym c.deref.ensures.value) c.in_ok-body.ensures.2 in
-    let told = start-told c.args.kind c.in_ok-literal.literal (g.R.TreeRep.contents c.args.tree) c.in_ok-literal.ensures.literal c.in_ok-literal.ensures.tree body w (g.met.R.TreeRep.is_tree c.args.tree) c.in_ok-body.ensures.1 read in
-    kept-started c.args.kind (g.R.TreeRep.contents c.args.tree) body told _ (g.D.Disk.view c.create.new.disk) refl (c.in_ok-journal.ensures.described known)
+    let tree = g.R.TreeRep.contents c.args.tree in
+    let told = subst (λ (b : List ℕ). Tell true 2 (entry b ∷ []) (start c.args.kind tree ∷ [])) (sym c.deref.ensures.value) c.in_ok-body.ensures.told in
+    kept-started c.args.kind tree c.deref.result.now told _ (g.D.Disk.view c.create.new.disk) refl (c.in_ok-journal.ensures.described known)
 
 pub returns-clause-made : goal.returns-clause-made
-returns-clause-made g c =
-    let size = start-length c.args.kind c.in_ok-literal.literal (g.R.TreeRep.contents c.args.tree) c.in_ok-literal.ensures.literal c.in_ok-literal.ensures.tree c.in_ok-body.body.items c.in_ok-body.ensures.0 c.in_ok-body.ensures.1 c.in_ok-body.ensures.2 in
-    (refl, refl, omega (arith, c.in_ok-journal.ensures.next, ap length c.deref.ensures.value, size))
+returns-clause-made g c = (refl, refl, omega (arith, c.in_ok-journal.ensures.next, ap length c.deref.ensures.value, c.in_ok-body.ensures.size))
 
 pub returns-clause-crash : goal.returns-clause-crash
 returns-clause-crash g c = λ known.
-    let w = c.in_ok-body.ensures.0 in
-    let body = c.deref.result.now in
-    let read : Reads entry_format body w [] = subst (λ (b : List ℕ). Reads entry_format b w []) (sym c.deref.ensures.value) c.in_ok-body.ensures.2 in
-    let told = start-told c.args.kind c.in_ok-literal.literal (g.R.TreeRep.contents c.args.tree) c.in_ok-literal.ensures.literal c.in_ok-literal.ensures.tree body w (g.met.R.TreeRep.is_tree c.args.tree) c.in_ok-body.ensures.1 read in
-    crash-started c.args.kind (g.R.TreeRep.contents c.args.tree) body told _ _ _ (c.vacant.ensures.rests known) (c.create.ensures.crash known)
+    let tree = g.R.TreeRep.contents c.args.tree in
+    let told = subst (λ (b : List ℕ). Tell true 2 (entry b ∷ []) (start c.args.kind tree ∷ [])) (sym c.deref.ensures.value) c.in_ok-body.ensures.told in
+    crash-started c.args.kind tree c.deref.result.now told _ _ _ (c.vacant.ensures.rests known) (c.create.ensures.crash known)
