@@ -1,3 +1,4 @@
+use crate::disk::put_file;
 use cp_clock::Clock;
 use cp_host::{HostClock, HostFiles, StdinSource, StdoutSink};
 use cp_outside::{Failed, FileEnd, Files, FilesFault, Sink, SinkFault, Source, write_all};
@@ -6,6 +7,9 @@ use std::io::{Error, ErrorKind, Read, Write};
 use std::process::Abort;
 use std::test::*;
 use std::{env, fs, io, process};
+
+// What comes after the folder's name, the most bytes, how the read ends, and what it gives.
+type Case<'a> = (&'a str, u64, Result<FileEnd, FilesFault>, &'a str);
 
 // A reader and a writer that fail, and that take nothing where `takes_none` says so.
 #[derive(Drop)]
@@ -80,6 +84,33 @@ pub(crate) fn empty_folder(rt: &HostRuntime, test: &str) -> io::Result<String> {
     Ok(folder)
 }
 
+// Removes the folder of a test that passed.
+pub(crate) fn remove_folder(
+    rt: &HostRuntime,
+    folder: &str,
+    played: Result<(), Fail>,
+) -> Result<(), Fail> {
+    played?;
+    fs::remove_dir_all(rt, folder)?;
+    Ok(())
+}
+
+// The read has to end so.
+fn expect_end(
+    rt: &impl Abort,
+    name: &str,
+    limit: u64,
+    found: Result<FileEnd, FilesFault>,
+    end: Result<FileEnd, FilesFault>,
+) {
+    assert_eq!(rt; found, end, "{name:?} up to {limit}");
+}
+
+// The read has to give these bytes.
+fn expect_bytes(rt: &impl Abort, name: &str, limit: u64, found: &[u8], given: &[u8]) {
+    assert_eq!(rt; found, given, "{name:?} up to {limit}");
+}
+
 // What a read of this name answers and gives; nothing counts as given after an error.
 fn compare(
     rt: &(impl Abort + AllocGlobal),
@@ -94,19 +125,30 @@ fn compare(
     if found.is_err() {
         into.clear();
     }
-    assert_eq!(rt; found, end, "{name:?} up to {limit}");
-    assert_eq!(rt; into.as_slice(), given, "{name:?} up to {limit}");
+    expect_end(rt, name, limit, found, end);
+    expect_bytes(rt, name, limit, &into, given);
     Ok(())
 }
 
-#[test]
-fn files_are_read_up_to_the_limit(rt: HostRuntime) -> Result<(), Fail> {
-    let folder = empty_folder(&rt, "files")?;
-    let short = format!(in rt.alloc(); "{folder}/short")?;
-    fs::write(&rt, short.as_str(), "north")?;
-    let mut files = HostFiles::new(&rt);
-    // what follows the folder's name, the most bytes, how the read ends, what it gives
-    let cases: [(&str, u64, Result<FileEnd, FilesFault>, &str); 9] = [
+// The same, of the file of this name in a folder.
+fn compare_in(
+    rt: &(impl Abort + AllocGlobal),
+    files: &mut HostFiles<&HostRuntime>,
+    folder: &str,
+    case: Case,
+) -> Result<(), AllocError> {
+    let (below, limit, end, given) = case;
+    let name = format!(in rt.alloc(); "{folder}{below}")?;
+    compare(rt, files, name.as_str(), limit, end, given.as_bytes())
+}
+
+// The same, of each case.
+fn compare_all(
+    rt: &(impl Abort + AllocGlobal),
+    files: &mut HostFiles<&HostRuntime>,
+    folder: &str,
+) -> Result<(), Fail> {
+    let cases: [Case; 9] = [
         ("/short", u64::MAX, Ok(FileEnd::Whole), "north"),
         ("/short", 5, Ok(FileEnd::Whole), "north"),
         ("/short", 4, Ok(FileEnd::TooLong), "nort"),
@@ -117,12 +159,19 @@ fn files_are_read_up_to_the_limit(rt: HostRuntime) -> Result<(), Fail> {
         ("/sho\0rt", 9, Err(FilesFault::Failed), ""),
         ("/short/below", 9, Err(FilesFault::Failed), ""),
     ];
-    for (below, limit, end, given) in cases {
-        let name = format!(in rt.alloc(); "{folder}{below}")?;
-        compare(&rt, &mut files, name.as_str(), limit, end, given.as_bytes())?;
+    for &case in &cases {
+        compare_in(rt, files, folder, case)?;
     }
-    fs::remove_dir_all(&rt, folder.as_str())?;
     Ok(())
+}
+
+#[test]
+fn files_are_read_up_to_the_limit(rt: HostRuntime) -> Result<(), Fail> {
+    let folder = empty_folder(&rt, "files")?;
+    put_file(&rt, folder.as_str(), "/short", "north")?;
+    let mut files = HostFiles::new(&rt);
+    let played = compare_all(&rt, &mut files, folder.as_str());
+    remove_folder(&rt, folder.as_str(), played)
 }
 
 #[test]

@@ -3,7 +3,9 @@ use cp_outside::{
     Failed, FileEnd, Files, FilesFault, MemFile, MemFiles, MemSink, MemSource, Sink, SinkFault,
     Source, write_all,
 };
-use std::alloc::AllocError;
+use std::alloc::{AllocError, Global};
+use std::fmt::Display;
+use std::process::Abort;
 use std::test::*;
 
 // What the contracts leave open: that a call answers where there is memory, and what faults print.
@@ -27,15 +29,19 @@ fn bytes_are_written(rt: HostRuntime) -> Result<(), Fail> {
     Ok(())
 }
 
-#[test]
-fn files_are_read(rt: HostRuntime) -> Result<(), Fail> {
-    let alloc = rt.alloc();
+// Files in memory, of which one is there.
+fn quay_alone(alloc: Global) -> Result<MemFiles, AllocError> {
     let quay = MemFile {
         name: "quay".to_string(alloc)?,
         bytes: b"north".to_vec(alloc)?,
     };
-    let mut files = MemFiles::new(alloc, &[quay])?;
-    let mut into = b"left before".to_vec(alloc)?;
+    MemFiles::new(alloc, &[quay])
+}
+
+#[test]
+fn files_are_read(rt: HostRuntime) -> Result<(), Fail> {
+    let mut files = quay_alone(rt.alloc())?;
+    let mut into = b"left before".to_vec(rt.alloc())?;
     assert_eq!(rt; files.read_file("quay", 5, &mut into), Ok(FileEnd::Whole));
     assert_eq!(rt; into.as_slice(), b"north".as_slice());
     assert_eq!(rt; files.read_file("quay", 4, &mut into), Ok(FileEnd::TooLong));
@@ -46,10 +52,9 @@ fn files_are_read(rt: HostRuntime) -> Result<(), Fail> {
 #[test]
 fn moments_are_told(rt: HostRuntime) -> Result<(), Fail> {
     let mut clock = MemClock::with_faults(rt.alloc(), &[1000, 2000], &[2])?;
-    assert_eq!(rt; clock.now(), Ok(1000));
-    assert_eq!(rt; clock.now(), Err(Failed));
-    assert_eq!(rt; clock.now(), Ok(2000));
-    assert_eq!(rt; clock.now(), Ok(0));
+    for &told in &[Ok(1000), Err(Failed), Ok(2000), Ok(0)] {
+        assert_eq!(rt; clock.now(), told);
+    }
     Ok(())
 }
 
@@ -65,23 +70,33 @@ fn push_file(list: &mut Vec<u8>, byte: u8) -> Result<(), FilesFault> {
     Ok(())
 }
 
+// What is printed of a fault has to be this.
+fn expect_text(
+    rt: &(impl Abort + AllocGlobal),
+    fault: &impl Display,
+    text: &str,
+) -> Result<(), Fail> {
+    let printed = format!(in rt.alloc(); "{fault}")?;
+    assert_eq!(rt; printed.as_str(), text);
+    Ok(())
+}
+
 #[test]
 fn faults_have_their_texts(rt: HostRuntime) -> Result<(), Fail> {
-    let alloc = rt.alloc();
-    let failed = format!(in alloc; "{Failed}")?;
-    assert_eq!(rt;
-        failed.as_str(),
-        "the device failed; its count of faults has risen"
-    );
-    let failed = format!(in alloc; "{}", SinkFault::Failed)?;
-    assert_eq!(rt; failed.as_str(), "the output failed");
-    let memory = format!(in alloc; "{}", SinkFault::from(AllocError))?;
-    assert_eq!(rt; memory.as_str(), "out of memory");
-    let failed = format!(in alloc; "{}", FilesFault::Failed)?;
-    assert_eq!(rt; failed.as_str(), "the file could not be read");
-    let memory = format!(in alloc; "{}", FilesFault::from(AllocError))?;
-    assert_eq!(rt; memory.as_str(), "out of memory");
-    let mut list = Vec::new(alloc);
+    expect_text(
+        &rt,
+        &Failed,
+        "the device failed; its count of faults has risen",
+    )?;
+    expect_text(&rt, &SinkFault::Failed, "the output failed")?;
+    expect_text(&rt, &SinkFault::from(AllocError), "out of memory")?;
+    expect_text(&rt, &FilesFault::Failed, "the file could not be read")?;
+    expect_text(&rt, &FilesFault::from(AllocError), "out of memory")
+}
+
+#[test]
+fn lists_grow_by_one(rt: HostRuntime) -> Result<(), Fail> {
+    let mut list = Vec::new(rt.alloc());
     assert_eq!(rt; push(&mut list, 1), Ok(()));
     assert_eq!(rt; push_file(&mut list, 2), Ok(()));
     Ok(())
