@@ -1,17 +1,13 @@
 //! Plays tables of calls of the layers below the program.
 //!
 //! The words are those of every program that plays cases: the stage up to which they hold, and files. A part makes a call,
-//! and `out` with a text below it is what the call has to give. `spelled` has the calls of words, statements and replies,
-//! `provenance` those of rows and steps, `stored` those of entries, files and disks, `trees` those of trees in every form.
+//! and `out` with a text below it is what the call has to give. cp_text_calls has the calls of words, statements and replies,
+//! cp_step_calls those of rows and steps, cp_file_calls those of entries, files and disks, cp_tree_calls those of trees in
+//! every form.
 //!
 //! With the words `csv`, a form's name, a CSV file and its key column, it makes the file's tree alone, so that its time and
 //! memory can be measured.
 #![tactic(auto)]
-
-mod provenance;
-mod spelled;
-mod stored;
-mod trees;
 
 use cp_cases::{Player, Step, compare, play_files};
 use std::alloc::{AllocError, Global};
@@ -26,16 +22,16 @@ struct Caller {
 
 /// What the call of this keyword gives; `None` where there is no such call.
 fn answer(alloc: Global, step: &Step) -> Result<Option<Vec<u8>>, AllocError> {
-    if let Some(output) = spelled::answer(alloc, step)? {
+    if let Some(output) = cp_text_calls::answer(alloc, step)? {
         return Ok(Some(output));
     }
-    if let Some(output) = provenance::answer(alloc, step)? {
+    if let Some(output) = cp_step_calls::answer(alloc, step)? {
         return Ok(Some(output));
     }
-    if let Some(output) = trees::answer(alloc, step)? {
-        return Ok(Some(output.as_bytes().to_vec(alloc)?));
+    if let Some(output) = cp_tree_calls::answer(alloc, step)? {
+        return Ok(Some(output));
     }
-    stored::answer(alloc, step)
+    cp_file_calls::answer(alloc, step)
 }
 
 impl Player for Caller {
@@ -65,7 +61,7 @@ impl Player for Caller {
 
 /// Makes the tree of a CSV file in a form, and writes how many places it has.
 fn make_tree(rt: &HostRuntime, form: &str, file: &str, key: &str) -> io::Result<ExitCode> {
-    match trees::count_in_file(rt, form, file, key)? {
+    match cp_tree_calls::count_in_file(rt, form, file, key)? {
         Some(count) => println!(rt; "{count} places")?,
         None => return Ok(ExitCode::FAILURE),
     }
