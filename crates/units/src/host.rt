@@ -45,18 +45,34 @@ fn input_gives_what_its_reader_has(rt: HostRuntime) -> Result<(), Fail> {
     assert_eq!(rt; input.read(&mut room), Ok(3));
     assert_eq!(rt; room, *b"ourb");
     assert_eq!(rt; input.read(&mut room), Ok(0));
+    Ok(())
+}
+
+#[test]
+fn input_that_fails_says_so(rt: HostRuntime) -> Result<(), Fail> {
+    let mut room = [0; 4];
     let mut broken = StdinSource::new(Broken { takes_none: false });
     assert_eq!(rt; broken.read(&mut room), Err(Failed));
     Ok(())
 }
 
+// Writes to a list, in two ways.
+fn put_words(rt: &impl Abort, bytes: &mut Vec<u8>) {
+    let mut output = StdoutSink::new(bytes);
+    assert_eq!(rt; output.write(b"north"), Ok(5));
+    assert_eq!(rt; write_all(&mut output, b"west"), Ok(()));
+}
+
 #[test]
 fn output_reaches_its_writer(rt: HostRuntime) -> Result<(), Fail> {
     let mut bytes = Vec::new(rt.alloc());
-    let mut output = StdoutSink::new(&mut bytes);
-    assert_eq!(rt; output.write(b"north"), Ok(5));
-    assert_eq!(rt; write_all(&mut output, b"west"), Ok(()));
+    put_words(&rt, &mut bytes);
     assert_eq!(rt; bytes.as_slice(), b"northwest".as_slice());
+    Ok(())
+}
+
+#[test]
+fn output_that_fails_says_so(rt: HostRuntime) -> Result<(), Fail> {
     for takes_none in [false, true] {
         let mut broken = StdoutSink::new(Broken { takes_none });
         assert_eq!(rt; broken.write(b"east"), Err(SinkFault::Failed));
@@ -174,32 +190,49 @@ fn files_are_read_up_to_the_limit(rt: HostRuntime) -> Result<(), Fail> {
     remove_folder(&rt, folder.as_str(), played)
 }
 
+// More bytes than one read of the system gives.
+const LONG: usize = 200_000;
+
+// Writes a file of so many bytes, and reads it whole and all but its last byte.
+fn compare_long(
+    rt: &HostRuntime,
+    abort: &(impl Abort + AllocGlobal),
+    name: &str,
+    long: &[u8],
+) -> Result<(), Fail> {
+    fs::write(rt, name, long)?;
+    let mut files = HostFiles::new(rt);
+    let size = long.len() as u64;
+    compare(abort, &mut files, name, size, Ok(FileEnd::Whole), long)?;
+    let (front, _) = long.split_at(long.len().saturating_sub(1));
+    compare(
+        abort,
+        &mut files,
+        name,
+        size.saturating_sub(1),
+        Ok(FileEnd::TooLong),
+        front,
+    )?;
+    Ok(())
+}
+
+// The same, of the file of this name in a folder.
+fn play_long(
+    rt: &HostRuntime,
+    abort: &(impl Abort + AllocGlobal),
+    folder: &str,
+) -> Result<(), Fail> {
+    let mut long = Vec::new(rt.alloc());
+    long.resize(LONG, 119u8)?;
+    let name = format!(in rt.alloc(); "{folder}/long")?;
+    compare_long(rt, abort, name.as_str(), long.as_slice())
+}
+
 #[test]
 fn long_files_are_read_up_to_the_limit(rt: HostRuntime) -> Result<(), Fail> {
     let folder = empty_folder(&rt, "long_files")?;
-    let name = format!(in rt.alloc(); "{folder}/long")?;
-    // more than one read of the system gives
-    let long = [119; 200_000];
-    fs::write(&rt, name.as_str(), long)?;
-    let mut files = HostFiles::new(&rt);
-    compare(
-        &rt,
-        &mut files,
-        name.as_str(),
-        200_000,
-        Ok(FileEnd::Whole),
-        &long,
-    )?;
-    compare(
-        &rt,
-        &mut files,
-        name.as_str(),
-        199_999,
-        Ok(FileEnd::TooLong),
-        &long[..199_999],
-    )?;
-    fs::remove_dir_all(&rt, folder.as_str())?;
-    Ok(())
+    let played = play_long(&rt, &rt, folder.as_str());
+    remove_folder(&rt, folder.as_str(), played)
 }
 
 #[test]

@@ -38,14 +38,19 @@ fn quay_alone(alloc: Global) -> Result<MemFiles, AllocError> {
     MemFiles::new(alloc, &[quay])
 }
 
+// Reads files, of which one is there.
+fn read_some(rt: &impl Abort, files: &mut MemFiles, into: &mut Vec<u8>) {
+    assert_eq!(rt; files.read_file("quay", 4, into), Ok(FileEnd::TooLong));
+    assert_eq!(rt; files.read_file("pier", 5, into), Ok(FileEnd::Missing));
+    assert_eq!(rt; files.read_file("quay", 5, into), Ok(FileEnd::Whole));
+}
+
 #[test]
 fn files_are_read(rt: HostRuntime) -> Result<(), Fail> {
     let mut files = quay_alone(rt.alloc())?;
     let mut into = b"left before".to_vec(rt.alloc())?;
-    assert_eq!(rt; files.read_file("quay", 5, &mut into), Ok(FileEnd::Whole));
+    read_some(&rt, &mut files, &mut into);
     assert_eq!(rt; into.as_slice(), b"north".as_slice());
-    assert_eq!(rt; files.read_file("quay", 4, &mut into), Ok(FileEnd::TooLong));
-    assert_eq!(rt; files.read_file("pier", 5, &mut into), Ok(FileEnd::Missing));
     Ok(())
 }
 
