@@ -4,7 +4,7 @@ ghost use Rattle.cp_disk.specs.MemoryDisks.{mem_file, mem_view};
 ghost use Rattle.cp_disk.specs.Views.{Only};
 
 use crate::files::{fault_text, frames_text, header_of};
-use crate::ranges::number_at;
+use crate::ranges::two_numbers;
 use cp_cases::numbers_of;
 use cp_disk::{Crash, DISK_MAX, MemDisk};
 use cp_journal::{HEADER_SIZE, Journal, JournalFault};
@@ -111,18 +111,41 @@ fn upgrade_on(alloc: Global, disk: &mut MemDisk) -> Result<(), JournalFault>
     upgraded
 }
 
+/// Begins the line of a run.
+fn add_run_name(
+    alloc: Global,
+    word: &str,
+    number: u64,
+    lines: &mut String,
+) -> Result<(), AllocError> {
+    let name = format!(in alloc; "{word} {number}: ")?;
+    lines.push_str(name.as_str())
+}
+
+/// A line for each call that fails, from 1.
+fn add_fails(alloc: Global, count: u64, lines: &mut String) -> Result<(), AllocError> {
+    for call in 1..=count.min(1000) {
+        add_run_name(alloc, "fail", call, lines)?;
+        run_line(alloc, Plan::Fail(call), lines)?;
+    }
+    Ok(())
+}
+
+/// A line for each fuse, from 0.
+fn add_fuses(alloc: Global, count: u64, lines: &mut String) -> Result<(), AllocError> {
+    for passes in 0..=count.min(1000) {
+        add_run_name(alloc, "fuse", passes, lines)?;
+        run_line(alloc, Plan::Fuse(passes), lines)?;
+    }
+    Ok(())
+}
+
 /// A line for each call that fails, and for each fuse.
 pub(crate) fn sweep(alloc: Global, words: &str) -> Result<String, AllocError> {
-    let numbers = numbers_of(alloc, words)?;
+    let (fails, fuses) = two_numbers(alloc, words)?;
     let mut lines = String::new(alloc);
-    for call in 1..=number_at(&numbers, 0).min(1000) {
-        lines.push_str(format!(in alloc; "fail {call}: ")?.as_str())?;
-        run_line(alloc, Plan::Fail(call), &mut lines)?;
-    }
-    for passes in 0..=number_at(&numbers, 1).min(1000) {
-        lines.push_str(format!(in alloc; "fuse {passes}: ")?.as_str())?;
-        run_line(alloc, Plan::Fuse(passes), &mut lines)?;
-    }
+    add_fails(alloc, fails, &mut lines)?;
+    add_fuses(alloc, fuses, &mut lines)?;
     Ok(lines)
 }
 
@@ -145,10 +168,10 @@ fn upgrade_line(
 
 /// A line for each call that fails, from 0, which none has.
 pub(crate) fn upgrade(alloc: Global, words: &str, file: &[u8]) -> Result<String, AllocError> {
-    let numbers = numbers_of(alloc, words)?;
+    let (fails, _) = two_numbers(alloc, words)?;
     let mut lines = String::new(alloc);
-    for call in 0..=number_at(&numbers, 0).min(1000) {
-        lines.push_str(format!(in alloc; "fail {call}: ")?.as_str())?;
+    for call in 0..=fails.min(1000) {
+        add_run_name(alloc, "fail", call, &mut lines)?;
         upgrade_line(alloc, file, call, &mut lines)?;
     }
     Ok(lines)
@@ -171,14 +194,22 @@ fn zeros(alloc: Global, count: usize) -> Result<Vec<u8>, AllocError> {
     Ok(body)
 }
 
+/// How it ended that an entry was added.
+fn outcome_text(alloc: Global, added: Result<(), JournalFault>) -> Result<String, AllocError> {
+    match added {
+        Ok(()) => "added".to_string(alloc),
+        Err(fault) => fault_text(alloc, fault),
+    }
+}
+
 /// Whether an entry of so many bytes is added, and how many the file has then.
 fn large_line(alloc: Global, count: u64) -> Result<String, AllocError> {
     let mut disk = MemDisk::new(alloc, b"")?;
-    let outcome = match add_zeros(alloc, &mut disk, count.min(100_000_000) as usize) {
-        Ok(()) => "added".to_string(alloc)?,
-        Err(fault) => fault_text(alloc, fault)?,
-    };
-    format!(in alloc; "{}: {}, {} bytes\n", count, outcome, disk.bytes().len())
+    let added = add_zeros(alloc, &mut disk, count.min(100_000_000) as usize);
+    let size = disk.bytes().len();
+    drop(disk);
+    let outcome = outcome_text(alloc, added)?;
+    format!(in alloc; "{count}: {outcome}, {size} bytes\n")
 }
 
 /// A line for each of these numbers of bytes.
@@ -207,15 +238,24 @@ fn add_entries(
     Ok(())
 }
 
+/// The frames of a new store with so many entries of one body.
+fn frames_with(alloc: Global, count: u64, body: &[u8]) -> Result<String, AllocError> {
+    let mut disk = MemDisk::new(alloc, b"")?;
+    let text = match add_entries(alloc, &mut disk, count, body) {
+        Ok(()) => frames_text(alloc, disk.bytes()),
+        Err(fault) => fault_text(alloc, fault),
+    };
+    drop(disk);
+    text
+}
+
 /// How many frames a store has once so many entries of so many zeros are added, and the gate that ends them.
 pub(crate) fn entries(alloc: Global, words: &str) -> Result<String, AllocError> {
-    let numbers = numbers_of(alloc, words)?;
-    let body = zeros(alloc, number_at(&numbers, 1).min(100_000_000) as usize)?;
-    let mut disk = MemDisk::new(alloc, b"")?;
-    let mut line = match add_entries(alloc, &mut disk, number_at(&numbers, 0), &body) {
-        Ok(()) => frames_text(alloc, disk.bytes())?,
-        Err(fault) => fault_text(alloc, fault)?,
-    };
+    let (count, size) = two_numbers(alloc, words)?;
+    let body = zeros(alloc, size.min(100_000_000) as usize)?;
+    let text = frames_with(alloc, count, &body);
+    drop(body);
+    let mut line = text?;
     line.push('\n')?;
     Ok(line)
 }

@@ -4,7 +4,7 @@
 //! `write AT BYTES`, `cut SIZE`, `sync`, `crash old`, `crash new` or `crash BYTE`, which shows what a crash would leave, and
 //! `content`. A call that may not be made is `not asked`.
 
-use crate::ranges::number_at;
+use crate::ranges::{number_at, two_numbers};
 use cp_cases::{bytes_in, hex_of, numbers_of};
 use cp_disk::{Crash, DISK_MAX, Disk, DiskFault, MemDisk, READ_MAX};
 use std::alloc::{AllocError, Global};
@@ -71,11 +71,10 @@ fn crash(alloc: Global, disk: &MemDisk, how: &str) -> Result<String, AllocError>
 /// What the call of a line gives.
 fn called(alloc: Global, disk: &mut MemDisk, line: &str) -> Result<String, AllocError> {
     let (word, rest) = line.split_once(' ').unwrap_or((line, ""));
-    let numbers = numbers_of(alloc, rest)?;
-    let first = number_at(&numbers, 0);
+    let (first, second) = two_numbers(alloc, rest)?;
     match word {
         "size" => size(alloc, disk),
-        "read" => read(alloc, disk, first, number_at(&numbers, 1)),
+        "read" => read(alloc, disk, first, second),
         "write" => {
             let (_, bytes) = rest.split_once(' ').unwrap_or((rest, ""));
             let bytes = bytes_in(alloc, bytes.as_bytes())?;

@@ -135,8 +135,13 @@ fn frame_of(alloc: Global, file: &[u8], number: usize) -> Result<Option<Read>, J
         return Ok(None);
     }
     let mut body = Vec::new(alloc);
-    let frame = journal.read(&mut disk, number, &mut body)?;
-    Ok(Some(Read { frame, body }))
+    let frame = journal.read(&mut disk, number, &mut body);
+    drop(journal);
+    drop(disk);
+    Ok(Some(Read {
+        frame: frame?,
+        body,
+    }))
 }
 
 /// The lines of the frame of this number.

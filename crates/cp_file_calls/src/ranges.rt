@@ -1,5 +1,6 @@
 //! Numbers from 0 on that have the same text, written as one range, and the numbers of a line.
 
+use cp_cases::numbers_of;
 use std::alloc::{AllocError, Global};
 
 /// Writes `FIRST..LAST TEXT` for each run of numbers that have the same text.
@@ -61,4 +62,10 @@ pub(crate) fn number_at(numbers: &[u64], index: usize) -> u64 {
         Some(number) => *number,
         None => 0,
     }
+}
+
+/// The first two numbers of these words, 0 for one that they don't have.
+pub(crate) fn two_numbers(alloc: Global, words: &str) -> Result<(u64, u64), AllocError> {
+    let numbers = numbers_of(alloc, words)?;
+    Ok((number_at(&numbers, 0), number_at(&numbers, 1)))
 }
