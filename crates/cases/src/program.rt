@@ -1,9 +1,8 @@
 //! The program as one whose whole calls are played.
 
 use cp_calls::Program;
-use cp_clock::Clock;
 use cp_disk::Disk;
-use cp_outside::{Files, Sink, Source};
+use cp_outside::{Clock, Files, Sink, Source};
 use cp_program::run_cpdb;
 use cp_tree::TreeRep;
 use std::alloc::Global;

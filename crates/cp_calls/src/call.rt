@@ -4,10 +4,9 @@ use crate::pieces::Pieces;
 use crate::program::Program;
 use crate::screen::Screen;
 use cp_cases::{Step, number_of, numbers_of, words_of};
-use cp_clock::MemClock;
 use cp_disk::{DISK_MAX, Disk, MemDisk};
 use cp_host::{StdinSource, StdoutSink};
-use cp_outside::{Files, Source};
+use cp_outside::{Files, MemClock, Source};
 use cp_tree::TreeRep;
 use std::alloc::{AllocError, Global};
 

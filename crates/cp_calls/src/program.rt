@@ -1,8 +1,7 @@
 //! The program whose calls are played.
 
-use cp_clock::Clock;
 use cp_disk::Disk;
-use cp_outside::{Files, Sink, Source};
+use cp_outside::{Clock, Files, Sink, Source};
 use cp_tree::TreeRep;
 use std::alloc::Global;
 

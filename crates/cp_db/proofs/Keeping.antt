@@ -3,8 +3,8 @@ use Rattle.std.proofs.Common.{Bool, true, List, ℕ, sym, subst}
 use Rattle.cp_model.specs.History.{Entry}
 use Rattle.cp_disk.specs.Views.{View}
 use Rattle.cp_journal.specs.Journals.{Describes}
-use Rattle.cp_file.specs.Items.{Tell}
-use Rattle.cp_file.specs.Stands.{IsHead, StandsFor}
+use Rattle.cp_frame.specs.Items.{Tell}
+use Rattle.cp_frame.specs.Stands.{IsHead, StandsFor}
 use Rattle.cp_db.specs.Databases.{IsKept, IsSameFile}
 use Rattle.cp_db.specs.declared.database.Db.{Db}
 use Rattle.cp_db.proofs.WritingFrames.{kept-stands}

@@ -16,7 +16,7 @@ use Rattle.cp_journal.proofs.Bodies.{listed_body}
 use Rattle.cp_frame.specs.Entries.{WrittenEntry, entry_format}
 use Rattle.cp_frame.specs.Faults.{FaultOf}
 use Rattle.cp_frame.proofs.EntryForms.{plain_entry}
-use Rattle.cp_file.specs.Items.{Item, an_entry, a_checkpoint, IsHeld, IsOfVersion}
+use Rattle.cp_frame.specs.Items.{Item, an_entry, a_checkpoint, IsHeld, IsOfVersion}
 
 -- where reading stops, or goes on after a spelling, the bytes are no entry's spelling
 pub no_spelling : (bytes : List ℕ) (n : ℕ) → FaultOf entry_format bytes (BadByte n) → (w : WrittenEntry) → Reads entry_format bytes w [] → ⊥

@@ -19,8 +19,8 @@ use Rattle.cp_frame.specs.Entries.{WrittenEntry, IsEntry, start, load, commit, s
 use Rattle.cp_frame.specs.Trees.{rows_of}
 use Rattle.cp_frame.specs.declared.entry.Entry.{Entry}
 use Rattle.cp_frame.specs.declared.entry.Entry.TheVariants as entry
-use Rattle.cp_file.specs.Items.{Item, an_entry, a_checkpoint, IsHeld, IsOfVersion, AreHeld, CanStand, AllStand, Tell, after_item, entries_in, records_in}
-use Rattle.cp_file.proofs.Standing.{held-append, replayed-items, stand-append, stops-here}
+use Rattle.cp_frame.specs.Items.{Item, an_entry, a_checkpoint, IsHeld, IsOfVersion, AreHeld, CanStand, AllStand, Tell, after_item, entries_in, records_in}
+use Rattle.cp_frame.proofs.Standing.{held-append, replayed-items, stand-append, stops-here}
 use Rattle.cp_db.specs.Committed.{HasReplayed, HasTaken, CanTake}
 use Rattle.cp_db.specs.Opening.{RefusesAs, ReplaysAs, SpellsAs, StartsAs, TellsAs}
 use Rattle.cp_db.specs.declared.committed.Committed.{Committed}

@@ -14,10 +14,10 @@ use Rattle.cp_journal.specs.Journals.{JournalState, Describes, HasWalked, Lists}
 use Rattle.cp_journal.specs.declared.header.Header.{Header}
 use Rattle.cp_journal.specs.declared.header.Slot.{Slot}
 use Rattle.cp_journal.specs.declared.limits.TheConstants.{HEADER_SIZE, VERSION_AT}
-use Rattle.cp_file.specs.Items.{Item, AllStand, Tell, entries_in}
-use Rattle.cp_file.specs.Stands.{IsStore}
-use Rattle.cp_file.proofs.Images.{StoreParts, closed_header, parts-store, store-parts}
-use Rattle.cp_file.proofs.Standing.{held-one, replayed-items, rows-right}
+use Rattle.cp_frame.specs.Items.{Item, AllStand, Tell, entries_in}
+use Rattle.cp_frame.specs.Stands.{IsStore}
+use Rattle.cp_frame.proofs.Images.{StoreParts, closed_header, parts-store, store-parts}
+use Rattle.cp_frame.proofs.Standing.{held-one, replayed-items, rows-right}
 use Rattle.cp_db.specs.Committed.{HasReplayed, HasTaken}
 use Rattle.cp_db.specs.Databases.{IsKept, Stands}
 use Rattle.cp_db.specs.Opening.{HasOpened, OpensAs, TellsAs, open_slot}

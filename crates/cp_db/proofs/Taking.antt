@@ -28,8 +28,8 @@ use Rattle.cp_frame.specs.Entries.{WrittenEntry, IsEntry}
 use Rattle.cp_frame.specs.Sound.{IsSoundSource}
 use Rattle.cp_frame.specs.declared.entry.Entry.TheVariants as entry
 use Rattle.cp_operation.specs.Loaded.{sources_in}
-use Rattle.cp_file.specs.Items.{Item, an_entry, CanStand, entry_meant, entries_in, records_in, records_with}
-use Rattle.cp_file.proofs.Standing.{replayed-items, stand-append}
+use Rattle.cp_frame.specs.Items.{Item, an_entry, CanStand, entry_meant, entries_in, records_in, records_with}
+use Rattle.cp_frame.proofs.Standing.{replayed-items, stand-append}
 use Rattle.cp_db.specs.Committed.{CanTake, HasReplayed, HasTaken, IsLoaded, LoadsSource}
 use Rattle.cp_db.specs.declared.committed.Committed.{Committed}
 

@@ -20,7 +20,7 @@ use Rattle.cp_frame.specs.Sound.{IsSoundBatch}
 use Rattle.cp_operation.specs.Loaded.{sources_in}
 use Rattle.cp_operation.specs.Passed.{stage_after, records_of, AllAccepted}
 use Rattle.cp_engine.proofs.Committed.{committed, can-commit, commit-accepted}
-use Rattle.cp_file.specs.Items.{Item, an_entry, CanStand, HasRecords, entry_meant, entries_in, records_with, ops_in, no_stamp}
+use Rattle.cp_frame.specs.Items.{Item, an_entry, CanStand, HasRecords, entry_meant, entries_in, records_with, ops_in, no_stamp}
 use Rattle.cp_db.specs.Committed.{HasReplayed, HasTaken, HasKept, HoldsBatch, IsReplayed, ReplaysCommit, TidsLieBetween}
 use Rattle.cp_db.specs.declared.committed.Committed.{Committed}
 use Rattle.cp_db.specs.declared.limits.TheConstants.{TIDS_MAX}

@@ -35,9 +35,9 @@ use Rattle.cp_operation.specs.Loaded.{sources_in}
 use Rattle.cp_engine.specs.declared.txn.Step.{Step}
 use Rattle.cp_operation.proofs.Accepting.{accepted-targets}
 use Rattle.cp_engine.proofs.Committed.{IsCommitted, commit-accepted, committed}
-use Rattle.cp_file.specs.Items.{IsOfVersion, CanStand, HasRecords, an_entry, entry_meant, ops_in}
-use Rattle.cp_file.specs.Sizes.{stamped_size}
-use Rattle.cp_file.proofs.Measures.{stamped-measured}
+use Rattle.cp_frame.specs.Items.{IsOfVersion, CanStand, HasRecords, an_entry, entry_meant, ops_in}
+use Rattle.cp_frame.specs.Sizes.{stamped_size}
+use Rattle.cp_frame.proofs.Measures.{stamped-measured}
 use Rattle.cp_db.specs.Committed.{HasKept, HasReplayed}
 use Rattle.cp_db.specs.Writing.{commit_size}
 use Rattle.cp_db.specs.declared.committed.Committed.{Committed}

@@ -11,10 +11,10 @@ use Rattle.cp_journal.specs.Journals.{Describes}
 use Rattle.cp_journal.specs.Upgrading.{upgraded, StandsInAVersion}
 use Rattle.cp_journal.specs.declared.limits.TheConstants.{VERSION_AT}
 use Rattle.cp_journal.proofs.Standing.{holds_images}
-use Rattle.cp_file.specs.Items.{an_entry, IsHeld, IsOfVersion, CanStand, Tell, entry_meant}
-use Rattle.cp_file.specs.Stands.{IsHead, StandsFor, StandsWithOrWithout}
-use Rattle.cp_file.proofs.Images.{store-stands, in-a-version, upgraded-head}
-use Rattle.cp_file.proofs.Standing.{tell-added, tell-newer}
+use Rattle.cp_frame.specs.Items.{an_entry, IsHeld, IsOfVersion, CanStand, Tell, entry_meant}
+use Rattle.cp_frame.specs.Stands.{IsHead, StandsFor, StandsWithOrWithout}
+use Rattle.cp_frame.proofs.Images.{store-stands, in-a-version, upgraded-head}
+use Rattle.cp_frame.proofs.Standing.{tell-added, tell-newer}
 use Rattle.cp_db.specs.Databases.{IsKept}
 use Rattle.cp_db.specs.declared.database.Db.{Db}
 

@@ -20,9 +20,9 @@ use Rattle.cp_frame.specs.Sound.{IsSoundEntry}
 use Rattle.cp_frame.specs.Trees.{rows_of}
 use Rattle.cp_frame.specs.declared.entry.Entry.TheVariants as frame
 use Rattle.cp_operation.specs.Loaded.{sources_in}
-use Rattle.cp_file.specs.Items.{IsOfVersion, CanStand, an_entry, entry_meant}
-use Rattle.cp_file.specs.Sizes.{load_size}
-use Rattle.cp_file.proofs.Measures.{load-measured}
+use Rattle.cp_frame.specs.Items.{IsOfVersion, CanStand, an_entry, entry_meant}
+use Rattle.cp_frame.specs.Sizes.{load_size}
+use Rattle.cp_frame.proofs.Measures.{load-measured}
 use Rattle.cp_db.specs.Committed.{HasReplayed}
 use Rattle.cp_db.specs.declared.committed.Committed.{Committed}
 use Rattle.cp_db.proofs.WritingFrames.{IsNext}

@@ -24,11 +24,11 @@ use Rattle.cp_journal.specs.NewStores.{IsOldOrVacantOrNew, header}
 use Rattle.cp_journal.specs.declared.fault.JournalFault.{JournalFault}
 use Rattle.cp_journal.specs.declared.fault.JournalFault.TheVariants as journal
 use Rattle.cp_journal.specs.declared.limits.TheConstants.{BODY_MAX}
-use Rattle.cp_file.specs.Items.{CanStand, IsHeld, Tell, an_entry, entry_meant}
-use Rattle.cp_file.specs.Sizes.{start_size}
-use Rattle.cp_file.proofs.Images.{new-head, store-stands}
-use Rattle.cp_file.proofs.Measures.{start-measured, start-short}
-use Rattle.cp_file.proofs.Standing.{tell-first}
+use Rattle.cp_frame.specs.Items.{CanStand, IsHeld, Tell, an_entry, entry_meant}
+use Rattle.cp_frame.specs.Sizes.{start_size}
+use Rattle.cp_frame.proofs.Images.{new-head, store-stands}
+use Rattle.cp_frame.proofs.Measures.{start-measured, start-short}
+use Rattle.cp_frame.proofs.Standing.{tell-first}
 use Rattle.cp_db.specs.Databases.{IsKept}
 use Rattle.cp_db.specs.Writing.{IsOldOrVacantOrStart}
 use Rattle.cp_db.specs.declared.database.Db.{Db}

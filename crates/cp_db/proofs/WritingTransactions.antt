@@ -16,7 +16,7 @@ use Rattle.cp_engine.specs.declared.fault.FinishFault.TheVariants as finish
 use Rattle.cp_engine.specs.declared.txn.Step.{Step}
 use Rattle.cp_engine.specs.declared.txn.Txn.{Txn}
 use Rattle.cp_engine.proofs.Committed.{can-commit}
-use Rattle.cp_file.specs.Sizes.{has_room}
+use Rattle.cp_frame.specs.Sizes.{has_room}
 use Rattle.cp_db.specs.Databases.{Stands, IsDatabase, IsKept, HasCome, end_in}
 use Rattle.cp_db.specs.Writing.{HasCommitted, HasMade, HasStepped, IsBeforeOrCommitted, commit_size}
 use Rattle.cp_db.specs.declared.database.Db.{Db}

@@ -19,7 +19,7 @@ use Rattle.cp_frame.specs.Entries as written
 use Rattle.cp_frame.specs.Entries.{WrittenEntry, IsBatchOf}
 use Rattle.cp_operation.specs.Loaded.{sources_in}
 use Rattle.cp_operation.specs.Passed.{stage_after, AllAccepted}
-use Rattle.cp_file.specs.Items.{Item, an_entry, AllStand, CanStand, entries_in, records_in}
+use Rattle.cp_frame.specs.Items.{Item, an_entry, AllStand, CanStand, entries_in, records_in}
 use Rattle.cp_db.specs.declared.committed.Committed.{Committed}
 use Rattle.cp_db.specs.declared.limits.TheConstants.{TIDS_MAX}
 

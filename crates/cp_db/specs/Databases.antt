@@ -9,8 +9,8 @@ use Rattle.cp_journal.specs.Frames.{Frame}
 use Rattle.cp_journal.specs.Holding.{IsAtRest}
 use Rattle.cp_journal.specs.Journals.{Describes}
 use Rattle.cp_journal.specs.declared.limits.TheConstants.{HEADER_SIZE}
-use Rattle.cp_file.specs.Items.{Tell}
-use Rattle.cp_file.specs.Stands.{IsHead}
+use Rattle.cp_frame.specs.Items.{Tell}
+use Rattle.cp_frame.specs.Stands.{IsHead}
 use Rattle.cp_engine.specs.Transactions as txn
 use Rattle.cp_engine.specs.declared.txn.Txn.{Txn}
 use Rattle.cp_db.specs.Committed.{HasReplayed}

@@ -13,8 +13,8 @@ use Rattle.cp_frame.specs.Entries.{WrittenEntry, IsEntry, entry_format}
 use Rattle.cp_frame.specs.declared.entry.Entry.{Entry}
 use Rattle.cp_disk.specs.Views.{View}
 use Rattle.cp_journal.specs.Frames.{Frame}
-use Rattle.cp_file.specs.Items.{Item, AreHeld, IsHeld, CanStand, Tell, entries_in}
-use Rattle.cp_file.specs.Stands.{IsStore, Opens}
+use Rattle.cp_frame.specs.Items.{Item, AreHeld, IsHeld, CanStand, Tell, entries_in}
+use Rattle.cp_frame.specs.Stands.{IsStore, Opens}
 use Rattle.cp_db.specs.Committed.{HasTaken}
 use Rattle.cp_db.specs.Databases.{Stands, IsKept}
 use Rattle.cp_db.specs.declared.committed.Committed.{Committed}

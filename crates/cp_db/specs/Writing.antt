@@ -12,8 +12,8 @@ use Rattle.cp_journal.specs.declared.limits.TheConstants.{BODY_MAX, FRAME_HEAD}
 use Rattle.cp_operation.specs.Passed.{records_of}
 use Rattle.cp_engine.specs.Transactions as txn
 use Rattle.cp_engine.specs.declared.txn.Step.{Step}
-use Rattle.cp_file.specs.Stands.{StandsFor, StandsWithOrWithout}
-use Rattle.cp_file.specs.Sizes.{has_room, load_size, stamped_size}
+use Rattle.cp_frame.specs.Stands.{StandsFor, StandsWithOrWithout}
+use Rattle.cp_frame.specs.Sizes.{has_room, load_size, stamped_size}
 use Rattle.cp_db.specs.Databases.{Stands, end_in}
 use Rattle.cp_db.specs.declared.database.Db.{Db}
 use Rattle.cp_db.specs.declared.database.Tids.{Tids}

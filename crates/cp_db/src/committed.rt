@@ -9,19 +9,18 @@ ghost use Rattle.cp_db.specs.declared.limits.TheConstants.{TIDS_MAX};
 ghost use Rattle.cp_frame.specs.Entries.{WrittenEntry, IsEntry};
 ghost use Rattle.cp_frame.specs.Sound.{IsSoundEntry, IsSoundBatch, IsSoundOp, IsSoundSource};
 ghost use Rattle.cp_operation.specs.Loaded.{sources_in};
-ghost use Rattle.cp_file.specs.Items.{Item};
+ghost use Rattle.cp_frame.specs.Items.{Item};
 ghost use Rattle.cp_db.specs.Committed.{HasReplayed, HasTaken, TidsLieBetween, HasKept, CanTake, HoldsBatch, LoadsSource, ReplaysCommit};
 
 use crate::limits::TIDS_MAX;
 use cp_engine::{replay, steps_of};
 use cp_frame::Entry;
 use cp_kinds::KindStore;
-use cp_literal::tree_of;
 use cp_model::{Kind, Literal, Op, OpList, Record, RecordList, SOURCES_MAX, Stats};
 use cp_operation::Sources;
 use cp_path::Name;
 use cp_store::ProvStore;
-use cp_tree::TreeRep;
+use cp_tree::{TreeRep, tree_of};
 use std::alloc::{AllocError, Global};
 
 /// The committed tree, the sources and the rows of all steps, and the number of commits. A plain value: what it says is

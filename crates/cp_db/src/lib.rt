@@ -1,7 +1,7 @@
 //! A curated database in a file: its committed tree, its sources and the rows of its steps in memory, and its history as
 //! entries on a disk.
 //!
-//! What a file stands for is defined in `specs/` of cp_file. A crash at any moment of a call that writes leaves the history
+//! What a file stands for is defined in `specs/` of cp_frame. A crash at any moment of a call that writes leaves the history
 //! before it, or that with its one entry more.
 #![tactic(auto)]
 

@@ -6,7 +6,7 @@ ghost use Rattle.cp_disk.specs.Views.{Only, Rests};
 ghost use Rattle.cp_journal.specs.Frames.{Frame};
 ghost use Rattle.cp_journal.specs.Journals.{Lists};
 ghost use Rattle.cp_journal.specs.declared.frame.TheConstants.{ENTRY};
-ghost use Rattle.cp_file.specs.Items.{Item, IsOfVersion};
+ghost use Rattle.cp_frame.specs.Items.{Item, IsOfVersion};
 ghost use Rattle.cp_frame.specs.Entries.{WrittenEntry, IsEntry, entry_format};
 ghost use Rattle.cp_format.specs.Formats.{Reads};
 ghost use Rattle.cp_frame.specs.Sound.{IsSoundEntry};
@@ -21,8 +21,7 @@ use cp_disk::Disk;
 use cp_format::FormatFault;
 use cp_frame::{Entry, entry_of};
 use cp_journal::{ENTRY, HEADER_SIZE, Header, Journal};
-use cp_literal::tree_of;
-use cp_tree::TreeRep;
+use cp_tree::{TreeRep, tree_of};
 use std::alloc::Global;
 
 /// The offset in the file, in bytes, of the slot that names the newest checkpoint, if one is open.

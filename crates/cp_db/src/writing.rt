@@ -16,9 +16,9 @@ ghost use Rattle.cp_engine.specs.Transactions.{Progress, going};
 ghost use Rattle.cp_format.specs.Formats.{Reads};
 ghost use Rattle.cp_frame.specs.Entries.{WrittenEntry, IsEntry, entry_format};
 ghost use Rattle.cp_frame.specs.declared.entry.Entry.TheVariants.{Load as LoadEntry};
-ghost use Rattle.cp_file.specs.Items.{Tell};
-ghost use Rattle.cp_file.specs.Stands.{StandsFor, StandsWithOrWithout};
-ghost use Rattle.cp_file.specs.Sizes.{has_room, load_size, start_size};
+ghost use Rattle.cp_frame.specs.Items.{Tell};
+ghost use Rattle.cp_frame.specs.Stands.{StandsFor, StandsWithOrWithout};
+ghost use Rattle.cp_frame.specs.Sizes.{has_room, load_size, start_size};
 ghost use Rattle.cp_db.specs.Databases.{Stands, IsDatabase, IsReady, IsKept, HasCome, end_in, is_spent, version_in};
 ghost use Rattle.cp_db.specs.Writing.{commit_size, HasCommitted, HasLoaded, HasMade, HasStepped, IsBeforeOrCommitted, IsCommitDisk, IsInitDisk, IsOldOrVacantOrStart, IsWriteDisk};
 
@@ -29,11 +29,10 @@ use cp_disk::{DISK_MAX, Disk};
 use cp_engine::{Step, Txn};
 use cp_frame::{Entry, entry_bytes};
 use cp_journal::{BODY_MAX, FRAME_HEAD, HEADER_SIZE, Journal};
-use cp_literal::literal_of;
 use cp_model::{Kind, Stamp};
 use cp_path::Name;
 use cp_store::ProvStore;
-use cp_tree::TreeRep;
+use cp_tree::{TreeRep, literal_of};
 use std::alloc::{AllocError, Global};
 
 /// The most bytes of a commit without its stamp, which takes nine and those of the curator.

@@ -19,3 +19,7 @@ pub mod FoundRows
 pub mod Sources
 pub mod SoundEntries
 pub mod SpelledEntries
+pub mod Standing
+pub mod Images
+pub mod Ends
+pub mod Measures

@@ -8,3 +8,7 @@ pub mod EntryReading
 pub mod Sound
 pub mod Faults
 pub mod Laws
+pub mod Items
+pub mod Stands
+pub mod Sizes
+pub mod FileLaws

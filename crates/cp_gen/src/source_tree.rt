@@ -6,10 +6,9 @@ ghost use Rattle.cp_model.specs.declared.literal.Literal.TheVariants as literal;
 ghost use Rattle.cp_gen.specs.Source.{node_rows, source_label, source_name, source_rows, source_tree};
 
 use crate::limits::SOURCE_NODES;
-use cp_literal::tree_of;
 use cp_model::{LitEdge, LitList, Literal};
 use cp_path::{Label, Name, PathFault, Value, Whole};
-use cp_tree::TreeRep;
+use cp_tree::{TreeRep, tree_of};
 use std::alloc::{AllocError, Global};
 
 /// The name of the source.

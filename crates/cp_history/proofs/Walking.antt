@@ -23,8 +23,8 @@ use Rattle.cp_engine.proofs.Committed.{committed, commit-accepted}
 use Rattle.cp_frame.specs.Entries.{WrittenEntry, IsEntry, start, load, commit, stamped}
 use Rattle.cp_frame.specs.Sound.{IsSoundBatch, IsSoundSource}
 use Rattle.cp_frame.specs.declared.entry.Entry.TheVariants as entry
-use Rattle.cp_file.specs.Items.{Item, an_entry, a_checkpoint, CanStand, after_item, entry_meant, entries_in, no_stamp, records_in}
-use Rattle.cp_file.proofs.Standing.{replayed-items, stand-append, stand-split}
+use Rattle.cp_frame.specs.Items.{Item, an_entry, a_checkpoint, CanStand, after_item, entry_meant, entries_in, no_stamp, records_in}
+use Rattle.cp_frame.proofs.Standing.{replayed-items, stand-append, stand-split}
 use Rattle.cp_db.specs.Committed.{HasTaken, HoldsBatch, IsReplayed, LoadsSource, ReplaysCommit}
 use Rattle.cp_history.specs.Verify.{FirstDiffer, IsFirstWrong, records_made}
 use Rattle.cp_history.specs.Walk.{AreFindings, AreFirst, CanReach, Finds, HasReached, IsVerdict, Judges, committed_of}

@@ -20,10 +20,10 @@ use Rattle.cp_journal.specs.declared.header.Header.{Header}
 use Rattle.cp_journal.specs.declared.limits.TheConstants.{HEADER_SIZE}
 use Rattle.cp_journal.specs.declared.frame.TheConstants.{ENTRY}
 use Rattle.cp_frame.specs.Entries.{WrittenEntry, entry_format}
-use Rattle.cp_file.specs.Items.{Item, an_entry, AllStand, AreHeld, IsOfVersion, entries_in}
-use Rattle.cp_file.specs.Stands.{IsStore}
-use Rattle.cp_file.proofs.Images.{one_history}
-use Rattle.cp_file.proofs.Standing.{held-append, replayed-items, rows-right, stops-here}
+use Rattle.cp_frame.specs.Items.{Item, an_entry, AllStand, AreHeld, IsOfVersion, entries_in}
+use Rattle.cp_frame.specs.Stands.{IsStore}
+use Rattle.cp_frame.proofs.Images.{one_history}
+use Rattle.cp_frame.proofs.Standing.{held-append, replayed-items, rows-right, stops-here}
 use Rattle.cp_history.specs.Log.{LogsAs}
 use Rattle.cp_db.specs.Opening.{StartsAs, open_slot}
 use Rattle.cp_history.specs.Verify.{VerifiesAs}

@@ -3,7 +3,7 @@ use Rattle.std.specs.Prelude.{ℕ, ◌≡◌, false, List, Result, Ok, Err, ⊤}
 use Rattle.cp_model.specs.History.{log_of}
 use Rattle.cp_model.specs.History.{Entry as History}
 use Rattle.cp_model.specs.declared.answer.LogLine.{LogLine}
-use Rattle.cp_file.specs.Stands.{IsStore, Opens}
+use Rattle.cp_frame.specs.Stands.{IsStore, Opens}
 use Rattle.cp_db.specs.declared.fault.OpenFault.{OpenFault}
 use Rattle.cp_db.specs.declared.fault.OpenFault.TheVariants.{NoStore, Disk, Memory}
 

@@ -11,8 +11,8 @@ use Rattle.cp_model.specs.declared.record.Verdict.TheVariants.{Agrees, Differs, 
 use Rattle.cp_frame.specs.Entries.{WrittenEntry}
 use Rattle.cp_journal.specs.Frames.{Frame, spelled_all}
 use Rattle.cp_journal.specs.Holding.{Stands}
-use Rattle.cp_file.specs.Items.{Item, an_entry, AllStand, AreHeld, entries_in, entry_meant, records_with}
-use Rattle.cp_file.specs.Stands.{IsHead, IsStore, Opens}
+use Rattle.cp_frame.specs.Items.{Item, an_entry, AllStand, AreHeld, entries_in, entry_meant, records_with}
+use Rattle.cp_frame.specs.Stands.{IsHead, IsStore, Opens}
 use Rattle.cp_db.specs.declared.fault.OpenFault.{OpenFault}
 use Rattle.cp_db.specs.declared.fault.OpenFault.TheVariants.{NoStore, Disk, Memory}
 

@@ -13,8 +13,8 @@ use Rattle.cp_operation.specs.Passed.{records_of}
 use Rattle.cp_frame.specs.Entries.{WrittenEntry}
 use Rattle.cp_journal.specs.Frames.{Frame, spelled_all}
 use Rattle.cp_journal.specs.Holding.{Stands}
-use Rattle.cp_file.specs.Items.{Item, an_entry, AllStand, AreHeld, IsHeld, CanStand, entries_in, records_in}
-use Rattle.cp_file.specs.Stands.{IsHead, Opens}
+use Rattle.cp_frame.specs.Items.{Item, an_entry, AllStand, AreHeld, IsHeld, CanStand, entries_in, records_in}
+use Rattle.cp_frame.specs.Stands.{IsHead, Opens}
 use Rattle.cp_db.specs.Committed.{HasTaken}
 use Rattle.cp_db.specs.Opening.{RefusesAs, TellsAs}
 use Rattle.cp_history.specs.Verify.{FirstDiffer, IsFirstWrong}

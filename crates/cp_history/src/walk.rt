@@ -11,7 +11,7 @@ ghost use Rattle.cp_journal.specs.declared.frame.TheConstants.{ENTRY};
 ghost use Rattle.cp_frame.specs.Entries.{WrittenEntry, IsEntry};
 ghost use Rattle.cp_frame.specs.Sound.{IsSoundEntry, IsSoundBatch};
 ghost use Rattle.cp_operation.specs.Loaded.{sources_in};
-ghost use Rattle.cp_file.specs.Items.{Item, an_entry, entry_meant, no_stamp};
+ghost use Rattle.cp_frame.specs.Items.{Item, an_entry, entry_meant, no_stamp};
 ghost use Rattle.cp_db.specs.Committed.{HoldsBatch, ReplaysCommit};
 ghost use Rattle.cp_db.specs.Opening.{IsOpenDisk};
 ghost use Rattle.cp_history.specs.Walk.{AreFindings, AreFirst, CanReach, Finds, HasPassed, HasReached, FindsAs, PassesFrameAs, TellsPassedAs, committed_of, frame_place, is_log, wants_log};

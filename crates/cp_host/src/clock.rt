@@ -1,11 +1,10 @@
 //! The real clock.
 ghost use Rattle.std.specs.Prelude.{◌≡◌, None, OnErr};
 ghost use Rattle.cp_outside.specs.Causes.{Accounts, AnyError, one_more};
-ghost use Rattle.cp_clock.specs.Moments.{Tells};
+ghost use Rattle.cp_outside.specs.Moments.{Tells};
 ghost use Rattle.cp_host.specs.Adapters.{clock_faults};
 
-use cp_clock::Clock;
-use cp_outside::Failed;
+use cp_outside::{Clock, Failed};
 use std::rt;
 use std::time::{SystemTime, UNIX_EPOCH};
 

@@ -7,7 +7,7 @@ use Rattle.cp_outside.specs.FileReads.{FileTable}
 use Rattle.cp_model.specs.Tree.{Tree}
 use Rattle.cp_model.specs.History.{Entry}
 use Rattle.cp_disk.specs.Views.{Rests}
-use Rattle.cp_file.specs.Stands.{IsStore, Opens}
+use Rattle.cp_frame.specs.Stands.{IsStore, Opens}
 use Rattle.cp_db.specs.Databases as database
 use Rattle.cp_db.specs.Databases.{IsKept}
 use Rattle.cp_db.specs.Opening.{HasOpened, OpensAs}
@@ -19,7 +19,7 @@ use Rattle.cp_lang.specs.declared.syntax_tree.Load.{Load}
 use Rattle.cp_lang.specs.declared.syntax_tree.Stmt.TheVariants as stmt
 use Rattle.cp_reply.specs.Lines.{lines}
 use Rattle.cp_reply.specs.declared.reply.Reply.{Reply}
-use Rattle.cp_session.specs.Session.{Session, says, turn_of, session_after_statements}
+use Rattle.cp_reply.specs.Session.{Session, says, turn_of, session_after_statements}
 use Rattle.cp_workspace.specs.Texts.{Terms, setting}
 use Rattle.cp_workspace.specs.Loads.{statement_reads}
 use Rattle.cp_workspace.specs.Disks.{KnownDisk, LeavesEither}

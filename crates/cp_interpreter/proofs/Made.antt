@@ -15,7 +15,7 @@ use Rattle.cp_reply.specs.declared.reply.Why.{Why}
 use Rattle.cp_reply.specs.declared.reply.Why.TheVariants as why
 use Rattle.cp_reply.specs.declared.reply.Reply.{Reply}
 use Rattle.cp_reply.specs.declared.reply.Reply.TheVariants as reply
-use Rattle.cp_session.specs.Session.{FetchedFile, gives, withholds}
+use Rattle.cp_reply.specs.Session.{FetchedFile, gives, withholds}
 use Rattle.cp_workspace.specs.Disks.{KnownDisk}
 use Rattle.cp_workspace.specs.Faults.{IsFailedFile}
 use Rattle.cp_workspace.specs.Fetched.{Gives}

@@ -13,7 +13,7 @@ use Rattle.cp_lang.specs.CutterState.{held_of}
 use Rattle.cp_journal.specs.Frames.{frames_of, spelled_all}
 use Rattle.cp_journal.specs.declared.limits.TheConstants.{HEADER_SIZE}
 use Rattle.cp_journal.proofs.Standing.{holds_images}
-use Rattle.cp_file.specs.Stands.{IsStore, Opens, StandsFor}
+use Rattle.cp_frame.specs.Stands.{IsStore, Opens, StandsFor}
 use Rattle.cp_db.specs.Databases as database
 use Rattle.cp_db.specs.Databases.{IsKept, end_in}
 use Rattle.cp_db.specs.Opening.{HasOpened, OpensAs}
@@ -21,7 +21,7 @@ use Rattle.cp_db.specs.declared.database.Db.{Db}
 use Rattle.cp_db.specs.declared.fault.OpenFault.{OpenFault}
 use Rattle.cp_db.specs.declared.fault.OpenFault.TheVariants as opens
 use Rattle.cp_db.proofs.Keeping.{kept-images}
-use Rattle.cp_session.specs.Session.{Session, session_after}
+use Rattle.cp_reply.specs.Session.{Session, session_after}
 use Rattle.cp_workspace.specs.Texts.{Terms}
 use Rattle.cp_workspace.specs.Disks.{KnownDisk}
 use Rattle.cp_workspace.specs.Workspaces.{Stands, IsUsable, HasStamps, HoldsFile, end_now, opened_session}

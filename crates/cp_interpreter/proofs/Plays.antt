@@ -14,7 +14,7 @@ use Rattle.std.specs.Io.KnownBytes.{Appends}
 use Rattle.cp_outside.specs.FileReads.{FileTable}
 use Rattle.cp_outside.specs.Sinks.{TakesPart}
 use Rattle.std.proofs.KnownBytes.{Appends-nil, Appends-trans}
-use Rattle.cp_clock.proofs.Telling.{told-then}
+use Rattle.cp_outside.proofs.Telling.{told-then}
 use Rattle.cp_lang.specs.declared.cut.Cut.{Cut}
 use Rattle.cp_lang.specs.declared.cut.Cut.TheVariants.{Text, TooLong, Unfinished}
 use Rattle.cp_lang.specs.Cuts.{Scan, scan_byte, scan_bytes, rest_of}
@@ -23,12 +23,12 @@ use Rattle.cp_lang.specs.CutterState.{CutterState, held_of, byte_cuts, byte_held
 use Rattle.cp_lang.proofs.Bytewise.{byte_cuts-is, byte_held-is}
 use Rattle.cp_model.specs.Tree.{Tree}
 use Rattle.cp_model.specs.History.{Entry}
-use Rattle.cp_file.specs.Stands.{StandsFor}
+use Rattle.cp_frame.specs.Stands.{StandsFor}
 use Rattle.cp_db.proofs.Keeping.{kept-images}
 use Rattle.cp_reply.specs.Lines.{lines}
 use Rattle.cp_reply.specs.declared.reply.Reply.{Reply}
-use Rattle.cp_session.specs.Session.{Session, Setting, turn, replies_to, session_after}
-use Rattle.cp_session.proofs.Appended.{replies_to-append, session_after-append}
+use Rattle.cp_reply.specs.Session.{Session, Setting, turn, replies_to, session_after}
+use Rattle.cp_reply.proofs.Appended.{replies_to-append, session_after-append}
 use Rattle.cp_workspace.specs.Texts.{Terms, setting}
 use Rattle.cp_workspace.specs.Loads.{cut_reads}
 use Rattle.cp_workspace.specs.Disks.{KnownDisk}

@@ -9,9 +9,9 @@ use Rattle.std.specs.Io.KnownBytes.{Appends, Consumes, Keeps, IsAtEnd}
 use Rattle.std.proofs.KnownBytes.{Appends-trans, Consumes-trans, Consumes-nil, Consumes-kept}
 use Rattle.cp_outside.specs.Causes.{Accounts, Rose}
 use Rattle.cp_outside.specs.FileReads.{FileTable}
-use Rattle.cp_clock.proofs.Telling.{told-none, told-then}
+use Rattle.cp_outside.proofs.Telling.{told-none, told-then}
 use Rattle.cp_model.specs.Tree.{Tree}
-use Rattle.cp_file.specs.Stands.{StandsFor}
+use Rattle.cp_frame.specs.Stands.{StandsFor}
 use Rattle.cp_db.proofs.Keeping.{kept-images}
 use Rattle.cp_workspace.specs.Disks.{KnownDisk}
 use Rattle.cp_workspace.specs.Files.{KnownFiles, HasRead, HasReadSome}

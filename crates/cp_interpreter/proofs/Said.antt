@@ -8,7 +8,7 @@ use Rattle.cp_outside.specs.FileReads.{FileTable}
 use Rattle.cp_lang.specs.declared.syntax_tree.Stmt.{Stmt}
 use Rattle.cp_reply.specs.Lines.{lines}
 use Rattle.cp_reply.specs.declared.reply.Reply.{Reply}
-use Rattle.cp_session.specs.Session.{Session, says, turn_of, with_reply, replies_to_statements}
+use Rattle.cp_reply.specs.Session.{Session, says, turn_of, with_reply, replies_to_statements}
 use Rattle.cp_workspace.specs.Texts.{Terms, setting}
 use Rattle.cp_workspace.specs.Disks.{KnownDisk}
 use Rattle.cp_workspace.specs.Files.{KnownFiles}

@@ -10,14 +10,14 @@ use Rattle.cp_outside.specs.Causes.{Accounts}
 use Rattle.cp_outside.specs.FileReads.{FileTable}
 use Rattle.cp_outside.specs.declared.files.FilesFault.{FilesFault}
 use Rattle.cp_outside.specs.declared.files.FilesFault.TheVariants as fails
-use Rattle.cp_clock.proofs.Telling.{told-none}
+use Rattle.cp_outside.proofs.Telling.{told-none}
 use Rattle.cp_disk.specs.Views.{Rests}
-use Rattle.cp_file.specs.Stands.{IsStore, Opens, StandsFor}
+use Rattle.cp_frame.specs.Stands.{IsStore, Opens, StandsFor}
 use Rattle.cp_model.specs.Tree.{Tree}
 use Rattle.cp_model.specs.History.{Entry}
 use Rattle.cp_reply.specs.declared.reply.Why.{Why}
 use Rattle.cp_lang.specs.Cuts.{scan_bytes}
-use Rattle.cp_session.specs.Session.{Session, session_after}
+use Rattle.cp_reply.specs.Session.{Session, session_after}
 use Rattle.cp_workspace.specs.Disks.{KnownDisk}
 use Rattle.cp_workspace.specs.Files.{KnownFiles, HasRead, HasReadSome, IsTable}
 use Rattle.cp_workspace.specs.Texts.{Terms}

@@ -5,7 +5,7 @@ use Rattle.cp_outside.specs.Causes.{Accounts, Rose}
 use Rattle.cp_outside.specs.FileReads.{FileTable}
 use Rattle.cp_outside.specs.declared.files.FilesFault.{FilesFault}
 use Rattle.cp_outside.specs.declared.files.FilesFault.TheVariants as fails
-use Rattle.cp_session.specs.Session.{Session}
+use Rattle.cp_reply.specs.Session.{Session}
 use Rattle.cp_workspace.specs.Files.{KnownFiles, HasRead}
 use Rattle.cp_workspace.specs.Disks.{KnownDisk}
 use Rattle.cp_workspace.specs.Texts.{Terms}

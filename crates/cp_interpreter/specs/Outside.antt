@@ -3,7 +3,7 @@ use Rattle.std.specs.Prelude.{ℕ, List}
 use Rattle.std.specs.declared.option.Option.{Option}
 use Rattle.cp_outside.specs.declared.files.Files as files
 use Rattle.cp_workspace.specs.Files.{KnownFiles, known_files}
-use Rattle.cp_clock.specs.declared.clock.Clock as clock
+use Rattle.cp_outside.specs.declared.clock.Clock as clock
 use Rattle.cp_outside.specs.declared.source.Source as source
 use Rattle.cp_outside.specs.declared.sink.Sink as sink
 

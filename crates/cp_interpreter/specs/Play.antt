@@ -1,7 +1,7 @@
 -- A session between two bytes of its input, and what the next bytes bring.
 use Rattle.std.specs.Prelude.{ℕ, List, ◌++◌}
 use Rattle.cp_lang.specs.Cuts.{Scan, scan_start, scan_bytes, rest_of}
-use Rattle.cp_session.specs.Session.{Session, session_after}
+use Rattle.cp_reply.specs.Session.{Session, session_after}
 use Rattle.cp_outside.specs.FileReads.{FileTable}
 use Rattle.cp_workspace.specs.Texts.{Terms, setting}
 use Rattle.cp_interpreter.specs.Job.{Report, report_of}

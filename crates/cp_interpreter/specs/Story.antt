@@ -5,7 +5,7 @@ use Rattle.std.specs.Io.KnownBytes.{Appends, Consumes, IsAtEnd}
 use Rattle.cp_outside.specs.Causes.{Accounts, Rose}
 use Rattle.cp_outside.specs.FileReads.{FileTable}
 use Rattle.cp_outside.specs.Sinks.{TakesPart}
-use Rattle.cp_clock.specs.Moments.{HasTold}
+use Rattle.cp_outside.specs.Moments.{HasTold}
 use Rattle.cp_model.specs.Keyed.{len}
 use Rattle.cp_model.specs.History.{Entry, start}
 use Rattle.cp_model.specs.declared.kind.Kind.{Kind}
@@ -14,13 +14,13 @@ use Rattle.cp_journal.specs.Frames.{frames_of}
 use Rattle.cp_journal.specs.Journals.{walk_end}
 use Rattle.cp_journal.specs.NewStores.{IsVacant}
 use Rattle.cp_journal.specs.declared.limits.TheConstants.{HEADER_SIZE}
-use Rattle.cp_file.specs.Stands.{IsStore, Opens, StandsFor}
+use Rattle.cp_frame.specs.Stands.{IsStore, Opens, StandsFor}
 use Rattle.cp_db.specs.Writing.{IsOldOrVacantOrStart}
 use Rattle.cp_reply.specs.Lines.{lines}
 use Rattle.cp_reply.specs.declared.reply.Of.TheVariants as of
 use Rattle.cp_reply.specs.declared.reply.Why.TheVariants as why
 use Rattle.cp_reply.specs.declared.reply.Reply.TheVariants as reply
-use Rattle.cp_session.specs.Session.{Session, FetchedFile, gives, withholds}
+use Rattle.cp_reply.specs.Session.{Session, FetchedFile, gives, withholds}
 use Rattle.cp_workspace.specs.Texts.{Terms}
 use Rattle.cp_workspace.specs.Files.{HasRead, IsTable}
 use Rattle.cp_workspace.specs.Disks.{KnownDisk}

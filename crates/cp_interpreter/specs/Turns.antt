@@ -6,14 +6,14 @@ use Rattle.std.specs.Io.KnownBytes.{Appends, Consumes, IsAtEnd}
 use Rattle.cp_outside.specs.Causes.{Accounts, Rose}
 use Rattle.cp_outside.specs.FileReads.{FileTable}
 use Rattle.cp_outside.specs.Sinks.{TakesPart}
-use Rattle.cp_clock.specs.Moments.{HasTold}
+use Rattle.cp_outside.specs.Moments.{HasTold}
 use Rattle.cp_lang.specs.Cuts.{Scan}
 use Rattle.cp_lang.specs.CutterState.{CutterState, held_of}
 use Rattle.cp_lang.specs.declared.cut.Cut.{Cut}
 use Rattle.cp_model.specs.Tree.{Tree}
 use Rattle.cp_model.specs.History.{Entry}
-use Rattle.cp_file.specs.Stands.{StandsFor}
-use Rattle.cp_session.specs.Session.{session_after}
+use Rattle.cp_frame.specs.Stands.{StandsFor}
+use Rattle.cp_reply.specs.Session.{session_after}
 use Rattle.cp_interpreter.specs.Texts.{no_store_line, memory_line, file_line, disk_line, clock_line}
 use Rattle.cp_workspace.specs.Texts.{setting}
 use Rattle.cp_workspace.specs.Disks.{KnownDisk}

@@ -12,10 +12,9 @@ ghost use Rattle.cp_interpreter.specs.Turns.{MayGoOn, SendsOut, Went, WasFed, Ra
 
 use crate::stop::Stop;
 use crate::tell::{is_refusal, tell};
-use cp_clock::Clock;
 use cp_disk::Disk;
 use cp_lang::{Cut, Cutter};
-use cp_outside::{Files, Sink};
+use cp_outside::{Clock, Files, Sink};
 use cp_reply::Reply;
 use cp_tree::TreeRep;
 use cp_workspace::Workspace;

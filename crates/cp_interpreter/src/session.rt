@@ -10,9 +10,8 @@ use crate::end::End;
 use crate::interpreter::Interpreter;
 use crate::limits::{INPUT_MAX, PIECE_MAX};
 use crate::tell::{last_line, stopped};
-use cp_clock::Clock;
 use cp_disk::Disk;
-use cp_outside::{Files, Sink, Source};
+use cp_outside::{Clock, Files, Sink, Source};
 use cp_tree::TreeRep;
 
 /// The input has ended.

@@ -1,6 +1,7 @@
 ghost use Rattle.std.specs.Prelude.{◌≡◌, [], IfOk};
 
-use cp_flat::{NaiveStore, TransStore};
+use crate::naive::NaiveStore;
+use crate::trans::TransStore;
 use cp_hier::{HierStore, HierTransStore};
 use cp_model::{Kind, Record, RecordList, TidList};
 use cp_path::{Label, Loc};

@@ -1,2 +1,3 @@
 mod Named
 mod WritesInTurn
+pub mod Telling

@@ -2,3 +2,5 @@ pub mod Causes
 pub mod FileReads
 pub mod MemoryStates
 pub mod Sinks
+pub mod Moments
+pub mod MemoryClocks

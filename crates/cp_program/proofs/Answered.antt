@@ -6,7 +6,7 @@ use Rattle.cp_outside.specs.Causes.{Accounts}
 use Rattle.cp_outside.specs.FileReads.{FileTable}
 use Rattle.cp_model.specs.Tree.{Tree}
 use Rattle.cp_disk.specs.Views.{Rests}
-use Rattle.cp_file.specs.Stands.{Opens}
+use Rattle.cp_frame.specs.Stands.{Opens}
 use Rattle.cp_model.specs.declared.answer.LogLine.{LogLine}
 use Rattle.cp_model.specs.declared.record.Verdict.{Verdict}
 use Rattle.cp_history.specs.Log.{LogsAs}
@@ -15,7 +15,7 @@ use Rattle.cp_lang.specs.declared.syntax_tree.Stmt.{Stmt}
 use Rattle.cp_reply.specs.Lines.{lines}
 use Rattle.cp_reply.specs.declared.reply.Reply.{Reply}
 use Rattle.cp_reply.specs.declared.reply.Reply.TheVariants as reply
-use Rattle.cp_session.specs.Session.{Session, says, turn_of}
+use Rattle.cp_reply.specs.Session.{Session, says, turn_of}
 use Rattle.cp_workspace.specs.Texts.{Terms, setting}
 use Rattle.cp_workspace.specs.Disks.{KnownDisk}
 use Rattle.cp_workspace.specs.Files.{KnownFiles}

@@ -7,18 +7,18 @@ use Rattle.std.proofs.KnownBytes.{Consumes-nil}
 use Rattle.cp_outside.specs.FileReads.{FileTable}
 use Rattle.cp_outside.specs.declared.files.FilesFault.{FilesFault}
 use Rattle.cp_outside.specs.declared.files.FilesFault.TheVariants as fails
-use Rattle.cp_clock.proofs.Telling.{told-none}
+use Rattle.cp_outside.proofs.Telling.{told-none}
 use Rattle.cp_lang.specs.Cuts.{scan_start}
 use Rattle.cp_lang.specs.CutterState.{held_of}
 use Rattle.cp_journal.specs.declared.limits.TheConstants.{HEADER_SIZE, FRAME_HEAD}
-use Rattle.cp_file.specs.Sizes.{start_size}
+use Rattle.cp_frame.specs.Sizes.{start_size}
 use Rattle.cp_db.specs.Databases.{IsKept, IsReady, end_in, version_in}
 use Rattle.cp_db.specs.declared.database.Db.{Db}
 use Rattle.cp_model.specs.Place.{Label}
 use Rattle.cp_model.specs.History.{start}
 use Rattle.cp_model.specs.Tree.{Tree}
 use Rattle.cp_model.specs.declared.kind.Kind.{Kind}
-use Rattle.cp_session.specs.Session.{FetchedFile, gives, withholds}
+use Rattle.cp_reply.specs.Session.{FetchedFile, gives, withholds}
 use Rattle.cp_reply.specs.declared.reply.Why.{Why}
 use Rattle.cp_workspace.specs.Fetched.{Gives}
 use Rattle.cp_workspace.specs.Files.{KnownFiles, HasRead, HasReadSome, IsTable, ReadsBefore}

@@ -6,9 +6,9 @@ use Rattle.cp_model.specs.declared.record.Record.{Record}
 use Rattle.cp_model.specs.declared.record.Verdict.{Verdict}
 use Rattle.cp_model.specs.declared.record.Verdict.TheVariants.{Agrees, Differs, TreeDiffers, NumberDiffers}
 use Rattle.cp_journal.specs.Frames.{Frame}
-use Rattle.cp_file.specs.Items.{Item, an_entry, AreHeld, entries_in}
-use Rattle.cp_file.specs.Stands.{Opens}
-use Rattle.cp_file.proofs.Images.{files_open}
+use Rattle.cp_frame.specs.Items.{Item, an_entry, AreHeld, entries_in}
+use Rattle.cp_frame.specs.Stands.{Opens}
+use Rattle.cp_frame.proofs.Images.{files_open}
 use Rattle.cp_history.specs.Verify.{HasWrong, VerifiesAs}
 
 -- frames that hold an item are one at least

@@ -4,7 +4,7 @@ use Rattle.cp_model.specs.History.{Entry, log_of}
 use Rattle.cp_model.specs.declared.kind.Kind.{Kind}
 use Rattle.cp_model.specs.declared.record.Verdict.{Verdict}
 use Rattle.cp_disk.specs.Views.{Rests}
-use Rattle.cp_file.specs.Stands.{IsStore, Opens}
+use Rattle.cp_frame.specs.Stands.{IsStore, Opens}
 use Rattle.cp_history.specs.Verify.{VerifiesAs}
 use Rattle.cp_lang.specs.declared.syntax_tree.Stmt.{Stmt}
 use Rattle.cp_reply.specs.Lines.{lines}

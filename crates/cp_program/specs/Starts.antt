@@ -7,7 +7,7 @@ use Rattle.cp_reply.specs.Lines.{lines}
 use Rattle.cp_reply.specs.declared.reply.Of.TheVariants as of
 use Rattle.cp_reply.specs.declared.reply.Why.{Why}
 use Rattle.cp_reply.specs.declared.reply.Reply.TheVariants as reply
-use Rattle.cp_session.specs.Session.{FetchedFile, gives, withholds}
+use Rattle.cp_reply.specs.Session.{FetchedFile, gives, withholds}
 use Rattle.cp_outside.specs.FileReads.{FileTable}
 use Rattle.cp_workspace.specs.Fetching.{fetch}
 use Rattle.cp_scratch.specs.Sessions.{empty_tree, scratch_session, scratch_terms}
@@ -15,7 +15,7 @@ use Rattle.cp_words.specs.declared.command.Start.{Start}
 use Rattle.cp_words.specs.declared.command.Start.TheVariants.{Alone, TreeIn}
 use Rattle.cp_interpreter.specs.declared.limits.TheConstants.{INPUT_MAX}
 use Rattle.std.specs.Io.KnownBytes.{Consumes, IsAtEnd}
-use Rattle.cp_clock.specs.Moments.{HasTold}
+use Rattle.cp_outside.specs.Moments.{HasTold}
 use Rattle.cp_model.specs.declared.kind.Kind.{Kind}
 use Rattle.cp_workspace.specs.Files.{HasRead, IsTable}
 use Rattle.cp_interpreter.specs.Texts.{file_line}

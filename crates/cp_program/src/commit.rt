@@ -8,12 +8,11 @@ ghost use Rattle.cp_interpreter.specs.Story.{HasCauses, WorldCauses, DiskCauses}
 ghost use Rattle.cp_interpreter.specs.Turns.{MayGoOn, RanScript};
 
 use crate::store::begin;
-use cp_clock::Clock;
 use cp_disk::Disk;
 use cp_interpreter::{
     End, Interpreter, PIECE_MAX, Stop, end_with, out_of_memory, read_script, stopped, turns,
 };
-use cp_outside::{Files, Sink};
+use cp_outside::{Clock, Files, Sink};
 use cp_path::{Label, Text};
 use cp_reply::{Of, Reply, Why};
 use cp_tree::TreeRep;

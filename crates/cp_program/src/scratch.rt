@@ -16,11 +16,10 @@ ghost use Rattle.cp_interpreter.specs.Play.{begun};
 ghost use Rattle.cp_interpreter.specs.Turns.{Follows, MayGoOn, has_refused};
 
 use crate::start::{no_curator, start_tree};
-use cp_clock::Clock;
 use cp_disk::SureDisk;
 use cp_interpreter::{End, Interpreter, PIECE_MAX, Stop, end_with, out_of_memory, stopped, turns};
 use cp_model::Kind;
-use cp_outside::{Files, FilesFault, Sink, Source};
+use cp_outside::{Clock, Files, FilesFault, Sink, Source};
 use cp_reply::{Of, Reply, Why};
 use cp_scratch::new_db;
 use cp_tree::TreeRep;

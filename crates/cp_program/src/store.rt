@@ -8,11 +8,10 @@ ghost use Rattle.cp_interpreter.specs.Outside.{known_outside};
 ghost use Rattle.cp_interpreter.specs.Story.{RanOn, HasCauses, DiskCauses};
 ghost use Rattle.cp_interpreter.specs.Turns.{MayGoOn, IsDiskStop, has_refused};
 
-use cp_clock::Clock;
 use cp_db::{Db, WriteFault};
 use cp_disk::Disk;
 use cp_interpreter::{End, Interpreter, PIECE_MAX, Stop, out_of_memory, stopped, turns};
-use cp_outside::{Files, Sink, Source};
+use cp_outside::{Clock, Files, Sink, Source};
 use cp_path::Label;
 use cp_tree::TreeRep;
 use cp_workspace::Workspace;

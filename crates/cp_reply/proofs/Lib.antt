@@ -1,3 +1,6 @@
 mod Between
 mod Front
 mod Runs
+pub mod Worked
+pub mod Appended
+pub mod SessionLemmas

@@ -1,3 +1,5 @@
 pub mod Lines
 pub mod Front
 pub mod Runs
+pub mod Session
+pub mod Examples

@@ -1,9 +1,11 @@
 //! What the program replies to a statement or a command, and the lines of each reply.
 //!
-//! The lines stand in `specs/Lines.antt`.
+//! The lines stand in `specs/Lines.antt`. What each cut of a whole session's input brings, from the statements to the lines of
+//! the replies, stands in `specs/Session.antt`, so that the program and the crates above cite one text.
 #![tactic(auto)]
 
 mod answer;
+mod examples;
 mod record;
 mod refusal;
 mod reply;
@@ -11,6 +13,7 @@ mod tree;
 mod word;
 mod write;
 
+pub use examples::worked_examples;
 pub use record::record_text;
 pub use reply::{Of, Reply, Why};
 pub use write::lines;

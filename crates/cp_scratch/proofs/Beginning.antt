@@ -7,8 +7,8 @@ use Rattle.cp_model.specs.Tree.{Tree, Source, source}
 use Rattle.cp_model.specs.History.{Entry, State, start, start_state, load, replay, IsSource, CanLoad}
 use Rattle.cp_model.specs.declared.kind.Kind.{Kind}
 use Rattle.cp_journal.specs.declared.limits.TheConstants.{HEADER_SIZE, FRAME_HEAD}
-use Rattle.cp_file.specs.Sizes.{start_size, load_size}
-use Rattle.cp_file.proofs.Ends.{end_of-none}
+use Rattle.cp_frame.specs.Sizes.{start_size, load_size}
+use Rattle.cp_frame.proofs.Ends.{end_of-none}
 use Rattle.cp_db.specs.Databases as database
 use Rattle.cp_db.specs.declared.database.Db.{Db}
 use Rattle.cp_db.specs.declared.fault.WriteFault.TheVariants as fault

@@ -3,7 +3,7 @@ use Rattle.std.proofs.Common.{◌≡◌, ◌∙◌, ℕ, List, [], ◌∷◌, �
 use Rattle.std.specs.Prelude.{if◌then◌else◌, drop, ⊤, IfOk, OnOk, Result}
 use Rattle.std.specs.declared.option.Option.{Option}
 use Rattle.std.specs.declared.option.Option.TheVariants.{None, Some}
-use Rattle.cp_clock.specs.Moments.{TellsOne, HasTold}
+use Rattle.cp_outside.specs.Moments.{TellsOne, HasTold}
 use Rattle.cp_model.specs.Tree.{Tree}
 use Rattle.cp_model.specs.History.{Entry, State, commit, replay, after_commit, steps_of}
 use Rattle.cp_model.specs.declared.kind.Kind.{Kind}
@@ -13,7 +13,7 @@ use Rattle.cp_model.specs.declared.stamp.Stamp.{Stamp}
 use Rattle.cp_lang.specs.declared.syntax_tree.Stmt.{Stmt}
 use Rattle.cp_lang.specs.declared.syntax_tree.Stmt.TheVariants as stmt
 use Rattle.cp_reply.specs.declared.reply.Reply.{Reply}
-use Rattle.cp_session.specs.Session.{Session, Setting, Turn, OpenTransaction, closed, going, failed, says, turn_of, turn_by, on_operation, on_commit, decide_op, refusal_after, next_moment, new_records, session_after_statements}
+use Rattle.cp_reply.specs.Session.{Session, Setting, Turn, OpenTransaction, closed, going, failed, says, turn_of, turn_by, on_operation, on_commit, decide_op, refusal_after, next_moment, new_records, session_after_statements}
 use Rattle.cp_gen.specs.Script.{IsOpOrCommit, script}
 use Rattle.cp_workspace.specs.Texts.{Terms, setting}
 use Rattle.cp_workspace.specs.Disks.{KnownDisk}

@@ -9,8 +9,8 @@ use Rattle.cp_model.specs.declared.row.Content.TheVariants.{Node}
 use Rattle.cp_model.specs.declared.kind.Kind.{Kind}
 use Rattle.cp_disk.specs.MemoryDisks.{SureState, sure_view, sure_counts}
 use Rattle.cp_journal.specs.declared.limits.TheConstants.{HEADER_SIZE, FRAME_HEAD}
-use Rattle.cp_file.specs.Sizes.{start_size}
-use Rattle.cp_session.specs.Session.{Session}
+use Rattle.cp_frame.specs.Sizes.{start_size}
+use Rattle.cp_reply.specs.Session.{Session}
 use Rattle.cp_workspace.specs.Texts.{Terms}
 use Rattle.cp_workspace.specs.Disks.{KnownDisk}
 use Rattle.cp_workspace.specs.Workspaces.{opened_session}

@@ -5,7 +5,7 @@ use Rattle.std.specs.declared.option.Option.TheVariants.{Some}
 use Rattle.cp_model.specs.History.{Entry, State, start, load, replay}
 use Rattle.cp_model.specs.declared.kind.Kind.{Kind}
 use Rattle.cp_reply.specs.declared.reply.Reply.{Reply}
-use Rattle.cp_session.specs.Session.{Session, session_after_statements}
+use Rattle.cp_reply.specs.Session.{Session, session_after_statements}
 use Rattle.cp_gen.specs.Source.{source_name, source_tree}
 use Rattle.cp_gen.specs.Script.{script}
 use Rattle.cp_workspace.specs.Texts.{Terms, setting}

@@ -4,7 +4,7 @@ ghost use Rattle.cp_disk.specs.MemoryDisks.{sure_view};
 ghost use Rattle.cp_journal.specs.NewStores.{IsVacant};
 ghost use Rattle.cp_journal.specs.declared.limits.TheConstants.{HEADER_SIZE, FRAME_HEAD};
 ghost use Rattle.cp_model.specs.History.{start};
-ghost use Rattle.cp_file.specs.Sizes.{start_size};
+ghost use Rattle.cp_frame.specs.Sizes.{start_size};
 ghost use Rattle.cp_db.specs.Databases as database;
 ghost use Rattle.cp_db.specs.Databases.{IsKept, IsReady, end_in, is_spent, version_in};
 

@@ -22,3 +22,5 @@ pub mod SumsLemmas
 pub mod Tallies
 pub mod Totals
 pub mod Walking
+mod Labels
+mod Siblings

@@ -2,3 +2,4 @@ pub mod Branch
 pub mod Good
 pub mod Rows
 pub mod Sums
+pub mod Shared

@@ -19,7 +19,7 @@ use crate::pool::Pool;
 use crate::slot::{Links, Slot, SlotId, sums_at};
 use cp_model::Row;
 use cp_path::{Label, TEXT_MAX};
-use cp_shared::{SharedContent, SharedLabel};
+use cp_tree::{SharedContent, SharedLabel};
 use std::alloc::{AllocError, Global};
 
 impl Pool {

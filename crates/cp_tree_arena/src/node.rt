@@ -10,8 +10,7 @@ use crate::siblings::{find, labels_into};
 use crate::slot::{Slot, SlotId, slot_at, sums_at};
 use cp_model::{Content, Row};
 use cp_path::{Label, Path};
-use cp_shared::SharedContent;
-use cp_tree::Reach;
+use cp_tree::{Reach, SharedContent};
 use std::alloc::{AllocError, Global};
 
 /// A node that is read: what stands there, and the slots, with the root of its children among them.

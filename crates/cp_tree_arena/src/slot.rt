@@ -2,8 +2,7 @@ ghost use Rattle.std.specs.Prelude.{◌≡◌, ◌==◌, IfSome, IfNone, IfOk, s
 ghost use Rattle.std.specs.declared.option.Option.TheVariants.{Some, None};
 ghost use Rattle.cp_tree_arena.specs.Slots.{height_in, sums_in, links_in, NO_SLOT};
 
-use cp_shared::{SharedContent, SharedLabel};
-use cp_tree::Sums;
+use cp_tree::{SharedContent, SharedLabel, Sums};
 use std::alloc::AllocError;
 
 /// The number of a slot, or of none.

@@ -18,8 +18,7 @@ use crate::pool::Pool;
 use crate::slot::SlotId;
 use cp_model::{Content, Row, RowList};
 use cp_path::{Label, Path};
-use cp_shared::{SharedContent, number_range};
-use cp_tree::{Reach, TreeRep};
+use cp_tree::{Reach, SharedContent, TreeRep, number_range};
 use std::alloc::{AllocError, Global};
 use std::marker::Model;
 

@@ -2,7 +2,7 @@ ghost use Rattle.std.specs.Prelude.{T};
 ghost use Rattle.cp_tree_rows.specs.Forest.{is_part};
 
 use crate::row::TreeRow;
-use cp_shared::SharedContent;
+use cp_tree::SharedContent;
 
 /// A tree: what stands at its root, where its last child is, and the rows below.
 #[derive(Drop)]

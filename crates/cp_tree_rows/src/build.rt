@@ -13,7 +13,7 @@ ghost use Rattle.cp_tree_rows.specs.Branches.{tree_in};
 use crate::branch::RowBranch;
 use cp_model::Row;
 use cp_path::TEXT_MAX;
-use cp_shared::SharedContent;
+use cp_tree::SharedContent;
 use std::alloc::{AllocError, Global};
 
 /// Adds a row whose parent is there. Costs a search for its place.

@@ -15,7 +15,7 @@ use crate::change::settle;
 use crate::row::TreeRow;
 use crate::search::Part;
 use cp_path::Label;
-use cp_shared::{SharedContent, SharedLabel};
+use cp_tree::{SharedContent, SharedLabel};
 use std::alloc::{AllocError, Global};
 
 /// Makes equal rows. Costs their number.

@@ -7,7 +7,7 @@ ghost use Rattle.cp_tree_rows.specs.Forest.{edges, nests};
 use crate::row::TreeRow;
 use cp_model::Row;
 use cp_path::{Label, Path};
-use cp_shared::SharedContent;
+use cp_tree::SharedContent;
 use std::alloc::{AllocError, Global};
 
 /// Lists the labels of these siblings, in order. Costs their bytes.

@@ -1,6 +1,6 @@
 ghost use Rattle.std.specs.Prelude.{◌≡◌, IfOk};
 
-use cp_shared::{SharedContent, SharedLabel};
+use cp_tree::{SharedContent, SharedLabel};
 use std::alloc::AllocError;
 
 /// A place below the root: its label, what stands there, and how many rows lie below it, which follow it.

@@ -9,7 +9,7 @@ ghost use Rattle.cp_tree_rows.specs.Spots.{IsChild, IsGap};
 
 use crate::row::TreeRow;
 use cp_path::Label;
-use cp_shared::SharedContent;
+use cp_tree::SharedContent;
 use std::cmp::Ordering;
 
 /// Finds the row of the child with the label among these siblings and what lies below them, or else where it would

@@ -16,8 +16,7 @@ use crate::list::{labels, list_place, list_rows};
 use crate::search::{Part, find, find_child};
 use cp_model::{Content, PLACE_WEIGHT, Row, RowList};
 use cp_path::{Label, Path};
-use cp_shared::{SharedContent, number_range};
-use cp_tree::{Reach, TreeRep};
+use cp_tree::{Reach, SharedContent, TreeRep, number_range};
 use std::alloc::{AllocError, Global};
 
 /// A tree as its rows in the order of their places, a subtree being a stretch of them.

@@ -8,7 +8,7 @@ ghost use Rattle.cp_tree_share.specs.Reading.{AreShort, HaveEdges, HaveTree, Hav
 use crate::forest::{Entry, Forest, ShareNode};
 use cp_model::{Content, Row};
 use cp_path::{Label, TEXT_MAX};
-use cp_shared::{SharedContent, SharedLabel};
+use cp_tree::{SharedContent, SharedLabel};
 use std::alloc::{AllocError, Global};
 
 /// Reads the edges below a place of this many labels, and puts them behind the entries. Gives the rows after them. Costs

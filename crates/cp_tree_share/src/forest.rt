@@ -4,8 +4,7 @@ ghost use Rattle.cp_tree.specs.Branch.{children_len};
 ghost use Rattle.cp_tree.specs.Sums.{sums_of, AreChildren, AreSmall};
 
 use cp_path::Label;
-use cp_shared::{SharedContent, SharedLabel};
-use cp_tree::Sums;
+use cp_tree::{SharedContent, SharedLabel, Sums};
 use std::alloc::AllocError;
 use std::cmp::Ordering;
 use std::marker::Model;

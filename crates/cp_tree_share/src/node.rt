@@ -12,8 +12,7 @@ ghost use Rattle.cp_tree.specs.Sums.{IsSmall};
 use crate::forest::{Entry, Forest, Fork, Open, ShareNode};
 use cp_model::{Content, Row};
 use cp_path::{Label, Path};
-use cp_shared::{SharedContent, SharedLabel};
-use cp_tree::Reach;
+use cp_tree::{Reach, SharedContent, SharedLabel};
 use std::alloc::{AllocError, Global};
 
 /// Adds the row of a place. Costs its labels and the bytes of a text.

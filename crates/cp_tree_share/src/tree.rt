@@ -12,8 +12,7 @@ use crate::build::build;
 use crate::forest::ShareNode;
 use cp_model::{Content, Row, RowList};
 use cp_path::{Label, Path};
-use cp_shared::{SharedContent, SharedLabel, number_range};
-use cp_tree::{Reach, TreeRep};
+use cp_tree::{Reach, SharedContent, SharedLabel, TreeRep, number_range};
 use std::alloc::{AllocError, Global};
 
 /// A tree whose nodes are shared: two copies hold what they have in common once.

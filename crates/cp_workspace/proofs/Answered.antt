@@ -15,7 +15,7 @@ use Rattle.cp_workspace.specs.Summaries.{IsAt, HasAnswered}
 use Rattle.cp_workspace.specs.Texts.{Terms}
 use Rattle.cp_workspace.specs.Workspaces.{Stands, IsWorkspace}
 use Rattle.cp_workspace.specs.declared.workspace.Workspace.{Workspace}
-use Rattle.cp_session.specs.Session.{Session}
+use Rattle.cp_reply.specs.Session.{Session}
 use Rattle.cp_workspace.proofs.Answering.{one-state, stands-asked, workspace-asked}
 
 module _ {R S : Type 0} (view : R → Tree) (source_view : S → Tree) where

@@ -19,7 +19,7 @@ use Rattle.cp_reply.specs.declared.reply.Of.TheVariants as of
 use Rattle.cp_reply.specs.declared.reply.Why.TheVariants as why
 use Rattle.cp_reply.specs.declared.reply.Reply.{Reply}
 use Rattle.cp_reply.specs.declared.reply.Reply.TheVariants as reply
-use Rattle.cp_session.specs.Session.{Session, OpenTransaction, closed, going, failed, says, turn_of, row_of, show_at, current_tree, outcome_tree, answer_or_refuse, no_place_of, replies, refuses}
+use Rattle.cp_reply.specs.Session.{Session, OpenTransaction, closed, going, failed, says, turn_of, row_of, show_at, current_tree, outcome_tree, answer_or_refuse, no_place_of, replies, refuses}
 use Rattle.cp_operation.specs.Passed.{stage_after, AllAccepted}
 use Rattle.cp_operation.proofs.Linked.{accepted-step}
 use Rattle.cp_engine.specs.Transactions as txn

@@ -18,7 +18,7 @@ use Rattle.cp_reply.specs.declared.reply.Why.{Why}
 use Rattle.cp_reply.specs.declared.reply.Why.TheVariants as why
 use Rattle.cp_reply.specs.declared.reply.Reply.{Reply}
 use Rattle.cp_reply.specs.declared.reply.Reply.TheVariants as reply
-use Rattle.cp_session.specs.Session.{Session, OpenTransaction, closed, going, failed, with_opened, Setting, Turn, replies, says, turn_of, on_commit, refused_commit, count_given_up, next_moment, new_records, stamp_of, after_moment, with_entry}
+use Rattle.cp_reply.specs.Session.{Session, OpenTransaction, closed, going, failed, with_opened, Setting, Turn, replies, says, turn_of, on_commit, refused_commit, count_given_up, next_moment, new_records, stamp_of, after_moment, with_entry}
 use Rattle.cp_operation.specs.Passed.{records_of}
 use Rattle.cp_engine.specs.Transactions as txn
 use Rattle.cp_engine.specs.declared.txn.Txn.{Txn}
@@ -29,8 +29,8 @@ use Rattle.cp_outside.specs.FileReads.{FileTable}
 use Rattle.cp_disk.specs.Views.{Keeps}
 use Rattle.cp_disk.specs.declared.disk.Disk as disk
 use Rattle.cp_disk.proofs.Composing.{keeps_wider}
-use Rattle.cp_file.specs.Stands.{StandsFor}
-use Rattle.cp_file.specs.Sizes.{end_of, has_room, stamped_size}
+use Rattle.cp_frame.specs.Stands.{StandsFor}
+use Rattle.cp_frame.specs.Sizes.{end_of, has_room, stamped_size}
 use Rattle.cp_db.specs.Databases.{IsDatabase, IsKept, HasCome, end_in}
 use Rattle.cp_db.specs.Writing.{commit_size, HasCommitted, IsBeforeOrCommitted}
 use Rattle.cp_db.specs.declared.database.Db.{Db}

@@ -3,7 +3,7 @@ use Rattle.std.specs.Prelude.{◌≡◌, Ok, Err}
 use Rattle.std.proofs.Common.{sym, ap}
 use Rattle.cp_model.specs.Tree.{Tree}
 use Rattle.cp_reply.specs.declared.reply.Why.{Why}
-use Rattle.cp_session.specs.Session.{FetchedFile, gives, withholds}
+use Rattle.cp_reply.specs.Session.{FetchedFile, gives, withholds}
 use Rattle.cp_workspace.specs.Fetched.{Gives}
 
 -- a tree

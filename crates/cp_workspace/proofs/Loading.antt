@@ -20,12 +20,12 @@ use Rattle.cp_reply.specs.declared.reply.Why.{Why}
 use Rattle.cp_reply.specs.declared.reply.Why.TheVariants as why
 use Rattle.cp_reply.specs.declared.reply.Reply.{Reply}
 use Rattle.cp_reply.specs.declared.reply.Reply.TheVariants as reply
-use Rattle.cp_session.specs.Session.{Session, OpenTransaction, closed, going, failed, Setting, Turn, gives, withholds, replies, says, turn_of, with_entry, on_load, load_fetched, refused_load, is_closed}
+use Rattle.cp_reply.specs.Session.{Session, OpenTransaction, closed, going, failed, Setting, Turn, gives, withholds, replies, says, turn_of, with_entry, on_load, load_fetched, refused_load, is_closed}
 use Rattle.cp_disk.specs.Views.{Keeps}
 use Rattle.cp_disk.specs.declared.disk.Disk as disk
 use Rattle.cp_engine.specs.declared.txn.Txn.{Txn}
-use Rattle.cp_file.specs.Stands.{StandsWithOrWithout}
-use Rattle.cp_file.specs.Sizes.{has_room, load_size}
+use Rattle.cp_frame.specs.Stands.{StandsWithOrWithout}
+use Rattle.cp_frame.specs.Sizes.{has_room, load_size}
 use Rattle.cp_db.specs.Databases as database
 use Rattle.cp_db.specs.Databases.{IsKept, end_in}
 use Rattle.cp_db.specs.Writing.{HasLoaded}

@@ -17,7 +17,7 @@ use Rattle.cp_reply.specs.declared.reply.Of.TheVariants as of
 use Rattle.cp_reply.specs.declared.reply.Why.{Why}
 use Rattle.cp_reply.specs.declared.reply.Why.TheVariants as why
 use Rattle.cp_reply.specs.declared.reply.Reply.TheVariants as reply
-use Rattle.cp_session.specs.Session.{Session, OpenTransaction, closed, going, failed, with_opened, says, turn_of, refusal_on, refusal_after, decide_op, on_operation, why_refused, not_read, fail_unread}
+use Rattle.cp_reply.specs.Session.{Session, OpenTransaction, closed, going, failed, with_opened, says, turn_of, refusal_on, refusal_after, decide_op, on_operation, why_refused, not_read, fail_unread}
 use Rattle.cp_operation.specs.Passed.{stage_after, refusal_behind, AllAccepted}
 use Rattle.cp_operation.proofs.Linked.{accepted-step}
 use Rattle.cp_engine.specs.Transactions as txn

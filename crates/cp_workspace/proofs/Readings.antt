@@ -7,7 +7,7 @@ use Rattle.cp_lang.specs.declared.syntax_tree.Stmt.{Stmt}
 use Rattle.cp_lang.specs.declared.syntax_tree.StmtFault.{StmtFault}
 use Rattle.cp_lang.specs.declared.syntax_tree.StmtFault.TheVariants as fault
 use Rattle.cp_reply.specs.declared.reply.Why.TheVariants as why
-use Rattle.cp_session.specs.Session.{says, unread}
+use Rattle.cp_reply.specs.Session.{says, unread}
 use Rattle.cp_workspace.specs.Texts.{read_as, reading}
 
 -- a statement

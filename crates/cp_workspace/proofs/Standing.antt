@@ -7,12 +7,12 @@ use Rattle.cp_model.specs.Tree.{Tree}
 use Rattle.cp_model.specs.History.{Entry, State, replay}
 use Rattle.cp_lang.specs.declared.syntax_tree.Stmt.{Stmt}
 use Rattle.cp_reply.specs.declared.reply.Reply.{Reply}
-use Rattle.cp_session.specs.Session.{Session, OpenTransaction, closed, going, failed, with_opened, Setting, Turn, says, turn_of, turn_by, turn_on}
+use Rattle.cp_reply.specs.Session.{Session, OpenTransaction, closed, going, failed, with_opened, Setting, Turn, says, turn_of, turn_by, turn_on}
 use Rattle.cp_disk.specs.declared.disk.Disk as disk
 use Rattle.cp_disk.proofs.Composing.{keeps_none}
-use Rattle.cp_file.specs.Stands.{StandsFor}
-use Rattle.cp_file.specs.Sizes.{FrameEnd, end_after, end_of, entry_size}
-use Rattle.cp_file.proofs.Ends.{end_of-snoc, end_of-none}
+use Rattle.cp_frame.specs.Stands.{StandsFor}
+use Rattle.cp_frame.specs.Sizes.{FrameEnd, end_after, end_of, entry_size}
+use Rattle.cp_frame.proofs.Ends.{end_of-snoc, end_of-none}
 use Rattle.cp_db.specs.Databases as database
 use Rattle.cp_db.specs.Databases.{IsDatabase, IsReady, IsKept, end_in, is_spent}
 use Rattle.cp_db.specs.Writing.{HasAdded}

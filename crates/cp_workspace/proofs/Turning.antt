@@ -20,10 +20,10 @@ use Rattle.cp_reply.specs.declared.reply.Reply.{Reply}
 use Rattle.cp_reply.specs.declared.reply.Reply.TheVariants as reply
 use Rattle.cp_reply.specs.declared.reply.Why.{Why}
 use Rattle.cp_reply.specs.declared.reply.Why.TheVariants as why
-use Rattle.cp_session.specs.Session.{Session, Setting, OpenTransaction, closed, going, failed, Turn, with_opened, says, turn_of, turn_by, turn_on, not_read, decide_op, on_operation, refusal_after, answer_or_refuse, show_at, current_tree, row_of, replies, refuses}
+use Rattle.cp_reply.specs.Session.{Session, Setting, OpenTransaction, closed, going, failed, Turn, with_opened, says, turn_of, turn_by, turn_on, not_read, decide_op, on_operation, refusal_after, answer_or_refuse, show_at, current_tree, row_of, replies, refuses}
 use Rattle.cp_disk.proofs.Composing.{keeps_none}
 use Rattle.cp_outside.specs.FileReads.{FileTable}
-use Rattle.cp_file.specs.Stands.{StandsFor}
+use Rattle.cp_frame.specs.Stands.{StandsFor}
 use Rattle.cp_db.specs.Databases as database
 use Rattle.cp_db.specs.Databases.{IsDatabase, IsReady, IsSameFile, end_in, is_spent}
 use Rattle.cp_db.specs.declared.database.Db.{Db}

@@ -4,7 +4,7 @@ use Rattle.cp_model.specs.History.{Entry}
 use Rattle.cp_disk.specs.Views.{View, Keeps}
 use Rattle.cp_disk.specs.Counts.{Counts}
 use Rattle.cp_disk.specs.declared.disk.Disk as disk
-use Rattle.cp_file.specs.Stands.{StandsFor}
+use Rattle.cp_frame.specs.Stands.{StandsFor}
 
 -- a disk: whether it is known what it holds, and then its content and what a crash may leave; how often it has failed, was read, and ran out of memory
 pub record KnownDisk : Type 1 where

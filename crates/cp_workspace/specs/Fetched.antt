@@ -4,7 +4,7 @@ use Rattle.cp_model.specs.Place.{Path, over_limit}
 use Rattle.cp_model.specs.Subtrees.{is_there}
 use Rattle.cp_model.specs.Tree.{Tree}
 use Rattle.cp_reply.specs.declared.reply.Why.{Why}
-use Rattle.cp_session.specs.Session.{FetchedFile, gives, withholds}
+use Rattle.cp_reply.specs.Session.{FetchedFile, gives, withholds}
 
 -- the tree that the file gives, or why it gives none
 abbrev pub Gives : {R : Type 0} → (R → Tree) → FetchedFile → Result R Why → Type 0

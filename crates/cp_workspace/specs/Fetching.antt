@@ -16,7 +16,7 @@ use Rattle.cp_csv.specs.declared.fault.CsvFault.{CsvFault}
 use Rattle.cp_csv.specs.declared.fault.CsvFault.TheVariants as csv
 use Rattle.cp_reply.specs.declared.reply.Why.{Why}
 use Rattle.cp_reply.specs.declared.reply.Why.TheVariants as why
-use Rattle.cp_session.specs.Session.{FetchedFile, gives, withholds}
+use Rattle.cp_reply.specs.Session.{FetchedFile, gives, withholds}
 
 -- why a JSON text that is loaded under the name gives no tree; want of memory is no refusal
 abbrev pub json_why : List ℕ → JsonFault → Why

@@ -11,7 +11,7 @@ use Rattle.cp_reply.specs.declared.reply.Why.{Why}
 use Rattle.cp_reply.specs.declared.reply.Why.TheVariants as why
 use Rattle.cp_lang.specs.declared.cut.Cut.{Cut}
 use Rattle.cp_lang.specs.declared.cut.Cut.TheVariants.{Text, TooLong, Unfinished}
-use Rattle.cp_session.specs.Session.{Session, OpenTransaction, is_closed, TextReading, says, unread}
+use Rattle.cp_reply.specs.Session.{Session, OpenTransaction, is_closed, TextReading, says, unread}
 use Rattle.cp_workspace.specs.Texts.{reading}
 
 -- why nothing is loaded under the name, whatever its file gives

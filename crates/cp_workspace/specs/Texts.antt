@@ -8,9 +8,9 @@ use Rattle.cp_lang.specs.declared.syntax_tree.StmtFault.TheVariants as fault
 use Rattle.cp_lang.specs.Written.{IsWrittenStmt}
 use Rattle.cp_reply.specs.declared.reply.Why.{Why}
 use Rattle.cp_reply.specs.declared.reply.Why.TheVariants as why
-use Rattle.cp_session.specs.Session.{TextReading, says, unread, Setting}
+use Rattle.cp_reply.specs.Session.{TextReading, says, unread, Setting}
 use Rattle.cp_outside.specs.FileReads.{FileTable}
-use Rattle.cp_file.specs.Sizes.{FrameEnd, end_of, has_room, load_size, stamped_size}
+use Rattle.cp_frame.specs.Sizes.{FrameEnd, end_of, has_room, load_size, stamped_size}
 use Rattle.cp_workspace.specs.Fetching.{fetch}
 
 -- a statement, or why the text is none

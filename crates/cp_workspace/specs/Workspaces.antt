@@ -12,11 +12,11 @@ use Rattle.cp_reply.specs.declared.reply.Reply.{Reply}
 use Rattle.cp_reply.specs.declared.reply.Of.TheVariants as of
 use Rattle.cp_reply.specs.declared.reply.Why.TheVariants as why
 use Rattle.cp_reply.specs.declared.reply.Reply.TheVariants as reply
-use Rattle.cp_session.specs.Session.{Session, OpenTransaction, closed, going, failed, Turn, current_tree, row_of}
+use Rattle.cp_reply.specs.Session.{Session, OpenTransaction, closed, going, failed, Turn, current_tree, row_of}
 use Rattle.cp_engine.specs.Transactions as txn
 use Rattle.cp_engine.specs.declared.txn.Txn.{Txn}
-use Rattle.cp_clock.specs.Moments.{HasTold}
-use Rattle.cp_file.specs.Sizes.{FrameEnd, end_of}
+use Rattle.cp_outside.specs.Moments.{HasTold}
+use Rattle.cp_frame.specs.Sizes.{FrameEnd, end_of}
 use Rattle.cp_outside.specs.FileReads.{FileTable}
 use Rattle.cp_db.specs.Databases as database
 use Rattle.cp_db.specs.Databases.{IsDatabase, IsReady, IsKept, HasCome, IsSameFile, end_in, is_spent, version_in}

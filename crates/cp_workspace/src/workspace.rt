@@ -1,7 +1,7 @@
 ghost use Rattle.std.specs.Prelude.{◌≡◌, true, false, List, ℕ, IsErrOf, OnOk};
 ghost use Rattle.cp_outside.specs.Causes.{Accounts};
 ghost use Rattle.cp_model.specs.History.{Entry};
-ghost use Rattle.cp_session.specs.Session.{Session, says, turn_of};
+ghost use Rattle.cp_reply.specs.Session.{Session, says, turn_of};
 ghost use Rattle.cp_db.specs.Databases as database;
 ghost use Rattle.cp_db.specs.Databases.{IsDatabase, is_spent, version_in};
 ghost use Rattle.cp_workspace.specs.Texts.{Terms, setting};
@@ -31,12 +31,11 @@ mod show;
 mod summary;
 
 use crate::fault::WorkspaceFault;
-use cp_clock::Clock;
 use cp_db::Db;
 use cp_disk::Disk;
 use cp_engine::Txn;
 use cp_lang::Stmt;
-use cp_outside::Files;
+use cp_outside::{Clock, Files};
 use cp_path::Label;
 use cp_reply::Reply;
 use cp_tree::TreeRep;

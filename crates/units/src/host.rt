@@ -1,7 +1,6 @@
 use crate::disk::put_file;
-use cp_clock::Clock;
 use cp_host::{HostClock, HostFiles, StdinSource, StdoutSink};
-use cp_outside::{Failed, FileEnd, Files, FilesFault, Sink, SinkFault, Source, write_all};
+use cp_outside::{Clock, Failed, FileEnd, Files, FilesFault, Sink, SinkFault, Source, write_all};
 use std::alloc::{AllocError, Global};
 use std::io::{Error, ErrorKind, Read, Write};
 use std::process::Abort;

@@ -1,7 +1,6 @@
-use cp_clock::{Clock, MemClock};
 use cp_outside::{
-    Failed, FileEnd, Files, FilesFault, MemFile, MemFiles, MemSink, MemSource, Sink, SinkFault,
-    Source, write_all,
+    Clock, Failed, FileEnd, Files, FilesFault, MemClock, MemFile, MemFiles, MemSink, MemSource,
+    Sink, SinkFault, Source, write_all,
 };
 use std::alloc::{AllocError, Global};
 use std::fmt::Display;

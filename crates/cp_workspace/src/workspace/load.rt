@@ -4,7 +4,7 @@ ghost use Rattle.cp_outside.specs.Causes.{Accounts};
 ghost use Rattle.cp_outside.specs.FileReads.{FileTable};
 ghost use Rattle.cp_model.specs.Place.{label_eq, target};
 ghost use Rattle.cp_db.specs.Databases.{version_in};
-ghost use Rattle.cp_session.specs.Session.{Session, gives, load_fetched, says, turn_of};
+ghost use Rattle.cp_reply.specs.Session.{Session, gives, load_fetched, says, turn_of};
 ghost use Rattle.cp_workspace.specs.Fetched.{FitsUnder};
 ghost use Rattle.cp_workspace.specs.Texts.{Terms, setting};
 ghost use Rattle.cp_workspace.specs.Disks.{known_disk};

@@ -5,7 +5,7 @@ ghost use Rattle.cp_outside.specs.FileReads.{FileTable};
 ghost use Rattle.cp_engine.specs.Transactions.{Progress};
 ghost use Rattle.cp_reply.specs.declared.reply.Why.{Why as WhyValue};
 ghost use Rattle.cp_db.specs.Databases.{HasCome};
-ghost use Rattle.cp_session.specs.Session.{Session, says, turn_of, not_read};
+ghost use Rattle.cp_reply.specs.Session.{Session, says, turn_of, not_read};
 ghost use Rattle.cp_workspace.specs.Texts.{Terms, setting};
 ghost use Rattle.cp_workspace.specs.Workspaces.{Stands, IsWorkspace, IsOpened, Turned};
 

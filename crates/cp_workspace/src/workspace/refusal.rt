@@ -1,7 +1,7 @@
 ghost use Rattle.std.specs.Prelude.{◌≡◌};
 ghost use Rattle.cp_model.specs.declared.op.Op.TheVariants.{Ins, Del, Copy};
 ghost use Rattle.cp_model.specs.declared.literal.Literal.{Literal as LiteralValue};
-ghost use Rattle.cp_session.specs.Session.{why_refused};
+ghost use Rattle.cp_reply.specs.Session.{why_refused};
 
 use cp_model::{Op, Refusal};
 use cp_path::{Label, Loc};

@@ -5,7 +5,7 @@ ghost use Rattle.cp_model.specs.Place.{at_target};
 ghost use Rattle.cp_model.specs.Answers.{answer_to, stats};
 ghost use Rattle.cp_model.specs.History.{State, replay};
 ghost use Rattle.cp_model.specs.declared.limits.TheConstants.{NODES_MAX};
-ghost use Rattle.cp_session.specs.Session.{Session};
+ghost use Rattle.cp_reply.specs.Session.{Session};
 ghost use Rattle.cp_db.specs.Databases.{IsDatabase};
 ghost use Rattle.cp_workspace.specs.Texts.{Terms};
 ghost use Rattle.cp_workspace.specs.Workspaces.{Stands, IsWorkspace, KeepsFile};

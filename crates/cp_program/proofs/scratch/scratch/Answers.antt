@@ -1,6 +1,6 @@
 use Rattle.std.proofs.Common.{◌≡◌, ◌∙◌, false, IfOk, sym, subst}
 use Rattle.cp_outside.specs.FileReads.{FileTable}
-use Rattle.cp_session.specs.Session.{FetchedFile}
+use Rattle.cp_reply.specs.Session.{FetchedFile}
 use Rattle.cp_workspace.specs.Files.{known_files}
 use Rattle.cp_reply.specs.Lines.{lines}
 use Rattle.cp_reply.specs.declared.reply.Reply.{Reply}

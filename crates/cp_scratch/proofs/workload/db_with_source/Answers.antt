@@ -1,7 +1,7 @@
 use Rattle.std.proofs.Common.{◌∙◌, ◌+◌, [], ◌∷◌, false, ap, subst}
 use Rattle.cp_model.specs.History.{start, load}
 use Rattle.cp_journal.specs.declared.limits.TheConstants.{HEADER_SIZE, FRAME_HEAD}
-use Rattle.cp_file.specs.Sizes.{start_size, load_size}
+use Rattle.cp_frame.specs.Sizes.{start_size, load_size}
 use Rattle.cp_db.specs.Databases as database
 use Rattle.cp_gen.specs.Source.{source_name, source_tree}
 use Rattle.cp_scratch.specs.Sessions.{empty_tree}

@@ -1,5 +1,5 @@
 use Rattle.std.proofs.Common.{◌≡◌, [], length}
-use Rattle.cp_session.specs.Session.{Session}
+use Rattle.cp_reply.specs.Session.{Session}
 use Rattle.cp_workspace.specs.Texts.{Terms}
 use Rattle.cp_workspace.specs.Workspaces.{Stands, HasStamps, IsUsable}
 use Rattle.cp_scratch.specs.Sessions.{sure_disk}

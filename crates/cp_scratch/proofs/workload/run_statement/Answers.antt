@@ -1,5 +1,5 @@
 use Rattle.std.proofs.Common.{◌∙◌, sym, ap, subst}
-use Rattle.cp_session.specs.Session.{says, turn_of}
+use Rattle.cp_reply.specs.Session.{says, turn_of}
 use Rattle.cp_db.specs.Databases as database
 use Rattle.cp_workspace.specs.Texts.{setting}
 use Rattle.cp_workspace.specs.Workspaces.{Stands}

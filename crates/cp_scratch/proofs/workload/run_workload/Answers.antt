@@ -1,5 +1,5 @@
 use Rattle.std.proofs.Common.{◌≡◌, refl, subst}
-use Rattle.cp_session.specs.Session.{session_after_statements}
+use Rattle.cp_reply.specs.Session.{session_after_statements}
 use Rattle.cp_workspace.specs.Texts.{setting}
 use Rattle.cp_workspace.specs.Workspaces.{Stands}
 use Rattle.cp_scratch.specs.Sessions.{no_files}

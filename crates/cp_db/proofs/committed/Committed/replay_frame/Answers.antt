@@ -1,6 +1,6 @@
 use Rattle.std.proofs.Common.{◌≡◌, ◌∙◌}
 use Rattle.cp_journal.specs.declared.frame.TheConstants.{ENTRY}
-use Rattle.cp_file.specs.Items.{a_checkpoint}
+use Rattle.cp_frame.specs.Items.{a_checkpoint}
 use Rattle.cp_db.proofs.OpeningFrames.{checkpoint_is, entry_read, lawful_at, listed_tag}
 use Rattle.cp_db.proofs.OpeningItems.{checkpoint_taken}
 use Rattle.cp_db.proofs.committed.Committed.replay_frame.Goals as goal

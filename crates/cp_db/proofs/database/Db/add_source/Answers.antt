@@ -3,7 +3,7 @@ use Rattle.cp_format.specs.Formats.{Reads}
 use Rattle.cp_frame.specs.Entries.{entry_format}
 use Rattle.cp_journal.specs.declared.limits.TheConstants.{FRAME_HEAD}
 use Rattle.cp_db.specs.Databases.{end_in}
-use Rattle.cp_file.specs.Sizes.{has_room, load_size}
+use Rattle.cp_frame.specs.Sizes.{has_room, load_size}
 use Rattle.cp_db.proofs.WritingFrames.{crash-none, crash-added, kept-added}
 use Rattle.cp_db.proofs.WritingLoads.{load-next, load-new, load-few, replayed-loaded}
 use Rattle.cp_db.proofs.WritingStanding.{stands-appended}

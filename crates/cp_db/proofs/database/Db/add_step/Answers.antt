@@ -2,7 +2,7 @@ use Rattle.std.proofs.Common.{◌≡◌, ◌+◌, [], ap, sym, ◌∙◌, subst,
 use Rattle.cp_format.specs.Formats.{Reads}
 use Rattle.cp_frame.specs.Entries.{entry_format}
 use Rattle.cp_journal.specs.declared.limits.TheConstants.{FRAME_HEAD}
-use Rattle.cp_file.specs.Sizes.{has_room}
+use Rattle.cp_frame.specs.Sizes.{has_room}
 use Rattle.cp_db.specs.Databases.{end_in}
 use Rattle.cp_db.specs.Committed.{HasKept}
 use Rattle.cp_db.specs.Writing.{commit_size}

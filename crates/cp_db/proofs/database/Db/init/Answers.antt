@@ -2,7 +2,7 @@ use Rattle.std.proofs.Common.{◌≡◌, ◌∙◌, true, [], ◌∷◌, ap, sym
 use Rattle.std.proofs.lemmas.Result.{err_from_is_err_and}
 use Rattle.cp_model.specs.History.{start}
 use Rattle.cp_journal.specs.Frames.{entry}
-use Rattle.cp_file.specs.Items.{Tell}
+use Rattle.cp_frame.specs.Items.{Tell}
 use Rattle.cp_db.specs.declared.fault.InitFault.TheVariants as init
 use Rattle.cp_db.proofs.WritingStarts.{kept-started, crash-started, memory-started}
 use Rattle.cp_db.proofs.database.Db.init.Goals as goal

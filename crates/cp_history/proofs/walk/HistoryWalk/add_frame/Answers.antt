@@ -1,6 +1,6 @@
 use Rattle.std.proofs.Common.{◌≡◌, ◌∙◌, sym, ap}
 use Rattle.cp_journal.specs.declared.frame.TheConstants.{ENTRY}
-use Rattle.cp_file.specs.Items.{a_checkpoint}
+use Rattle.cp_frame.specs.Items.{a_checkpoint}
 use Rattle.cp_history.specs.Walk.{frame_place}
 use Rattle.cp_db.proofs.OpeningFrames.{checkpoint_is, entry_read, lawful_at, listed_tag}
 use Rattle.cp_history.proofs.Walking.{checkpoint-found, checkpoint-reached}

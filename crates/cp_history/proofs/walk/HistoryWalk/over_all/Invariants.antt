@@ -2,7 +2,7 @@ use Rattle.std.proofs.Common.{◌≡◌, ◌≤◌, IsTrue, ℕ, List, length}
 use Rattle.cp_disk.specs.Views.{Rests}
 use Rattle.cp_journal.specs.Frames.{Frame}
 use Rattle.cp_journal.specs.Journals.{Lists}
-use Rattle.cp_file.specs.Items.{Item}
+use Rattle.cp_frame.specs.Items.{Item}
 use Rattle.cp_history.specs.Walk.{HasReached, is_log, wants_log}
 use Rattle.cp_history.proofs.WalkingFrames.{HasCome}
 use Rattle.cp_history.proofs.walk.HistoryWalk.over_all.Given as goal

@@ -5,7 +5,7 @@ use Rattle.std.specs.Option.{option_to_list}
 use Rattle.std.specs.declared.option.Option.{Option}
 use Rattle.cp_lang.specs.declared.cut.Cut.{Cut}
 use Rattle.cp_reply.specs.declared.reply.Reply.{Reply}
-use Rattle.cp_session.specs.Session.{turn}
+use Rattle.cp_reply.specs.Session.{turn}
 use Rattle.cp_workspace.specs.Texts.{setting}
 use Rattle.cp_workspace.specs.Disks.{known_disk}
 use Rattle.cp_workspace.specs.Files.{IsTable}

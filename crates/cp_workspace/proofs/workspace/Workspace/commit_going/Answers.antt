@@ -2,7 +2,7 @@ use Rattle.std.proofs.Common.{true, false, [], ◌∷◌, refl, subst, Ok, Err}
 use Rattle.std.specs.declared.option.Option.TheVariants.{Some}
 use Rattle.std.proofs.lemmas.Result.{err_from_is_err_and}
 use Rattle.cp_model.specs.declared.stamp.Stamp.{Stamp}
-use Rattle.cp_clock.proofs.Telling.{told-one}
+use Rattle.cp_outside.proofs.Telling.{told-one}
 use Rattle.cp_engine.specs.Transactions as txn
 use Rattle.cp_db.specs.Writing.{HasCommitted}
 use Rattle.cp_workspace.specs.declared.fault.WorkspaceFault.TheVariants as failed

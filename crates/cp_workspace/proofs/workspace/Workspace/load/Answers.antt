@@ -6,7 +6,7 @@ use Rattle.cp_lang.specs.declared.syntax_tree.Load.{Load}
 use Rattle.cp_lang.specs.declared.syntax_tree.Stmt.TheVariants as stmt
 use Rattle.cp_reply.specs.declared.reply.Of.TheVariants as of
 use Rattle.cp_reply.specs.declared.reply.Reply.TheVariants as reply
-use Rattle.cp_session.specs.Session.{says, turn_of}
+use Rattle.cp_reply.specs.Session.{says, turn_of}
 use Rattle.cp_workspace.specs.Texts.{setting}
 use Rattle.cp_workspace.specs.Disks.{known_disk}
 use Rattle.cp_workspace.specs.Faults.{IsFileFault}

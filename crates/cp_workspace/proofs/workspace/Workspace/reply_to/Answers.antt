@@ -3,7 +3,7 @@ use Rattle.std.proofs.lemmas.Result.{err_from_is_err_and}
 use Rattle.std.specs.declared.option.Option.TheVariants.{Some}
 use Rattle.cp_lang.specs.declared.cut.Cut.{Cut}
 use Rattle.cp_reply.specs.declared.reply.Why.TheVariants as why
-use Rattle.cp_session.specs.Session.{Session, turn, turn_of, not_read}
+use Rattle.cp_reply.specs.Session.{Session, turn, turn_of, not_read}
 use Rattle.cp_workspace.specs.Disks.{known_disk}
 use Rattle.cp_workspace.specs.Texts.{Terms, setting, reading}
 use Rattle.cp_workspace.specs.Loads.{text_reads, cut_reads}

@@ -2,7 +2,7 @@ use Rattle.std.proofs.Common.{subst, sym}
 use Rattle.std.proofs.lemmas.Result.{err_from_is_err_and}
 use Rattle.std.specs.Prelude.{Ok}
 use Rattle.std.specs.declared.option.Option.TheVariants.{Some}
-use Rattle.cp_session.specs.Session.{turn_of, not_read}
+use Rattle.cp_reply.specs.Session.{turn_of, not_read}
 use Rattle.cp_workspace.specs.Disks.{known_disk}
 use Rattle.cp_workspace.specs.Texts.{SaysAs, setting, reading}
 use Rattle.cp_workspace.specs.Files.{known_files, IsTable}

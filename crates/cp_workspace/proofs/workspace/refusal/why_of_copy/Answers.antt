@@ -1,6 +1,6 @@
 use Rattle.std.proofs.Common.{sym, ap, inl, inr}
 use Rattle.cp_model.specs.declared.op.Op.TheVariants.{Copy}
-use Rattle.cp_session.specs.Session.{why_refused}
+use Rattle.cp_reply.specs.Session.{why_refused}
 use Rattle.cp_workspace.proofs.workspace.refusal.why_of_copy.Goals as goal
 
 pub returns-in-NoPlace : goal.returns-in-NoPlace

@@ -1,4 +1,0 @@
-pub mod Standing
-pub mod Images
-pub mod Ends
-pub mod Measures

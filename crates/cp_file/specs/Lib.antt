@@ -1,4 +1,0 @@
-pub mod Items
-pub mod Stands
-pub mod Sizes
-pub mod Laws
