@@ -132,6 +132,17 @@ fn add_all_to_last(
     Ok(())
 }
 
+/// Begins an example with this first line of its input.
+fn begin_example(
+    alloc: Global,
+    cases: &mut Vec<Case>,
+    line: Line<'_>,
+    input: &str,
+) -> Result<(), AllocError> {
+    begin_case(alloc, cases, line, "scratch n")?;
+    add_to_last(alloc, cases, true, input)
+}
+
 /// Takes the next line of a block.
 fn add_line(
     alloc: Global,
@@ -140,8 +151,7 @@ fn add_line(
     line: Line<'_>,
 ) -> Result<Block, AllocError> {
     if let Some(input) = line.text.strip_prefix("< ") {
-        begin_case(alloc, cases, line, "scratch n")?;
-        add_to_last(alloc, cases, true, input)?;
+        begin_example(alloc, cases, line, input)?;
         return Ok(Block::Example);
     }
     if let Some(words) = line.text.strip_prefix("$ bin/cpdb ") {

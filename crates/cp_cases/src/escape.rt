@@ -5,6 +5,29 @@
 
 use std::alloc::{AllocError, Global};
 
+/// Adds the piece so many times.
+fn add_copies(
+    alloc: Global,
+    text: &mut Vec<u8>,
+    piece: &str,
+    times: usize,
+) -> Result<(), AllocError> {
+    let all = piece.repeat(alloc, times)?;
+    text.extend_from_slice(all.as_bytes())
+}
+
+/// Adds the piece with the number of the time for each `#`.
+fn add_numbered(
+    alloc: Global,
+    text: &mut Vec<u8>,
+    piece: &str,
+    time: usize,
+) -> Result<(), AllocError> {
+    let number = time.to_string(alloc)?;
+    let numbered = piece.replace(alloc, "#", number.as_str())?;
+    text.extend_from_slice(numbered.as_bytes())
+}
+
 /// Adds the piece so many times, with a line feed for each `\n` and the number of the time for each `#`.
 fn add_times(
     alloc: Global,
@@ -14,13 +37,10 @@ fn add_times(
 ) -> Result<(), AllocError> {
     let piece = piece.replace(alloc, "\\n", "\n")?;
     if !piece.as_str().contains('#') {
-        let all = piece.as_str().repeat(alloc, times)?;
-        return text.extend_from_slice(all.as_bytes());
+        return add_copies(alloc, text, piece.as_str(), times);
     }
     for time in 0..times {
-        let number = time.to_string(alloc)?;
-        let numbered = piece.as_str().replace(alloc, "#", number.as_str())?;
-        text.extend_from_slice(numbered.as_bytes())?;
+        add_numbered(alloc, text, piece.as_str(), time)?;
     }
     Ok(())
 }
@@ -38,16 +58,19 @@ fn add_escape(alloc: Global, text: &mut Vec<u8>, escape: &str) -> Result<(), All
     Ok(())
 }
 
+/// Adds what stands after a `%<`: what the escape stands for, and what comes after it.
+fn add_escaped(alloc: Global, text: &mut Vec<u8>, piece: &str) -> Result<(), AllocError> {
+    let (escape, plain) = piece.split_once('>').unwrap_or(("", piece));
+    add_escape(alloc, text, escape)?;
+    text.extend_from_slice(plain.as_bytes())
+}
+
 /// Adds a line to a text, with what its escapes stand for, and a line feed.
 pub(crate) fn add_line(alloc: Global, text: &mut Vec<u8>, line: &str) -> Result<(), AllocError> {
-    for (number, piece) in line.split("%<").enumerate() {
-        if number == 0 {
-            text.extend_from_slice(piece.as_bytes())?;
-            continue;
-        }
-        let (escape, plain) = piece.split_once('>').unwrap_or(("", piece));
-        add_escape(alloc, text, escape)?;
-        text.extend_from_slice(plain.as_bytes())?;
+    let mut pieces = line.split("%<");
+    text.extend_from_slice(pieces.next().unwrap_or("").as_bytes())?;
+    for piece in pieces {
+        add_escaped(alloc, text, piece)?;
     }
     text.push(b'\n')?;
     Ok(())

@@ -24,15 +24,21 @@ fn add_word(bytes: &mut Vec<u8>, word: &str) -> Result<(), AllocError> {
     Ok(())
 }
 
+/// Adds the bytes of a word, as often as it says.
+fn add_times(bytes: &mut Vec<u8>, word: &str) -> Result<(), AllocError> {
+    let (digits, times) = word.split_once('*').unwrap_or((word, "1"));
+    for _ in 0..times.parse::<u32>().unwrap_or(0) {
+        add_word(bytes, digits)?;
+    }
+    Ok(())
+}
+
 /// The bytes that a text spells.
 pub fn bytes_in(alloc: Global, text: &[u8]) -> Result<Vec<u8>, AllocError> {
     let text = std::str::from_utf8(text).unwrap_or("");
     let mut bytes = Vec::new(alloc);
     for word in text.split_whitespace() {
-        let (digits, times) = word.split_once('*').unwrap_or((word, "1"));
-        for _ in 0..times.parse::<u32>().unwrap_or(0) {
-            add_word(&mut bytes, digits)?;
-        }
+        add_times(&mut bytes, word)?;
     }
     Ok(bytes)
 }

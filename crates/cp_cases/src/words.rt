@@ -2,6 +2,29 @@
 
 use std::alloc::{AllocError, Global};
 
+/// The piece, after the word in quotation marks that has begun.
+fn joined(alloc: Global, begun: Option<String>, piece: &str) -> Result<String, AllocError> {
+    match begun {
+        Some(front) => format!(in alloc; "{front} {piece}"),
+        None => piece.to_string(alloc),
+    }
+}
+
+/// Adds a word, without its quotation marks, and says whether it has ended.
+fn add_word(alloc: Global, words: &mut Vec<String>, word: &str) -> Result<bool, AllocError> {
+    let whole = match word.strip_prefix("\"") {
+        Some(inside) => inside.strip_suffix("\""),
+        None => Some(word),
+    };
+    let Some(whole) = whole else {
+        return Ok(false);
+    };
+    if !word.is_empty() {
+        words.push(whole.to_string(alloc)?)?;
+    }
+    Ok(true)
+}
+
 /// Adds a piece of a line to its words, or to the word in quotation marks that has begun; gives that which hasn't ended.
 fn add_piece(
     alloc: Global,
@@ -9,21 +32,9 @@ fn add_piece(
     begun: Option<String>,
     piece: &str,
 ) -> Result<Option<String>, AllocError> {
-    let word = match begun {
-        Some(front) => format!(in alloc; "{front} {piece}")?,
-        None => piece.to_string(alloc)?,
-    };
-    let Some(inside) = word.as_str().strip_prefix("\"") else {
-        if !word.as_str().is_empty() {
-            words.push(word)?;
-        }
-        return Ok(None);
-    };
-    if let Some(whole) = inside.strip_suffix("\"") {
-        words.push(whole.to_string(alloc)?)?;
-        return Ok(None);
-    }
-    Ok(Some(word))
+    let word = joined(alloc, begun, piece)?;
+    let has_ended = add_word(alloc, words, word.as_str())?;
+    Ok(if has_ended { None } else { Some(word) })
 }
 
 /// The words of a line, between spaces. One that begins with a quotation mark reaches to the next that ends a word, so that
@@ -54,18 +65,28 @@ pub fn number_of(line: &str) -> u64 {
     word.parse::<u64>().unwrap_or(0)
 }
 
-/// Says in what line texts that differ do so first.
-fn difference(alloc: Global, found: &str, wanted: &str) -> Result<String, AllocError> {
+/// The number of the first line of the one text that isn't in the other, and what stands there in each.
+fn first_difference<'a>(found: &'a str, wanted: &'a str) -> Option<(u64, &'a str, &'a str)> {
     let mut number = 0u64;
     let mut others = wanted.split('\n');
     for one in found.split('\n') {
         number = number.saturating_add(1);
         let other = others.next().unwrap_or("no line");
         if one != other {
-            return format!(in alloc; "line {number} is {one:?}, wanted {other:?}");
+            return Some((number, one, other));
         }
     }
-    format!(in alloc; "{} bytes came, wanted {}", found.len(), wanted.len())
+    None
+}
+
+/// Says in what line texts that differ do so first.
+fn difference(alloc: Global, found: &str, wanted: &str) -> Result<String, AllocError> {
+    match first_difference(found, wanted) {
+        Some((number, one, other)) => {
+            format!(in alloc; "line {number} is {one:?}, wanted {other:?}")
+        }
+        None => format!(in alloc; "{} bytes came, wanted {}", found.len(), wanted.len()),
+    }
 }
 
 /// Says in what line the texts differ first; `None` where they don't.
