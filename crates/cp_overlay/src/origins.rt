@@ -12,7 +12,7 @@ ghost use Rattle.cp_overlay.specs.Kept.{carry, put_below, origin_at, IsGiven};
 ghost use Rattle.cp_overlay.specs.Shown.{kept, has_key, run, shown, set_or, joined, blank, paths, paths_under, AreThere};
 
 use cp_model::Origin;
-use cp_path::{LABELS_MAX, Label, Loc, Path, PathFault};
+use cp_path::{LABELS_MAX, Label, Loc, Path};
 use std::alloc::{AllocError, Global};
 use std::collections::BTreeMap;
 
@@ -370,13 +370,5 @@ pub(crate) fn joined(path: &Path, labels: &[Label]) -> Result<Option<Path>, Allo
     if path.labels().len() + labels.len() > LABELS_MAX {
         return Ok(None);
     }
-    let mut all = path.clone()?;
-    for label in labels {
-        match all.push(label.clone()?) {
-            Ok(()) => {}
-            Err(PathFault::Memory) => return Err(AllocError),
-            Err(_) => unreachable!(),
-        }
-    }
-    Ok(Some(all))
+    Ok(Some(path.joined(labels)?))
 }

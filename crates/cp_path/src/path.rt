@@ -81,9 +81,9 @@ impl Path {
         Ok(Path { labels })
     }
 
-    /// These labels, and below them those.
+    /// These labels, and below them those. Costs their bytes.
     #[tactic(auto, using(crate::proofs::Relating::none_more))]
-    pub(crate) fn joined(&self, labels: &[Label]) -> Result<Path, AllocError>
+    pub fn joined(&self, labels: &[Label]) -> Result<Path, AllocError>
         requires { length self.now + length labels.now ≤ LABELS_MAX }
         ensures { IfOk result (λ p. p ≡ self.now ++ labels.now) }
     {

@@ -9,7 +9,7 @@ ghost use Rattle.cp_model.specs.Keyed.{look};
 ghost use Rattle.cp_reduce.specs.Told.{RiseByPlace, mark_in, marks_in, mark_at};
 
 use cp_model::Record;
-use cp_path::{LABELS_MAX, Label, Path, PathFault};
+use cp_path::{LABELS_MAX, Label, Path};
 use std::alloc::AllocError;
 use std::cmp::Ordering;
 
@@ -56,13 +56,5 @@ pub(crate) fn joined(path: &Path, labels: &[Label]) -> Result<Option<Path>, Allo
     if path.labels().len() + labels.len() > LABELS_MAX {
         return Ok(None);
     }
-    let mut all = path.clone()?;
-    for label in labels {
-        match all.push(label.clone()?) {
-            Ok(()) => {}
-            Err(PathFault::Memory) => return Err(AllocError),
-            Err(_) => unreachable!(),
-        }
-    }
-    Ok(Some(all))
+    Ok(Some(path.joined(labels)?))
 }
