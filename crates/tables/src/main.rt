@@ -3,7 +3,7 @@
 //! The words are those of every program that plays cases: the stage up to which they hold, and files. A part makes a call,
 //! and `out` with a text below it is what the call has to give. cp_text_calls has the calls of words, statements and replies,
 //! cp_step_calls those of rows and steps, cp_file_calls those of entries, files and disks, cp_tree_calls those of trees in
-//! every form.
+//! every form, cp_host_calls those of what is outside the program.
 //!
 //! With the words `csv`, a form's name, a CSV file and its key column, it makes the file's tree alone, so that its time and
 //! memory can be measured.
@@ -16,12 +16,14 @@ use std::{env, io};
 
 /// Makes calls, and keeps what the last one gave.
 #[derive(Drop)]
-struct Caller {
+struct Caller<'a> {
+    rt: &'a HostRuntime,
     output: Vec<u8>,
 }
 
 /// What the call of this keyword gives; `None` where there is no such call.
-fn answer(alloc: Global, step: &Step) -> Result<Option<Vec<u8>>, AllocError> {
+fn answer(rt: &HostRuntime, step: &Step) -> Result<Option<Vec<u8>>, AllocError> {
+    let alloc = rt.alloc();
     if let Some(output) = cp_text_calls::answer(alloc, step)? {
         return Ok(Some(output));
     }
@@ -31,10 +33,13 @@ fn answer(alloc: Global, step: &Step) -> Result<Option<Vec<u8>>, AllocError> {
     if let Some(output) = cp_tree_calls::answer(alloc, step)? {
         return Ok(Some(output));
     }
-    cp_file_calls::answer(alloc, step)
+    if let Some(output) = cp_file_calls::answer(alloc, step)? {
+        return Ok(Some(output));
+    }
+    cp_host_calls::answer(rt, step)
 }
 
-impl Player for Caller {
+impl Player for Caller<'_> {
     fn can_take(&self, _key: &str) -> bool {
         true
     }
@@ -47,7 +52,7 @@ impl Player for Caller {
         if step.key.as_str() == "out" {
             return compare(alloc, self.output.as_slice(), step.text.as_slice());
         }
-        let Some(output) = answer(alloc, step)? else {
+        let Some(output) = answer(self.rt, step)? else {
             return Ok(Some("unknown part".to_string(alloc)?));
         };
         self.output = output;
@@ -76,6 +81,7 @@ fn main(rt: HostRuntime) -> io::Result<ExitCode> {
         }
     }
     let mut caller = Caller {
+        rt: &rt,
         output: Vec::new(rt.alloc()),
     };
     play_files(&rt, &mut caller)
