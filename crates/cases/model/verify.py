@@ -11,12 +11,9 @@ A store is its bytes. They are read by the grammar of `storage.py`. Each commit 
 their whole past (`draw.py`), and the records that come of it are compared with those that the commit has. What a store has
 after a call is spelled here by docs/FORMAT.md.
 """
-import os
 import random
 import sys
 from itertools import zip_longest
-
-sys.path.append(os.path.join(os.path.dirname(os.path.abspath(__file__)), "../../tables/model"))
 
 import calls
 import draw

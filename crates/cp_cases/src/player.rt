@@ -7,6 +7,9 @@ use std::process::ExitCode;
 use std::rt::{Env, Files};
 use std::{fs, io};
 
+/// How the names begin of the files whose cases are tables of calls.
+const TABLES: &str = "tables/";
+
 /// What plays cases, one after another.
 pub trait Player {
     /// Whether it can take parts with this keyword.
@@ -199,10 +202,12 @@ fn play_file<P: Player>(
     play_sheet(rt, player, &sheet, upto, counts)
 }
 
-/// Plays the cases of files that hold up to this stage, and counts them.
-fn play_all<P: Player>(
+/// Plays the cases of files that hold up to this stage, and counts them. Those of the folder of tables are played by the
+/// second player.
+fn play_all<P: Player, Q: Player>(
     rt: &(impl Files + Eprint + AllocGlobal),
     player: &mut P,
+    of_tables: &mut Q,
     files: &[String],
     upto: u64,
 ) -> io::Result<Counts> {
@@ -212,7 +217,12 @@ fn play_all<P: Player>(
         skipped: 0,
     };
     for file in files {
-        play_file(rt, player, file.as_str(), upto, &mut counts)?;
+        let file = file.as_str();
+        if file.starts_with(TABLES) {
+            play_file(rt, of_tables, file, upto, &mut counts)?;
+        } else {
+            play_file(rt, player, file, upto, &mut counts)?;
+        }
     }
     Ok(counts)
 }
@@ -226,27 +236,30 @@ fn write_counts(rt: &impl Print, counts: &Counts) -> io::Result<()> {
 }
 
 /// Plays the cases that these words name, and gives the exit status.
-fn play_words<P: Player>(
+fn play_words<P: Player, Q: Player>(
     rt: &(impl Files + Eprint + Print + AllocGlobal),
     player: &mut P,
+    of_tables: &mut Q,
     words: &[String],
 ) -> io::Result<ExitCode> {
     let [_, upto, files @ ..] = words else {
         return Ok(ExitCode::from(2));
     };
     let upto = upto.as_str().parse::<u64>().unwrap_or(0);
-    let counts = play_all(rt, player, files, upto)?;
+    let counts = play_all(rt, player, of_tables, files, upto)?;
     write_counts(rt, &counts)?;
     Ok(ExitCode::from(u8::from(counts.failed > 0)))
 }
 
-/// Plays the cases that the program's words name, writes a line of standard error for each that
-/// differs and one line of standard output with their counts, and gives the exit status: 1 where a
-/// case differs, 2 where the words aren't a number and files.
-pub fn play_files<P: Player>(
+/// Plays the cases that the program's words name, those of the folder `tables` by the second player.
+/// Writes a line of standard error for each that differs and one line of standard output with their
+/// counts, and gives the exit status: 1 where a case differs, 2 where the words aren't a number and
+/// files.
+pub fn play_files<P: Player, Q: Player>(
     rt: &(impl Files + Env + Eprint + Print + AllocGlobal),
     player: &mut P,
+    of_tables: &mut Q,
 ) -> io::Result<ExitCode> {
     let words = std::env::args(rt)?.collect::<Vec<String>>(rt.alloc())?;
-    play_words(rt, player, words.as_slice())
+    play_words(rt, player, of_tables, words.as_slice())
 }
