@@ -75,8 +75,8 @@ pub(crate) fn device_of(word: &str) -> Option<Device> {
 impl Call {
     /// A call with no words at all, not even the program's name, with no input, in which nothing
     /// fails.
-    pub(crate) fn bare(alloc: Global) -> Result<Call, AllocError> {
-        Ok(Call {
+    pub(crate) fn bare(alloc: Global) -> Call {
+        Call {
             words: Vec::new(alloc),
             input: Vec::new(alloc),
             pieces: Vec::new(alloc),
@@ -88,16 +88,15 @@ impl Call {
             failing_writes: Vec::new(alloc),
             fuse: None,
             room: None,
-        })
+        }
     }
 
     /// The same with these words after the program's name.
     pub(crate) fn new(alloc: Global, line: &str) -> Result<Call, AllocError> {
-        let mut call = Call::bare(alloc)?;
-        call.words.push("cpdb".to_string(alloc)?)?;
-        for word in words_of(alloc, line)? {
-            call.words.push(word)?;
-        }
+        let all = format!(in alloc; "cpdb {line}")?;
+        let words = words_of(alloc, all.as_str())?;
+        let mut call = Call::bare(alloc);
+        call.words = words;
         Ok(call)
     }
 

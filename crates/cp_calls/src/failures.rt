@@ -74,6 +74,17 @@ fn tid_told(outcome: &Outcome) -> Option<u64> {
     Some(tid_in(&outcome.output).unwrap_or(u64::MAX))
 }
 
+/// What a session on this disk gives that asks for the numbers.
+fn asked<R: rt::Files + Drop, P: Program>(
+    alloc: Global,
+    program: &P,
+    disk: &mut MemDisk,
+    files: &mut CaseFiles<R>,
+) -> Result<Outcome, AllocError> {
+    let asking = Call::asking(alloc)?;
+    asking.make::<P, ShareTree, ArenaTree, _, _>(alloc, program, disk, files)
+}
+
 /// The last Tid of the store that a crash leaves; `None` where it leaves no store. The files of the call are those of a
 /// runtime `R`, of which it reads none.
 fn tid_left<R: rt::Files + Drop, P: Program>(
@@ -82,15 +93,12 @@ fn tid_left<R: rt::Files + Drop, P: Program>(
     disk: &MemDisk,
     how: Crash,
 ) -> Result<Option<u64>, AllocError> {
-    let asking = Call::asking(alloc)?;
     let mut files: CaseFiles<R> = CaseFiles::Named(MemFiles::new(alloc, &[])?);
     let mut image = disk.crash(alloc, how)?;
-    let made = asking.make::<P, ShareTree, ArenaTree, _, _>(alloc, program, &mut image, &mut files);
+    let told = asked::<R, P>(alloc, program, &mut image, &mut files);
     drop(image);
     drop(files);
-    drop(asking);
-    let outcome = made?;
-    Ok(tid_told(&outcome))
+    Ok(tid_told(&told?))
 }
 
 /// Says what a crash leaves other than a store with a last Tid from `low` to `high`; or no store, where one is made. `None`

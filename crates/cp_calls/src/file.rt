@@ -85,6 +85,28 @@ impl StoreFiles {
         }
     }
 
+    /// Where the store of this name stands; how many there are where it isn't there.
+    fn place_of(&self, name: &str) -> usize {
+        let mut at = 0usize;
+        for file in &self.files {
+            if file.name.as_str() == name {
+                return at;
+            }
+            at = at.saturating_add(1);
+        }
+        at
+    }
+
+    /// Takes the store of this name out, and gives what it was before the case spoiled it.
+    fn take_out(&mut self, name: &str) -> Option<Vec<u8>> {
+        let at = self.place_of(name);
+        if at < self.files.len() {
+            self.files.remove(at).whole
+        } else {
+            None
+        }
+    }
+
     /// A call has left these bytes in the store of this name.
     pub(crate) fn set(
         &mut self,
@@ -92,21 +114,9 @@ impl StoreFiles {
         name: &str,
         bytes: Vec<u8>,
     ) -> Result<(), AllocError> {
-        let mut others = Vec::new(alloc);
-        let mut whole = None;
-        for file in std::mem::replace(&mut self.files, Vec::new(alloc)) {
-            if file.name.as_str() == name {
-                whole = file.whole;
-            } else {
-                others.push(file)?;
-            }
-        }
-        others.push(StoreFile {
-            name: name.to_string(alloc)?,
-            bytes,
-            whole,
-        })?;
-        self.files = others;
+        let whole = self.take_out(name);
+        let name = name.to_string(alloc)?;
+        self.files.push(StoreFile { name, bytes, whole })?;
         Ok(())
     }
 

@@ -151,8 +151,8 @@ impl<'a, R: Files, P: Program> Stage<'a, R, P> {
         }
     }
 
-    /// Makes a call, and keeps what it gives and the store that it leaves.
-    fn make(&mut self, alloc: Global, call: &Call) -> Result<(), AllocError> {
+    /// Makes a call, and keeps what it gives and the bytes of the disk.
+    fn run(&mut self, alloc: Global, call: &Call) -> Result<(), AllocError> {
         self.setting.before = self.stores.named(call.store_name()).to_vec(alloc)?;
         let (outcome, disk) = self
             .setting
@@ -161,6 +161,13 @@ impl<'a, R: Files, P: Program> Stage<'a, R, P> {
         let left = disk.bytes().to_vec(alloc);
         drop(disk);
         self.left = left?;
+        Ok(())
+    }
+
+    /// Makes a call, keeps what it gives and the store that it leaves, and compares with that what it gives in other forms of
+    /// trees.
+    fn make(&mut self, alloc: Global, call: &Call) -> Result<(), AllocError> {
+        self.run(alloc, call)?;
         if !self.left.is_empty() {
             let bytes = self.left.as_slice().to_vec(alloc)?;
             self.stores.set(alloc, call.store_name(), bytes)?;
@@ -199,25 +206,39 @@ impl<'a, R: Files, P: Program> Stage<'a, R, P> {
         Ok(())
     }
 
+    /// The store has the bytes of these hexadecimal digits.
+    fn set_store(&mut self, alloc: Global, digits: &[u8]) -> Result<(), AllocError> {
+        let bytes = bytes_in(alloc, digits)?;
+        self.stores.set(alloc, STORE, bytes)
+    }
+
+    /// Makes the call that is to come, and spoils the store as the part says; says whether it is one that does.
+    fn spoil(&mut self, alloc: Global, step: &Step) -> Result<bool, AllocError> {
+        self.settle(alloc)?;
+        self.stores
+            .spoil(alloc, step.key.as_str(), step.rest.as_str())
+    }
+
+    /// Begins a call that has no words of its own, for an input that is still to be taken.
+    fn begin_for_input(&mut self, alloc: Global) -> Result<bool, AllocError> {
+        self.begin_call(alloc, Call::new(alloc, "scratch n"))?;
+        Ok(false)
+    }
+
     /// Takes a part that begins a call or is a file; says whether it is one.
     fn take_first(&mut self, alloc: Global, step: &Step) -> Result<bool, AllocError> {
         let rest = step.rest.as_str();
-        match step.key.as_str() {
-            "file" => self.add_file(alloc, rest, step.text.as_slice())?,
-            "store" => {
-                let bytes = bytes_in(alloc, step.text.as_slice())?;
-                self.stores.set(alloc, STORE, bytes)?;
-            }
-            "cut" | "change" => {
-                self.settle(alloc)?;
-                return self.stores.spoil(alloc, step.key.as_str(), rest);
-            }
-            "words" => self.begin_call(alloc, Call::new(alloc, rest))?,
-            "bare" => self.begin_call(alloc, Call::bare(alloc))?,
-            "in" if self.call.is_none() => self.begin_call(alloc, Call::new(alloc, "scratch n"))?,
+        let taken = match step.key.as_str() {
+            "file" => self.add_file(alloc, rest, step.text.as_slice()),
+            "store" => self.set_store(alloc, step.text.as_slice()),
+            "words" => self.begin_call(alloc, Call::new(alloc, rest)),
+            "bare" => self.begin_call(alloc, Ok(Call::bare(alloc))),
+            "cut" | "change" => return self.spoil(alloc, step),
+            "in" if self.call.is_none() => return self.begin_for_input(alloc),
             _ => return Ok(false),
-        }
-        Ok(step.key.as_str() != "in")
+        };
+        taken?;
+        Ok(true)
     }
 
     /// Takes a part that is about the call to come; says whether it is one.

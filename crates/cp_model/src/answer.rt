@@ -4,7 +4,7 @@ use cp_path::{Label, Loc};
 use std::marker::Model;
 
 /// A place at which data stood, and the versions in which it did.
-#[derive(Clone, PartialEq, Eq, Drop)]
+#[derive(Drop)]
 pub struct Segment {
     pub loc: Loc,
     pub low: u64,
@@ -12,7 +12,7 @@ pub struct Segment {
 }
 
 /// How a trace ends: where the data was inserted, in the start tree, or at a place of a source.
-#[derive(Clone, PartialEq, Eq, Drop)]
+#[derive(Drop)]
 pub enum TraceEnd {
     New,
     Start,
@@ -27,7 +27,7 @@ pub struct Trace {
 }
 
 /// Where data came from at last: inserted in a step, copied from a place in a step, or there from the start.
-#[derive(Clone, PartialEq, Eq, Drop)]
+#[derive(Drop)]
 pub enum FromAnswer {
     New(u64),
     At(Loc, u64),
@@ -35,7 +35,7 @@ pub enum FromAnswer {
 }
 
 /// The numbers of a committed state.
-#[derive(Clone, Copy, Debug, PartialEq, Eq)]
+#[derive(Clone, Copy)]
 pub struct Stats {
     pub kind: Kind,
     pub tid: u64,
@@ -57,7 +57,7 @@ pub enum Answer {
 }
 
 /// A commit: its Tids, who made it and when, and the number of its operations.
-#[derive(Clone, PartialEq, Eq, Drop)]
+#[derive(Drop)]
 pub struct LogLine {
     pub low: u64,
     pub high: u64,

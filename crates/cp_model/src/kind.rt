@@ -1,5 +1,5 @@
 /// How a store records: naive, transactional, hierarchical, or both of the latter.
-#[derive(Clone, Copy, Debug, PartialEq, Eq)]
+#[derive(Clone, Copy)]
 pub enum Kind {
     N,
     T,

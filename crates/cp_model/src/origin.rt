@@ -1,7 +1,7 @@
 use cp_path::Loc;
 
 /// What a place of a working tree carries: that it is new, or the place at which it stood when the step began.
-#[derive(Clone, PartialEq, Eq, Drop)]
+#[derive(Clone, Drop)]
 pub enum Origin {
     New,
     Was(Loc),

@@ -2,7 +2,7 @@ use cp_path::Loc;
 use std::marker::Model;
 
 /// What a row of a step says of its place.
-#[derive(Clone, PartialEq, Eq, Drop)]
+#[derive(Drop)]
 pub enum RowMark {
     Made,
     Copied(Loc),
@@ -11,7 +11,7 @@ pub enum RowMark {
 }
 
 /// The letter of a record: inserted, copied, deleted, kept.
-#[derive(Clone, Copy, Debug, PartialEq, Eq)]
+#[derive(Clone, Copy, PartialEq, Eq)]
 pub enum RecOp {
     I,
     C,
@@ -20,7 +20,7 @@ pub enum RecOp {
 }
 
 /// What a store keeps of one place and one step. `src` is there exactly for a copy.
-#[derive(Clone, PartialEq, Eq, Drop)]
+#[derive(Clone, Drop)]
 pub struct Record {
     pub tid: u64,
     pub op: RecOp,
@@ -44,7 +44,7 @@ impl Model for RecordList {
 }
 
 /// What comes of comparing stored records, trees and numbers with those of a replay. `at` is an offset in the file.
-#[derive(Clone, PartialEq, Eq, Drop)]
+#[derive(Drop)]
 pub enum Verdict {
     /// All agree; the number of records.
     Agrees(u64),

@@ -9,7 +9,7 @@ pub enum Content {
 }
 
 /// A place of a tree, from the tree's root or the root of a subtree, and what stands there.
-#[derive(Clone, PartialEq, Eq, Drop)]
+#[derive(PartialEq, Eq, Drop)]
 pub struct Row {
     pub path: Path,
     pub content: Content,
