@@ -9,16 +9,16 @@
 #![tactic(auto)]
 
 mod entry;
-mod file_laws;
 mod operation;
 mod record;
 mod room;
 mod stated;
+mod stated_files;
 mod tree;
 
 pub use cp_format::FormatFault;
 pub use entry::{Entry, entry_bytes, entry_of};
-pub use file_laws::file_laws;
 pub use operation::{put_op, take_op};
 pub use stated::laws;
+pub use stated_files::file_laws;
 pub use tree::{put_tree, take_tree};

@@ -1,6 +1,6 @@
 use Rattle.cp_frame.proofs.Images.{files_open, one_history, legal_history}
 use Rattle.cp_frame.proofs.Standing.{tell-newer}
-use Rattle.cp_frame.proofs.file_laws.file_laws.Goals as goal
+use Rattle.cp_frame.proofs.stated_files.file_laws.Goals as goal
 
 pub returns-clause-one : goal.returns-clause-one
 returns-clause-one c = one_history
