@@ -3,6 +3,9 @@ use Rattle.cp_model.specs.Answers.{answer_to, src, hist, mod_tids, trace, from, 
 use Rattle.cp_model.specs.declared.answer.Answer.TheVariants as answer
 use Rattle.cp_model.specs.declared.query.Query.TheVariants as query
 use Rattle.cp_query.specs.Asked.{AnswersTo}
+use Rattle.cp_query.proofs.Answered.{asks-given, asks-passed, passed-calm}
+use Rattle.cp_query.proofs.Passing.{asked-first}
+use Rattle.cp_query.specs.declared.fault.QueryFault.TheVariants.{NoPlace}
 use Rattle.cp_query.proofs.Answering.{answers-at, faults-at, answers-always, faults-always}
 use Rattle.cp_query.proofs.ask.answer.Goals as goal
 
@@ -101,3 +104,48 @@ unfolding answer_to
 returns-in-Stats-clause-answer g c = λ s h n.
     subst (λ q. AnswersTo s q (Ok (answer.Stats c.args.numbers))) (sym c.in-Stats.is)
     (answers-always s query.Stats (answer.Stats (stats s)) refl (answer.Stats c.args.numbers) (ap (λ y. answer.Stats y) n))
+
+pub returns-in_ok-src-in-Src-clause-asks : goal.returns-in_ok-src-in-Src-clause-asks
+returns-in_ok-src-in-Src-clause-asks g c = asks-given g.P.ProvStore c.args.store.now c.src.new.store (asked-first g.P.ProvStore c.args.store.now c.src.new.store c.in_ok-src-in-Src.ensures.asks)
+
+pub returns-in_err-src-in-Src-clause-asks : goal.returns-in_err-src-in-Src-clause-asks
+returns-in_err-src-in-Src-clause-asks g c = asks-passed g.P.ProvStore c.args.store.now c.src.new.store c.in_err-src-in-Src.field-0.0 c.from_residual.result c.in_err-src-in-Src.ensures.asks c.from_residual.ensures.1
+
+pub returns-in_err-src-in-Src-clause-calm : goal.returns-in_err-src-in-Src-clause-calm
+returns-in_err-src-in-Src-clause-calm g c = passed-calm c.in_err-src-in-Src.field-0.0 NoPlace c.from_residual.result c.in_err-src-in-Src.ensures.calm c.from_residual.ensures.1
+
+pub returns-in_ok-hist-in-Hist-clause-asks : goal.returns-in_ok-hist-in-Hist-clause-asks
+returns-in_ok-hist-in-Hist-clause-asks g c = asks-given g.P.ProvStore c.args.store.now c.hist.new.store (asked-first g.P.ProvStore c.args.store.now c.hist.new.store c.in_ok-hist-in-Hist.ensures.asks)
+
+pub returns-in_err-hist-in-Hist-clause-asks : goal.returns-in_err-hist-in-Hist-clause-asks
+returns-in_err-hist-in-Hist-clause-asks g c = asks-passed g.P.ProvStore c.args.store.now c.hist.new.store c.in_err-hist-in-Hist.field-0.0 c.from_residual-in_err-hist-in-Hist.result c.in_err-hist-in-Hist.ensures.asks c.from_residual-in_err-hist-in-Hist.ensures.1
+
+pub returns-in_err-hist-in-Hist-clause-calm : goal.returns-in_err-hist-in-Hist-clause-calm
+returns-in_err-hist-in-Hist-clause-calm g c = passed-calm c.in_err-hist-in-Hist.field-0.0 NoPlace c.from_residual-in_err-hist-in-Hist.result c.in_err-hist-in-Hist.ensures.calm c.from_residual-in_err-hist-in-Hist.ensures.1
+
+pub returns-in_ok-trace-in-Trace-clause-asks : goal.returns-in_ok-trace-in-Trace-clause-asks
+returns-in_ok-trace-in-Trace-clause-asks g c = asks-given g.P.ProvStore c.args.store.now c.trace.new.store (asked-first g.P.ProvStore c.args.store.now c.trace.new.store c.in_ok-trace-in-Trace.ensures.asks)
+
+pub returns-in_err-trace-in-Trace-clause-asks : goal.returns-in_err-trace-in-Trace-clause-asks
+returns-in_err-trace-in-Trace-clause-asks g c = asks-passed g.P.ProvStore c.args.store.now c.trace.new.store c.in_err-trace-in-Trace.field-0.0 c.from_residual-in_err-trace-in-Trace.result c.in_err-trace-in-Trace.ensures.asks c.from_residual-in_err-trace-in-Trace.ensures.1
+
+pub returns-in_err-trace-in-Trace-clause-calm : goal.returns-in_err-trace-in-Trace-clause-calm
+returns-in_err-trace-in-Trace-clause-calm g c = passed-calm c.in_err-trace-in-Trace.field-0.0 NoPlace c.from_residual-in_err-trace-in-Trace.result c.in_err-trace-in-Trace.ensures.calm c.from_residual-in_err-trace-in-Trace.ensures.1
+
+pub returns-in_ok-modified-in-Mod-clause-asks : goal.returns-in_ok-modified-in-Mod-clause-asks
+returns-in_ok-modified-in-Mod-clause-asks g c = asks-given g.P.ProvStore c.args.store.now c.modified.new.store (asked-first g.P.ProvStore c.args.store.now c.modified.new.store c.in_ok-modified-in-Mod.ensures.asks)
+
+pub returns-in_err-modified-in-Mod-clause-asks : goal.returns-in_err-modified-in-Mod-clause-asks
+returns-in_err-modified-in-Mod-clause-asks g c = asks-passed g.P.ProvStore c.args.store.now c.modified.new.store c.in_err-modified-in-Mod.field-0.0 c.from_residual-in_err-modified-in-Mod.result c.in_err-modified-in-Mod.ensures.asks c.from_residual-in_err-modified-in-Mod.ensures.1
+
+pub returns-in_err-modified-in-Mod-clause-calm : goal.returns-in_err-modified-in-Mod-clause-calm
+returns-in_err-modified-in-Mod-clause-calm g c = passed-calm c.in_err-modified-in-Mod.field-0.0 NoPlace c.from_residual-in_err-modified-in-Mod.result c.in_err-modified-in-Mod.ensures.calm c.from_residual-in_err-modified-in-Mod.ensures.1
+
+pub returns-in_ok-from-in-From-clause-asks : goal.returns-in_ok-from-in-From-clause-asks
+returns-in_ok-from-in-From-clause-asks g c = asks-given g.P.ProvStore c.args.store.now c.from.new.store (asked-first g.P.ProvStore c.args.store.now c.from.new.store c.in_ok-from-in-From.ensures.asks)
+
+pub returns-in_err-from-in-From-clause-asks : goal.returns-in_err-from-in-From-clause-asks
+returns-in_err-from-in-From-clause-asks g c = asks-passed g.P.ProvStore c.args.store.now c.from.new.store c.in_err-from-in-From.field-0.0 c.from_residual-in_err-from-in-From.result c.in_err-from-in-From.ensures.asks c.from_residual-in_err-from-in-From.ensures.1
+
+pub returns-in_err-from-in-From-clause-calm : goal.returns-in_err-from-in-From-clause-calm
+returns-in_err-from-in-From-clause-calm g c = passed-calm c.in_err-from-in-From.field-0.0 NoPlace c.from_residual-in_err-from-in-From.result c.in_err-from-in-From.ensures.calm c.from_residual-in_err-from-in-From.ensures.1

@@ -1,6 +1,7 @@
 use Rattle.std.proofs.Common.{ap, ◌∙◌}
 use Rattle.cp_model.specs.Place.{in_target}
 use Rattle.cp_model.specs.Subtrees.{is_there}
+use Rattle.cp_query.proofs.Answered.{asks-given}
 use Rattle.cp_query.proofs.Asking.{is_in-target, is_in-there, begun}
 use Rattle.cp_query.proofs.Passing.{visited-tids}
 use Rattle.cp_query.proofs.ask.modified.Goals as goal
@@ -17,3 +18,6 @@ returns-clause-answer g c = λ s h.
     visited-tids _ _ _ _ s h c.in_ok-walk.walk c.args.place.now c.new-found.result.keys c.visit.new.found.keys c.in_ok-list_tids.field-0
     (begun c.in_ok-walk.walk c.args.place.now c.upto.result _ c.in_ok-walk.ensures.walk c.upto.ensures)
     c.new-found.ensures.empty c.in_ok-list_tids.ensures.all c.in_ok-list_tids.ensures.rise c.in_ok-visit.ensures.found
+
+pub returns-clause-asks : goal.returns-clause-asks
+returns-clause-asks g c = asks-given g.P.ProvStore c.args.store.now c.visit.new.store c.in_ok-visit.ensures.asks

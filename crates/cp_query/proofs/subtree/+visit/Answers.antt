@@ -7,6 +7,7 @@ use Rattle.cp_query.specs.Events.{losses_in}
 use Rattle.cp_query.specs.Legs.{readings_in}
 use Rattle.cp_query.proofs.Nearby.{listed-there, child-fits, next-target, next-there, next-falls}
 use Rattle.cp_query.proofs.Passing.{asked-first, leaf-found, turn-visited, turns-end, found-kept, quiet-found, label-passed}
+use Rattle.cp_query.proofs.Answered.{asks-failed, asks-out}
 use Rattle.cp_query.proofs.Noting.{first-is, some-place, there-too}
 use Rattle.cp_query.proofs.Visiting.{noted-here}
 use Rattle.cp_query.proofs.subtree.+visit.Goals as goal
@@ -104,3 +105,27 @@ returns-clause-found g t c =
     let tree = g.R.TreeRep.contents c.args.tree.now in
     turns-end (readings_in g.P.ProvStore c.args.store.now) (losses_in g.P.ProvStore c.args.store.now) c.args.walk.high tree c.index-places-0.result c.args.walk.at c.deref-label-items.result.now c.in_ok-labels_of.field-0.items c.loop-label.label-index
     c.args.found.now.keys c.loop-label.found.keys (g.met.R.TreeRep.is_tree c.args.tree.now) same c.deref-label-items.ensures.value c.in_ok-labels_of.ensures c.loop-label-test.false c.loop-label.invariant.found
+
+pub returns-clause-asks : goal.returns-clause-asks
+returns-clause-asks g t c = c.loop-label.invariant.asked
+
+pub returns-then-branch-clause-asks : goal.returns-then-branch-clause-asks
+returns-then-branch-clause-asks g t c = asked-on g.P.ProvStore c.args.store.now c.note_past.new.store c.came_along.new.store (asked-first g.P.ProvStore c.args.store.now c.note_past.new.store c.in_ok-places.ensures.asks) c.in_ok-came_along.ensures.asks
+
+pub returns-then-not-is_node-clause-asks : goal.returns-then-not-is_node-clause-asks
+returns-then-not-is_node-clause-asks g t c = asked-first g.P.ProvStore c.args.store.now c.note_past.new.store c.in_ok-places.ensures.asks
+
+pub returns-in_err-visit-clause-asks : goal.returns-in_err-visit-clause-asks
+returns-in_err-visit-clause-asks g t c = asks-failed g.P.ProvStore c.args.store.now c.came_along-in-loop-label.new.store c.visit.new.store c.in_err-visit.field-0.0 c.from_residual-in_err-visit.result (asked-on g.P.ProvStore c.args.store.now c.loop-label.store c.came_along-in-loop-label.new.store c.loop-label.invariant.asked c.in_ok-came_along-2.ensures.asks) c.in_err-visit.ensures.asks c.from_residual-in_err-visit.ensures.1
+
+pub returns-in_err-at-clause-asks : goal.returns-in_err-at-clause-asks
+returns-in_err-at-clause-asks g t c = asks-out g.P.ProvStore c.args.store.now c.came_along-in-loop-label.new.store c.from_residual-in_err-at.result (asked-on g.P.ProvStore c.args.store.now c.loop-label.store c.came_along-in-loop-label.new.store c.loop-label.invariant.asked c.in_ok-came_along-2.ensures.asks) c.from_residual-in_err-at.ensures.1
+
+pub returns-in_err-came_along-2-clause-asks : goal.returns-in_err-came_along-2-clause-asks
+returns-in_err-came_along-2-clause-asks g t c = asks-failed g.P.ProvStore c.args.store.now c.loop-label.store c.came_along-in-loop-label.new.store c.in_err-came_along-2.field-0.0 c.from_residual-in_err-came_along-2.result c.loop-label.invariant.asked c.in_err-came_along-2.ensures.asks c.from_residual-in_err-came_along-2.ensures.1
+
+pub returns-in_err-labels_of-clause-asks : goal.returns-in_err-labels_of-clause-asks
+returns-in_err-labels_of-clause-asks g t c = asks-out g.P.ProvStore c.args.store.now c.came_along.new.store c.from_residual-in_err-labels_of.result (asked-on g.P.ProvStore c.args.store.now c.note_past.new.store c.came_along.new.store (asked-first g.P.ProvStore c.args.store.now c.note_past.new.store c.in_ok-places.ensures.asks) c.in_ok-came_along.ensures.asks) c.from_residual-in_err-labels_of.ensures.1
+
+pub returns-in_err-came_along-clause-asks : goal.returns-in_err-came_along-clause-asks
+returns-in_err-came_along-clause-asks g t c = asks-failed g.P.ProvStore c.args.store.now c.note_past.new.store c.came_along.new.store c.in_err-came_along.field-0.0 c.from_residual-in_err-came_along.result (asked-first g.P.ProvStore c.args.store.now c.note_past.new.store c.in_ok-places.ensures.asks) c.in_err-came_along.ensures.asks c.from_residual-in_err-came_along.ensures.1
