@@ -206,7 +206,7 @@ impl Disk for MemDisk {
         if self.plan.fails_now() {
             return Err(DiskFault::Failed);
         }
-        self.disk.sync()?;
+        self.disk.settle();
         Ok(())
     }
 }

@@ -1,5 +1,5 @@
 //! A disk in memory that never fails.
-ghost use Rattle.std.specs.Prelude.{◌≡◌, ◌≤◌, ◌<◌, ◌+◌, length, take, drop, IsOk, IfOk, OnOk, IfErr, OnErr};
+ghost use Rattle.std.specs.Prelude.{◌≡◌, ◌≤◌, ◌<◌, ◌+◌, length, take, drop, Ok, IsOk, IfOk, OnOk, IfErr, OnErr};
 ghost use Rattle.cp_outside.specs.Causes.{one_more};
 ghost use Rattle.cp_disk.specs.Calls.{Sized, Filled, Wrote, WasCut, Synced};
 ghost use Rattle.cp_disk.specs.Counts.{Counted};
@@ -91,6 +91,14 @@ impl SureDisk {
         ensures { self.new ≡ after_read self.old }
     {
         self.reads = self.reads.saturating_add(1);
+    }
+
+    // Notes that the content is durable.
+    pub(crate) fn settle(&mut self)
+        ensures synced { Synced (Ok (tt {0})) (sure_view self.old) (sure_view self.new) }
+        ensures done { IsSynced self.old self.new }
+    {
+        note_sync(&mut self.log);
     }
 
     // Fills `into` with the bytes from the offset `at` on.
@@ -198,7 +206,7 @@ impl Disk for SureDisk {
         ensures ok { IsOk result }
         ensures done { IsSynced self.old self.new }
     {
-        note_sync(&mut self.log);
+        self.settle();
         Ok(())
     }
 }

@@ -10,6 +10,6 @@ pub returns-clause-ends : goal.returns-clause-ends
 returns-clause-ends c = rw (← c.self.view_is) (record {
   listed = search rules;
   failed = λ no. absurd (cc);
-  done = (c.sync.new.self, search rules, search rules);
+  done = (c.settle.new.self, c.settle.ensures.done, search rules);
   memory = λ no. absurd (cc);
 })

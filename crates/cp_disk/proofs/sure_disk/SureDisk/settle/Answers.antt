@@ -1,6 +1,6 @@
 use Rattle.std.proofs.Common.{refl}
 use Rattle.cp_disk.proofs.Kept.{kept_sync, synced}
-use Rattle.cp_disk.proofs.sure_disk.SureDiskDisk.sync.Goals as goal
+use Rattle.cp_disk.proofs.sure_disk.SureDisk.settle.Goals as goal
 
 pub invariant_of-self : goal.invariant_of-self
 invariant_of-self c = kept_sync _ _ _ c.self.invariant _ c.note_sync.ensures
