@@ -1,7 +1,8 @@
 -- What a frame of a journal has for its body.
-use Rattle.std.proofs.Common.{◌≡◌, ◌≤◌, ◌<◌, ◌+◌, ℕ, zero, suc, List, [], ◌∷◌, ◌++◌, Some, length, take, drop, get_or, refl, sym, ◌∙◌, ap, subst, arith, append_assoc, length-append, length-drop, take-append-drop, eq-eqb, ne_eqb, true, false, ◌==◌}
+use Rattle.std.proofs.Common.{◌≡◌, ◌≤◌, ◌<◌, ◌+◌, ℕ, zero, suc, List, [], ◌∷◌, ◌++◌, Some, length, take, drop, get_or, refl, sym, ◌∙◌, ap, subst, arith, append_assoc, length-append, length-drop, take-append-drop, ◌==◌, if◌then◌else◌, inl, inr}
 use Rattle.std.specs.List.{slice_get}
 use Rattle.std.proofs.lemmas.List.{take_at, drop_at, drop-drop}
+use Rattle.std.proofs.lemmas.Bool.{cases_Bool}
 use Rattle.cp_disk.specs.declared.limits.TheConstants.{DISK_MAX}
 use Rattle.cp_journal.specs.Frames.{Frame, spelled, spelled_all}
 use Rattle.cp_journal.specs.Journals.{JournalState, places, end_of, AreInRange, entry_body, Lists}
@@ -61,20 +62,15 @@ in_range_at [] n f all found = absurd (cc found)
 in_range_at (g ∷ fs) zero f all found = let same : g ≡ f = cc found in subst (λ (k : FrameAt). end_of k ≤ DISK_MAX) same all.0
 in_range_at (g ∷ fs) (suc n) f all found = in_range_at fs n f all.1 found
 
--- what is read of a frame that isn't an entry is nothing
-pub no_body : (from : ℕ) (fs : List Frame) (j : JournalState) (c : List ℕ) (n : ℕ) (at : FrameAt) (f : Frame) → slice_get j.frames n ≡ Some at → (at.tag ≡ ENTRY → ⊥) → Lists from fs j c → slice_get fs n ≡ Some f
-    → [] ≡ entry_body f
-no_body from fs j c n at f found other lists here =
+-- what is read of an entry is its body, and of a frame that isn't an entry nothing
+pub given_body : (from : ℕ) (fs : List Frame) (j : JournalState) (c : List ℕ) (n : ℕ) (at : FrameAt) (f : Frame) (len : ℕ) → slice_get j.frames n ≡ Some at → len ≡ (if at.tag == ENTRY then at.len else 0) → Lists from fs j c → slice_get fs n ≡ Some f
+    → take len (drop (at.at + 10) c) ≡ entry_body f
+given_body from fs j c n at f len found is lists here =
     let b = listed_body from fs j c lists n at found in
     let same : b.0 ≡ f = cc (b.1, here) in
-    let no : (f.tag == ENTRY) ≡ false = ne_eqb f.tag ENTRY (λ is. other (b.2.tag ∙ ap (λ (g : Frame). g.tag) same ∙ is)) in
-    rw no refl
-
--- what is read of an entry is its body
-pub whole_body : (from : ℕ) (fs : List Frame) (j : JournalState) (c : List ℕ) (n : ℕ) (at : FrameAt) (f : Frame) → slice_get j.frames n ≡ Some at → at.tag ≡ ENTRY → Lists from fs j c → slice_get fs n ≡ Some f
-    → take at.len (drop (at.at + 10) c) ≡ entry_body f
-whole_body from fs j c n at f found is lists here =
-    let b = listed_body from fs j c lists n at found in
-    let same : b.0 ≡ f = cc (b.1, here) in
-    let tagged : (f.tag == ENTRY) ≡ true = eq-eqb f.tag ENTRY (ap (λ (g : Frame). g.tag) (sym same) ∙ sym b.2.tag ∙ is) in
-    b.2.body ∙ ap (λ (g : Frame). g.body) same ∙ (rw tagged refl)
+    let given : len ≡ (if f.tag == ENTRY then at.len else 0) = is ∙ ap (λ (t : ℕ). if t == ENTRY then at.len else 0) (b.2.tag ∙ ap (λ (g : Frame). g.tag) same) in
+    let body : take at.len (drop (at.at + 10) c) ≡ f.body = b.2.body ∙ ap (λ (g : Frame). g.body) same in
+    ap (λ (k : ℕ). take k (drop (at.at + 10) c)) given ∙ elim (cases_Bool (f.tag == ENTRY)) [
+      | inl holds ↦ rw holds body
+      | inr fails ↦ rw fails refl
+    ]

@@ -1,16 +1,47 @@
 -- The two writes of a frame, one behind the other.
-use Rattle.std.proofs.Common.{◌≡◌, ◌≤◌, ◌+◌, inl, ℕ, List, [], ◌∷◌, length, ◌∙◌, ap, subst, arith, Result, Ok, Err, OnOk}
+use Rattle.std.proofs.Common.{◌≡◌, ◌≤◌, ◌+◌, inl, inr, ⊎_elim, ◌⊎◌, ◌↔◌, Bool, IsTrue, is_err, IsErrOf, OnErr, ℕ, List, [], ◌∷◌, length, true, refl, ◌∙◌, ap, subst, arith, Result, Ok, Err, OnOk}
+use Rattle.std.proofs.lemmas.Bool.Decides.{nat_tests}
+use lib.Dec.{leb}
 use Rattle.cp_disk.specs.Views.{View, Only, Steps, Keeps}
 use Rattle.cp_disk.specs.Writes.{Torn, with_bytes}
 use Rattle.cp_disk.proofs.Composing.{keeps_none, keeps_steps}
-use Rattle.cp_journal.specs.Frames.{Frame, after_gate, spelled}
+use Rattle.cp_journal.specs.Frames.{Frame, entry, after_gate, spelled}
 use Rattle.cp_journal.specs.Holding.{IsLawful, IsAtRest, IsAdded, IsBeforeOrAfter}
+use Rattle.cp_journal.specs.declared.limits.TheConstants.{BODY_MAX}
+use Rattle.cp_journal.specs.declared.fault.JournalFault.{JournalFault}
+use Rattle.cp_journal.specs.declared.fault.JournalFault.TheVariants.{Disk, Memory, TooLarge}
 use Rattle.cp_journal.proofs.Adding.{now_before, torn_behind, staged, torn_gate, is_added, length-staged}
 
 -- what follows from two facts of a call that succeeds
 pub of_success : {T E P Q R : Type 0} (result : Result T E) → (P → Q → R) → OnOk result P → OnOk result Q → OnOk result R
 of_success (Ok v) follows p q = follows p q
 of_success (Err e) follows p q = tt
+
+-- a file may have an entry within the limit
+pub lawful_entry : (body : List ℕ) → length body ≤ BODY_MAX → IsLawful (entry body)
+lawful_entry body le = record {
+  fits = let yes : leb (length body) BODY_MAX ≡ true = grind (arith, nat_tests) in rw yes refl;
+  short = omega (arith, le);
+}
+
+-- what holds whether a call succeeds or not
+pub of_any : {T E P : Type 0} (result : Result T E) → P → OnOk result P
+of_any (Ok v) p = p
+of_any (Err e) p = tt
+
+-- what a call that writes a frame answers, where it fails
+module _ {T : Type 0} where
+  pub kinds_wider : (result : Result T JournalFault) → OnErr result (IsErrOf result Disk ⊎ IsErrOf result Memory) → OnErr result (IsErrOf result Disk ⊎ (IsErrOf result Memory ⊎ IsErrOf result TooLarge))
+  kinds_wider (Ok v) kinds = tt
+  kinds_wider (Err e) kinds = ⊎_elim (λ disk. inl disk) (λ memory. inr (inl memory)) kinds
+
+  pub fits_in : (result : Result T JournalFault) → OnErr result (IsErrOf result Disk ⊎ IsErrOf result Memory) → IsErrOf result TooLarge → ⊥
+  fits_in (Ok v) kinds large = absurd (cc large)
+  fits_in (Err e) kinds large = ⊎_elim (λ disk. absurd (cc (disk, large))) (λ memory. absurd (cc (memory, large))) kinds
+
+  pub spent_is : (result : Result T JournalFault) (spent : Bool) → spent ≡ is_err result → OnErr result (IsErrOf result Disk ⊎ IsErrOf result Memory) → IsTrue spent ↔ (IsErrOf result Disk ⊎ IsErrOf result Memory)
+  spent_is (Ok v) spent is kinds = (λ yes. absurd (cc (is, yes)), λ fault. ⊎_elim (λ disk. absurd (cc disk)) (λ memory. absurd (cc memory)) fault)
+  spent_is (Err e) spent is kinds = (λ yes. kinds, λ fault. is)
 
 pub before_writes : (e : ℕ) (v : View) (f : Frame) (rest : IsAtRest e v) → Keeps (IsBeforeOrAfter e v.content f) v v
 before_writes e v f rest = keeps_none (IsBeforeOrAfter e v.content f) v (λ c im. inl (now_before e v rest c (rest.settled c im)))

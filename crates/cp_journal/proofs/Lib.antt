@@ -1,5 +1,6 @@
 mod Adding
 pub mod Bodies
+mod Faults
 mod FrameWrites
 mod Looks
 mod NewStores

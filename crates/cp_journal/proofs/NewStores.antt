@@ -1,7 +1,8 @@
 -- What a crash leaves while a store is made.
-use Rattle.std.proofs.Common.{◌≡◌, ◌≤◌, ◌+◌, ◌⊎◌, inl, inr, ⊎_elim, ℕ, true, List, [], ◌∷◌, ◌++◌, length, take, drop, get_or, refl, sym, ◌∙◌, ap, subst, arith, append_assoc, append-nil, length-append, length-take, length-drop, Result}
-use Rattle.std.proofs.lemmas.List.{take_at, drop_at, drop_more, drop-take, drop-append-le, get_or_at}
-use Rattle.std.proofs.lemmas.Bool.{cases_eq}
+use Rattle.std.proofs.Common.{◌≡◌, ◌≤◌, ◌<◌, ◌+◌, ◌⊎◌, ◌↔◌, ltb, if◌then◌else◌, inl, inr, ⊎_elim, ℕ, true, List, [], ◌∷◌, ◌++◌, length, take, drop, get_or, refl, sym, ◌∙◌, ap, subst, arith, append_assoc, append-nil, length-append, length-take, length-drop, Result}
+use Rattle.std.proofs.lemmas.List.{take_at, drop_at, drop_more, drop-take, take-take, drop-append-le, get_or-take, get_or_at}
+use Rattle.std.proofs.lemmas.Bool.{cases_eq, cases_Bool}
+use Rattle.std.proofs.lemmas.Bool.Decides.{nat_tests}
 use Rattle.cp_disk.specs.Calls.{Wrote}
 use Rattle.cp_disk.specs.Views.{View, Only, IsDurable, Rests, Steps, Keeps}
 use Rattle.cp_disk.specs.Writes.{Torn, CutShort, with_bytes}
@@ -13,8 +14,48 @@ use Rattle.cp_journal.specs.Holding.{IsLawful, Stands, Holds}
 use Rattle.cp_journal.specs.Journals.{JournalState, Describes}
 use Rattle.cp_journal.proofs.Places.{place}
 use Rattle.cp_journal.proofs.Standing.{describes}
-use Rattle.cp_journal.specs.NewStores.{header, header_rest, new_file, IsVacant, StaysVacant, IsOldOrVacant, IsOldOrVacantOrNew}
+use Rattle.cp_journal.specs.NewStores.{header, header_rest, new_file, HasNoStore, IsVacant, StaysVacant, IsOldOrVacant, IsOldOrVacantOrNew}
 use Rattle.cp_journal.proofs.Adding.{found, shorter_front, front_gate}
+
+-- two files with the same first bytes hold no store, or neither does
+no_store_same : (c d : List ℕ) → get_or c 0 0 ≡ get_or d 0 0 → take 5 (drop 1 c) ≡ take 5 (drop 1 d) → HasNoStore c → HasNoStore d
+no_store_same c d gate rest (inl zero) = inl (sym gate ∙ zero)
+no_store_same c d gate rest (inr other) = inr ((λ one. other.0 (gate ∙ one)), sym rest ∙ other.1)
+
+-- the bytes that a file is compared with from the second on, where only its first is read
+abbrev zeros : List ℕ
+zeros = 0 ∷ 0 ∷ 0 ∷ 0 ∷ 0 ∷ 0 ∷ []
+
+-- the first byte says whether a short file is vacant
+few_say : (c : List ℕ) → (length c ≤ 1 → ⊥) → length c < 6 → HasNoStore (take 1 c ++ drop 1 zeros) ↔ IsVacant c
+few_say [] more small = absurd (more (omega arith))
+few_say (a ∷ rest) more small = (
+  λ is. ⊎_elim (λ zero. inr (inl zero)) (λ other. absurd (cc other.1)) is,
+  λ vacant. ⊎_elim (λ short. absurd (more short)) (λ is. ⊎_elim (λ zero. inl zero) (λ other. absurd (let long = ap length other.1 in omega (arith, long, length-take 5 rest, small))) is) vacant,
+)
+
+-- the first six say it of a longer one
+many_say : (c : List ℕ) → (length c ≤ 1 → ⊥) → HasNoStore (take 6 c) ↔ IsVacant c
+many_say c more =
+    let gate : get_or (take 6 c) 0 0 ≡ get_or c 0 0 = get_or-take 6 c 0 0 (omega arith) in
+    let rest : take 5 (drop 1 (take 6 c)) ≡ take 5 (drop 1 c) = ap (take 5) (drop-take 1 5 c) ∙ take-take 5 5 (drop 1 c) (omega arith) in (
+      λ is. inr (no_store_same (take 6 c) c gate rest is),
+      λ vacant. ⊎_elim (λ short. absurd (more short)) (λ is. no_store_same c (take 6 c) (sym gate) (sym rest) is) vacant,
+    )
+
+-- the bytes that are read of a file say whether it is vacant
+pub front_says : (c into : List ℕ) (size n : ℕ) → size ≡ length c → 1 < size → n ≡ (if ltb size 6 then 1 else 6) → length into ≡ n → into ≡ take (length into) c → HasNoStore (into ++ drop n zeros) ↔ IsVacant c
+front_says c into size n is more len long bytes =
+    let so : length c ≤ 1 → ⊥ = λ le. omega (arith, is, more, le) in
+    elim (cases_Bool (ltb size 6)) [
+      | inl holds ↦ (let one : n ≡ 1 = rw holds at len in
+          let small : length c < 6 = grind (arith, nat_tests) in
+          let front : into ++ drop n zeros ≡ take 1 c ++ drop 1 zeros = ap (λ (l : List ℕ). l ++ drop n zeros) (bytes ∙ ap (λ (k : ℕ). take k c) (long ∙ one)) ∙ ap (λ (k : ℕ). take 1 c ++ drop k zeros) one in
+          subst (λ (l : List ℕ). HasNoStore l ↔ IsVacant c) (sym front) (few_say c so small))
+      | inr fails ↦ (let six : n ≡ 6 = rw fails at len in
+          let front : into ++ drop n zeros ≡ take 6 c = ap (λ (l : List ℕ). l ++ drop n zeros) (bytes ∙ ap (λ (k : ℕ). take k c) (long ∙ six)) ∙ ap (λ (k : ℕ). take 6 c ++ drop k zeros) six ∙ append-nil (take 6 c) in
+          subst (λ (l : List ℕ). HasNoStore l ↔ IsVacant c) (sym front) (many_say c so))
+    ]
 
 pub vacant_front : (start : ℕ) (c0 c : List ℕ) → StaysVacant start c0 → take start c ≡ take start c0 → IsVacant c
 vacant_front start c0 c (inl one) same =

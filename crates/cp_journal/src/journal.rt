@@ -1,5 +1,5 @@
 //! Frames in a file, one right after the other.
-ghost use Rattle.std.specs.Prelude.{◌≡◌, ◌≤◌, ◌<◌, ◌⊎◌, ◌↔◌, ◌+◌, ◌-◌, ◌*◌, ◌++◌, [], ◌∷◌, take, drop, List, ℕ, false, IsTrue, IsErrOf, None, Some, length, IfOk, OnOk, IfErr, OnErr};
+ghost use Rattle.std.specs.Prelude.{◌≡◌, ◌≤◌, ◌<◌, ◌⊎◌, ◌↔◌, ◌+◌, ◌-◌, ◌*◌, ◌++◌, ◌==◌, if◌then◌else◌, [], ◌∷◌, take, drop, List, ℕ, false, IsTrue, IsErrOf, None, Some, length, IfOk, OnOk, IfErr, OnErr};
 ghost use Rattle.std.specs.List.{slice_get};
 ghost use Rattle.cp_outside.specs.Causes.{Accounts, Rose};
 ghost use Rattle.cp_disk.specs.Views.{Only, IsDurable, Rests, Steps, Keeps};
@@ -23,6 +23,14 @@ use crate::walk::{kept_gate, walk_frames};
 use cp_disk::{DISK_MAX, Disk, READ_MAX};
 use std::alloc::{AllocError, Global};
 use std::marker::Model;
+
+// How many bytes of its body a journal gives for a frame with this tag: of an entry all, of a checkpoint none.
+fn given_len(tag: u8, len: u64) -> u64
+    ensures most { result ≤ len }
+    ensures given { result ≡ (if tag == ENTRY then len else 0) }
+{
+    if tag == ENTRY { len } else { 0 }
+}
 
 /// Where the frames of a file stand. It keeps numbers alone: each call takes the disk on which the journal was made.
 ///
@@ -190,11 +198,12 @@ impl Journal {
             ≤ READ_MAX * (D.counts disk.old).reads + f.len + (READ_MAX - 1) }
     {
         let frame = self.frames[n];
-        if frame.tag != ENTRY {
-            into.clear();
-            return Ok(frame);
-        }
-        read_range(disk, frame.at + FRAME_HEAD, frame.len, into)?;
+        read_range(
+            disk,
+            frame.at + FRAME_HEAD,
+            given_len(frame.tag, frame.len),
+            into,
+        )?;
         Ok(frame)
     }
 
@@ -267,13 +276,9 @@ impl Journal {
         if body.len() > BODY_MAX || self.next + body.len() as u64 + FRAME_HEAD + 1 > DISK_MAX {
             return Err(JournalFault::TooLarge);
         }
-        match self.write_frame(alloc, disk, ENTRY, body) {
-            Ok(at) => Ok(at),
-            Err(fault) => {
-                self.spent = true;
-                Err(fault)
-            }
-        }
+        let result = self.write_frame(alloc, disk, ENTRY, body);
+        self.spent = result.is_err();
+        result
     }
 
     /// Makes the file one of version 2, which it may be already: writes the gate of its version, and syncs. It is on the disk

@@ -1,5 +1,5 @@
 //! A new store in a file that is vacant.
-ghost use Rattle.std.specs.Prelude.{◌≡◌, ◌≤◌, ◌<◌, ◌⊎◌, ◌↔◌, ◌+◌, ◌++◌, [], ◌∷◌, List, ℕ, IsTrue, IsErrOf, length, take, drop, get_or, IfOk, OnOk};
+ghost use Rattle.std.specs.Prelude.{◌≡◌, ◌≤◌, ◌<◌, ◌⊎◌, ◌↔◌, ◌+◌, ◌++◌, [], ◌∷◌, List, ℕ, IsTrue, IsErrOf, length, take, drop, get_or, ltb, if◌then◌else◌, IfOk, OnOk};
 ghost use Rattle.cp_disk.specs.Counts.{Counted};
 ghost use Rattle.cp_disk.specs.Views.{Only, IsDurable, Rests, Steps, Keeps};
 ghost use Rattle.cp_disk.specs.Writes.{CutShort};
@@ -19,6 +19,13 @@ fn has_no_store(front: &[u8; 6]) -> bool
     front[0] == 0 || front[0] != 1 && &front[1..] == b"CPDB\x01".as_slice()
 }
 
+// How many of the first bytes of a file of this size say whether it is vacant.
+fn front_len(size: u64) -> usize
+    ensures { result ≡ (if ltb size 6 then 1 else 6) }
+{
+    if size < 6 { 1 } else { 6 }
+}
+
 // Whether the file is vacant. Makes one read at most.
 pub(crate) fn is_vacant<D: Disk>(disk: &mut D) -> Result<bool, DiskFault>
     ensures vacant { IsTrue D.is_known → IfOk result (λ b. IsTrue b ↔ IsVacant (D.view disk.old).content) }
@@ -29,13 +36,8 @@ pub(crate) fn is_vacant<D: Disk>(disk: &mut D) -> Result<bool, DiskFault>
     if size <= 1 {
         return Ok(true);
     }
-    if size < 6 {
-        let mut first = [0u8; 1];
-        disk.read(0, &mut first)?;
-        return Ok(first[0] == 0);
-    }
     let mut front = [0u8; 6];
-    disk.read(0, &mut front)?;
+    disk.read(0, &mut front[..front_len(size)])?;
     Ok(has_no_store(&front))
 }
 
@@ -104,8 +106,7 @@ fn fill<D: Disk>(disk: &mut D, start: u64, size: u64, bytes: &[u8]) -> Result<()
     let len = bytes.len() as u64;
     disk.write_at(start, &bytes[start as usize..])?;
     trim(disk, size.max(len), len)?;
-    disk.sync()?;
-    Ok(())
+    disk.sync()
 }
 
 // Makes a vacant file one of these bytes, of which the gate is opened when all others are on the disk.

@@ -1,5 +1,5 @@
 //! A session in memory.
-ghost use Rattle.std.specs.Prelude.{◌≡◌, [], false, List, ℕ, IfOk};
+ghost use Rattle.std.specs.Prelude.{◌≡◌, ◌≤◌, ◌<◌, [], false, length, List, ℕ, IfOk};
 ghost use Rattle.cp_disk.specs.MemoryDisks.{sure_view};
 ghost use Rattle.cp_journal.specs.NewStores.{IsVacant};
 ghost use Rattle.cp_model.specs.History.{start};
@@ -75,6 +75,40 @@ fn refused_start(why: Why) -> Reply
     }
 }
 
+/// The session over the input, from its start, on a vacant disk, with this room for a piece of the input.
+fn play<R: TreeRep, S: TreeRep, F: Files, K: Clock, I: Source, O: Sink>(
+    alloc: Global,
+    kind: Kind,
+    start: Start,
+    piece: &mut [u8],
+    disk: &mut SureDisk,
+    files: &mut F,
+    clock: &mut K,
+    input: &mut I,
+    output: &mut O,
+) -> End
+    requires vacant { IsVacant (sure_view disk.old).content }
+    requires room { 0 < length piece.old }
+    requires bounded { length piece.old ≤ PIECE_MAX }
+    ensures ran { Ran kind (λ t. start_given t start) (start_reads start)
+        (known_outside F.Files K.Clock I.Source O.Sink files.old clock.old input.old output.old)
+        (known_outside F.Files K.Clock I.Source O.Sink files.new clock.new input.new output.new) result }
+    ensures causes { HasCauses
+        (known_outside F.Files K.Clock I.Source O.Sink files.old clock.old input.old output.old)
+        (known_outside F.Files K.Clock I.Source O.Sink files.new clock.new input.new output.new) result }
+    ensures disk { result ≡ End.Disk → ⊥ }
+{
+    match begin::<R, S, F>(alloc, kind, start, disk, files) {
+        Ok(Ok(mut session)) => {
+            let end = turns(&mut session, piece, disk, files, clock, input, output);
+            drop(session);
+            end
+        }
+        Ok(Err(why)) => end_with(alloc, refused_start(why), output),
+        Err(fault) => stopped(output, Stop::from(fault)),
+    }
+}
+
 /// The session over the input, from its start, with room for a piece of the input.
 pub(crate) fn scratch<R: TreeRep, S: TreeRep, F: Files, K: Clock, I: Source, O: Sink>(
     alloc: Global,
@@ -99,21 +133,7 @@ pub(crate) fn scratch<R: TreeRep, S: TreeRep, F: Files, K: Clock, I: Source, O: 
     let Ok(mut disk) = SureDisk::new(alloc, &[]) else {
         return out_of_memory(output);
     };
-    match begin::<R, S, F>(alloc, kind, start, &mut disk, files) {
-        Ok(Ok(mut session)) => {
-            let end = turns(
-                &mut session,
-                &mut piece,
-                &mut disk,
-                files,
-                clock,
-                input,
-                output,
-            );
-            drop(session);
-            end
-        }
-        Ok(Err(why)) => end_with(alloc, refused_start(why), output),
-        Err(fault) => stopped(output, Stop::from(fault)),
-    }
+    play::<R, S, F, K, I, O>(
+        alloc, kind, start, &mut piece, &mut disk, files, clock, input, output,
+    )
 }

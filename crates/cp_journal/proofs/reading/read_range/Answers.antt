@@ -2,6 +2,7 @@ use Rattle.std.proofs.Common.{rules, arith, List, ℕ, sym, ◌≡◌, ◌∙◌
 use Rattle.std.proofs.Math.Seq.{take-add}
 use Rattle.std.proofs.lemmas.List.{drop-drop, take_at}
 use Rattle.cp_disk.proofs.Composing.{rests_then}
+use Rattle.cp_journal.proofs.Faults.{disk_kinds, disk_accounts, memory_kinds}
 use Rattle.cp_journal.proofs.reading.read_range.Goals as goal
 
 piece_read : (at done n : ℕ) (content here old x rest new : List ℕ) → old ≡ take done (drop at content) → here ≡ content → length x ≡ n → x ≡ take (length x) (drop (at + done) here) → new ≡ old ++ take n (x ++ rest) → new ≡ take (done + n) (drop at content)
@@ -25,3 +26,31 @@ loop-done-preserved g c =
       full = λ more. omega (arith, one, full, more);
       reads = omega (arith, one, full);
     }
+
+pub returns-in_err-read-clause-reads : goal.returns-in_err-read-clause-reads
+returns-in_err-read-clause-reads g c =
+    let one = c.read.ensures.reads in
+    let t = c.loop-done-test.true in
+    let full = c.loop-done.invariant.full t in
+    omega (arith, one, full, t)
+
+pub returns-in_err-extend_from_slice-clause-reads : goal.returns-in_err-extend_from_slice-clause-reads
+returns-in_err-extend_from_slice-clause-reads g c =
+    let one = c.in_ok-read.ensures.reads in
+    let t = c.loop-done-test.true in
+    let full = c.loop-done.invariant.full t in
+    omega (arith, one, full, t)
+
+pub returns-clause-reads : goal.returns-clause-reads
+returns-clause-reads g c =
+    let reads = c.loop-done.invariant.reads in
+    omega (arith, reads, c.loop-done.invariant.within)
+
+pub returns-in_err-read-clause-kinds : goal.returns-in_err-read-clause-kinds
+returns-in_err-read-clause-kinds g c = disk_kinds c.from_residual.result c.in_err-read.field-0.0 c.from_residual.ensures.1
+
+pub returns-in_err-read-clause-cause : goal.returns-in_err-read-clause-cause
+returns-in_err-read-clause-cause g c = disk_accounts c.from_residual.result _ _ _ c.in_err-read.field-0.0 c.loop-done.invariant.faults c.in_err-read.ensures.cause c.from_residual.ensures.1
+
+pub returns-in_err-extend_from_slice-clause-kinds : goal.returns-in_err-extend_from_slice-clause-kinds
+returns-in_err-extend_from_slice-clause-kinds g c = memory_kinds c.from_residual-in_err-extend_from_slice.result c.from_residual-in_err-extend_from_slice.ensures.1

@@ -1,5 +1,6 @@
-use Rattle.std.proofs.Common.{arith, refl}
+use Rattle.std.proofs.Common.{arith, refl, Err}
 use Rattle.cp_journal.proofs.Upgrading.{upgrade_crash, upgrade_frames, upgrade_slots, upgrade_stands, upgraded_says, upgraded_holds, upgraded_describes}
+use Rattle.cp_journal.proofs.Faults.{disk_kinds, disk_accounts, disk_wants}
 use Rattle.cp_journal.proofs.journal.Journal.upgrade.Goals as goal
 
 pub returns-in-Ok-clause-crash : goal.returns-in-Ok-clause-crash
@@ -35,3 +36,12 @@ returns-in-Err-clause-slots g c = λ known h. upgrade_slots _ _ (returns-in-Err-
 
 pub returns-in-Err-clause-stands : goal.returns-in-Err-clause-stands
 returns-in-Err-clause-stands g c = λ known head fs lt. upgrade_stands _ _ (returns-in-Err-clause-crash g c known) head fs _ lt
+
+pub returns-in-Err-clause-cause : goal.returns-in-Err-clause-cause
+returns-in-Err-clause-cause g c = disk_accounts {T = Unit {0}} (Err c.into.result) _ _ _ c.in-Err.fault refl c.in-Err.ensures.cause c.into.ensures
+
+pub returns-in-Err-clause-kinds : goal.returns-in-Err-clause-kinds
+returns-in-Err-clause-kinds g c = disk_kinds {T = Unit {0}} (Err c.into.result) c.in-Err.fault c.into.ensures
+
+pub returns-in-Err-clause-memory : goal.returns-in-Err-clause-memory
+returns-in-Err-clause-memory g c = disk_wants {T = Unit {0}} (Err c.into.result) _ _ c.in-Err.fault c.in-Err.ensures.cause c.into.ensures
