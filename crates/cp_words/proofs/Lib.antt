@@ -1,4 +1,5 @@
 mod Getters
+mod Turns
 mod Leaf
 mod Fitting
 mod Rows

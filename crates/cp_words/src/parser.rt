@@ -1,9 +1,9 @@
 //! The commands and their operands, as the parser of words is told of them.
 //!
-//! Each function takes what was made so far, and gives what is made then. Where memory ran out it hands that on, so that no
-//! caller has a way out of its own.
+//! They stand in a table, and a command is made of each of its rows.
 ghost use Rattle.std.specs.Prelude.{◌≡◌, IfOk};
-ghost use Rattle.clap.specs.Words.{App, app_of};
+ghost use Rattle.std.specs.List.{fold};
+ghost use Rattle.clap.specs.Words.{App, app_of, new_app, new_rule, with_rule};
 ghost use Rattle.cp_words.specs.Shapes as shape;
 
 use clap::{Arg, Command};
@@ -12,43 +12,86 @@ use std::alloc::{AllocError, Global};
 /// A command, or the program with its commands, if it could be made.
 type Made<'a> = Result<Command<'a>, AllocError>;
 
-/// One more operand, which has to be there.
-fn with_wanted<'a>(alloc: Global, command: Made<'a>, id: &'a str) -> Made<'a>
-    ensures { (a : App) → shape.IsCommand a command.entry → shape.IsCommand (shape.with_wanted id.entry.now a) result }
-{
-    command?.arg(Arg::new(alloc, id).required(true))
+/// A command: its name and its operands, each with whether it has to be there.
+struct Row<'a> {
+    name: &'a str,
+    operands: &'a [(&'a str, bool)],
 }
 
-/// One more operand, which may be there.
-fn with_optional<'a>(alloc: Global, command: Made<'a>, id: &'a str) -> Made<'a>
-    ensures { (a : App) → shape.IsCommand a command.entry → shape.IsCommand (shape.with_optional id.entry.now a) result }
-{
-    command?.arg(Arg::new(alloc, id))
-}
+/// All commands.
+static ROWS: [Row<'static>; 9] = [
+    Row {
+        name: "scratch",
+        operands: &[("KIND", true), ("JSON", false)],
+    },
+    Row {
+        name: "init",
+        operands: &[("STORE", true), ("KIND", true), ("JSON", false)],
+    },
+    Row {
+        name: "run",
+        operands: &[("STORE", true), ("CURATOR", false)],
+    },
+    Row {
+        name: "commit",
+        operands: &[("STORE", true), ("FILE", true), ("CURATOR", false)],
+    },
+    Row {
+        name: "load",
+        operands: &[
+            ("STORE", true),
+            ("NAME", true),
+            ("FORM", true),
+            ("FILE", true),
+            ("COLUMN", false),
+        ],
+    },
+    Row {
+        name: "query",
+        operands: &[("STORE", true), ("STATEMENT", true)],
+    },
+    Row {
+        name: "gen",
+        operands: &[("SEED", true), ("COUNT", true), ("KIND", true)],
+    },
+    Row {
+        name: "log",
+        operands: &[("STORE", true)],
+    },
+    Row {
+        name: "verify",
+        operands: &[("STORE", true)],
+    },
+];
 
-/// The program with one more command.
-fn with_made<'a>(program: Made<'a>, command: Command<'a>) -> Made<'a>
+/// The command with one more operand.
+fn with_operand<'a>(alloc: Global, command: Command<'a>, id: &'a str, is_wanted: bool) -> Made<'a>
     requires { shape.IsLocal command }
-    ensures { (a : App) → shape.IsProgram a program.entry
-        → shape.IsProgram (shape.with_command a (app_of command.entry)) result }
+    ensures { shape.IsCommand (with_rule (app_of command.entry) (record (new_rule id.entry.now) { required = is_wanted })) result }
 {
-    match program {
-        Ok(program) => program.subcommand(command),
-        Err(fault) => {
-            drop(command);
-            Err(fault)
-        }
+    command.arg(Arg::new(alloc, id).required(is_wanted))
+}
+
+/// The command of a row.
+fn command_of<'a>(alloc: Global, row: &Row<'a>) -> Made<'a>
+    ensures { shape.IsCommand (fold (λ a o. with_rule a (record (new_rule o.0.now) { required = o.1 }))
+        (new_app row.entry.now.name.now) row.entry.now.operands.now) result }
+{
+    let mut command = Command::new(alloc, row.name);
+    for operand in row.operands {
+        command = with_operand(alloc, command, operand.0, operand.1)?;
     }
+    Ok(command)
 }
 
 /// The program with one more command, if that could be made.
-fn with_command<'a>(program: Made<'a>, command: Made<'a>) -> Made<'a>
+fn with_made<'a>(program: Command<'a>, command: Made<'a>) -> Made<'a>
     requires { IfOk command shape.IsLocal }
-    ensures { (a b : App) → shape.IsProgram a program.entry → shape.IsCommand b command.entry
-        → shape.IsProgram (shape.with_command a b) result }
+    ensures { (b : App) → shape.IsCommand b command.entry
+        → shape.IsProgram (shape.with_command (app_of program.entry) b) result }
 {
     match command {
-        Ok(command) => with_made(program, command),
+        Ok(command) => program.subcommand(command),
         Err(fault) => {
             drop(program);
             Err(fault)
@@ -56,80 +99,16 @@ fn with_command<'a>(program: Made<'a>, command: Made<'a>) -> Made<'a>
     }
 }
 
-fn scratch_command<'a>(alloc: Global) -> Made<'a>
-    ensures { shape.IsCommand shape.scratch_app result }
+/// The program with the commands of these rows.
+fn with_rows<'a>(alloc: Global, program: Command<'a>, rows: &[Row<'a>]) -> Made<'a>
+    ensures { shape.IsProgram (fold (λ a row. shape.with_command a (fold (λ b o. with_rule b (record (new_rule o.0.now) { required = o.1 }))
+        (new_app row.name.now) row.operands.now)) (app_of program.entry) rows.entry.now) result }
 {
-    let bare = Ok(Command::new(alloc, "scratch"));
-    let kind = with_wanted(alloc, bare, "KIND");
-    with_optional(alloc, kind, "JSON")
-}
-
-fn init_command<'a>(alloc: Global) -> Made<'a>
-    ensures { shape.IsCommand shape.init_app result }
-{
-    let bare = Ok(Command::new(alloc, "init"));
-    let store = with_wanted(alloc, bare, "STORE");
-    let kind = with_wanted(alloc, store, "KIND");
-    with_optional(alloc, kind, "JSON")
-}
-
-fn run_command<'a>(alloc: Global) -> Made<'a>
-    ensures { shape.IsCommand shape.run_app result }
-{
-    let bare = Ok(Command::new(alloc, "run"));
-    let store = with_wanted(alloc, bare, "STORE");
-    with_optional(alloc, store, "CURATOR")
-}
-
-fn commit_command<'a>(alloc: Global) -> Made<'a>
-    ensures { shape.IsCommand shape.commit_app result }
-{
-    let bare = Ok(Command::new(alloc, "commit"));
-    let store = with_wanted(alloc, bare, "STORE");
-    let file = with_wanted(alloc, store, "FILE");
-    with_optional(alloc, file, "CURATOR")
-}
-
-fn load_command<'a>(alloc: Global) -> Made<'a>
-    ensures { shape.IsCommand shape.load_app result }
-{
-    let bare = Ok(Command::new(alloc, "load"));
-    let store = with_wanted(alloc, bare, "STORE");
-    let name = with_wanted(alloc, store, "NAME");
-    let form = with_wanted(alloc, name, "FORM");
-    let file = with_wanted(alloc, form, "FILE");
-    with_optional(alloc, file, "COLUMN")
-}
-
-fn query_command<'a>(alloc: Global) -> Made<'a>
-    ensures { shape.IsCommand shape.query_app result }
-{
-    let bare = Ok(Command::new(alloc, "query"));
-    let store = with_wanted(alloc, bare, "STORE");
-    with_wanted(alloc, store, "STATEMENT")
-}
-
-fn generate_command<'a>(alloc: Global) -> Made<'a>
-    ensures { shape.IsCommand shape.generate_app result }
-{
-    let bare = Ok(Command::new(alloc, "gen"));
-    let seed = with_wanted(alloc, bare, "SEED");
-    let count = with_wanted(alloc, seed, "COUNT");
-    with_wanted(alloc, count, "KIND")
-}
-
-fn log_command<'a>(alloc: Global) -> Made<'a>
-    ensures { shape.IsCommand shape.log_app result }
-{
-    let bare = Ok(Command::new(alloc, "log"));
-    with_wanted(alloc, bare, "STORE")
-}
-
-fn verify_command<'a>(alloc: Global) -> Made<'a>
-    ensures { shape.IsCommand shape.verify_app result }
-{
-    let bare = Ok(Command::new(alloc, "verify"));
-    with_wanted(alloc, bare, "STORE")
+    let mut whole = program;
+    for row in rows {
+        whole = with_made(whole, command_of(alloc, row))?;
+    }
+    Ok(whole)
 }
 
 fn top<'a>(alloc: Global) -> Command<'a>
@@ -141,31 +120,9 @@ fn top<'a>(alloc: Global) -> Command<'a>
         .subcommand_required(true)
 }
 
-/// The commands of sessions.
-fn with_sessions<'a>(alloc: Global, program: Made<'a>) -> Made<'a>
-    ensures { (a : App) → shape.IsProgram a program.entry → shape.IsProgram (shape.with_sessions a) result }
-{
-    let one = with_command(program, scratch_command(alloc));
-    let two = with_command(one, init_command(alloc));
-    let three = with_command(two, run_command(alloc));
-    with_command(three, commit_command(alloc))
-}
-
-/// The other commands.
-fn with_others<'a>(alloc: Global, program: Made<'a>) -> Made<'a>
-    ensures { (a : App) → shape.IsProgram a program.entry → shape.IsProgram (shape.with_others a) result }
-{
-    let one = with_command(program, load_command(alloc));
-    let two = with_command(one, query_command(alloc));
-    let three = with_command(two, generate_command(alloc));
-    let four = with_command(three, log_command(alloc));
-    with_command(four, verify_command(alloc))
-}
-
-/// All commands.
+/// The program with all commands.
 pub(crate) fn parser<'a>(alloc: Global) -> Made<'a>
     ensures { IfOk result (λ c. app_of c ≡ shape.whole) }
 {
-    let sessions = with_sessions(alloc, Ok(top(alloc)));
-    with_others(alloc, sessions)
+    with_rows(alloc, top(alloc), &ROWS)
 }

@@ -1,4 +1,0 @@
-use Rattle.cp_words.proofs.parser.query_command.Goals as goal
-
-pub returns : goal.returns
-returns c = c.with_wanted.ensures _ (c.with_wanted-store.ensures _ (c.new.ensures.app, c.new.ensures.local))
