@@ -34,20 +34,6 @@ fn read_edges<'a>(
     Ok(left)
 }
 
-/// Puts an edge behind the entries.
-fn push_edge(
-    alloc: Global,
-    label: &Label,
-    node: ShareNode,
-    entries: &mut Vec<Entry>,
-) -> Result<(), AllocError>
-    ensures { OnOk result (entries.new.items ≡ entries.old.items ++ (label.now, node) ∷ []) }
-{
-    let label = SharedLabel::of(alloc, label)?;
-    entries.push(Entry { label, node })?;
-    Ok(())
-}
-
 /// Reads the edge that leads to this row, and puts it behind the entries. Gives the rows after its tree.
 #[cycle(reading)]
 fn read_edge<'a>(
@@ -62,14 +48,12 @@ fn read_edge<'a>(
     ensures { IfOk result (λ left. IsEdgeRead row.now rows.now entries.old.items entries.new.items left.now) }
 {
     let labels = row.path.labels();
+    let Some((label, _)) = labels.split_last() else {
+        unreachable!()
+    };
     let (node, left) = read_node(alloc, labels.len(), &row.content, rows, entries)?;
-    match labels.split_last() {
-        None => unreachable!(),
-        Some((label, _)) => {
-            push_edge(alloc, label, node, entries)?;
-            Ok(left)
-        }
-    }
+    entries.push(Entry::of(alloc, label, node)?)?;
+    Ok(left)
 }
 
 /// Reads the tree of this root, at a place of this many labels; the rows are those after the root's. Gives the rows after

@@ -5,7 +5,7 @@ ghost use Rattle.cp_tree.specs.Sums.{sums_of, AreChildren, AreSmall};
 
 use cp_path::Label;
 use cp_tree::{SharedContent, SharedLabel, Sums};
-use std::alloc::AllocError;
+use std::alloc::{AllocError, Global};
 use std::cmp::Ordering;
 use std::marker::Model;
 use std::rc::Rc;
@@ -120,6 +120,14 @@ impl Model for ShareNode {
 }
 
 impl Entry {
+    /// Makes the entry of a label and a node.
+    pub(crate) fn of(alloc: Global, label: &Label, node: ShareNode) -> Result<Entry, AllocError>
+        ensures { IfOk result (λ e. e ≡ (label.now, node)) }
+    {
+        let label = SharedLabel::of(alloc, label)?;
+        Ok(Entry { label, node })
+    }
+
     /// Shares the label and the node.
     pub(crate) fn share(&self) -> Result<Entry, AllocError>
         ensures { IfOk result (λ e. e ≡ self.now) }

@@ -12,7 +12,7 @@ ghost use Rattle.cp_tree.specs.Sums.{IsSmall};
 use crate::forest::{Entry, Forest, Fork, Open, ShareNode};
 use cp_model::{Content, Row};
 use cp_path::{Label, Path};
-use cp_tree::{Reach, SharedContent, SharedLabel};
+use cp_tree::{Reach, SharedContent};
 use std::alloc::{AllocError, Global};
 
 /// Adds the row of a place. Costs its labels and the bytes of a text.
@@ -77,82 +77,95 @@ impl ShareNode {
     }
 
     /// Makes the tree with this entry in the place of a child with its label, or beside the others. Costs a logarithm.
-    fn with_child(&self, alloc: Global, entry: Entry) -> Result<ShareNode, AllocError>
+    fn with_child(&self, alloc: Global, entry: &Entry) -> Result<ShareNode, AllocError>
         requires node { get self.now [] ≡ Some Node }
-        requires rooted { IsRooted entry.1 }
-        requires small { IsSmall (with_subtree (entry.0 ∷ []) (entries entry.1) self.now) }
-        ensures tree { IfOk result (λ t. t ≡ with_subtree (entry.0 ∷ []) (entries entry.1) self.now) }
+        requires rooted { IsRooted entry.now.1 }
+        requires small { IsSmall (with_subtree (entry.now.0 ∷ []) (entries entry.now.1) self.now) }
+        ensures tree { IfOk result (λ t. t ≡ with_subtree (entry.now.0 ∷ []) (entries entry.now.1) self.now) }
         ensures rooted { IfOk result (λ t. IsRooted t) }
     {
-        let children = self.children.put(alloc, &entry)?;
+        let children = self.children.put(alloc, entry)?;
         let content = self.content.share()?;
         Ok(ShareNode { content, children })
     }
 
     /// Puts this entry in the place of a child with its label, or beside the others. Costs a logarithm. After an error the
     /// tree is as it was.
-    fn set_child(&mut self, alloc: Global, entry: Entry) -> Result<(), AllocError>
+    fn set_child(&mut self, alloc: Global, entry: &Entry) -> Result<(), AllocError>
         requires node { get self.old [] ≡ Some Node }
-        requires rooted { IsRooted entry.1 }
-        requires small { IsSmall (with_subtree (entry.0 ∷ []) (entries entry.1) self.old) }
-        ensures ok { OnOk result (self.new ≡ with_subtree (entry.0 ∷ []) (entries entry.1) self.old) }
+        requires rooted { IsRooted entry.now.1 }
+        requires small { IsSmall (with_subtree (entry.now.0 ∷ []) (entries entry.now.1) self.old) }
+        ensures ok { OnOk result (self.new ≡ with_subtree (entry.now.0 ∷ []) (entries entry.now.1) self.old) }
         ensures err { OnErr result (self.new ≡ self.old) }
     {
-        self.children.set(alloc, &entry)?;
+        self.children.set(alloc, entry)?;
         Ok(())
     }
 
-    /// Puts a new subtree at the label below the node at `place`, in the place of one that is there or beside the others.
-    /// Of the children of this node it makes nothing anew where a child is replaced that isn't shared. Costs the way down,
-    /// and a logarithm among siblings for each label of it. After an error the tree is as it was.
+    /// Makes the tree without the child with the label. Costs a logarithm.
+    fn without_child(&self, alloc: Global, label: &Label) -> Result<ShareNode, AllocError>
+        requires { IsSmall (without (label.now ∷ []) self.now) }
+        ensures tree { IfOk result (λ t. t ≡ without (label.now ∷ []) self.now) }
+        ensures rooted { IfOk result (λ t. IsRooted t) }
+    {
+        let children = self.children.remove(alloc, label)?;
+        let content = self.content.share()?;
+        Ok(ShareNode { content, children })
+    }
+
+    /// Takes out the child with the label. Costs a logarithm. After an error the tree is as it was.
+    fn take_child(&mut self, alloc: Global, label: &Label) -> Result<(), AllocError>
+        requires { IsSmall (without (label.now ∷ []) self.old) }
+        ensures ok { OnOk result (self.new ≡ without (label.now ∷ []) self.old) }
+        ensures err { OnErr result (self.new ≡ self.old) }
+    {
+        self.children.take_out(alloc, label)?;
+        Ok(())
+    }
+
+    /// Puts a new entry below the node at `place`, in the place of one with its label or beside the others. Of the
+    /// children of this node it makes nothing anew where a child is replaced that isn't shared. Costs the way down, and a
+    /// logarithm among siblings for each label of it. After an error the tree is as it was.
     pub(crate) fn set(
         &mut self,
         alloc: Global,
         place: &[Label],
-        label: SharedLabel,
-        new: ShareNode,
+        new: &Entry,
     ) -> Result<(), AllocError>
         requires node { get self.old place.now ≡ Some Node }
-        requires rooted { IsRooted new }
-        requires small { IsSmall (with_subtree (child place.now label) (entries new) self.old) }
-        ensures ok { OnOk result (self.new ≡ with_subtree (child place.now label) (entries new) self.old) }
+        requires rooted { IsRooted new.now.1 }
+        requires small { IsSmall (with_subtree (child place.now new.now.0) (entries new.now.1) self.old) }
+        ensures ok { OnOk result (self.new ≡ with_subtree (child place.now new.now.0) (entries new.now.1) self.old) }
         ensures err { OnErr result (self.new ≡ self.old) }
     {
         match place.split_first() {
-            None => self.set_child(alloc, Entry { label, node: new }),
+            None => self.set_child(alloc, new),
             Some((first, rest)) => match self.children.find(first) {
                 Some(entry) => {
-                    let node = entry.node.put(alloc, rest, label, new)?;
-                    let label = entry.label.share()?;
-                    self.set_child(alloc, Entry { label, node })
+                    let changed = entry.put(alloc, rest, new)?;
+                    self.set_child(alloc, &changed)
                 }
                 None => unreachable!(),
             },
         }
     }
 
-    /// Makes the tree with a new subtree at the label below the node at `place`, in the place of one that is there or
-    /// beside the others. Costs the way down, and a logarithm among siblings for each label of it.
-    pub(crate) fn put(
-        &self,
-        alloc: Global,
-        place: &[Label],
-        label: SharedLabel,
-        new: ShareNode,
-    ) -> Result<ShareNode, AllocError>
+    /// Makes the tree with a new entry below the node at `place`, in the place of one with its label or beside the others.
+    /// Costs the way down, and a logarithm among siblings for each label of it.
+    #[cycle(put)]
+    fn put(&self, alloc: Global, place: &[Label], new: &Entry) -> Result<ShareNode, AllocError>
         requires node { get self.now place.now ≡ Some Node }
-        requires rooted { IsRooted new }
-        requires small { IsSmall (with_subtree (child place.now label) (entries new) self.now) }
-        ensures tree { IfOk result (λ t. t ≡ with_subtree (child place.now label) (entries new) self.now) }
+        requires rooted { IsRooted new.now.1 }
+        requires small { IsSmall (with_subtree (child place.now new.now.0) (entries new.now.1) self.now) }
+        ensures tree { IfOk result (λ t. t ≡ with_subtree (child place.now new.now.0) (entries new.now.1) self.now) }
         ensures rooted { IfOk result (λ t. IsRooted t) }
     {
         match place.split_first() {
-            None => self.with_child(alloc, Entry { label, node: new }),
+            None => self.with_child(alloc, new),
             Some((first, rest)) => match self.children.find(first) {
                 Some(entry) => {
-                    let node = entry.node.put(alloc, rest, label, new)?;
-                    let label = entry.label.share()?;
-                    self.with_child(alloc, Entry { label, node })
+                    let changed = entry.put(alloc, rest, new)?;
+                    self.with_child(alloc, &changed)
                 }
                 None => unreachable!(),
             },
@@ -161,28 +174,19 @@ impl ShareNode {
 
     /// Makes the tree without what stands at the label below the place. Costs the way down, and a logarithm among
     /// siblings for each label of it.
-    pub(crate) fn remove(
-        &self,
-        alloc: Global,
-        place: &[Label],
-        label: &Label,
-    ) -> Result<ShareNode, AllocError>
+    #[cycle(remove)]
+    fn remove(&self, alloc: Global, place: &[Label], label: &Label) -> Result<ShareNode, AllocError>
         requires there { is_there self.now (child place.now label.now) ≡ true }
         requires small { IsSmall (without (child place.now label.now) self.now) }
         ensures tree { IfOk result (λ t. t ≡ without (child place.now label.now) self.now) }
         ensures rooted { IfOk result (λ t. IsRooted t) }
     {
         match place.split_first() {
-            None => {
-                let children = self.children.remove(alloc, label)?;
-                let content = self.content.share()?;
-                Ok(ShareNode { content, children })
-            }
+            None => self.without_child(alloc, label),
             Some((first, rest)) => match self.children.find(first) {
                 Some(entry) => {
-                    let node = entry.node.remove(alloc, rest, label)?;
-                    let label = entry.label.share()?;
-                    self.with_child(alloc, Entry { label, node })
+                    let changed = entry.remove(alloc, rest, label)?;
+                    self.with_child(alloc, &changed)
                 }
                 None => unreachable!(),
             },
@@ -204,15 +208,11 @@ impl ShareNode {
         ensures err { OnErr result (self.new ≡ self.old) }
     {
         match place.split_first() {
-            None => {
-                self.children.take_out(alloc, label)?;
-                Ok(())
-            }
+            None => self.take_child(alloc, label),
             Some((first, rest)) => match self.children.find(first) {
                 Some(entry) => {
-                    let node = entry.node.remove(alloc, rest, label)?;
-                    let label = entry.label.share()?;
-                    self.set_child(alloc, Entry { label, node })
+                    let changed = entry.remove(alloc, rest, label)?;
+                    self.set_child(alloc, &changed)
                 }
                 None => unreachable!(),
             },
@@ -262,6 +262,37 @@ impl ShareNode {
     {
         place_into(alloc, &self.content, at.as_slice(), out)?;
         self.children.rows_into(alloc, at, out)
+    }
+}
+
+impl Entry {
+    /// Makes the entry with a new entry below the node at `place` in it.
+    #[cycle(put)]
+    fn put(&self, alloc: Global, place: &[Label], new: &Entry) -> Result<Entry, AllocError>
+        requires node { get self.now.1 place.now ≡ Some Node }
+        requires rooted { IsRooted new.now.1 }
+        requires small { IsSmall (with_subtree (child place.now new.now.0) (entries new.now.1) self.now.1) }
+        ensures label { IfOk result (λ e. e.0 ≡ self.now.0) }
+        ensures tree { IfOk result (λ e. e.1 ≡ with_subtree (child place.now new.now.0) (entries new.now.1) self.now.1) }
+        ensures rooted { IfOk result (λ e. IsRooted e.1) }
+    {
+        let node = self.node.put(alloc, place, new)?;
+        let label = self.label.share()?;
+        Ok(Entry { label, node })
+    }
+
+    /// Makes the entry without what stands at the label below the place in it.
+    #[cycle(remove)]
+    fn remove(&self, alloc: Global, place: &[Label], label: &Label) -> Result<Entry, AllocError>
+        requires there { is_there self.now.1 (child place.now label.now) ≡ true }
+        requires small { IsSmall (without (child place.now label.now) self.now.1) }
+        ensures label { IfOk result (λ e. e.0 ≡ self.now.0) }
+        ensures tree { IfOk result (λ e. e.1 ≡ without (child place.now label.now) self.now.1) }
+        ensures rooted { IfOk result (λ e. IsRooted e.1) }
+    {
+        let node = self.node.remove(alloc, place, label)?;
+        let label = self.label.share()?;
+        Ok(Entry { label, node })
     }
 }
 

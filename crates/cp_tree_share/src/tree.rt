@@ -9,10 +9,10 @@ ghost use Rattle.cp_tree.proofs.Alike.{IsTree-prop};
 ghost use Rattle.cp_tree.specs.Branch.{sub};
 
 use crate::build::build;
-use crate::forest::ShareNode;
+use crate::forest::{Entry, ShareNode};
 use cp_model::{Content, Row, RowList};
 use cp_path::{Label, Path};
-use cp_tree::{Reach, SharedContent, SharedLabel, TreeRep, number_range};
+use cp_tree::{Reach, SharedContent, TreeRep, number_range};
 use std::alloc::{AllocError, Global};
 
 /// A tree whose nodes are shared: two copies hold what they have in common once.
@@ -41,9 +41,8 @@ impl ShareTree {
         ensures ok { OnOk result (self.new.root ≡ with_subtree (child place.now label.now) (entries new) self.old.root) }
         ensures err { OnErr result (self.new.root ≡ self.old.root) }
     {
-        let label = SharedLabel::of(alloc, label)?;
-        self.root.set(alloc, place, label, new)?;
-        Ok(())
+        let entry = Entry::of(alloc, label, new)?;
+        self.root.set(alloc, place, &entry)
     }
 
     /// Puts a subtree in the place of that at the place.

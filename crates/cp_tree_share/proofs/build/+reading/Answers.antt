@@ -1,4 +1,4 @@
-use Rattle.std.proofs.Common.{◌≡◌, ◌+◌, ◌-◌, ◌<◌, length, ap, sym, ◌∙◌, subst, refl, arith, rules}
+use Rattle.std.proofs.Common.{◌≡◌, ◌+◌, ◌-◌, ◌<◌, [], ◌∷◌, ◌++◌, length, ap, sym, ◌∙◌, subst, refl, arith, rules}
 use Rattle.cp_tree_share.proofs.Read.{have_edge, texts_here, shorter_here, next_shorter, one_read, all_read, have_tree, no_root, edge_read, more_entries, have_siblings, good_node, same_entries, node_read, begins_above, none_above}
 use Rattle.cp_tree.specs.Branch.{branch}
 use Rattle.cp_tree.specs.Good.{IsGood}
@@ -42,11 +42,11 @@ read_edge-read_node-requires t c =
     search rules
 
 pub read_edge-unreachable-requires : goal.read_edge-unreachable-requires
-read_edge-unreachable-requires t c = no_root c.args.row.now c.args.rows.now c.labels-labels.result.now c.labels-labels.ensures.labels c.requires.edge c.in-None.ensures.cases
+read_edge-unreachable-requires t c = no_root c.args.row.now c.args.rows.now c.labels-labels.result.now c.labels-labels.ensures.labels c.requires.edge c.in_default.ensures.cases
 
 pub read_edge-returns : goal.read_edge-returns
 read_edge-returns t c =
-    edge_read c.args.row.now c.args.rows.now c.labels-labels.result.now _ c.in-Some.label.now _ _ _ _ _ _ c.labels-labels.ensures.labels c.in-Some.ensures.cases.0 refl c.in_ok-node.ensures.tree c.in_ok-node.ensures.same_entries c.in_ok-push_edge-in-Some.ensures
+    edge_read c.args.row.now c.args.rows.now c.labels-labels.result.now _ c.in-Some.label.now _ _ _ _ _ _ c.labels-labels.ensures.labels c.in-Some.ensures.cases.0 refl c.in_ok-node.ensures.tree c.in_ok-node.ensures.same_entries (c.in_ok-push.ensures.items ∙ ap (λ z. c.read_node.new.entries.items ++ z ∷ []) c.in_ok-of.ensures)
 
 pub read_node-overflow_sub-len : goal.read_node-overflow_sub-len
 read_node-overflow_sub-len t c =

@@ -11,10 +11,10 @@ invariant_of-self c = rw c.in_err-set.ensures.err c.self.invariant
 
 pub invariant_of-self-2 : goal.invariant_of-self-2
 invariant_of-self-2 c =
-    let h = changed_here c.args.self.now _ c.self.inside.children.0 _ c.args.entry.0 c.self.view_is c.self.invariant c.args.entry.1 c.requires.node c.requires.rooted refl in
+    let h = changed_here c.args.self.now _ c.self.inside.children.0 _ c.args.entry.now.0 c.self.view_is c.self.invariant c.args.entry.now.1 c.requires.node c.requires.rooted refl in
     rw c.in_ok-set.ensures.ok h.good
 
 pub returns-clause-ok : goal.returns-clause-ok
 returns-clause-ok c =
-    let h = changed_here c.args.self.now _ c.self.inside.children.0 _ c.args.entry.0 c.self.view_is c.self.invariant c.args.entry.1 c.requires.node c.requires.rooted refl in
+    let h = changed_here c.args.self.now _ c.self.inside.children.0 _ c.args.entry.now.0 c.self.view_is c.self.invariant c.args.entry.now.1 c.requires.node c.requires.rooted refl in
     rw c.in_ok-set.ensures.ok h.is
