@@ -55,8 +55,8 @@ returns-in-Ok-Err-clause-causes g c =
     causes-refused (known_input g.I.Source c.args.input.now) (known_files g.F.Files c.args.files.now) (known_files g.F.Files c.begin.new.files) (known_clock g.K.Clock c.args.clock.now) o p
     (refused_start c.in-Ok-Err.why) c.end_with.result c.in-Ok-Err.ensures.used.same c.in-Ok-Err.ensures.used.account.steady (subst P c.refused_start.ensures c.end_with.ensures.said) c.end_with.ensures.cause
 
-pub returns-clause-ran : goal.returns-clause-ran
-returns-clause-ran g c =
+pub returns-in-Err-clause-ran : goal.returns-in-Err-clause-ran
+returns-in-Err-clause-ran g c =
     let given : FileTable → FetchedFile = λ t. start_given t c.args.start in
     let n = start_reads c.args.start in
     let i = known_input g.I.Source c.args.input.now in
@@ -68,8 +68,8 @@ returns-clause-ran g c =
     let P : End → Type 0 = λ e. Ran c.args.kind given n (parts i f k o) (parts i fb k p) e in
     subst P (sym c.stopped.ensures.end) (ran-early c.args.kind given n i f fb k o p c.in-Err.fault c.from.result c.from.ensures c.in-Err.ensures.reads c.stopped.ensures.wrote)
 
-pub returns-clause-causes : goal.returns-clause-causes
-returns-clause-causes g c =
+pub returns-in-Err-clause-causes : goal.returns-in-Err-clause-causes
+returns-in-Err-clause-causes g c =
     let i = known_input g.I.Source c.args.input.now in
     let f = known_files g.F.Files c.args.files.now in
     let fb = known_files g.F.Files c.begin.new.files in
@@ -80,5 +80,5 @@ returns-clause-causes g c =
     let P : End → Type 0 = λ e. HasCauses (parts i f k o) (parts i fb k p) e in
     subst P (sym c.stopped.ensures.end) (causes-early i f fb k o p c.in-Err.fault c.from.result c.from.ensures c.in-Err.ensures.used.same a.later a.blamed c.stopped.ensures.later)
 
-pub returns-clause-disk : goal.returns-clause-disk
-returns-clause-disk g c = λ h. absurd (early-no-disk c.in-Err.fault c.from.result c.from.ensures (sym c.stopped.ensures.end ∙ h))
+pub returns-in-Err-clause-disk : goal.returns-in-Err-clause-disk
+returns-in-Err-clause-disk g c = λ h. absurd (early-no-disk c.in-Err.fault c.from.result c.from.ensures (sym c.stopped.ensures.end ∙ h))
