@@ -73,7 +73,7 @@ fn with_operand<'a>(alloc: Global, command: Command<'a>, id: &'a str, is_wanted:
 }
 
 /// The command of a row.
-fn command_of<'a>(alloc: Global, row: &Row<'a>) -> Made<'a>
+fn row_command<'a>(alloc: Global, row: &Row<'a>) -> Made<'a>
     ensures { shape.IsCommand (fold (λ a o. with_rule a (record (new_rule o.0.now) { required = o.1 }))
         (new_app row.entry.now.name.now) row.entry.now.operands.now) result }
 {
@@ -106,7 +106,7 @@ fn with_rows<'a>(alloc: Global, program: Command<'a>, rows: &[Row<'a>]) -> Made<
 {
     let mut whole = program;
     for row in rows {
-        whole = with_made(whole, command_of(alloc, row))?;
+        whole = with_made(whole, row_command(alloc, row))?;
     }
     Ok(whole)
 }

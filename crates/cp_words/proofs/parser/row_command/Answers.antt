@@ -1,5 +1,5 @@
 use Rattle.cp_words.proofs.Turns.{one_turn_more, all_turns}
-use Rattle.cp_words.proofs.parser.command_of.Goals as goal
+use Rattle.cp_words.proofs.parser.row_command.Goals as goal
 
 pub loop-operand-preserved : goal.loop-operand-preserved
 loop-operand-preserved c =
