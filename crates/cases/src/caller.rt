@@ -1,8 +1,7 @@
 //! Makes the calls of tables: calls of the layers below the program.
 //!
-//! A part makes a call, and `out` with a text below it is what the call has to give. cp_text_calls has the calls of words,
-//! statements and replies, cp_step_calls those of rows and steps, cp_file_calls those of entries, files and disks,
-//! cp_tree_calls those of trees in every form, cp_host_calls those of what is outside the program.
+//! A part makes a call, and `out` with a text below it is what the call has to give. cp_memory_calls has the calls of words,
+//! statements, replies, rows and trees, cp_device_calls those of entries, files, disks and what is outside the program.
 
 use cp_cases::{Player, Step, compare};
 use std::alloc::{AllocError, Global};
@@ -26,20 +25,10 @@ impl<'a> Caller<'a> {
 
 /// What the call of this keyword gives; `None` where there is no such call.
 fn answer(rt: &HostRuntime, step: &Step) -> Result<Option<Vec<u8>>, AllocError> {
-    let alloc = rt.alloc();
-    if let Some(output) = cp_text_calls::answer(alloc, step)? {
-        return Ok(Some(output));
+    match cp_memory_calls::answer(rt.alloc(), step)? {
+        Some(output) => Ok(Some(output)),
+        None => cp_device_calls::answer(rt, step),
     }
-    if let Some(output) = cp_step_calls::answer(alloc, step)? {
-        return Ok(Some(output));
-    }
-    if let Some(output) = cp_tree_calls::answer(alloc, step)? {
-        return Ok(Some(output));
-    }
-    if let Some(output) = cp_file_calls::answer(alloc, step)? {
-        return Ok(Some(output));
-    }
-    cp_host_calls::answer(rt, step)
 }
 
 impl Player for Caller<'_> {

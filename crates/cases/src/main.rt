@@ -30,7 +30,7 @@ use std::{env, io};
 
 /// Makes the tree of a CSV file in a form, and writes how many places it has.
 fn make_tree(rt: &HostRuntime, form: &str, file: &str, key: &str) -> io::Result<ExitCode> {
-    match cp_tree_calls::count_in_file(rt, form, file, key)? {
+    match cp_memory_calls::count_in_file(rt, form, file, key)? {
         Some(count) => println!(rt; "{count} places")?,
         None => return Ok(ExitCode::FAILURE),
     }
