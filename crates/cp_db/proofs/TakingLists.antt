@@ -15,7 +15,7 @@ use Rattle.cp_model.specs.declared.record.Record.{Record}
 use Rattle.cp_model.specs.declared.record.RecOp.{RecOp}
 use Rattle.cp_model.specs.declared.record.RecOp.TheVariants as op
 use Rattle.cp_record.specs.Kept.{is_copy}
-use Rattle.cp_store.specs.Changes.{AreNext, is_source, is_between}
+use Rattle.cp_model.specs.Changes.{AreNext, is_source, is_between}
 use Rattle.cp_frame.specs.Sound.{AreWritable, IsSoundBatch, IsSoundOp}
 use Rattle.cp_db.specs.Committed.{TidsLieBetween}
 

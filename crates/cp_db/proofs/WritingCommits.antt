@@ -22,7 +22,7 @@ use Rattle.cp_model.proofs.Histories.{replay-snoc, legal-snoc}
 use Rattle.cp_model.proofs.Passing.{and_true}
 use Rattle.cp_record.specs.Bytes.{commit_length, record_bytes, records_bytes}
 use Rattle.cp_record.specs.Kept.{is_copy}
-use Rattle.cp_store.specs.Changes.{AreNext, is_between, is_source}
+use Rattle.cp_model.specs.Changes.{AreNext, is_between, is_source}
 use Rattle.cp_format.specs.Formats.{Reads}
 use Rattle.cp_frame.specs.Entries.{IsEntry, WrittenEntry, start, load, commit, stamped, entry_format, written_entry}
 use Rattle.cp_frame.specs.Sound.{AreWritable, IsSoundBatch, IsSoundEntry, IsSoundOp}

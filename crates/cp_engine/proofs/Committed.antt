@@ -8,7 +8,7 @@ use Rattle.cp_model.specs.declared.kind.Kind.{Kind}
 use Rattle.cp_model.specs.declared.kind.Kind.TheVariants as kind
 use Rattle.cp_model.specs.declared.op.Op.{Op}
 use Rattle.cp_model.proofs.Histories.{after-commit}
-use Rattle.cp_store.specs.Changes.{AreNext}
+use Rattle.cp_model.specs.Changes.{AreNext}
 use Rattle.cp_operation.specs.Passed.{stage_after, records_of, AllAccepted}
 use Rattle.cp_operation.proofs.Accepting.{done-accepted}
 use Rattle.cp_operation.proofs.Linked.{accepted-step, accepted-done}

@@ -18,7 +18,7 @@ use Rattle.cp_model.specs.History.{record_of, rows_of, with_tid}
 use Rattle.cp_model.specs.declared.kind.Kind.{Kind}
 use Rattle.cp_model.proofs.Passing.{and_true, and_both, or_true}
 use Rattle.cp_model.proofs.Sorted.{parts_of}
-use Rattle.cp_store.specs.Changes.{goes_before, rises, is_source, is_between, AreNext}
+use Rattle.cp_model.specs.Changes.{goes_before, rises, is_source, is_between, AreNext}
 use Rattle.cp_operation.specs.Passed.{Stage, next_stage, stage_after}
 use Rattle.cp_overlay.proofs.Marking.{sorted-rows_of}
 

@@ -10,7 +10,7 @@ use Rattle.cp_model.specs.declared.kind.Kind.{Kind}
 use Rattle.cp_model.specs.declared.kind.Kind.TheVariants as kind
 use Rattle.cp_model.specs.declared.op.Op.{Op}
 use Rattle.cp_model.proofs.Alone.{after-step}
-use Rattle.cp_store.specs.Changes.{AreNext}
+use Rattle.cp_model.specs.Changes.{AreNext}
 use Rattle.cp_operation.specs.Passed.{stage_after, outcome_records, records_of, AllAccepted}
 use Rattle.cp_engine.specs.Transactions.{IsStep}
 use Rattle.cp_engine.specs.declared.txn.Step.{Step}

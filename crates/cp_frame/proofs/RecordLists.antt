@@ -5,7 +5,7 @@ use Rattle.std.specs.List.{flat_map, AllByRecursion}
 use Rattle.cp_path.specs.Encoding.{path_bytes}
 use Rattle.cp_model.specs.declared.record.Record.{Record}
 use Rattle.cp_record.specs.Bytes.{letter, record_bytes, source_bytes}
-use Rattle.cp_store.specs.Changes.{goes_before}
+use Rattle.cp_model.specs.Changes.{goes_before}
 use Rattle.cp_format.specs.declared.fault.FormatFault.{FormatFault}
 use Rattle.cp_format.specs.Faults.{FaultAt}
 use Rattle.cp_format.specs.Formats.{FailsAt, Format, ReadsAt}

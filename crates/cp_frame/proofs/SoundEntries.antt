@@ -18,7 +18,7 @@ use Rattle.cp_model.specs.declared.row.Content.{Content}
 use Rattle.cp_model.specs.declared.row.Content.TheVariants.{Node, Leaf}
 use Rattle.cp_record.specs.Bytes.{record_bytes}
 use Rattle.cp_record.specs.Kept.{IsName}
-use Rattle.cp_store.specs.Changes.{goes_before, rises}
+use Rattle.cp_model.specs.Changes.{goes_before, rises}
 use Rattle.cp_format.specs.Contents.{IsContent}
 use Rattle.cp_format.specs.Formats.{AllHold, moved}
 use Rattle.cp_format.specs.Operations.{IsSpelledOp, alone, root_content}

@@ -19,7 +19,7 @@ use Rattle.cp_model.specs.declared.op.Op.TheVariants.{Ins, Del, Copy}
 use Rattle.cp_model.specs.declared.record.Record.{Record}
 use Rattle.cp_record.specs.Bytes.{record_bytes}
 use Rattle.cp_record.specs.Kept.{IsPackable, IsPath}
-use Rattle.cp_store.specs.Changes.{goes_before, rises}
+use Rattle.cp_model.specs.Changes.{goes_before, rises}
 use Rattle.cp_format.specs.Formats.{AllHold, Reads, moved}
 use Rattle.cp_format.specs.Operations.{HasSpelledParts, IsShort, IsSpelledOp, IsTarget}
 use Rattle.cp_format.specs.Spelled.{IsSpelled}

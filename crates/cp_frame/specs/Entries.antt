@@ -14,7 +14,7 @@ use Rattle.cp_model.specs.declared.stamp.Stamp.{Stamp}
 use Rattle.cp_model.specs.Literals.{literal_rows}
 use Rattle.cp_record.specs.Bytes.{record_bytes}
 use Rattle.cp_record.specs.Kept.{IsLabel, IsName, IsPackable}
-use Rattle.cp_store.specs.Changes.{goes_before}
+use Rattle.cp_model.specs.Changes.{goes_before}
 use Rattle.cp_format.specs.Formats.{Check, Format, moved}
 use Rattle.cp_format.specs.Spelled.{IsSpelled}
 use Rattle.cp_frame.specs.Trees.{Written, HasParts, rows_of, tree_bytes, tree_checks}

@@ -15,7 +15,7 @@ use Rattle.cp_model.specs.declared.op.Op.{Op}
 use Rattle.cp_model.specs.declared.op.Op.TheVariants.{Ins, Del, Copy}
 use Rattle.cp_model.specs.declared.record.Record.{Record}
 use Rattle.cp_record.specs.Kept.{is_copy}
-use Rattle.cp_store.specs.Changes.{rises}
+use Rattle.cp_model.specs.Changes.{rises}
 use Rattle.cp_format.specs.Operations.{IsShort}
 use Rattle.cp_frame.specs.declared.entry.Entry.{Entry}
 use Rattle.cp_frame.specs.declared.entry.Entry.TheVariants as entry

@@ -4,7 +4,7 @@ ghost use Rattle.std.specs.List.{AllByRecursion};
 ghost use Rattle.std.specs.Option.{option_map};
 ghost use Rattle.cp_record.specs.Kept.{IsPackable};
 ghost use Rattle.cp_record.specs.Packed.{Grew};
-ghost use Rattle.cp_store.specs.Changes.{goes_before};
+ghost use Rattle.cp_model.specs.Changes.{goes_before};
 ghost use Rattle.cp_format.specs.Faults.{FaultAt};
 ghost use Rattle.cp_format.specs.Formats.{ReadsAt};
 ghost use Rattle.cp_frame.specs.Entries.{counted_records};

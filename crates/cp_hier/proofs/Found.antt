@@ -11,8 +11,8 @@ use Rattle.cp_model.specs.Records.{reads}
 use Rattle.cp_model.specs.declared.kind.Kind.{Kind}
 use Rattle.cp_model.specs.declared.kind.Kind.TheVariants.{H, HT}
 use Rattle.cp_model.specs.declared.record.Record.{Record}
-use Rattle.cp_store.specs.Changes.{change_told, change_at}
-use Rattle.cp_store.specs.declared.change.Change.{Change}
+use Rattle.cp_model.specs.Changes.{change_told, change_at}
+use Rattle.cp_model.specs.declared.change.Change.{Change}
 
 -- a place of a source never changes
 pub change-outside : (k : Kind) (rs : List Record) (t : ℕ) (q : Loc) → in_target q ≡ false → None ≡ change_at k rs t q

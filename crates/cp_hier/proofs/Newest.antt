@@ -12,10 +12,10 @@ use Rattle.cp_model.specs.declared.kind.Kind.TheVariants.{H}
 use Rattle.cp_model.specs.declared.effect.Effect.TheVariants.{Same as same}
 use Rattle.cp_model.specs.declared.record.Record.{Record}
 use Rattle.cp_model.specs.declared.record.RowMark.{RowMark as Mark}
-use Rattle.cp_store.specs.Changes.{reading_of_what}
-use Rattle.cp_store.specs.declared.change.What.{What}
-use Rattle.cp_store.specs.declared.change.What.TheVariants.{New, From, Gone}
-use Rattle.cp_store.proofs.NewestLemmas.{last-zero, last-over, last-change, last-same}
+use Rattle.cp_model.specs.Changes.{reading_of_what}
+use Rattle.cp_model.specs.declared.change.What.{What}
+use Rattle.cp_model.specs.declared.change.What.TheVariants.{New, From, Gone}
+use Rattle.cp_model.proofs.NewestLemmas.{last-zero, last-over, last-change, last-same}
 use Rattle.cp_rows.specs.Steps.{mark_at}
 use Rattle.cp_rows.specs.Told.{reading_if}
 use Rattle.cp_rows.proofs.Steps.{row_of-says, row_of-within}

@@ -1,7 +1,7 @@
 -- What the stores that keep reduced rows keep.
 use Rattle.cp_model.specs.declared.kind.Kind.TheVariants.{H, HT}
 pub use Rattle.cp_rows.specs.Rows.{Rows}
-use Rattle.cp_store.specs.declared.store.ProvStore.{Ghosts}
+use Rattle.cp_model.specs.declared.store.ProvStore.{Ghosts}
 
 -- its kind is `h`, its rows are all in memory, and it has no disk that may fail
 abbrev pub hierarchical : Ghosts Rows

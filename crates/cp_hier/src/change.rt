@@ -8,13 +8,13 @@ ghost use Rattle.cp_model.specs.Place.{Path};
 ghost use Rattle.cp_model.specs.Records.{reads};
 ghost use Rattle.cp_model.specs.declared.kind.Kind.TheVariants as kind;
 ghost use Rattle.cp_model.specs.declared.record.Record.{Record};
-ghost use Rattle.cp_store.specs.Changes.{change_told, change_at};
+ghost use Rattle.cp_model.specs.Changes.{change_told, change_at};
 ghost use Rattle.cp_rows.specs.Steps.{steps_in, IsNewest};
 ghost use Rattle.cp_hier.specs.Changes.{IsNewestAbove};
 
+use cp_model::Change;
 use cp_path::{Label, Loc};
 use cp_rows::{Rows, Step, done_by, key_of};
-use cp_store::Change;
 use std::alloc::{AllocError, Global};
 
 /// A step with a row at a place above another, or at that place itself, and how many labels it has.

@@ -15,10 +15,9 @@ ghost use Rattle.cp_model.specs.declared.op.Op.{Op};
 ghost use Rattle.cp_model.specs.declared.record.Record.{Record};
 ghost use Rattle.cp_hier.specs.Inferred.{IsNearestRow};
 
-use cp_model::{Effect, RecOp, Record, RowMark};
+use cp_model::{Effect, RecOp, Record, RowMark, What};
 use cp_path::{Label, Path};
 use cp_rows::done_by;
-use cp_store::What;
 use cp_tree::TreeRep;
 use std::alloc::AllocError;
 

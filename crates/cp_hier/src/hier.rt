@@ -1,10 +1,9 @@
 ghost use Rattle.std.specs.Prelude.{◌≡◌, [], IfOk};
 
 use crate::change::last_change;
-use cp_model::{Kind, Record, RecordList, TidList};
+use cp_model::{Change, Kind, ProvStore, Record, RecordList, StoreFault, TidList};
 use cp_path::{Label, Loc};
 use cp_rows::Rows;
-use cp_store::{Change, ProvStore, StoreFault};
 use std::alloc::{AllocError, Global};
 use std::marker::Model;
 

@@ -25,10 +25,9 @@ use cp_db::{
 use cp_disk::Disk;
 use cp_frame::Entry;
 use cp_journal::{ENTRY, HEADER_SIZE, Journal};
-use cp_model::{Kind, LogList, OpList, RecordList, Stamp, Verdict};
+use cp_model::{Kind, LogList, OpList, ProvStore, RecordList, Stamp, Verdict};
 use cp_operation::Sources;
 use cp_path::Label;
-use cp_store::ProvStore;
 use cp_tree::TreeRep;
 use std::alloc::{AllocError, Global};
 

@@ -8,13 +8,13 @@ use Rattle.cp_model.specs.declared.record.RowMark.{RowMark as Mark}
 use Rattle.cp_model.specs.Rows.{read_mark}
 use Rattle.cp_model.specs.Leaps.{tells_same, last}
 use Rattle.cp_model.specs.declared.record.Record.{Record}
-use Rattle.cp_store.specs.Changes.{reading_of_what}
-use Rattle.cp_store.specs.declared.change.What.{What}
-use Rattle.cp_store.specs.declared.change.What.TheVariants.{New, From, Gone}
+use Rattle.cp_model.specs.Changes.{reading_of_what}
+use Rattle.cp_model.specs.declared.change.What.{What}
+use Rattle.cp_model.specs.declared.change.What.TheVariants.{New, From, Gone}
 use Rattle.cp_rows.specs.declared.index.Step.{Step}
 use Rattle.cp_rows.specs.Steps.{row_number, mark_at, IsNewest}
 use Rattle.cp_rows.specs.Told.{reading_if}
-use Rattle.cp_store.proofs.NewestLemmas.{last-zero, last-over, last-change, last-same}
+use Rattle.cp_model.proofs.NewestLemmas.{last-zero, last-over, last-change, last-same}
 use Rattle.cp_kinds.specs.Changes.{own, rows_tell}
 
 module _ (rs : List Record) (m : List Step) (t : ℕ) (p : Path) where

@@ -2,7 +2,7 @@
 use Rattle.cp_model.specs.declared.kind.Kind.{Kind}
 use Rattle.cp_model.specs.declared.kind.Kind.TheVariants.{N, T}
 use Rattle.cp_rows.specs.Rows.{Rows}
-use Rattle.cp_store.specs.declared.store.ProvStore.{Ghosts}
+use Rattle.cp_model.specs.declared.store.ProvStore.{Ghosts}
 
 -- rows, and the kind that they are of
 pub record KindRows : Type 0 where

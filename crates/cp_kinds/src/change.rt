@@ -5,14 +5,14 @@ ghost use Rattle.cp_path.specs.Encoding.{counted_bytes};
 ghost use Rattle.cp_model.specs.Place.{Path};
 ghost use Rattle.cp_model.specs.Leaps.{last};
 ghost use Rattle.cp_model.specs.declared.kind.Kind.TheVariants as kind;
-ghost use Rattle.cp_store.specs.Changes.{change_told, change_at};
+ghost use Rattle.cp_model.specs.Changes.{change_told, change_at};
 ghost use Rattle.cp_rows.specs.Rows.{IsKey};
 ghost use Rattle.cp_rows.specs.Steps.{steps_in};
 ghost use Rattle.cp_kinds.specs.Changes.{rows_tell};
 
+use cp_model::Change;
 use cp_path::Loc;
 use cp_rows::{Rows, done_by, key_of};
-use cp_store::Change;
 use std::alloc::{AllocError, Global};
 
 /// The newest change up to `t` of the place of the key. Costs a logarithm of the places and one of the place's steps, for

@@ -3,9 +3,8 @@ ghost use Rattle.std.specs.Prelude.{◌≡◌, [], IfOk};
 use crate::naive::NaiveStore;
 use crate::trans::TransStore;
 use cp_hier::{HierStore, HierTransStore};
-use cp_model::{Kind, Record, RecordList, TidList};
+use cp_model::{Change, Kind, ProvStore, Record, RecordList, StoreFault, TidList};
 use cp_path::{Label, Loc};
-use cp_store::{Change, ProvStore, StoreFault};
 use std::alloc::{AllocError, Global};
 use std::marker::Model;
 

@@ -1,10 +1,9 @@
 //! Trees made of texts, copied from form to form, and compared.
 ghost use Rattle.std.specs.Prelude.{◌≡◌, IfOk};
 
-use cp_csv::tree_of_csv;
-use cp_json::tree_of_json;
 use cp_model::Content;
 use cp_path::{Label, Name, Path};
+use cp_sources::{tree_of_csv, tree_of_json};
 use cp_tree::{TreeRep, graft};
 use std::alloc::{AllocError, Global};
 

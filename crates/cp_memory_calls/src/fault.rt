@@ -1,7 +1,7 @@
-use cp_json::JsonFault;
 use cp_lang::StmtFault;
+use cp_model::StoreFault;
 use cp_path::PathFault;
-use cp_store::StoreFault;
+use cp_sources::JsonFault;
 use std::alloc::{AllocError, AllocFailed};
 use thiserror::Error;
 

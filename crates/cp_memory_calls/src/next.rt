@@ -1,6 +1,6 @@
 //! Whether rows are those of the next steps, in their order, as a store has to get them.
 ghost use Rattle.std.specs.Prelude.{◌≡◌, true, IsTrue};
-ghost use Rattle.cp_store.specs.Changes.{AreNext, rises, goes_before, is_between, is_source};
+ghost use Rattle.cp_model.specs.Changes.{AreNext, rises, goes_before, is_between, is_source};
 
 use cp_model::{RecOp, Record};
 

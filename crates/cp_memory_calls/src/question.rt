@@ -13,11 +13,10 @@
 use crate::fault::Fault;
 use crate::row::add_answer;
 use cp_cases::{number_of, numbers_of};
-use cp_model::Record;
+use cp_model::{Change, ProvStore, Record, What};
 use cp_path::{Label, Loc};
 use cp_reply::record_text;
 use cp_spelling::{place_text, read_label, read_place};
-use cp_store::{Change, ProvStore, What};
 use std::alloc::{AllocError, Global};
 
 /// The Tid of a change and what it did.

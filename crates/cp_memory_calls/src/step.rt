@@ -3,10 +3,10 @@
 use crate::fault::Fault;
 use crate::row::{add_answer, add_rows, first_line, question_of, rows_of};
 use cp_hier::inferred;
-use cp_json::tree_of_json;
 use cp_model::{Effect, Record};
 use cp_path::{Loc, Name, Path};
 use cp_reduce::{expand, reduce};
+use cp_sources::tree_of_json;
 use cp_spelling::{place_text, read_place};
 use cp_tree::TreeRep;
 use cp_tree_box::BoxTree;

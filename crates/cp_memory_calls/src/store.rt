@@ -12,8 +12,7 @@ use crate::row::{add_line, question_of, rows_of};
 use cp_cases::numbers_of;
 use cp_hier::{HierStore, HierTransStore};
 use cp_kinds::{KindStore, NaiveStore, TransStore};
-use cp_model::Kind;
-use cp_store::ProvStore;
+use cp_model::{Kind, ProvStore};
 use std::alloc::{AllocError, Global};
 
 /// The numbers of the part, and its text.

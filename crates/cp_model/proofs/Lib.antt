@@ -1,5 +1,6 @@
 pub mod Accepted
 pub mod Alone
+pub mod AskLemmas
 pub mod Contents
 pub mod Effects
 pub mod Folds
@@ -12,6 +13,7 @@ pub mod LeapsLemmas
 pub mod Lookups
 pub mod Losses
 pub mod Marks
+pub mod NewestLemmas
 pub mod Origins
 pub mod Passing
 pub mod Pasts

@@ -17,3 +17,7 @@ pub mod Sums
 pub mod Leaps
 pub mod Records
 pub mod Laws
+pub mod Below
+pub mod Calls
+pub mod Changes
+pub mod Steps

@@ -1,10 +1,13 @@
-//! What a history is and what it answers: trees, operations, records, pasts and answers.
+//! What a history is and what it answers: trees, operations, records, pasts and answers, and the trait of the stores that
+//! keep its records.
 //!
 //! The definitions stand in `specs/`, and cite the types of this crate.
 #![tactic(auto)]
 
 mod answer;
+mod change;
 mod effect;
+mod fault;
 mod kind;
 mod limits;
 mod literal;
@@ -16,11 +19,14 @@ mod refusal;
 mod row;
 mod stamp;
 mod stated;
+mod store;
 
 pub use answer::{
     Answer, FromAnswer, LogLine, LogList, Segment, SegmentList, Stats, TidList, Trace, TraceEnd,
 };
+pub use change::{Change, What};
 pub use effect::Effect;
+pub use fault::StoreFault;
 pub use kind::Kind;
 pub use limits::{ENTRY_MAX, NODES_MAX, OPS_MAX, PLACE_WEIGHT, SOURCES_MAX, WEIGHT_MAX};
 pub use literal::{LitEdge, LitList, Literal};
@@ -32,3 +38,4 @@ pub use refusal::{Cause, Refusal};
 pub use row::{Content, Row, RowList};
 pub use stamp::Stamp;
 pub use stated::laws;
+pub use store::ProvStore;

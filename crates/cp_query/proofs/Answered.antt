@@ -2,11 +2,11 @@
 use Rattle.std.specs.Prelude.{◌≡◌, Result, Ok, Err, IsErrAnd, IsErrOf}
 use Rattle.std.proofs.Common.{◌∙◌, sym, ap, subst, arith}
 use Rattle.cp_outside.specs.Causes.{Rose}
-use Rattle.cp_store.specs.Calls.{Asks, Asked}
-use Rattle.cp_store.specs.Steps.{BlamesDisk}
-use Rattle.cp_store.specs.declared.fault.StoreFault.{StoreFault}
-use Rattle.cp_store.specs.declared.fault.StoreFault.TheVariants.{Memory}
-use Rattle.cp_store.specs.declared.store.ProvStore.{Ghosts}
+use Rattle.cp_model.specs.Calls.{Asks, Asked}
+use Rattle.cp_model.specs.Steps.{BlamesDisk}
+use Rattle.cp_model.specs.declared.fault.StoreFault.{StoreFault}
+use Rattle.cp_model.specs.declared.fault.StoreFault.TheVariants.{Memory}
+use Rattle.cp_model.specs.declared.store.ProvStore.{Ghosts}
 
 module _ {P : Type 0} (g : Ghosts P) where
   -- it gives something

@@ -22,7 +22,7 @@ use Rattle.cp_model.specs.Leaps.{Readings, last, losts, before, leap, leap_back}
 use Rattle.cp_model.specs.Records.{loses}
 use Rattle.cp_model.specs.Answers.{tid_of, newest}
 use Rattle.cp_model.proofs.LeapsLemmas.{Says, last-says, leaped-walked}
-use Rattle.cp_store.specs.Below.{losses_at}
+use Rattle.cp_model.specs.Below.{losses_at}
 use Rattle.cp_query.specs.declared.walk.Came.{Came}
 use Rattle.cp_query.specs.declared.walk.Came.TheVariants.{Back, End}
 use Rattle.cp_query.specs.declared.walk.Leg.{Leg}

@@ -17,9 +17,9 @@ use Rattle.cp_model.specs.Place.{Label, Path, label_eq, child, child_place, in_t
 use Rattle.cp_model.specs.Records.{reads, loses}
 use Rattle.cp_model.specs.Subtrees.{is_there}
 use Rattle.cp_model.specs.Tree.{Tree, IsTree, is_node}
-use Rattle.cp_store.specs.Below.{goes_on, tells_below}
-use Rattle.cp_store.specs.Calls.{Asks, Asked}
-use Rattle.cp_store.specs.declared.store.ProvStore.{Ghosts}
+use Rattle.cp_model.specs.Below.{goes_on, tells_below}
+use Rattle.cp_model.specs.Calls.{Asks, Asked}
+use Rattle.cp_model.specs.declared.store.ProvStore.{Ghosts}
 use Rattle.cp_tree.specs.Rows.{labels_at, reach_at}
 use Rattle.cp_tree.specs.declared.reach.Reach.{Reach}
 use Rattle.cp_query.specs.declared.walk.Walk.{Walk}

@@ -23,8 +23,8 @@ use Rattle.cp_model.specs.Leaps.{Readings, last}
 use Rattle.cp_model.proofs.LeapsLemmas.{Says, last-says}
 use Rattle.cp_model.specs.Records.{reads}
 use Rattle.cp_model.specs.Answers.{segment, after_segment, alone, trace_from_events, src_of, copy_tid}
-use Rattle.cp_store.specs.declared.change.Change.{Change}
-use Rattle.cp_store.specs.Changes.{change_told, change_at}
+use Rattle.cp_model.specs.declared.change.Change.{Change}
+use Rattle.cp_model.specs.Changes.{change_told, change_at}
 use Rattle.cp_query.specs.declared.walk.Walk.{Walk}
 use Rattle.cp_query.specs.declared.walk.Leg.{Leg}
 use Rattle.cp_query.specs.declared.walk.Came.{Came}

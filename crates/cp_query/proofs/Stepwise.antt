@@ -17,7 +17,7 @@ use Rattle.cp_model.specs.Answers.{records}
 use Rattle.cp_model.specs.declared.kind.Kind.{Kind}
 use Rattle.cp_model.specs.declared.op.Op.{Op}
 use Rattle.cp_model.specs.declared.record.Record.{Record}
-use Rattle.cp_store.specs.Changes.{records_at}
+use Rattle.cp_model.specs.Changes.{records_at}
 use Rattle.cp_query.specs.Asked.{IsCommitted}
 use Rattle.cp_query.specs.Kept.{records_upto}
 

@@ -12,7 +12,7 @@ use Rattle.cp_model.specs.declared.answer.Answer.{Answer}
 use Rattle.cp_model.specs.declared.kind.Kind.{Kind}
 use Rattle.cp_model.specs.declared.query.Query.{Query}
 use Rattle.cp_model.specs.declared.record.Record.{Record}
-use Rattle.cp_store.specs.declared.store.ProvStore as store
+use Rattle.cp_model.specs.declared.store.ProvStore as store
 use Rattle.cp_tree.specs.declared.rep.TreeRep as tree
 use Rattle.cp_query.specs.declared.fault.QueryFault.{QueryFault}
 use Rattle.cp_query.specs.declared.fault.QueryFault.TheVariants.{NoPlace}

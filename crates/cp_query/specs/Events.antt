@@ -14,8 +14,8 @@ use Rattle.cp_model.specs.declared.answer.Trace.{Trace}
 use Rattle.cp_model.specs.declared.answer.TraceEnd.{TraceEnd}
 use Rattle.cp_model.specs.declared.answer.TraceEnd.TheVariants as end
 use Rattle.cp_model.specs.declared.record.Record.{Record}
-use Rattle.cp_store.specs.declared.store.ProvStore.{Ghosts}
-use Rattle.cp_store.specs.Below.{losses_at}
+use Rattle.cp_model.specs.declared.store.ProvStore.{Ghosts}
+use Rattle.cp_model.specs.Below.{losses_at}
 use Rattle.cp_tree.specs.declared.reach.Reach.{Reach}
 use Rattle.cp_query.specs.declared.walk.Leg.{Leg}
 use Rattle.cp_query.specs.declared.walk.Walk.{Walk}

@@ -14,7 +14,7 @@ use Rattle.cp_model.specs.Rows.{Reading, left, gone}
 use Rattle.cp_model.specs.Leaps.{Readings, last}
 use Rattle.cp_model.specs.Answers.{trace_from_events, src_of, copy_tid, newest}
 use Rattle.cp_model.specs.Records.{reads}
-use Rattle.cp_store.specs.declared.store.ProvStore.{Ghosts}
+use Rattle.cp_model.specs.declared.store.ProvStore.{Ghosts}
 use Rattle.cp_query.specs.Following.{back}
 use Rattle.cp_query.specs.declared.walk.Walk.{Walk}
 use Rattle.cp_query.specs.declared.walk.Leg.{Leg}

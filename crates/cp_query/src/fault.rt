@@ -1,4 +1,4 @@
-use cp_store::StoreFault;
+use cp_model::StoreFault;
 use std::alloc::{AllocError, AllocFailed};
 use thiserror::Error;
 

@@ -3,14 +3,13 @@ ghost use Rattle.std.specs.Prelude.{◌≡◌, ◌++◌, ℕ, List, IfOk, OnOk};
 ghost use Rattle.cp_model.specs.History.{State};
 ghost use Rattle.cp_model.specs.Tree.{Tree};
 ghost use Rattle.cp_model.specs.Answers.{records};
-ghost use Rattle.cp_store.specs.Calls.{Asks};
-ghost use Rattle.cp_store.specs.Changes.{records_at};
-ghost use Rattle.cp_store.specs.Steps.{BlamesDisk};
+ghost use Rattle.cp_model.specs.Calls.{Asks};
+ghost use Rattle.cp_model.specs.Changes.{records_at};
+ghost use Rattle.cp_model.specs.Steps.{BlamesDisk};
 ghost use Rattle.cp_query.specs.Asked.{IsCommitted};
 ghost use Rattle.cp_query.specs.Kept.{records_upto};
 
-use cp_model::{Record, RecordList};
-use cp_store::{ProvStore, StoreFault};
+use cp_model::{ProvStore, Record, RecordList, StoreFault};
 use std::alloc::Global;
 
 /// The records of one step by place, or those of all steps by step and place. Costs a look-up in the store for each step, and

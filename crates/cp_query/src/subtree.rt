@@ -5,16 +5,16 @@ ghost use Rattle.std.specs.Option.{option_map};
 ghost use Rattle.cp_path.specs.declared.limits.TheConstants.{LABELS_MAX};
 ghost use Rattle.cp_model.specs.Place.{in_target, child_place};
 ghost use Rattle.cp_model.specs.Subtrees.{is_there};
-ghost use Rattle.cp_store.specs.Below.{tells_below};
-ghost use Rattle.cp_store.specs.Calls.{Asks};
-ghost use Rattle.cp_store.specs.Steps.{BlamesDisk};
+ghost use Rattle.cp_model.specs.Below.{tells_below};
+ghost use Rattle.cp_model.specs.Calls.{Asks};
+ghost use Rattle.cp_model.specs.Steps.{BlamesDisk};
 ghost use Rattle.cp_query.specs.Events.{has_room, losses_in, HasEvent, Gathers};
 ghost use Rattle.cp_query.specs.Legs.{readings_in};
 
 use crate::tids::Tids;
 use crate::walk::Walk;
+use cp_model::{ProvStore, StoreFault};
 use cp_path::{LABELS_MAX, LOC_MAX, Label, Loc};
-use cp_store::{ProvStore, StoreFault};
 use cp_tree::{Reach, TreeRep};
 use std::alloc::{AllocError, Global};
 

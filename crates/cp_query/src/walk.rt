@@ -4,14 +4,15 @@ ghost use Rattle.std.specs.Option.{option_to_list};
 ghost use Rattle.cp_model.specs.Place.{in_target};
 ghost use Rattle.cp_query.specs.Legs.{came_with, inserted_by, copied_by, brought_by, origin_by, leg_of, leg_by, leg, readings_in, trace_from, src_from, hist_from, from_here, walk_on};
 ghost use Rattle.cp_query.specs.Events.{is_tid, leg_tids, losses_in, places_from, source_of, tids_back};
-ghost use Rattle.cp_store.specs.Changes.{change_told};
-ghost use Rattle.cp_store.specs.Calls.{Asks};
-ghost use Rattle.cp_store.specs.Steps.{BlamesDisk};
+ghost use Rattle.cp_model.specs.Changes.{change_told};
+ghost use Rattle.cp_model.specs.Calls.{Asks};
+ghost use Rattle.cp_model.specs.Steps.{BlamesDisk};
 
 use crate::tids::{Tids, note_tid, note_tids};
-use cp_model::{FromAnswer, Segment, SegmentList, TidList, Trace, TraceEnd};
+use cp_model::{
+    Change, FromAnswer, ProvStore, Segment, SegmentList, StoreFault, TidList, Trace, TraceEnd, What,
+};
 use cp_path::Loc;
-use cp_store::{Change, ProvStore, StoreFault, What};
 use std::alloc::{AllocError, Global};
 
 /// A place of T at which data stood, and the last version in which it is known to have stood there.

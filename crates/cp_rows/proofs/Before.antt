@@ -13,7 +13,7 @@ use Rattle.cp_model.specs.Place.{in_target, path_cmp, path_eq, Path}
 use Rattle.cp_path.specs.PathOrder.{path_ties, path_total, path_eq_equiv}
 use Rattle.cp_path.proofs.Same.{path_eq-same}
 use Rattle.cp_model.specs.declared.record.Record.{Record}
-use Rattle.cp_store.specs.Changes.{goes_before, rises, is_source, is_between, AreNext}
+use Rattle.cp_model.specs.Changes.{goes_before, rises, is_source, is_between, AreNext}
 use Rattle.cp_rows.specs.Rows.{AreOrdered}
 
 -- each holds, so both do

@@ -17,7 +17,7 @@ use Rattle.cp_model.specs.Place.{Path, Label, in_target}
 use Rattle.cp_model.specs.declared.record.Record.{Record}
 use Rattle.cp_model.proofs.Passing.{any-alike}
 use Rattle.std.specs.Cmp.Lexicographic.{nat_list_eq_equiv}
-use Rattle.cp_store.specs.Below.{is_below, tells_below}
+use Rattle.cp_model.specs.Below.{is_below, tells_below}
 use Rattle.cp_rows.specs.Index.{Index, is_key, entry_at, is_front, has_front}
 use Rattle.cp_rows.specs.Rows.{is_told_of}
 use Rattle.cp_rows.proofs.Keys.{front-below, front-child}

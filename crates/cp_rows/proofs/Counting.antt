@@ -7,7 +7,7 @@ use Rattle.std.proofs.lemmas.Bool.Decides.{nat_tests}
 use Rattle.std.specs.declared.option.Option.{Option}
 use Rattle.std.specs.declared.option.Option.TheVariants.{None, Some}
 use Rattle.cp_model.specs.declared.record.Record.{Record}
-use Rattle.cp_store.specs.Changes.{records_at}
+use Rattle.cp_model.specs.Changes.{records_at}
 use Rattle.cp_rows.specs.Rows.{AreOrdered, IsCountBefore, is_of}
 use Rattle.cp_rows.proofs.Before.{order-le}
 

@@ -14,7 +14,7 @@ use Rattle.cp_path.specs.Encoding.{counted_bytes}
 use Rattle.cp_path.specs.Text.{text_eq}
 use Rattle.cp_model.specs.Place.{Path, path_eq}
 use Rattle.cp_model.specs.declared.record.Record.{Record}
-use Rattle.cp_store.specs.Changes.{goes_before}
+use Rattle.cp_model.specs.Changes.{goes_before}
 use Rattle.cp_rows.specs.declared.index.Step.{Step}
 use Rattle.cp_rows.specs.declared.limits.TheConstants.{BLOCK_LEN}
 use Rattle.cp_rows.specs.Blocks.{all_records, AreBlocks}

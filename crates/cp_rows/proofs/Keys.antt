@@ -14,7 +14,7 @@ use Rattle.cp_path.proofs.Same.{path_eq-same, text_eq-same}
 use Rattle.cp_path.proofs.EncodingLemmas.{counted_front}
 use Rattle.cp_model.specs.Place.{Path, Label, label_eq, path_eq, strip}
 use Rattle.cp_model.proofs.Strips.{strip_is}
-use Rattle.cp_store.specs.Below.{is_below, goes_on}
+use Rattle.cp_model.specs.Below.{is_below, goes_on}
 use Rattle.cp_rows.specs.Index.{is_front}
 use Rattle.cp_rows.proofs.Fronts.{begins}
 

@@ -28,8 +28,8 @@ use Rattle.cp_model.specs.declared.record.RecOp.TheVariants as op
 use Rattle.cp_model.specs.contracts.record.RecOp.{the_type}
 use denote.Enum.Bare.{sameb}
 use Rattle.cp_model.proofs.Strips.{parent-snoc}
-use Rattle.cp_store.specs.Changes.{goes_before}
-use Rattle.cp_store.specs.Below.{losses_at}
+use Rattle.cp_model.specs.Changes.{goes_before}
+use Rattle.cp_model.specs.Below.{losses_at}
 use Rattle.cp_rows.specs.Lost.{Lost, lost_at, noted, loser, is_at_loser, is_within, LossNoted, NoLossNoted, AreRisingTids, AreLosses}
 use Rattle.cp_rows.proofs.Before.{before-le}
 use Rattle.cp_rows.proofs.Keys.{key_eq}

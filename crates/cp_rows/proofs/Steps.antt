@@ -12,7 +12,7 @@ use Rattle.cp_model.specs.Keyed.{look}
 use Rattle.cp_model.specs.Records.{mark_by, rows_at}
 use Rattle.cp_model.specs.declared.record.Record.{Record}
 use Rattle.cp_model.specs.declared.record.RowMark.{RowMark as Mark}
-use Rattle.cp_store.specs.Changes.{goes_before}
+use Rattle.cp_model.specs.Changes.{goes_before}
 use Rattle.cp_rows.specs.declared.index.Step.{Step}
 use Rattle.cp_rows.specs.Steps.{steps_in, row_number, mark_at, RiseBy, AreRising, IsNewest}
 use Rattle.cp_rows.specs.Rows.{AreOrdered}

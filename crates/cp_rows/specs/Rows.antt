@@ -7,7 +7,7 @@ use Rattle.cp_path.specs.Encoding.{counted_bytes}
 use Rattle.cp_path.specs.Text.{text_eq}
 use Rattle.cp_model.specs.Place.{Path}
 use Rattle.cp_model.specs.declared.record.Record.{Record}
-use Rattle.cp_store.specs.Changes.{goes_before}
+use Rattle.cp_model.specs.Changes.{goes_before}
 use Rattle.cp_rows.specs.Steps.{steps_in}
 use Rattle.cp_rows.specs.Blocks.{all_records, AreBlocks}
 use Rattle.cp_rows.specs.Index.{Index, entry_at, steps_at}

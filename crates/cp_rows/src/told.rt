@@ -5,9 +5,8 @@ ghost use Rattle.cp_model.specs.Place.{below_place, over_limit};
 ghost use Rattle.cp_model.specs.Rows.{read_mark};
 ghost use Rattle.cp_rows.specs.Told.{reading_if};
 
-use cp_model::RowMark;
+use cp_model::{RowMark, What};
 use cp_path::{LABEL_MAX, LABELS_MAX, LOC_MAX, Label, Loc, PathFault};
-use cp_store::What;
 use std::alloc::AllocError;
 
 /// What a row has done to the place at these labels below its own; none where the place is the same, and where the place that

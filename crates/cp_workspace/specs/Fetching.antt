@@ -8,12 +8,12 @@ use Rattle.cp_model.specs.Tree.{Tree}
 use Rattle.cp_model.specs.declared.query.Form.{Form}
 use Rattle.cp_model.specs.declared.query.Form.TheVariants.{Json, Csv}
 use Rattle.cp_lang.specs.declared.syntax_tree.Load.{Load}
-use Rattle.cp_json.specs.JsonTrees.{json_tree}
-use Rattle.cp_json.specs.declared.fault.JsonFault.{JsonFault}
-use Rattle.cp_json.specs.declared.fault.JsonFault.TheVariants as json
-use Rattle.cp_csv.specs.CsvTrees.{csv_tree}
-use Rattle.cp_csv.specs.declared.fault.CsvFault.{CsvFault}
-use Rattle.cp_csv.specs.declared.fault.CsvFault.TheVariants as csv
+use Rattle.cp_sources.specs.JsonTrees.{json_tree}
+use Rattle.cp_sources.specs.declared.json_fault.JsonFault.{JsonFault}
+use Rattle.cp_sources.specs.declared.json_fault.JsonFault.TheVariants as json
+use Rattle.cp_sources.specs.CsvTrees.{csv_tree}
+use Rattle.cp_sources.specs.declared.csv_fault.CsvFault.{CsvFault}
+use Rattle.cp_sources.specs.declared.csv_fault.CsvFault.TheVariants as csv
 use Rattle.cp_reply.specs.declared.reply.Why.{Why}
 use Rattle.cp_reply.specs.declared.reply.Why.TheVariants as why
 use Rattle.cp_reply.specs.Session.{FetchedFile, gives, withholds}

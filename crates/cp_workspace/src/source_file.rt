@@ -11,12 +11,11 @@ ghost use Rattle.cp_workspace.specs.Faults.{IsFailedFile};
 ghost use Rattle.cp_workspace.specs.Files.{known_files, HasRead, IsTable, UsesFiles};
 
 use crate::limits::FILE_MAX;
-use cp_csv::{CsvFault, tree_of_csv};
-use cp_json::{JsonFault, tree_of_json};
 use cp_model::Form;
 use cp_outside::{FileEnd, Files, FilesFault};
 use cp_path::{Label, Loc, Name};
 use cp_reply::Why;
+use cp_sources::{CsvFault, JsonFault, tree_of_csv, tree_of_json};
 use cp_tree::TreeRep;
 use std::alloc::{AllocError, Global};
 

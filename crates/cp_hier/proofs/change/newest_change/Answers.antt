@@ -4,7 +4,7 @@ use Rattle.cp_model.specs.Leaps.{last}
 use Rattle.cp_model.specs.Records.{reads}
 use Rattle.cp_model.specs.Rows.{read_mark}
 use Rattle.cp_model.specs.declared.kind.Kind.TheVariants.{H}
-use Rattle.cp_store.proofs.NewestLemmas.{last-zero}
+use Rattle.cp_model.proofs.NewestLemmas.{last-zero}
 use Rattle.cp_hier.proofs.Newest.{above_none, above_at, above_within, above_zero, above_change, above_same}
 use Rattle.cp_hier.proofs.change.newest_change.Goals as goal
 

@@ -3,7 +3,7 @@ use Rattle.cp_model.specs.Leaps.{last}
 use Rattle.cp_rows.specs.Steps.{steps_in}
 use Rattle.cp_rows.proofs.Steps.{row_of-within}
 use Rattle.cp_kinds.specs.Changes.{rows_tell}
-use Rattle.cp_store.proofs.NewestLemmas.{last-zero}
+use Rattle.cp_model.proofs.NewestLemmas.{last-zero}
 use Rattle.cp_kinds.proofs.Changes.{said_none, said_at, said_zero, said_change, said_same}
 use Rattle.cp_kinds.proofs.change.newest_change.Goals as goal
 

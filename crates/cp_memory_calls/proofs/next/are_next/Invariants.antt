@@ -1,6 +1,6 @@
 use Rattle.std.proofs.Common.{◌≡◌, true, take}
 use Rattle.std.specs.List.{list_all}
-use Rattle.cp_store.specs.Changes.{is_between, is_source}
+use Rattle.cp_model.specs.Changes.{is_between, is_source}
 use Rattle.cp_memory_calls.proofs.next.are_next.Given as goal
 
 abbrev pub invariant-loop-row : goal.invariant-loop-row

@@ -2,7 +2,7 @@ use Rattle.std.proofs.Common.{◌≡◌, ℕ, suc, zero, ◌+◌, ◌-◌, ◌<�
 use Rattle.std.specs.Prelude.{List, [], ◌∷◌, ◌&&◌}
 use Rattle.std.proofs.lemmas.Bool.{and_parts}
 use Rattle.cp_model.specs.declared.record.Record.{Record}
-use Rattle.cp_store.specs.Changes.{rises, goes_before}
+use Rattle.cp_model.specs.Changes.{rises, goes_before}
 use Rattle.cp_memory_calls.proofs.next.rises.Goals as goal
 
 -- rows that rise, and one more that goes after the last

@@ -1,5 +1,5 @@
 use Rattle.std.proofs.Common.{◌≡◌, ◌≤◌, true, take}
-use Rattle.cp_store.specs.Changes.{rises}
+use Rattle.cp_model.specs.Changes.{rises}
 use Rattle.cp_memory_calls.proofs.next.rises.Given as goal
 
 abbrev pub invariant-loop-number : goal.invariant-loop-number

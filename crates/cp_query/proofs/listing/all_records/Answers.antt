@@ -1,5 +1,5 @@
 use Rattle.std.proofs.Common.{refl, arith}
-use Rattle.cp_store.proofs.AskLemmas.{asked-on}
+use Rattle.cp_model.proofs.AskLemmas.{asked-on}
 use Rattle.cp_query.proofs.Stepwise.{upto-none, upto-more}
 use Rattle.cp_query.proofs.listing.all_records.Goals as goal
 

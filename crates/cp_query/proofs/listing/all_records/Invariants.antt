@@ -1,5 +1,5 @@
 use Rattle.std.proofs.Common.{◌≡◌, ◌≤◌, ◌-◌}
-use Rattle.cp_store.specs.Calls.{Asked}
+use Rattle.cp_model.specs.Calls.{Asked}
 use Rattle.cp_query.specs.Kept.{records_upto}
 use Rattle.cp_query.proofs.listing.all_records.Given as goal
 

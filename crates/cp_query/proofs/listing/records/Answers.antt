@@ -1,7 +1,7 @@
 use Rattle.std.proofs.Common.{◌≡◌, ap, sym, ◌∙◌}
 use Rattle.std.proofs.lemmas.Result.{IfOk-weaker}
 use Rattle.cp_model.specs.Answers.{records}
-use Rattle.cp_store.specs.Changes.{records_at}
+use Rattle.cp_model.specs.Changes.{records_at}
 use Rattle.cp_query.specs.Kept.{records_upto}
 use Rattle.cp_query.proofs.Stepwise.{asked-step, asked-all}
 use Rattle.cp_query.proofs.listing.records.Goals as goal

@@ -2,7 +2,7 @@ use Rattle.std.proofs.Common.{◌≡◌, ◌-◌, ◌<◌, true, length, rules}
 use Rattle.cp_path.specs.declared.limits.TheConstants.{LABELS_MAX}
 use Rattle.cp_model.specs.Place.{in_target, child}
 use Rattle.cp_model.specs.Subtrees.{is_there}
-use Rattle.cp_store.proofs.AskLemmas.{asked-on}
+use Rattle.cp_model.proofs.AskLemmas.{asked-on}
 use Rattle.cp_query.specs.Events.{losses_in}
 use Rattle.cp_query.specs.Legs.{readings_in}
 use Rattle.cp_query.proofs.Nearby.{listed-there, child-fits, next-target, next-there, next-falls}

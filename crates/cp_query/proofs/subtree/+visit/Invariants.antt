@@ -1,6 +1,6 @@
 use Rattle.cp_path.specs.declared.limits.TheConstants.{LABELS_MAX}
 use Rattle.std.proofs.Common.{◌-◌, length, take}
-use Rattle.cp_store.specs.Calls.{Asked}
+use Rattle.cp_model.specs.Calls.{Asked}
 use Rattle.cp_query.specs.Events.{losses_in}
 use Rattle.cp_query.specs.Legs.{readings_in}
 use Rattle.cp_query.specs.Events.{Gathers}

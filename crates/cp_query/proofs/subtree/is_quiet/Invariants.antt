@@ -1,8 +1,8 @@
 use Rattle.std.proofs.Common.{◌≡◌, true, not, take}
 use Rattle.std.specs.List.{list_all}
 use Rattle.std.specs.Option.{option_map}
-use Rattle.cp_store.specs.Below.{tells_below}
-use Rattle.cp_store.specs.Calls.{Asked}
+use Rattle.cp_model.specs.Below.{tells_below}
+use Rattle.cp_model.specs.Calls.{Asked}
 use Rattle.cp_query.proofs.subtree.is_quiet.Given as goal
 
 abbrev pub invariant-loop-place : goal.invariant-loop-place

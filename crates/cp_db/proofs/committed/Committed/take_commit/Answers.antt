@@ -1,5 +1,5 @@
 use Rattle.std.proofs.Common.{sym, subst, ◌∙◌, ◌+◌}
-use Rattle.cp_store.specs.Changes.{AreNext}
+use Rattle.cp_model.specs.Changes.{AreNext}
 use Rattle.cp_operation.specs.Loaded.{sources_in}
 use Rattle.cp_db.specs.Committed.{HasKept}
 use Rattle.cp_db.proofs.TakingCommits.{refused-commit, replays-same, taken-commit}

@@ -1,5 +1,5 @@
 use Rattle.std.proofs.Common.{◌≡◌, ◌∙◌, sym}
-use Rattle.cp_store.proofs.AskLemmas.{asked-on}
+use Rattle.cp_model.proofs.AskLemmas.{asked-on}
 use Rattle.cp_query.proofs.Steps.{leg-kept, goes-back, on-back, on-end}
 use Rattle.cp_query.proofs.Noting.{noted-kept, places-on, places-end, found-on, found-end}
 use Rattle.cp_query.proofs.walk.Walk.note_past.Goals as goal

@@ -1,6 +1,6 @@
 use Rattle.std.proofs.Common.{◌≡◌, ◌++◌, ◌||◌, ℕ, true}
 use Rattle.cp_model.specs.Place.{in_target}
-use Rattle.cp_store.specs.Calls.{Asked}
+use Rattle.cp_model.specs.Calls.{Asked}
 use Rattle.cp_query.specs.Events.{is_tid, losses_in, places_from, tids_back}
 use Rattle.cp_query.specs.Legs.{readings_in}
 use Rattle.cp_query.proofs.walk.Walk.note_past.Given as goal

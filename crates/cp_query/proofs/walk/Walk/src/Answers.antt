@@ -1,5 +1,5 @@
 use Rattle.std.proofs.Common.{sym, ◌∙◌}
-use Rattle.cp_store.proofs.AskLemmas.{asked-on}
+use Rattle.cp_model.proofs.AskLemmas.{asked-on}
 use Rattle.cp_query.proofs.Steps.{leg-kept, goes-back, on-back, on-end, src-on, src-end}
 use Rattle.cp_query.proofs.walk.Walk.src.Goals as goal
 

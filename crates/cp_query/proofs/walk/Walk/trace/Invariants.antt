@@ -1,6 +1,6 @@
 use Rattle.std.proofs.Common.{◌≡◌, true}
 use Rattle.cp_model.specs.Place.{in_target}
-use Rattle.cp_store.specs.Calls.{Asked}
+use Rattle.cp_model.specs.Calls.{Asked}
 use Rattle.cp_query.specs.Legs.{readings_in, trace_from}
 use Rattle.cp_query.proofs.Steps.{after_segments}
 use Rattle.cp_query.proofs.walk.Walk.trace.Given as goal

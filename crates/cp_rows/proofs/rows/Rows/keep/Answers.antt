@@ -2,7 +2,7 @@ use Rattle.std.proofs.Common.{◌≡◌, ◌+◌, ◌++◌, ◌<◌, ◌≤◌, 
 use Rattle.std.specs.Prelude.{nat_lt}
 use Rattle.std.specs.List.{list_all}
 use Rattle.cp_model.specs.Place.{in_target}
-use Rattle.cp_store.specs.Changes.{goes_before, is_source}
+use Rattle.cp_model.specs.Changes.{goes_before, is_source}
 use Rattle.cp_rows.proofs.Before.{all-before, next-target, next-source, next-le}
 use Rattle.cp_rows.proofs.Keeping.{stored-later}
 use Rattle.cp_rows.proofs.rows.Rows.keep.Goals as goal

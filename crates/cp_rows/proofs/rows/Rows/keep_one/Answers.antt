@@ -2,7 +2,7 @@ use Rattle.std.proofs.Common.{◌≡◌, ◌≤◌, ◌+◌, ◌++◌, ◌∷◌
 use Rattle.std.specs.List.{list_all, flat_map}
 use Rattle.std.specs.Option.{option_map}
 use Rattle.cp_path.specs.Encoding.{counted_bytes}
-use Rattle.cp_store.specs.Changes.{goes_before}
+use Rattle.cp_model.specs.Changes.{goes_before}
 use Rattle.cp_rows.specs.Index.{StepNoted}
 use Rattle.cp_rows.specs.Rows.{IsStored}
 use Rattle.cp_rows.proofs.Keeping.{joined-row, stored-more}

@@ -1,5 +1,5 @@
 use Rattle.std.proofs.Common.{◌≡◌, ◌-◌, ◌≤◌, length, take}
-use Rattle.cp_store.specs.Changes.{records_at}
+use Rattle.cp_model.specs.Changes.{records_at}
 use Rattle.cp_rows.proofs.rows.Rows.rows_of.Given as goal
 
 abbrev pub invariant-loop-alloc : goal.invariant-loop-alloc

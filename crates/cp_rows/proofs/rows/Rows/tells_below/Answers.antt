@@ -2,7 +2,7 @@ use Rattle.std.proofs.Common.{◌≡◌, ◌++◌, sym, ap, ◌∙◌}
 use Rattle.std.specs.List.{flat_map}
 use Rattle.std.specs.Option.{option_map}
 use Rattle.cp_path.specs.Encoding.{counted_bytes}
-use Rattle.cp_store.specs.Below.{tells_below}
+use Rattle.cp_model.specs.Below.{tells_below}
 use Rattle.cp_rows.specs.Blocks.{all_records}
 use Rattle.cp_rows.proofs.Below.{key_with, given, tells-label, tells_none}
 use Rattle.cp_rows.proofs.rows.Rows.tells_below.Goals as goal

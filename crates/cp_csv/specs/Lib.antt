@@ -1,2 +1,0 @@
-pub mod CsvTrees
-pub mod Steps

@@ -1,8 +1,0 @@
-mod Parsing
-mod Walking
-mod Looking
-mod Growing
-mod Surveying
-mod Fitting
-mod Ordered
-mod Worked

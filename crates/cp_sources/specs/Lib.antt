@@ -1,0 +1,9 @@
+pub mod CsvTrees
+pub mod Steps
+pub mod Places
+pub mod JsonTrees
+pub mod Walks
+pub mod Growing
+pub mod Surveys
+pub mod Ordered
+pub mod Examples

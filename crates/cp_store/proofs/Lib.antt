@@ -1,2 +1,0 @@
-pub mod AskLemmas
-pub mod NewestLemmas

@@ -1,4 +1,0 @@
-pub mod Below
-pub mod Calls
-pub mod Changes
-pub mod Steps
