@@ -11,7 +11,7 @@ use cp_tree::TreeRep;
 use std::alloc::{AllocError, Global};
 
 /// What a call meets that may fail.
-#[derive(Clone, Copy, Debug, Drop, PartialEq, Eq)]
+#[derive(Clone, Copy, PartialEq, Eq, Drop)]
 pub(crate) enum Device {
     Disk,
     File,

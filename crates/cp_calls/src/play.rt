@@ -351,15 +351,8 @@ impl<R: Files, P: Program> Player for Stage<'_, R, P> {
     }
 
     fn begin(&mut self, alloc: Global, real: bool) {
+        *self = Stage::new(alloc, self.setting.runtime, self.setting.program);
         self.setting.real = real;
-        self.setting.files = Vec::new(alloc);
-        self.setting.before = Vec::new(alloc);
-        self.stores = StoreFiles::new(alloc);
-        self.left = Vec::new(alloc);
-        self.made = None;
-        self.call = None;
-        self.outcome = None;
-        self.differs = false;
     }
 
     fn take(&mut self, alloc: Global, step: &Step) -> Result<Option<String>, AllocError> {

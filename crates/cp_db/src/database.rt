@@ -29,7 +29,7 @@ pub struct Db<R: TreeRep, S: TreeRep> {
 }
 
 /// The first and the last Tid of a commit.
-#[derive(Clone, Copy, Debug, Drop, PartialEq, Eq)]
+#[derive(Clone, Copy, Drop)]
 pub struct Tids {
     pub low: u64,
     pub high: u64,

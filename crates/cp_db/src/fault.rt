@@ -5,7 +5,7 @@ use std::alloc::AllocError;
 use thiserror::Error;
 
 /// Why no store was made.
-#[derive(Clone, Copy, Debug, Drop, PartialEq, Eq, Error)]
+#[derive(Clone, Copy, Debug, Drop, Error)]
 pub enum InitFault {
     /// The file isn't vacant. It is as it was.
     #[error("a store exists")]
@@ -18,7 +18,7 @@ pub enum InitFault {
 }
 
 /// Why a file wasn't opened.
-#[derive(Clone, Copy, Debug, Drop, PartialEq, Eq, Error)]
+#[derive(Clone, Copy, Debug, Drop, Error)]
 pub enum OpenFault {
     /// The file is no store's. The number is the offset of what isn't as it has to be: 0 for the header, that of a slot
     /// that is open, or that of the gate of a frame.
@@ -32,7 +32,7 @@ pub enum OpenFault {
 }
 
 /// Why a source wasn't kept, or a file not made one of version 2.
-#[derive(Clone, Copy, Debug, Drop, PartialEq, Eq, Error)]
+#[derive(Clone, Copy, Debug, Drop, Error)]
 pub enum WriteFault {
     /// The entry is over its limit, or the file would be. Nothing has changed.
     #[error("too large")]
@@ -45,7 +45,7 @@ pub enum WriteFault {
 }
 
 /// Why a transaction wasn't committed.
-#[derive(Clone, Copy, Debug, Drop, PartialEq, Eq, Error)]
+#[derive(Clone, Copy, Debug, Drop, Error)]
 pub enum CommitFault {
     /// It holds no operation.
     #[error("no operation")]

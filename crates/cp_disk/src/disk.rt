@@ -9,7 +9,7 @@ use crate::limits::{DISK_MAX, READ_MAX};
 use thiserror::Error;
 
 /// Why a disk did not do what it was asked for.
-#[derive(Clone, Copy, Debug, Drop, PartialEq, Eq, Error)]
+#[derive(Clone, Copy, Debug, PartialEq, Eq, Drop, Error)]
 pub enum DiskFault {
     /// The disk failed; its count of faults has risen. The call may have taken effect, in any part.
     #[error("the disk failed")]

@@ -9,7 +9,7 @@ use crate::edit::{Edit, LoggedEdit, place};
 use std::alloc::{AllocError, Global};
 
 /// Which of the many images that a crash may leave it leaves.
-#[derive(Clone, Copy, Debug, Drop, PartialEq, Eq)]
+#[derive(Clone, Copy, Debug, Drop)]
 pub enum Crash {
     /// The content at the last sync.
     Old,

@@ -3,7 +3,7 @@ use std::alloc::{AllocError, AllocFailed};
 use thiserror::Error;
 
 /// Why an operation isn't applied.
-#[derive(Clone, Copy, Debug, Drop, PartialEq, Eq, Error)]
+#[derive(Clone, Copy, Debug, Drop, Error)]
 pub enum ApplyFault {
     /// The transaction had failed at the operation of this number.
     #[error("the transaction has failed")]
@@ -17,7 +17,7 @@ pub enum ApplyFault {
 }
 
 /// Why a transaction gives no step.
-#[derive(Clone, Copy, Debug, Drop, PartialEq, Eq, Error)]
+#[derive(Clone, Copy, Debug, Drop, Error)]
 pub enum FinishFault {
     /// It holds no operation.
     #[error("no operation")]

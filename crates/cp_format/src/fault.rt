@@ -2,7 +2,7 @@ use std::alloc::{AllocError, AllocFailed};
 use thiserror::Error;
 
 /// Why nothing was read.
-#[derive(Clone, Copy, Debug, Drop, PartialEq, Eq, Error)]
+#[derive(Clone, Copy, Debug, Drop, Error)]
 pub enum FormatFault {
     /// The offset of the first byte with which no spelling goes on, or the end where the bytes end too early.
     #[error("no spelling goes on at byte {0}")]

@@ -18,7 +18,7 @@ use cp_rows::{Rows, Step, done_by, key_of};
 use std::alloc::{AllocError, Global};
 
 /// A step with a row at a place above another, or at that place itself, and how many labels it has.
-#[derive(Clone, Copy, PartialEq, Eq, Debug)]
+#[derive(Clone, Copy)]
 pub(crate) struct Above {
     pub(crate) step: Step,
     pub(crate) depth: usize,

@@ -2,7 +2,7 @@ ghost use Rattle.std.specs.Prelude.{◌≡◌};
 ghost use Rattle.cp_interpreter.specs.Ends.{code_of};
 
 /// How a call ends.
-#[derive(Clone, Copy, Debug, Drop, PartialEq, Eq)]
+#[derive(Clone, Copy, Drop)]
 pub enum End {
     /// All was done, and nothing was refused.
     Done,
@@ -30,7 +30,7 @@ pub enum End {
 
 /// The exit status of the program: 0 done, 1 refused, 2 usage, 3 input or file, 4 output, 5 disk, 6 not a store, 7 memory,
 /// 8 input too long, 9 clock.
-#[derive(Clone, Copy, Debug, Drop, PartialEq, Eq)]
+#[derive(Clone, Copy, Drop)]
 pub struct Status {
     pub code: u8,
 }

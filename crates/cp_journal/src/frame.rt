@@ -11,7 +11,7 @@ pub const ENTRY: u8 = 0x45;
 pub const CHECKPOINT: u8 = 0x50;
 
 /// Where a frame stands: the offset of its gate, its tag, and the bytes of its body.
-#[derive(Clone, Copy, Debug, Drop, PartialEq, Eq)]
+#[derive(Clone, Copy, Drop)]
 pub struct FrameAt {
     pub at: u64,
     pub tag: u8,

@@ -12,14 +12,14 @@ use crate::limits::{HEADER_SIZE, VERSION_AT};
 use cp_disk::{Disk, DiskFault};
 
 /// An open slot: its number, and the offset of the gate of a checkpoint.
-#[derive(Clone, Copy, Debug, Drop, PartialEq, Eq)]
+#[derive(Clone, Copy, Drop)]
 pub struct Slot {
     pub seq: u64,
     pub at: u64,
 }
 
 /// What the header of a store says. A slot that is closed is `None`.
-#[derive(Clone, Copy, Debug, Drop, PartialEq, Eq)]
+#[derive(Clone, Copy, Drop)]
 pub struct Header {
     pub version: u8,
     pub first: Option<Slot>,

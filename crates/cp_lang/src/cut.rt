@@ -16,7 +16,7 @@ pub enum Cut {
 }
 
 /// Where the scan for the ends of statements stands: outside or inside quotation marks, or behind a backslash inside.
-#[derive(Clone, Copy, Debug, Drop, PartialEq, Eq)]
+#[derive(Clone, Copy, PartialEq, Eq, Drop)]
 pub(crate) enum Mode {
     Outside,
     Inside,

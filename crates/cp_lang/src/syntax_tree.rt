@@ -24,7 +24,7 @@ pub enum Stmt {
 }
 
 /// Why a text is no statement. Offsets count from the text's first byte.
-#[derive(Clone, Copy, Debug, Drop, PartialEq, Eq, Error)]
+#[derive(Clone, Copy, Debug, Drop, Error)]
 pub enum StmtFault {
     /// The first token that can't stand, or the text's end.
     #[error("syntax at {0}")]

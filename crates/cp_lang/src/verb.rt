@@ -6,7 +6,7 @@ ghost use Rattle.cp_lang.specs.Tokenized.{shape_of};
 use crate::lexer::{Shape, Token};
 
 /// The first word of a statement.
-#[derive(Clone, Copy, Debug, Drop, PartialEq, Eq)]
+#[derive(Clone, Copy, PartialEq, Eq, Drop)]
 pub(crate) enum Verb {
     Ins,
     Del,

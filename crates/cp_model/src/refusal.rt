@@ -15,7 +15,7 @@ pub enum Refusal {
 }
 
 /// Why a transaction has failed: an operation was refused, or a text could not be read.
-#[derive(Clone, Copy, Debug, PartialEq, Eq)]
+#[derive(Clone, Copy, Debug)]
 pub enum Cause {
     Refused(Refusal),
     Unread,

@@ -8,7 +8,7 @@ use std::alloc::{AllocError, AllocFailed};
 use thiserror::Error;
 
 /// How a file was read.
-#[derive(Clone, Copy, Debug, Drop, PartialEq, Eq)]
+#[derive(Clone, Copy, PartialEq, Eq, Drop)]
 pub enum FileEnd {
     /// All of it.
     Whole,
@@ -19,7 +19,7 @@ pub enum FileEnd {
 }
 
 /// Why a file was not read.
-#[derive(Clone, Copy, Debug, Drop, PartialEq, Eq, Error)]
+#[derive(Clone, Copy, Debug, Drop, Error)]
 pub enum FilesFault {
     /// The file could not be read; the count of faults has risen.
     #[error("the file could not be read")]

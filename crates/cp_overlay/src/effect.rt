@@ -19,7 +19,7 @@ use cp_model::Origin;
 use cp_path::{LABEL_MAX, LABELS_MAX, LOC_MAX, Label, Loc, LocRoom, Path};
 
 /// What a step has done to a place that is there after it: its data is the same, new, or from another place.
-#[derive(Clone, Copy, Debug, PartialEq, Eq)]
+#[derive(Clone, Copy, PartialEq, Eq)]
 pub enum Tag {
     Same,
     New,

@@ -2,7 +2,7 @@ use std::alloc::{AllocError, AllocFailed};
 use thiserror::Error;
 
 /// Why a word is no place, label, name or value. The offset of `BadEscape` counts from the word's first byte.
-#[derive(Clone, Copy, Debug, Drop, PartialEq, Eq, Error)]
+#[derive(Clone, Copy, Debug, Drop, Error)]
 pub enum PathFault {
     #[error("bad escape at {0}")]
     BadEscape(usize),

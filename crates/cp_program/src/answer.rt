@@ -33,10 +33,17 @@ fn reply_to_query<R: TreeRep, S: TreeRep, D: Disk>(
     ensures cause { Accounts IsDiskStop (D.counts disk.old).faults (D.counts disk.new).faults result }
     ensures kinds { IfErr result IsOpeningStop }
 {
-    let mut workspace = open_workspace::<R, S, D>(alloc, disk)?;
-    let reply = workspace.ask(alloc, query);
-    drop(workspace);
-    Ok(reply?)
+    match open_workspace::<R, S, D>(alloc, disk) {
+        Ok(mut workspace) => {
+            let reply = workspace.ask(alloc, query);
+            drop(workspace);
+            Ok(reply?)
+        }
+        Err(stop) => {
+            drop(query);
+            Err(stop)
+        }
+    }
 }
 
 /// What stands at and below a place of a store.
@@ -50,10 +57,17 @@ fn reply_to_show<R: TreeRep, S: TreeRep, D: Disk>(
     ensures cause { Accounts IsDiskStop (D.counts disk.old).faults (D.counts disk.new).faults result }
     ensures kinds { IfErr result IsOpeningStop }
 {
-    let workspace = open_workspace::<R, S, D>(alloc, disk)?;
-    let reply = workspace.show(alloc, place);
-    drop(workspace);
-    Ok(reply?)
+    match open_workspace::<R, S, D>(alloc, disk) {
+        Ok(workspace) => {
+            let reply = workspace.show(alloc, place);
+            drop(workspace);
+            Ok(reply?)
+        }
+        Err(stop) => {
+            drop(place);
+            Err(stop)
+        }
+    }
 }
 
 /// The commits of a store.

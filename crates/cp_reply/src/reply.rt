@@ -2,7 +2,7 @@ use cp_model::{Answer, Kind, LogList, Query, RowList, Stats, Verdict};
 use cp_path::{Label, Loc, Name, PathFault};
 
 /// What is refused: it names the front of the line.
-#[derive(Clone, Copy, Debug, PartialEq, Eq)]
+#[derive(Clone, Copy)]
 pub enum Of {
     Statement,
     Commit,

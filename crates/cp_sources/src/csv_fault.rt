@@ -2,7 +2,7 @@ use std::alloc::{AllocError, AllocFailed};
 use thiserror::Error;
 
 /// Why a CSV text has no tree. Rows are numbered from 1, the header being 0, and so are columns.
-#[derive(Clone, Copy, Debug, Drop, PartialEq, Eq, Error)]
+#[derive(Clone, Copy, Debug, Drop, Error)]
 pub enum CsvFault {
     /// There is no record at all.
     #[error("no header")]

@@ -66,7 +66,8 @@ fn look_below(
     }
 }
 
-/// Looks at the value's place at a label, if that could be made, and at the places below it.
+/// Looks at the value's place at a label, if that could be made, and at the places below it. The path is made only where it
+/// may be kept, or where there are some.
 #[cycle(look)]
 fn look_at_label(
     alloc: Global,
@@ -81,9 +82,16 @@ fn look_at_label(
     ensures { OnOk result (IsOkAnd label (λ a. first.new ≡ walk_below child with_place (child at.now a) (view value.now)
         (with_place (child at.now a) (content_of (view value.now)) first.old))) }
 {
-    let below = at.child(&label?)?;
-    look_at(first, &below, value)?;
-    look_below(alloc, first, &below, value)
+    let label = label?;
+    match value {
+        Value::Null | Value::Bool(_) | Value::String(_) => Ok(()),
+        Value::Number(number) if !number.is_f64() => Ok(()),
+        _ => {
+            let below = at.child(&label)?;
+            look_at(first, &below, value)?;
+            look_below(alloc, first, &below, value)
+        }
+    }
 }
 
 #[cycle(look)]

@@ -7,7 +7,7 @@ use cp_path::TEXT_MAX;
 
 /// What the places below a root add up to, the labels of its children counted: their number, their weight, and the
 /// greatest size and number of labels of one. It takes 12 bytes.
-#[derive(Clone, Copy, Debug, PartialEq, Eq)]
+#[derive(Clone, Copy)]
 pub struct Sums {
     pub nodes: u32,
     pub inner: u32,

@@ -21,7 +21,7 @@ use cp_tree::TreeRep;
 use std::alloc::{AllocError, Global};
 
 /// Of some places of T, at how many the data was inserted in a step, and how often it was copied.
-#[derive(Clone, Copy, Debug, PartialEq, Eq)]
+#[derive(Clone, Copy)]
 struct PlaceCounts {
     born: u32,
     copies: u64,
