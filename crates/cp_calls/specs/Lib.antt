@@ -1,1 +1,2 @@
 pub mod CaseFiles
+pub mod Twins

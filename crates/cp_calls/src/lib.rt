@@ -13,6 +13,7 @@ mod play;
 mod program;
 mod screen;
 mod setting;
+mod twin;
 
 pub use play::Stage;
 pub use program::Program;

@@ -25,8 +25,8 @@
 //! | `size N`, `bytes AT HEX` | the length of the call's store, and bytes in it |
 //! | `each DEVICE` | made again with the device failing at its first call (a disk from that on), at its second and so on, until it makes fewer: each ends with the device's status and last line, and a crash leaves each commit whose line was written, and of the others the first |
 //!
-//! A call whose input, files and store have at most 65,536 bytes is made once more in each other form of trees, and has to
-//! give the same.
+//! A call whose input, files and store have at most 65,536 bytes is made once more with trees that have every form at once,
+//! and has to give the same.
 
 use crate::call::{Call, Device, Outcome, device_of};
 use crate::failures::{fault_left, is_ended_by, last_tid};
@@ -57,7 +57,7 @@ pub struct Stage<'a, R, P> {
     made: Option<Call>,
     call: Option<Call>,
     outcome: Option<Outcome>,
-    /// Whether some forms of trees gave another outcome.
+    /// Whether trees that have every form gave another outcome.
     differs: bool,
 }
 
@@ -138,7 +138,7 @@ impl<'a, R: Files, P: Program> Stage<'a, R, P> {
         }
     }
 
-    /// Says whether the call is small and gives another outcome, or leaves another store, in another form of trees.
+    /// Says whether the call is small and gives another outcome, or leaves another store, with trees that have every form.
     fn has_other_outcome(&self, alloc: Global, call: &Call) -> Result<bool, AllocError> {
         match &self.outcome {
             Some(first) if self.setting.is_small(call) => {
@@ -164,8 +164,8 @@ impl<'a, R: Files, P: Program> Stage<'a, R, P> {
         Ok(())
     }
 
-    /// Makes a call, keeps what it gives and the store that it leaves, and compares with that what it gives in other forms of
-    /// trees.
+    /// Makes a call, keeps what it gives and the store that it leaves, and compares with that what it gives with trees that
+    /// have every form.
     fn make(&mut self, alloc: Global, call: &Call) -> Result<(), AllocError> {
         self.run(alloc, call)?;
         if !self.left.is_empty() {

@@ -3,6 +3,7 @@
 use crate::call::{Call, Outcome};
 use crate::files::CaseFiles;
 use crate::program::Program;
+use crate::twin::TwinTree;
 use cp_disk::MemDisk;
 use cp_host::HostFiles;
 use cp_outside::{MemFile, MemFiles};
@@ -13,6 +14,9 @@ use cp_tree_rows::RowTree;
 use cp_tree_share::ShareTree;
 use std::alloc::{AllocError, Global};
 use std::rt::Files;
+
+/// A tree in every form.
+type EveryTree = TwinTree<TwinTree<BoxTree, RowTree>, TwinTree<ShareTree, ArenaTree>>;
 
 /// The program that is called, and what is there at a call.
 #[derive(Drop)]
@@ -70,8 +74,7 @@ impl<R: Files, P: Program> Setting<'_, R, P> {
         Ok(outcome.is_same(other) && disk.bytes() == left)
     }
 
-    /// Says whether the call gives the same as the first in every other form of trees, and leaves the same store. The program
-    /// is compiled for each pair of forms.
+    /// Says whether the call gives the same as the first with trees that have every form, and leaves the same store.
     pub(crate) fn is_same_in_every_form(
         &self,
         alloc: Global,
@@ -79,10 +82,7 @@ impl<R: Files, P: Program> Setting<'_, R, P> {
         first: &Outcome,
         left: &[u8],
     ) -> Result<bool, AllocError> {
-        let boxes = self.is_same::<BoxTree, ShareTree>(alloc, call, first, left)?;
-        let rows = self.is_same::<RowTree, BoxTree>(alloc, call, first, left)?;
-        let arena = self.is_same::<ArenaTree, RowTree>(alloc, call, first, left)?;
-        Ok(boxes && rows && arena)
+        self.is_same::<EveryTree, EveryTree>(alloc, call, first, left)
     }
 
     /// Says whether the input, the files and the store have at most 65,536 bytes.
