@@ -109,4 +109,9 @@ impl<R: TreeRep, S: TreeRep> Db<R, S> {
             query,
         )
     }
+
+    /// Lets the database go. Its file stays as it is.
+    pub fn discard(self) {
+        drop(self);
+    }
 }

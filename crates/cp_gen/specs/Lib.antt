@@ -3,3 +3,4 @@ pub mod Choices
 pub mod Source
 pub mod Operations
 pub mod Script
+pub mod Summaries

@@ -50,6 +50,20 @@ impl<R: TreeRep, S: TreeRep> Interpreter<R, S> {
         }
     }
 
+    /// Lets the session go, with its workspace. The file stays as it is.
+    pub fn discard(self) {
+        let Interpreter {
+            alloc: _,
+            cutter,
+            workspace,
+            text,
+            refused: _,
+        } = self;
+        drop(cutter);
+        drop(text);
+        workspace.discard();
+    }
+
     /// Whether a refusal was written.
     pub(crate) fn refused(&self) -> bool
         ensures { result ≡ self.now.refused }

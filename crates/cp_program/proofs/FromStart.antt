@@ -29,7 +29,7 @@ use Rattle.cp_workspace.specs.Faults.{IsFailedFile}
 use Rattle.cp_workspace.proofs.ReadCounts.{table-first, table-second}
 use Rattle.cp_interpreter.specs.Texts.{file_line, memory_line}
 use Rattle.cp_scratch.specs.Sessions.{scratch_session, scratch_terms}
-use Rattle.cp_program.specs.Starts.{refused_start, DidFrom, Ran}
+use Rattle.cp_program.specs.InMemory.{refused_start, DidFrom, Ran}
 use Rattle.cp_interpreter.specs.Outside.{KnownInput, KnownClock, KnownOutput, Outside}
 use Rattle.cp_interpreter.specs.Play.{begun}
 use Rattle.cp_interpreter.specs.Story.{WritesLast, SaidLine, left_on, Did, result_of}

@@ -11,7 +11,8 @@ use Rattle.cp_words.specs.declared.command.Command.TheVariants as words
 use Rattle.cp_workspace.specs.Disks.{KnownDisk}
 use Rattle.cp_program.specs.Texts.{usage_text}
 use Rattle.cp_interpreter.specs.Texts.{memory_line}
-use Rattle.cp_program.specs.Starts.{start_given, start_reads, Ran}
+use Rattle.cp_scratch.specs.Starts.{start_given, start_reads}
+use Rattle.cp_program.specs.InMemory.{Ran}
 use Rattle.cp_interpreter.specs.Outside.{Outside}
 use Rattle.cp_interpreter.specs.Ends.{code_of}
 use Rattle.cp_interpreter.specs.Story.{WritesLast, RanOn, Made, HasCauses, DiskCauses, IsFaultless}

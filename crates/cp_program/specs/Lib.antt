@@ -1,5 +1,5 @@
 pub mod Texts
-pub mod Starts
+pub mod InMemory
 pub mod Begun
 pub mod Answering
 pub mod Calls

@@ -36,7 +36,7 @@ fn reply_to_query<R: TreeRep, S: TreeRep, D: Disk>(
     match open_workspace::<R, S, D>(alloc, disk) {
         Ok(mut workspace) => {
             let reply = workspace.ask(alloc, query);
-            drop(workspace);
+            workspace.discard();
             Ok(reply?)
         }
         Err(stop) => {
@@ -60,7 +60,7 @@ fn reply_to_show<R: TreeRep, S: TreeRep, D: Disk>(
     match open_workspace::<R, S, D>(alloc, disk) {
         Ok(workspace) => {
             let reply = workspace.show(alloc, place);
-            drop(workspace);
+            workspace.discard();
             Ok(reply?)
         }
         Err(stop) => {

@@ -76,6 +76,8 @@ pub(crate) fn commit<R: TreeRep, S: TreeRep, D: Disk, F: Files, K: Clock, O: Sin
     ensures disk { DiskCauses (known_disk D.Disk disk.old) (known_disk D.Disk disk.new) result }
 {
     let Ok(mut piece) = vec![in alloc; 0u8; PIECE_MAX] else {
+        drop(file);
+        drop(curator);
         return out_of_memory(output);
     };
     match begin::<R, S, D>(alloc, curator, disk) {
@@ -90,9 +92,13 @@ pub(crate) fn commit<R: TreeRep, S: TreeRep, D: Disk, F: Files, K: Clock, O: Sin
                 clock,
                 output,
             );
-            drop(session);
+            session.discard();
+            drop(file);
             end
         }
-        Err(stop) => stopped(output, stop),
+        Err(stop) => {
+            drop(file);
+            stopped(output, stop)
+        }
     }
 }

@@ -7,12 +7,11 @@ ghost use Rattle.cp_db.specs.Writing.{IsOldOrVacantOrStart};
 ghost use Rattle.cp_workspace.specs.Disks.{known_disk};
 ghost use Rattle.cp_workspace.specs.Files.{known_files, UsesFiles};
 ghost use Rattle.cp_interpreter.specs.Begins.{CreatedAs, StoreMade};
-ghost use Rattle.cp_program.specs.Starts.{start_given, start_reads};
+ghost use Rattle.cp_scratch.specs.Starts.{start_given, start_reads};
 ghost use Rattle.cp_interpreter.specs.Outside.{KnownInput, KnownClock, known_output};
 ghost use Rattle.cp_interpreter.specs.Story.{Made, HasCauses, DiskCauses};
 ghost use Rattle.cp_interpreter.specs.Turns.{IsDiskStop, IsFileStop};
 
-use crate::start::start_tree;
 use cp_db::{Db, InitFault};
 use cp_disk::Disk;
 use cp_interpreter::{End, Stop, end_with, stopped};
@@ -20,6 +19,7 @@ use cp_journal::Journal;
 use cp_model::Kind;
 use cp_outside::{Files, Sink};
 use cp_reply::{Of, Reply, Why};
+use cp_scratch::start_tree;
 use cp_tree::TreeRep;
 use cp_words::Start;
 use std::alloc::Global;
@@ -46,7 +46,7 @@ fn create<R: TreeRep, D: Disk>(
     let nodes = tree.count();
     match Db::<R, R>::init(alloc, disk, kind, tree) {
         Ok(db) => {
-            drop(db);
+            db.discard();
             Ok(Reply::Created { kind, nodes })
         }
         Err(InitFault::Disk) => Err(Stop::Disk),

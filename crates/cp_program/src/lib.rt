@@ -9,7 +9,6 @@ mod init;
 mod load;
 mod run;
 mod scratch;
-mod start;
 mod store;
 
 pub use cp_interpreter::Status;

@@ -12,13 +12,13 @@ ghost use Rattle.cp_interpreter.specs.Outside.{KnownInput, KnownClock, known_out
 ghost use Rattle.cp_interpreter.specs.Story.{HasCauses, DiskCauses};
 ghost use Rattle.cp_interpreter.specs.Turns.{IsDiskStop, IsFileStop};
 
-use crate::start::no_curator;
 use cp_db::Db;
 use cp_disk::Disk;
 use cp_interpreter::{End, Stop, end_with, stopped};
 use cp_lang::Load;
 use cp_outside::{Files, Sink};
 use cp_reply::Reply;
+use cp_scratch::no_curator;
 use cp_tree::TreeRep;
 use cp_workspace::Workspace;
 use std::alloc::Global;
@@ -52,10 +52,17 @@ fn reply_to_load<R: TreeRep, S: TreeRep, D: Disk, F: Files>(
     ensures read { HasReadSome (known_files F.Files files.old) (known_files F.Files files.new) }
     ensures cause { Accounts IsDiskStop (D.counts disk.old).faults (D.counts disk.new).faults result }
 {
-    let mut workspace = open_workspace::<R, S, D>(alloc, disk)?;
-    let reply = workspace.load(alloc, source, disk, files);
-    drop(workspace);
-    Ok(reply?)
+    match open_workspace::<R, S, D>(alloc, disk) {
+        Ok(mut workspace) => {
+            let reply = workspace.load(alloc, source, disk, files);
+            workspace.discard();
+            Ok(reply?)
+        }
+        Err(stop) => {
+            drop(source);
+            Err(stop)
+        }
+    }
 }
 
 /// Loads a source into a store, and says so, or why not.

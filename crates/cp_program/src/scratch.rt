@@ -8,20 +8,19 @@ ghost use Rattle.cp_workspace.specs.Faults.{IsFailedFile};
 ghost use Rattle.cp_workspace.specs.Files.{known_files, IsTable, Reads, UsesFiles};
 ghost use Rattle.cp_scratch.specs.Sessions.{scratch_session, scratch_terms, sure_disk};
 ghost use Rattle.cp_program.specs.Begun.{Begun};
-ghost use Rattle.cp_program.specs.Starts.{start_given, start_reads};
+ghost use Rattle.cp_scratch.specs.Starts.{start_given, start_reads};
 ghost use Rattle.cp_interpreter.specs.Outside.{known_outside};
-ghost use Rattle.cp_program.specs.Starts.{Ran};
+ghost use Rattle.cp_program.specs.InMemory.{Ran};
 ghost use Rattle.cp_interpreter.specs.Story.{HasCauses};
 ghost use Rattle.cp_interpreter.specs.Play.{begun};
 ghost use Rattle.cp_interpreter.specs.Turns.{Follows, MayGoOn, has_refused};
 
-use crate::start::{no_curator, start_tree};
 use cp_disk::SureDisk;
 use cp_interpreter::{End, Interpreter, PIECE_MAX, Stop, end_with, out_of_memory, stopped, turns};
 use cp_model::Kind;
 use cp_outside::{Clock, Files, FilesFault, Sink, Source};
 use cp_reply::{Of, Reply, Why};
-use cp_scratch::new_db;
+use cp_scratch::{new_db, no_curator, start_tree};
 use cp_tree::TreeRep;
 use cp_words::Start;
 use cp_workspace::Workspace;
@@ -101,7 +100,7 @@ fn play<R: TreeRep, S: TreeRep, F: Files, K: Clock, I: Source, O: Sink>(
     match begin::<R, S, F>(alloc, kind, start, disk, files) {
         Ok(Ok(mut session)) => {
             let end = turns(&mut session, piece, disk, files, clock, input, output);
-            drop(session);
+            session.discard();
             end
         }
         Ok(Err(why)) => end_with(alloc, refused_start(why), output),
@@ -128,9 +127,12 @@ pub(crate) fn scratch<R: TreeRep, S: TreeRep, F: Files, K: Clock, I: Source, O: 
     ensures disk { result ≡ End.Disk → ⊥ }
 {
     let Ok(mut piece) = vec![in alloc; 0u8; PIECE_MAX] else {
+        drop(start);
         return out_of_memory(output);
     };
     let Ok(mut disk) = SureDisk::new(alloc, &[]) else {
+        drop(start);
+        drop(piece);
         return out_of_memory(output);
     };
     play::<R, S, F, K, I, O>(

@@ -39,11 +39,11 @@ fn migrate<R: TreeRep, S: TreeRep, D: Disk>(
         Ok(()) => Ok(db),
         Err(WriteFault::TooLarge) => unreachable!(),
         Err(WriteFault::Disk) => {
-            drop(db);
+            db.discard();
             Err(Stop::Disk)
         }
         Err(WriteFault::Memory) => {
-            drop(db);
+            db.discard();
             Err(Stop::Memory)
         }
     }
@@ -103,7 +103,7 @@ pub(crate) fn run<R: TreeRep, S: TreeRep, D: Disk, F: Files, K: Clock, I: Source
     match begin::<R, S, D>(alloc, curator, disk) {
         Ok(mut session) => {
             let end = turns(&mut session, &mut piece, disk, files, clock, input, output);
-            drop(session);
+            session.discard();
             end
         }
         Err(stop) => stopped(output, stop),

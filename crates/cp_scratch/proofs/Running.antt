@@ -3,9 +3,9 @@ use Rattle.std.proofs.Common.{◌≡◌, ◌∙◌, ℕ, List, [], ◌∷◌, �
 use Rattle.std.specs.Prelude.{if◌then◌else◌, drop, ⊤, IfOk, OnOk, Result}
 use Rattle.std.specs.declared.option.Option.{Option}
 use Rattle.std.specs.declared.option.Option.TheVariants.{None, Some}
-use Rattle.cp_outside.specs.Moments.{TellsOne, HasTold}
+use Rattle.cp_outside.specs.Moments.{HasTold}
 use Rattle.cp_model.specs.Tree.{Tree}
-use Rattle.cp_model.specs.History.{Entry, State, commit, replay, after_commit, steps_of}
+use Rattle.cp_model.specs.History.{Entry, State, commit, replay, after_commit}
 use Rattle.cp_model.specs.declared.kind.Kind.{Kind}
 use Rattle.cp_model.specs.declared.op.Op.{Op}
 use Rattle.cp_model.specs.declared.refusal.Refusal.{Refusal}
@@ -15,11 +15,12 @@ use Rattle.cp_lang.specs.declared.syntax_tree.Stmt.TheVariants as stmt
 use Rattle.cp_reply.specs.declared.reply.Reply.{Reply}
 use Rattle.cp_reply.specs.Session.{Session, Setting, Turn, OpenTransaction, closed, going, failed, says, turn_of, turn_by, on_operation, on_commit, decide_op, refusal_after, next_moment, new_records, session_after_statements}
 use Rattle.cp_gen.specs.Script.{IsOpOrCommit, script}
+use Rattle.cp_gen.specs.Summaries.{IsAt, summary_of}
+use Rattle.cp_db.specs.declared.database.Db.{Db}
 use Rattle.cp_workspace.specs.Texts.{Terms, setting}
 use Rattle.cp_workspace.specs.Disks.{KnownDisk}
-use Rattle.cp_workspace.specs.Workspaces.{Stands, HasTurned}
+use Rattle.cp_workspace.specs.Workspaces.{Stands, HasTurned, db_in}
 use Rattle.cp_workspace.specs.declared.workspace.Workspace.{Workspace}
-use Rattle.cp_workspace.specs.Summaries.{summary_of}
 use Rattle.cp_scratch.specs.Sessions.{no_files}
 use Rattle.cp_scratch.specs.Workloads.{ComesTo, workload_session, workload_terms}
 
@@ -184,10 +185,14 @@ module _ {R S : Type 0} (view : R → Tree) (source_view : S → Tree) where
 
   -- ---- what it comes to
 
-  -- a workspace that stands for the session after a script tells what the workload comes to
-  pub comes-to : {E : Type 0} (k : Kind) (seed count : ℕ) (d : Workspace R S) (r : Result Reply E)
+  -- the database of a workspace that stands for the session after a script tells what the workload comes to
+  pub comes-to : {E : Type 0} (k : Kind) (seed count : ℕ) (d : Workspace R S) (x : Db R S) (r : Result Reply E) → x ≡ db_in d
       → Stands view source_view (workload_terms k) d (session_after_statements (setting no_files (workload_terms k)) (workload_session k) (script seed count))
-      → IfOk r (λ y. (terms : Terms) (s : Session) (t : State) → Stands view source_view terms d s → replay s.history ≡ Some t → y ≡ summary_of t)
+      → IfOk r (λ y. (t : State) → IsAt view source_view x t → y ≡ summary_of t)
       → IfOk r (λ y. ComesTo k seed count y)
-  comes-to k seed count d (Ok y) z f = record { state = z.db.committed.state; led = z.db.committed.replayed; is = f (workload_terms k) _ z.db.committed.state z z.db.committed.replayed }
-  comes-to k seed count d (Err e) z f = tt
+  comes-to k seed count d x (Ok y) same z f =
+      let t = z.db.committed.state in
+      let s = session_after_statements (setting no_files (workload_terms k)) (workload_session k) (script seed count) in
+      let at : IsAt view source_view (db_in d) t = record { history = s.history; stands = z.db; replayed = z.db.committed.replayed } in
+      record { state = t; led = z.db.committed.replayed; is = f t (subst (λ b. IsAt view source_view b t) (sym same) at) }
+  comes-to k seed count d x (Err e) same z f = tt

@@ -8,9 +8,9 @@ use Rattle.cp_reply.specs.declared.reply.Reply.{Reply}
 use Rattle.cp_reply.specs.Session.{Session, session_after_statements}
 use Rattle.cp_gen.specs.Source.{source_name, source_tree}
 use Rattle.cp_gen.specs.Script.{script}
+use Rattle.cp_gen.specs.Summaries.{summary_of}
 use Rattle.cp_workspace.specs.Texts.{Terms, setting}
 use Rattle.cp_workspace.specs.Workspaces.{opened_session}
-use Rattle.cp_workspace.specs.Summaries.{summary_of}
 use Rattle.cp_scratch.specs.Sessions.{empty_tree, no_files, scratch_terms}
 
 -- the history that a workload begins on: a root alone, and the source of the scripts

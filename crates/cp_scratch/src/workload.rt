@@ -13,13 +13,13 @@ ghost use Rattle.cp_scratch.specs.Sessions.{no_files, sure_disk};
 ghost use Rattle.cp_scratch.specs.Workloads.{ComesTo, workload_session, workload_start, workload_terms};
 
 use crate::database::new_db;
+use crate::start::no_curator;
 use cp_db::Db;
 use cp_disk::SureDisk;
-use cp_gen::{Generator, source, source_name};
+use cp_gen::{Generator, source, source_name, summary_in};
 use cp_lang::Stmt;
 use cp_model::{Content, Kind, Op};
 use cp_outside::MemClock;
-use cp_path::Label;
 use cp_reply::Reply;
 use cp_tree::TreeRep;
 use cp_workspace::Workspace;
@@ -45,7 +45,7 @@ fn db_with_source<R: TreeRep, S: TreeRep>(
         Ok(()) => Ok(db),
         // A new file has room for the source, and this disk doesn't fail.
         Err(_) => {
-            drop(db);
+            db.discard();
             Err(AllocError)
         }
     }
@@ -62,7 +62,7 @@ fn begin<R: TreeRep, S: TreeRep>(
     ensures usable { IfOk result (λ x. IsUsable R.contents S.contents (sure_disk disk.new) x) }
     ensures stamps { IfOk result (λ x. HasStamps x) }
 {
-    let curator = Label::copy_of(alloc, "")?;
+    let curator = no_curator(alloc)?;
     let db = db_with_source(alloc, kind, disk)?;
     Ok(Workspace::new(db, curator))
 }
@@ -174,12 +174,13 @@ pub fn run_workload<R: TreeRep, S: TreeRep>(
     let script = Generator::new(alloc, seed, count);
     match run_script(alloc, &mut workspace, script, &mut disk, &mut clock) {
         Ok(()) => {
-            let reply = workspace.summary(alloc);
-            drop(workspace);
+            let mut db = workspace.into_db();
+            let reply = summary_in(alloc, &mut db);
+            db.discard();
             reply
         }
         Err(fault) => {
-            drop(workspace);
+            workspace.discard();
             Err(fault)
         }
     }

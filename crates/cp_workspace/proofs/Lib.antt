@@ -3,8 +3,6 @@ mod Turning
 mod Operating
 mod Committing
 mod Answering
-mod Answered
-mod Counting
 mod Loading
 mod Blaming
 mod Fetched

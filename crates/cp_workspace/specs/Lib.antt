@@ -6,4 +6,3 @@ pub mod Disks
 pub mod Loads
 pub mod Faults
 pub mod Workspaces
-pub mod Summaries

@@ -28,7 +28,6 @@ mod operate;
 mod refusal;
 mod reply;
 mod show;
-mod summary;
 
 use crate::fault::WorkspaceFault;
 use cp_db::Db;
@@ -67,6 +66,25 @@ impl<R: TreeRep, S: TreeRep> Workspace<R, S> {
             transaction: None,
             curator,
         }
+    }
+
+    /// Gives out the database. The open transaction is dropped.
+    pub fn into_db(self) -> Db<R, S>
+        ensures { result ≡ db_in self }
+    {
+        let Workspace {
+            db,
+            transaction,
+            curator,
+        } = self;
+        drop(transaction);
+        drop(curator);
+        db
+    }
+
+    /// Lets the workspace go, with its database and the open transaction. The file stays as it is.
+    pub fn discard(self) {
+        self.into_db().discard();
     }
 
     /// Runs a statement, and gives its reply, which is none for an operation that is accepted. Costs what the statement

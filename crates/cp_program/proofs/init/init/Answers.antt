@@ -1,7 +1,7 @@
 use Rattle.std.proofs.Common.{sym, subst}
 use Rattle.cp_workspace.specs.Disks.{known_disk}
 use Rattle.cp_workspace.specs.Files.{known_files}
-use Rattle.cp_program.specs.Starts.{start_given, start_reads}
+use Rattle.cp_scratch.specs.Starts.{start_given, start_reads}
 use Rattle.cp_interpreter.specs.Outside.{known_output, Outside}
 use Rattle.cp_interpreter.specs.Begins.{StoreMade}
 use Rattle.cp_interpreter.specs.Story.{Made}

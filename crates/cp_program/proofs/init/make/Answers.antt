@@ -4,7 +4,7 @@ use Rattle.cp_journal.specs.NewStores.{IsVacant}
 use Rattle.cp_workspace.specs.Disks.{known_disk}
 use Rattle.cp_workspace.specs.Fetched.{Gives}
 use Rattle.cp_workspace.specs.Files.{known_files}
-use Rattle.cp_program.specs.Starts.{start_given, start_reads}
+use Rattle.cp_scratch.specs.Starts.{start_given, start_reads}
 use Rattle.cp_interpreter.specs.Begins.{StoreMade}
 use Rattle.cp_interpreter.proofs.Made.{made-refused, made-created, files-unblamed, stops-of}
 use Rattle.cp_program.proofs.init.make.Goals as goal

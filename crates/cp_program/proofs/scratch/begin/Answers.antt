@@ -1,7 +1,7 @@
 use Rattle.std.proofs.Common.{subst}
 use Rattle.cp_workspace.specs.Fetched.{Gives}
 use Rattle.cp_scratch.specs.Sessions.{sure_disk}
-use Rattle.cp_program.specs.Starts.{start_given}
+use Rattle.cp_scratch.specs.Starts.{start_given}
 use Rattle.cp_program.proofs.FromStart.{begun-given}
 use Rattle.cp_program.proofs.scratch.begin.Goals as goal
 

@@ -4,7 +4,8 @@ use Rattle.cp_reply.specs.Session.{FetchedFile}
 use Rattle.cp_workspace.specs.Files.{known_files}
 use Rattle.cp_reply.specs.Lines.{lines}
 use Rattle.cp_reply.specs.declared.reply.Reply.{Reply}
-use Rattle.cp_program.specs.Starts.{start_given, start_reads, refused_start, Ran}
+use Rattle.cp_scratch.specs.Starts.{start_given, start_reads}
+use Rattle.cp_program.specs.InMemory.{refused_start, Ran}
 use Rattle.cp_interpreter.specs.Job.{is_refusal}
 use Rattle.cp_interpreter.specs.Outside.{known_input, known_clock, known_output, known_outside}
 use Rattle.cp_interpreter.specs.Story.{SaidLine, HasCauses}

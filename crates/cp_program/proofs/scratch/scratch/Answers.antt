@@ -2,7 +2,8 @@ use Rattle.std.proofs.Common.{sym, subst}
 use Rattle.cp_outside.specs.FileReads.{FileTable}
 use Rattle.cp_reply.specs.Session.{FetchedFile}
 use Rattle.cp_workspace.specs.Files.{known_files}
-use Rattle.cp_program.specs.Starts.{start_given, start_reads, Ran}
+use Rattle.cp_scratch.specs.Starts.{start_given, start_reads}
+use Rattle.cp_program.specs.InMemory.{Ran}
 use Rattle.cp_interpreter.specs.Outside.{known_input, known_clock, known_output}
 use Rattle.cp_interpreter.specs.declared.end.End.{End}
 use Rattle.cp_interpreter.proofs.Runs.{parts}

@@ -1,4 +1,4 @@
-use Rattle.std.proofs.Common.{◌≡◌, refl, subst}
+use Rattle.std.proofs.Common.{refl, subst}
 use Rattle.cp_reply.specs.Session.{session_after_statements}
 use Rattle.cp_workspace.specs.Texts.{setting}
 use Rattle.cp_workspace.specs.Workspaces.{Stands}
@@ -12,7 +12,7 @@ returns-in-Ok g c =
     let view = g.R.TreeRep.contents in
     let source_view = g.S.TreeRep.contents in
     let terms = workload_terms c.args.kind in
-    comes-to view source_view c.args.kind c.args.seed c.args.count c.run_script.new.workspace c.summary-reply.result
+    comes-to view source_view c.args.kind c.args.seed c.args.count c.run_script.new.workspace c.into_db-db.result c.summary_in-reply.result c.into_db-db.ensures
     (subst (λ all. Stands view source_view terms c.run_script.new.workspace (session_after_statements (setting no_files terms) (workload_session c.args.kind) all)) c.new-script.ensures
     (c.in-Ok.ensures.ran terms (workload_session c.args.kind) c.in_ok-workspace.ensures.stands refl))
-    c.summary-reply.ensures.summary
+    c.summary_in-reply.ensures.summary

@@ -1,17 +1,12 @@
 //! What a history has come to, in numbers.
 ghost use Rattle.std.specs.Prelude.{◌≡◌, ◌<◌, ◌≤◌, ◌+◌, length, IfOk, cond};
-ghost use Rattle.std.specs.declared.option.Option.TheVariants.{Some};
 ghost use Rattle.cp_model.specs.Place.{at_target};
 ghost use Rattle.cp_model.specs.Answers.{answer_to, stats};
-ghost use Rattle.cp_model.specs.History.{State, replay};
+ghost use Rattle.cp_model.specs.History.{State};
 ghost use Rattle.cp_model.specs.declared.limits.TheConstants.{NODES_MAX};
-ghost use Rattle.cp_reply.specs.Session.{Session};
 ghost use Rattle.cp_db.specs.Databases.{IsDatabase};
-ghost use Rattle.cp_workspace.specs.Texts.{Terms};
-ghost use Rattle.cp_workspace.specs.Workspaces.{Stands, IsWorkspace, KeepsFile};
-ghost use Rattle.cp_workspace.specs.Summaries.{IsAt, HasAnswered, is_born, copies_at, count_born, count_copies, has_tid, row_paths, summary_of, tid_count};
+ghost use Rattle.cp_gen.specs.Summaries.{IsAt, HasAnswered, is_born, copies_at, count_born, count_copies, has_tid, row_paths, summary_of, tid_count};
 
-use crate::workspace::Workspace;
 use cp_db::Db;
 use cp_model::{Answer, Query, Row, Stats};
 use cp_path::{Loc, Name, Path};
@@ -218,8 +213,14 @@ fn count_places<R: TreeRep, S: TreeRep>(
     Ok(counts)
 }
 
-/// The numbers of the committed state, and of its places. Costs its rows, and `src` and `hist` of each.
-fn summary_in<R: TreeRep, S: TreeRep>(alloc: Global, db: &mut Db<R, S>) -> Result<Reply, AllocError>
+/// What the history has come to: the numbers of the committed state, and of its places, how many there are, at how many
+/// the data was inserted in a step, and how often it was copied.
+///
+/// Reads no disk. Costs the rows of the committed tree, and a `src` and a `hist` of each. An error changes nothing.
+pub fn summary_in<R: TreeRep, S: TreeRep>(
+    alloc: Global,
+    db: &mut Db<R, S>,
+) -> Result<Reply, AllocError>
     requires stands { IsDatabase R.contents S.contents db.old }
     ensures summary { IfOk result (λ r. (t : State) → IsAt R.contents S.contents db.old t → r ≡ summary_of t) }
     ensures same { HasAnswered R.contents S.contents db.old db.new }
@@ -234,22 +235,4 @@ fn summary_in<R: TreeRep, S: TreeRep>(alloc: Global, db: &mut Db<R, S>) -> Resul
         born: counts.born,
         copies: counts.copies,
     })
-}
-
-impl<R: TreeRep, S: TreeRep> Workspace<R, S> {
-    /// What the history has come to: the numbers of the committed state, and of its places, how many there are, at how
-    /// many the data was inserted in a step, and how often it was copied. The open transaction counts for nothing.
-    ///
-    /// Reads no disk. Costs the rows of the committed tree, and a `src` and a `hist` of each. An error changes nothing.
-    pub fn summary(&mut self, alloc: Global) -> Result<Reply, AllocError>
-        requires workspace { IsWorkspace R.contents S.contents self.old }
-        ensures summary { IfOk result (λ r. (terms : Terms) (s : Session) (t : State)
-            → Stands R.contents S.contents terms self.old s → replay s.history ≡ Some t → r ≡ summary_of t) }
-        ensures same { (terms : Terms) (s : Session) → Stands R.contents S.contents terms self.old s
-            → Stands R.contents S.contents terms self.new s }
-        ensures stays { IsWorkspace R.contents S.contents self.new }
-        ensures file { KeepsFile self.old self.new }
-    {
-        summary_in(alloc, &mut self.db)
-    }
 }

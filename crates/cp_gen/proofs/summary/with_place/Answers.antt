@@ -1,6 +1,6 @@
 use Rattle.std.proofs.Common.{◌+◌, cond, ap, ◌∙◌}
-use Rattle.cp_workspace.proofs.Answered.{answered-at, answered-database, answered-then}
-use Rattle.cp_workspace.proofs.workspace.summary.with_place.Goals as goal
+use Rattle.cp_gen.proofs.Answered.{answered-at, answered-database, answered-then}
+use Rattle.cp_gen.proofs.summary.with_place.Goals as goal
 
 pub copies_at-requires : goal.copies_at-requires
 copies_at-requires g c = record { stands = answered-database g.R.TreeRep.contents g.S.TreeRep.contents c.args.db.now c.is_born.new.db c.is_born.ensures.same c.requires.stands }

@@ -1,7 +1,7 @@
 use Rattle.std.proofs.Common.{◌≡◌, ◌≤◌, take}
 use Rattle.cp_model.specs.History.{State}
-use Rattle.cp_workspace.specs.Summaries.{IsAt, HasAnswered, count_born, count_copies, row_paths}
-use Rattle.cp_workspace.proofs.workspace.summary.count_places.Given as goal
+use Rattle.cp_gen.specs.Summaries.{IsAt, HasAnswered, count_born, count_copies, row_paths}
+use Rattle.cp_gen.proofs.summary.count_places.Given as goal
 
 abbrev pub invariant-loop-row : goal.invariant-loop-row
 invariant-loop-row g l = record {

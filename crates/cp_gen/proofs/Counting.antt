@@ -26,7 +26,7 @@ use Rattle.cp_model.specs.declared.row.Content.{Content}
 use Rattle.cp_model.proofs.Sorted.{sorted-entries}
 use Rattle.cp_tree.specs.Rows.{entry_row}
 use Rattle.cp_tree.proofs.BranchLemmas.{entries-from_entries, entries-sub, sub-root}
-use Rattle.cp_workspace.specs.Summaries.{is_born, copies_at, count_born, count_copies, has_tid, paths_in, row_paths, tid_count}
+use Rattle.cp_gen.specs.Summaries.{is_born, copies_at, count_born, count_copies, has_tid, paths_in, row_paths, tid_count}
 
 -- ---- what a place answers
 

@@ -2,8 +2,8 @@ use Rattle.std.proofs.Common.{◌≡◌, sym, subst, ◌∙◌}
 use Rattle.cp_path.specs.declared.loc.Loc.{Loc}
 use Rattle.cp_model.specs.Answers.{answer_to}
 use Rattle.cp_model.specs.declared.query.Query.TheVariants.{Hist}
-use Rattle.cp_workspace.proofs.Counting.{copies-given, copies-none}
-use Rattle.cp_workspace.proofs.workspace.summary.copies_at.Goals as goal
+use Rattle.cp_gen.proofs.Counting.{copies-given, copies-none}
+use Rattle.cp_gen.proofs.summary.copies_at.Goals as goal
 
 pub returns-in-Some-clause-copies : goal.returns-in-Some-clause-copies
 returns-in-Some-clause-copies g c = λ t z.

@@ -1,6 +1,6 @@
 use Rattle.std.proofs.Common.{sym, ap, ◌∙◌, Err}
-use Rattle.cp_workspace.proofs.Answered.{answers-at}
-use Rattle.cp_workspace.proofs.workspace.summary.answer_in.Goals as goal
+use Rattle.cp_gen.proofs.Answered.{answers-at}
+use Rattle.cp_gen.proofs.summary.answer_in.Goals as goal
 
 pub returns-in-Ok-clause-answer : goal.returns-in-Ok-clause-answer
 returns-in-Ok-clause-answer g c = λ t z. sym (answers-at g.R.TreeRep.contents g.S.TreeRep.contents c.args.db.now t c.args.query.now _ c.in-Ok.ensures.answer z).answer

@@ -1,8 +1,8 @@
 use Rattle.std.proofs.Common.{◌+◌, ◌∙◌, sym, ap, cond, refl, arith}
-use Rattle.cp_workspace.specs.Summaries.{is_born, copies_at, count_born, count_copies, row_paths}
-use Rattle.cp_workspace.proofs.Answered.{answered-none, answered-at, answered-database, answered-then}
-use Rattle.cp_workspace.proofs.Counting.{born-more, copies-more, all-taken}
-use Rattle.cp_workspace.proofs.workspace.summary.count_places.Goals as goal
+use Rattle.cp_gen.specs.Summaries.{is_born, copies_at, count_born, count_copies, row_paths}
+use Rattle.cp_gen.proofs.Answered.{answered-none, answered-at, answered-database, answered-then}
+use Rattle.cp_gen.proofs.Counting.{born-more, copies-more, all-taken}
+use Rattle.cp_gen.proofs.summary.count_places.Goals as goal
 
 pub loop-row-init : goal.loop-row-init
 loop-row-init g c = record {

@@ -2,8 +2,8 @@ use Rattle.std.proofs.Common.{◌≡◌, sym, subst, ◌∙◌}
 use Rattle.cp_path.specs.declared.loc.Loc.{Loc}
 use Rattle.cp_model.specs.Answers.{answer_to}
 use Rattle.cp_model.specs.declared.query.Query.TheVariants.{Src}
-use Rattle.cp_workspace.proofs.Counting.{born-given, born-none}
-use Rattle.cp_workspace.proofs.workspace.summary.is_born.Goals as goal
+use Rattle.cp_gen.proofs.Counting.{born-given, born-none}
+use Rattle.cp_gen.proofs.summary.is_born.Goals as goal
 
 pub returns-in-Some-clause-born : goal.returns-in-Some-clause-born
 returns-in-Some-clause-born g c = λ t z.

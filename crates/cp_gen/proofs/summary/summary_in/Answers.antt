@@ -5,10 +5,10 @@ use Rattle.cp_model.specs.Subtrees.{below, is_there}
 use Rattle.cp_model.specs.declared.limits.TheConstants.{NODES_MAX}
 use Rattle.cp_tree.specs.Rows.{entry_row}
 use Rattle.cp_reply.specs.declared.reply.Reply.TheVariants.{Gen}
-use Rattle.cp_workspace.specs.Summaries.{count_born, count_copies, paths_in, row_paths}
-use Rattle.cp_workspace.proofs.Answered.{answered-at, answered-database, answered-then, tree-at}
-use Rattle.cp_workspace.proofs.Counting.{rows-length, rows-paths}
-use Rattle.cp_workspace.proofs.workspace.summary.summary_in.Goals as goal
+use Rattle.cp_gen.specs.Summaries.{count_born, count_copies, paths_in, row_paths}
+use Rattle.cp_gen.proofs.Answered.{answered-at, answered-database, answered-then, tree-at}
+use Rattle.cp_gen.proofs.Counting.{rows-length, rows-paths}
+use Rattle.cp_gen.proofs.summary.summary_in.Goals as goal
 
 pub rows-requires : goal.rows-requires
 rows-requires g c = record { there = subst (λ p. is_there (g.R.TreeRep.contents c.tree.result.now) p ≡ true) (sym c.root-top.ensures) (g.met.R.TreeRep.is_tree c.tree.result.now).rooted.root }

@@ -4,7 +4,7 @@ ghost use Rattle.cp_outside.specs.FileReads.{FileTable};
 ghost use Rattle.cp_workspace.specs.Faults.{IsFailedFile};
 ghost use Rattle.cp_workspace.specs.Fetched.{Gives};
 ghost use Rattle.cp_workspace.specs.Files.{known_files, IsTable, Reads, UsesFiles};
-ghost use Rattle.cp_program.specs.Starts.{start_given, start_reads};
+ghost use Rattle.cp_scratch.specs.Starts.{start_given, start_reads};
 
 use cp_model::{Content, Form};
 use cp_outside::{Files, FilesFault};
@@ -16,7 +16,7 @@ use cp_workspace::fetch;
 use std::alloc::{AllocError, Global};
 
 /// The tree that a history starts from, or why it starts from none.
-pub(crate) fn start_tree<R: TreeRep, F: Files>(
+pub fn start_tree<R: TreeRep, F: Files>(
     alloc: Global,
     start: Start,
     files: &mut F,
@@ -36,7 +36,7 @@ pub(crate) fn start_tree<R: TreeRep, F: Files>(
 }
 
 /// The curator of those that commit without one, and of calls that commit nothing.
-pub(crate) fn no_curator(alloc: Global) -> Result<Label, AllocError>
+pub fn no_curator(alloc: Global) -> Result<Label, AllocError>
     ensures { IfOk result (λ a. a ≡ []) }
 {
     Label::copy_of(alloc, "")

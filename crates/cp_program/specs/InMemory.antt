@@ -1,18 +1,12 @@
--- What a history starts from, and what a session in memory did from there.
+-- What a session in memory did from its start.
 use Rattle.std.specs.Prelude.{ℕ, ◌+◌, List, [], true, ◌≡◌, ◌⊎◌, ◌↔◌, ◌<◌, ◌++◌, length, OnOk}
-use Rattle.cp_model.specs.Place.{target}
-use Rattle.cp_model.specs.declared.query.Form.TheVariants.{Json}
-use Rattle.cp_lang.specs.declared.syntax_tree.Load.{Load}
 use Rattle.cp_reply.specs.Lines.{lines}
 use Rattle.cp_reply.specs.declared.reply.Of.TheVariants as of
 use Rattle.cp_reply.specs.declared.reply.Why.{Why}
 use Rattle.cp_reply.specs.declared.reply.Reply.TheVariants as reply
 use Rattle.cp_reply.specs.Session.{FetchedFile, gives, withholds}
 use Rattle.cp_outside.specs.FileReads.{FileTable}
-use Rattle.cp_workspace.specs.Fetching.{fetch}
-use Rattle.cp_scratch.specs.Sessions.{empty_tree, scratch_session, scratch_terms}
-use Rattle.cp_words.specs.declared.command.Start.{Start}
-use Rattle.cp_words.specs.declared.command.Start.TheVariants.{Alone, TreeIn}
+use Rattle.cp_scratch.specs.Sessions.{scratch_session, scratch_terms}
 use Rattle.cp_interpreter.specs.declared.limits.TheConstants.{INPUT_MAX}
 use Rattle.std.specs.Io.KnownBytes.{Consumes, IsAtEnd}
 use Rattle.cp_outside.specs.Moments.{HasTold}
@@ -24,27 +18,9 @@ use Rattle.cp_interpreter.specs.Story.{WritesLast, unseen, Did, result_of, IsRun
 use Rattle.cp_interpreter.specs.declared.end.End.{End}
 use Rattle.cp_interpreter.specs.declared.end.End.TheVariants as how
 
--- ---- starts
-
--- the tree of a JSON file, as if it were loaded under the name T
-abbrev pub start_load : List ℕ → Load
-start_load file = record { name = target; form = Json; file = file }
-
--- the tree that a history starts from, or why it starts from none
-abbrev pub start_given : FileTable → Start → FetchedFile
-start_given files Alone = gives empty_tree
-start_given files (TreeIn file) = fetch files (start_load file)
-
--- how many files are read for the start tree
-abbrev pub start_reads : Start → ℕ
-start_reads Alone = 0
-start_reads (TreeIn file) = 1
-
 -- the lines of a start tree that is refused
 abbrev pub refused_start : Why → List ℕ
 refused_start w = lines (reply.Refused of.Scratch w)
-
--- ---- sessions
 
 -- The file of the start tree failed, which is all that was read, nothing of the input was taken, and the last line was written.
 abbrev pub StartFailed : ℕ → List ℕ → Outside → Outside → End → Type 0

@@ -1,9 +1,10 @@
 -- What a database answers, query after query.
 use Rattle.std.specs.Prelude.{◌≡◌, Bool, true, false, List, refl, Result}
-use Rattle.std.proofs.Common.{ap, subst, ◌∙◌}
+use Rattle.std.specs.declared.option.Option.TheVariants.{Some}
+use Rattle.std.proofs.Common.{sym, ap, subst, ◌∙◌}
 use Rattle.cp_model.specs.Tree.{Tree}
 use Rattle.cp_model.specs.Past.{tree_of}
-use Rattle.cp_model.specs.History.{Entry, State}
+use Rattle.cp_model.specs.History.{Entry, State, replay}
 use Rattle.cp_model.specs.declared.answer.Answer.{Answer}
 use Rattle.cp_model.specs.declared.query.Query.{Query}
 use Rattle.cp_query.specs.Asked.{AnswersTo}
@@ -11,12 +12,11 @@ use Rattle.cp_query.specs.declared.fault.QueryFault.{QueryFault}
 use Rattle.cp_db.specs.Databases as database
 use Rattle.cp_db.specs.Databases.{IsDatabase}
 use Rattle.cp_db.specs.declared.database.Db.{Db}
-use Rattle.cp_workspace.specs.Summaries.{IsAt, HasAnswered}
-use Rattle.cp_workspace.specs.Texts.{Terms}
-use Rattle.cp_workspace.specs.Workspaces.{Stands, IsWorkspace}
-use Rattle.cp_workspace.specs.declared.workspace.Workspace.{Workspace}
-use Rattle.cp_reply.specs.Session.{Session}
-use Rattle.cp_workspace.proofs.Answering.{one-state, stands-asked, workspace-asked}
+use Rattle.cp_gen.specs.Summaries.{IsAt, HasAnswered}
+
+-- what a history leads to is one
+one-state : (h : List Entry) (t u : State) → replay h ≡ Some t → replay h ≡ Some u → t ≡ u
+one-state h t u e f = let same : Some t ≡ Some u = sym e ∙ f in cc
 
 module _ {R S : Type 0} (view : R → Tree) (source_view : S → Tree) where
   -- what is answered in the state of each history for which it stands is answered in this one
@@ -44,12 +44,3 @@ module _ {R S : Type 0} (view : R → Tree) (source_view : S → Tree) where
     -- and for what leads to the same state
     pub answered-at : (t : State) → IsAt view source_view old t → IsAt view source_view new t
     answered-at t z = record { history = z.history; stands = x.stands true z.history z.stands; replayed = z.replayed }
-
-  module _ (d m : Workspace R S) (x : HasAnswered view source_view d.db m.db) (w : IsWorkspace view source_view d) (curator : m.curator ≡ d.curator) (there : m.transaction ≡ d.transaction) where
-    -- it may still be run on
-    pub workspace-answered : IsWorkspace view source_view m
-    workspace-answered = workspace-asked view source_view d m x.file x.stands there w
-
-    -- and it stands for the same session
-    pub stands-answered : (terms : Terms) (s : Session) → Stands view source_view terms d s → Stands view source_view terms m s
-    stands-answered terms s z = stands-asked view source_view terms d m s z w.stands x.file x.stands curator there
