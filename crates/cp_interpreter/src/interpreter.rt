@@ -81,7 +81,7 @@ impl<R: TreeRep, S: TreeRep> Interpreter<R, S> {
     {
         let told = tell(self.alloc, &reply, &mut self.text, output);
         let refused = is_refusal(&reply);
-        drop(reply);
+        reply.discard();
         told?;
         self.refused = self.refused || refused;
         Ok(())

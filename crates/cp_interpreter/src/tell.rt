@@ -132,7 +132,7 @@ pub fn end_with<O: Sink>(alloc: Global, reply: Reply, output: &mut O) -> End
 {
     let told = tell_alone(alloc, &reply, output);
     let refused = is_refusal(&reply);
-    drop(reply);
+    reply.discard();
     match told {
         Ok(()) if refused => End::Refused,
         Ok(()) => End::Done,

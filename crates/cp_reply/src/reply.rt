@@ -105,3 +105,10 @@ pub enum Reply {
         why: Why,
     },
 }
+
+impl Reply {
+    /// Lets the reply go.
+    pub fn discard(self) {
+        drop(self);
+    }
+}
