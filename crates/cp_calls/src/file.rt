@@ -85,26 +85,13 @@ impl StoreFiles {
         }
     }
 
-    /// Where the store of this name stands; how many there are where it isn't there.
-    fn place_of(&self, name: &str) -> usize {
-        let mut at = 0usize;
-        for file in &self.files {
-            if file.name.as_str() == name {
-                return at;
-            }
-            at = at.saturating_add(1);
-        }
-        at
-    }
-
     /// Takes the store of this name out, and gives what it was before the case spoiled it.
     fn take_out(&mut self, name: &str) -> Option<Vec<u8>> {
-        let at = self.place_of(name);
-        if at < self.files.len() {
-            self.files.remove(at).whole
-        } else {
-            None
-        }
+        let at = self
+            .files
+            .iter()
+            .position(|file| file.name.as_str() == name)?;
+        self.files.remove(at).whole
     }
 
     /// A call has left these bytes in the store of this name.

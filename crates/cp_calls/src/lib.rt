@@ -13,7 +13,7 @@ mod play;
 mod program;
 mod screen;
 mod setting;
-mod twin;
+mod triple;
 
 pub use play::Stage;
 pub use program::Program;

@@ -25,8 +25,8 @@
 //! | `size N`, `bytes AT HEX` | the length of the call's store, and bytes in it |
 //! | `each DEVICE` | made again with the device failing at its first call (a disk from that on), at its second and so on, until it makes fewer: each ends with the device's status and last line, and a crash leaves each commit whose line was written, and of the others the first |
 //!
-//! A call whose input, files and store have at most 65,536 bytes is made once more with trees that have every form at once,
-//! and has to give the same.
+//! A call whose input, files and store have at most 65,536 bytes is made once more with trees that have every other form at
+//! once, and has to give the same.
 
 use crate::call::{Call, Device, Outcome, device_of};
 use crate::failures::{fault_left, is_ended_by, last_tid};
@@ -57,7 +57,7 @@ pub struct Stage<'a, R, P> {
     made: Option<Call>,
     call: Option<Call>,
     outcome: Option<Outcome>,
-    /// Whether trees that have every form gave another outcome.
+    /// Whether trees that have every other form gave another outcome.
     differs: bool,
 }
 
@@ -138,13 +138,14 @@ impl<'a, R: Files, P: Program> Stage<'a, R, P> {
         }
     }
 
-    /// Says whether the call is small and gives another outcome, or leaves another store, with trees that have every form.
+    /// Says whether the call is small and gives another outcome, or leaves another store, with trees that have every other
+    /// form.
     fn has_other_outcome(&self, alloc: Global, call: &Call) -> Result<bool, AllocError> {
         match &self.outcome {
             Some(first) if self.setting.is_small(call) => {
                 let same = self
                     .setting
-                    .is_same_in_every_form(alloc, call, first, &self.left)?;
+                    .is_same_in_other_forms(alloc, call, first, &self.left)?;
                 Ok(!same)
             }
             _ => Ok(false),
@@ -165,7 +166,7 @@ impl<'a, R: Files, P: Program> Stage<'a, R, P> {
     }
 
     /// Makes a call, keeps what it gives and the store that it leaves, and compares with that what it gives with trees that
-    /// have every form.
+    /// have every other form.
     fn make(&mut self, alloc: Global, call: &Call) -> Result<(), AllocError> {
         self.run(alloc, call)?;
         if !self.left.is_empty() {

@@ -3,7 +3,7 @@
 use crate::call::{Call, Outcome};
 use crate::files::CaseFiles;
 use crate::program::Program;
-use crate::twin::TwinTree;
+use crate::triple::TripleTree;
 use cp_disk::MemDisk;
 use cp_host::HostFiles;
 use cp_outside::{MemFile, MemFiles};
@@ -15,8 +15,11 @@ use cp_tree_share::ShareTree;
 use std::alloc::{AllocError, Global};
 use std::rt::Files;
 
-/// A tree in every form.
-type EveryTree = TwinTree<TwinTree<BoxTree, RowTree>, TwinTree<ShareTree, ArenaTree>>;
+/// The committed tree in every form but the `ShareTree` that calls are made with first.
+type OtherCommitted = TripleTree<BoxTree, RowTree, ArenaTree>;
+
+/// A source's tree in every form but the `ArenaTree` that calls are made with first.
+type OtherLoaded = TripleTree<BoxTree, RowTree, ShareTree>;
 
 /// The program that is called, and what is there at a call.
 #[derive(Drop)]
@@ -74,15 +77,15 @@ impl<R: Files, P: Program> Setting<'_, R, P> {
         Ok(outcome.is_same(other) && disk.bytes() == left)
     }
 
-    /// Says whether the call gives the same as the first with trees that have every form, and leaves the same store.
-    pub(crate) fn is_same_in_every_form(
+    /// Says whether the call gives the same as the first with trees that have every other form, and leaves the same store.
+    pub(crate) fn is_same_in_other_forms(
         &self,
         alloc: Global,
         call: &Call,
         first: &Outcome,
         left: &[u8],
     ) -> Result<bool, AllocError> {
-        self.is_same::<EveryTree, EveryTree>(alloc, call, first, left)
+        self.is_same::<OtherCommitted, OtherLoaded>(alloc, call, first, left)
     }
 
     /// Says whether the input, the files and the store have at most 65,536 bytes.
