@@ -1,4 +1,4 @@
--- When the two forms of a tree agree.
+-- When another form of a tree agrees with its first.
 use Rattle.std.specs.Prelude.{◌≡◌, ⊤}
 use Rattle.std.specs.Coded.{Coded-set, Unit-prop}
 use Rattle.std.specs.declared.option.Option.{Option}

@@ -1,5 +1,5 @@
 //! A tree that is kept in three forms at once.
-ghost use Rattle.std.specs.Prelude.{◌≡◌, IfOk};
+ghost use Rattle.std.specs.Prelude.{◌≡◌, true, false, IfOk};
 ghost use Rattle.cp_calls.specs.Twins.{AreTwins, AreTwins-prop};
 
 use cp_model::{Content, Row, RowList};
@@ -23,8 +23,10 @@ pub(crate) struct TripleTree<A: TreeRep, B: TreeRep, C: TreeRep> {
 }
 
 /// The answer that differs from the two others, where one does.
-fn odd_one<T: PartialEq + Drop>(first: T, second: T, third: T) -> T
-    ensures { second ≡ first → third ≡ first → result ≡ first }
+fn odd_answer<T: PartialEq + Drop>(first: T, second: T, third: T) -> T
+    ensures same { second ≡ first → third ≡ first → result ≡ first }
+    ensures last { T.eq first second ≡ true → result ≡ third }
+    ensures middle { T.eq first second ≡ false → T.eq first third ≡ true → result ≡ second }
 {
     if first == second {
         third
@@ -36,7 +38,7 @@ fn odd_one<T: PartialEq + Drop>(first: T, second: T, third: T) -> T
 }
 
 /// The answer of all three forms; fails where two of them differ.
-fn agreed<T: PartialEq + Drop>(first: T, second: T, third: T) -> Result<T, AllocError>
+fn common_answer<T: PartialEq + Drop>(first: T, second: T, third: T) -> Result<T, AllocError>
     ensures { IfOk result (λ t. t ≡ first) }
 {
     if first == second && first == third {
@@ -63,7 +65,7 @@ impl<A: TreeRep, B: TreeRep, C: TreeRep> TreeRep for TripleTree<A, B, C> {
         let first = self.first.is_there(place);
         match (&self.second, &self.third) {
             (Some(second), Some(third)) => {
-                odd_one(first, second.is_there(place), third.is_there(place))
+                odd_answer(first, second.is_there(place), third.is_there(place))
             }
             _ => first,
         }
@@ -73,7 +75,7 @@ impl<A: TreeRep, B: TreeRep, C: TreeRep> TreeRep for TripleTree<A, B, C> {
         let first = self.first.is_node(place);
         match (&self.second, &self.third) {
             (Some(second), Some(third)) => {
-                odd_one(first, second.is_node(place), third.is_node(place))
+                odd_answer(first, second.is_node(place), third.is_node(place))
             }
             _ => first,
         }
@@ -82,7 +84,7 @@ impl<A: TreeRep, B: TreeRep, C: TreeRep> TreeRep for TripleTree<A, B, C> {
     fn has_child(&self, place: &Path, label: &Label) -> bool {
         let first = self.first.has_child(place, label);
         match (&self.second, &self.third) {
-            (Some(second), Some(third)) => odd_one(
+            (Some(second), Some(third)) => odd_answer(
                 first,
                 second.has_child(place, label),
                 third.has_child(place, label),
@@ -96,7 +98,7 @@ impl<A: TreeRep, B: TreeRep, C: TreeRep> TreeRep for TripleTree<A, B, C> {
         match (&self.second, &self.third) {
             (Some(second), Some(third)) => {
                 let second = second.content_at(alloc, place)?;
-                agreed(first, second, third.content_at(alloc, place)?)
+                common_answer(first, second, third.content_at(alloc, place)?)
             }
             _ => Ok(first),
         }
@@ -107,7 +109,7 @@ impl<A: TreeRep, B: TreeRep, C: TreeRep> TreeRep for TripleTree<A, B, C> {
         match (&self.second, &self.third) {
             (Some(second), Some(third)) => {
                 let second = second.labels_of(alloc, place)?;
-                agreed(first, second, third.labels_of(alloc, place)?)
+                common_answer(first, second, third.labels_of(alloc, place)?)
             }
             _ => Ok(first),
         }
@@ -117,7 +119,7 @@ impl<A: TreeRep, B: TreeRep, C: TreeRep> TreeRep for TripleTree<A, B, C> {
         let first = self.first.reach(place);
         match (&self.second, &self.third) {
             (Some(second), Some(third)) => {
-                odd_one(first, second.reach(place), third.reach(place))
+                odd_answer(first, second.reach(place), third.reach(place))
             }
             _ => first,
         }
@@ -201,7 +203,7 @@ impl<A: TreeRep, B: TreeRep, C: TreeRep> TreeRep for TripleTree<A, B, C> {
             (Some(second), Some(third)) => {
                 let second = second.rows(alloc, place)?.items;
                 let third = third.rows(alloc, place)?.items;
-                let items = agreed(first.items, second, third)?;
+                let items = common_answer(first.items, second, third)?;
                 Ok(RowList { items })
             }
             _ => Ok(first),
@@ -211,7 +213,7 @@ impl<A: TreeRep, B: TreeRep, C: TreeRep> TreeRep for TripleTree<A, B, C> {
     fn count(&self) -> u32 {
         let first = self.first.count();
         match (&self.second, &self.third) {
-            (Some(second), Some(third)) => odd_one(first, second.count(), third.count()),
+            (Some(second), Some(third)) => odd_answer(first, second.count(), third.count()),
             _ => first,
         }
     }
@@ -219,7 +221,7 @@ impl<A: TreeRep, B: TreeRep, C: TreeRep> TreeRep for TripleTree<A, B, C> {
     fn weight(&self) -> u64 {
         let first = self.first.weight();
         match (&self.second, &self.third) {
-            (Some(second), Some(third)) => odd_one(first, second.weight(), third.weight()),
+            (Some(second), Some(third)) => odd_answer(first, second.weight(), third.weight()),
             _ => first,
         }
     }
