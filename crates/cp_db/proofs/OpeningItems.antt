@@ -8,7 +8,7 @@ use Rattle.cp_format.specs.Formats.{Reads}
 use Rattle.cp_model.specs.Keyed.{from_entries}
 use Rattle.cp_model.specs.Literals.{literal_rows}
 use Rattle.cp_model.specs.Tree.{Tree, IsTree}
-use Rattle.cp_model.specs.History.{Entry as History, start as begun, replay}
+use Rattle.cp_model.specs.History.{Entry as History, start as begun, replay, start_state}
 use Rattle.cp_model.specs.declared.kind.Kind.{Kind}
 use Rattle.cp_model.specs.declared.literal.Literal.{Literal}
 use Rattle.cp_journal.specs.Frames.{Frame}
@@ -21,7 +21,7 @@ use Rattle.cp_frame.specs.declared.entry.Entry.{Entry}
 use Rattle.cp_frame.specs.declared.entry.Entry.TheVariants as entry
 use Rattle.cp_frame.specs.Items.{Item, an_entry, a_checkpoint, IsHeld, IsOfVersion, AreHeld, CanStand, AllStand, Tell, after_item, entries_in, records_in}
 use Rattle.cp_frame.proofs.Standing.{held-append, replayed-items, stand-append, stops-here}
-use Rattle.cp_db.specs.Committed.{HasReplayed, HasTaken, CanTake}
+use Rattle.cp_db.specs.Committed.{CanTake, HasTaken, KeepsState}
 use Rattle.cp_db.specs.Opening.{RefusesAs, ReplaysAs, SpellsAs, StartsAs, TellsAs}
 use Rattle.cp_db.specs.declared.committed.Committed.{Committed}
 use Rattle.cp_db.specs.declared.fault.OpenFault.{OpenFault}
@@ -105,26 +105,34 @@ start_allowed v k l (load n t) is = absurd is
 start_allowed v k l (commit b) is = absurd is
 start_allowed v k l (stamped s b) is = absurd is
 
+-- a start leads to its state
+start_replayed : (k : Kind) (t : Tree) → replay (begun k t ∷ []) ≡ Some (start_state k t)
+unfolding replay
+start_replayed k t = refl
+
 module _ {R S : Type 0} (view : R → Tree) (source_view : S → Tree) where
   -- a start is taken
   pub start_taken : (c : Committed R S) (k : Kind) (l : Literal) (t : Tree) (w : WrittenEntry) → IsEntry (entry.Start k l) w → IsTree (from_entries (literal_rows l)) → t ≡ from_entries (literal_rows l)
-      → HasReplayed view source_view false c (begun k t ∷ []) → c.store.rows.list ≡ [] → HasTaken view source_view c (an_entry w ∷ [])
-  start_taken c k l t (start j x) is tree same replayed none =
+      → KeepsState view source_view c (start_state k t) → c.store.rows.list ≡ [] → HasTaken view source_view c (an_entry w ∷ [])
+  start_taken c k l t (start j x) is tree same keeps none =
       let rows : from_entries (literal_rows l) ≡ from_entries (rows_of x) = ap from_entries (sym is.1) in
+      let means : begun j (from_entries (rows_of x)) ≡ begun k t = cc (is.0, same ∙ rows) in
       record {
         stand = ((subst IsTree rows tree, tt), tt);
-        replayed = subst (HasReplayed view source_view false c) (cc (is.0, same ∙ rows)) replayed;
+        state = start_state k t;
+        replayed = ap (λ (e : History). replay (e ∷ [])) means ∙ start_replayed k t;
+        keeps = keeps;
         kept = none;
       }
-  start_taken c k l t (load n x) is tree same replayed none = absurd is
-  start_taken c k l t (commit b) is tree same replayed none = absurd is
-  start_taken c k l t (stamped s b) is tree same replayed none = absurd is
+  start_taken c k l t (load n x) is tree same keeps none = absurd is
+  start_taken c k l t (commit b) is tree same keeps none = absurd is
+  start_taken c k l t (stamped s b) is tree same keeps none = absurd is
 
   -- as what the first frame holds, where this spells it
   pub starts_as : (v : ℕ) (f : Frame) (rest : List Frame) (c : Committed R S) (k : Kind) (l : Literal) (t : Tree) (w : WrittenEntry) → f.tag ≡ ENTRY → IsEntry (entry.Start k l) w → Reads entry_format f.body w [] → IsTree (from_entries (literal_rows l)) → t ≡ from_entries (literal_rows l)
-      → HasReplayed view source_view false c (begun k t ∷ []) → c.store.rows.list ≡ [] → StartsAs view source_view v (f ∷ rest) (Ok c)
-  starts_as v f rest c k l t w tag is reads tree same replayed none =
-      (f, rest, an_entry w, refl, record { tag = tag; body = reads; allowed = start_allowed v k l w is }, start_taken c k l t w is tree same replayed none)
+      → KeepsState view source_view c (start_state k t) → c.store.rows.list ≡ [] → StartsAs view source_view v (f ∷ rest) (Ok c)
+  starts_as v f rest c k l t w tag is reads tree same keeps none =
+      (f, rest, an_entry w, refl, record { tag = tag; body = reads; allowed = start_allowed v k l w is }, start_taken c k l t w is tree same keeps none)
 
   -- or the frames tell no history, where it spells nothing
   pub starts_not : (v : ℕ) (f : Frame) (rest : List Frame) (e : OpenFault) → f.tag ≡ ENTRY → SpellsAs f (Err e) → StartsAs view source_view v (f ∷ rest) (Err e)
@@ -137,7 +145,7 @@ module _ {R S : Type 0} (view : R → Tree) (source_view : S → Tree) where
   module _ (c : Committed R S) (items : List Item) (t : HasTaken view source_view c items) where
     -- after what has been taken there is a state
     reached : is_some (fold after_item None items) ≡ true
-    reached = ap is_some (sym (replayed-items items) ∙ t.replayed.replayed)
+    reached = ap is_some (sym (replayed-items items) ∙ t.replayed)
 
     no_entry_more : (body : List ℕ) → flat_map entries_in (items ++ a_checkpoint body ∷ []) ≡ flat_map entries_in items
     no_entry_more body = flat_map-append entries_in items (a_checkpoint body ∷ []) ∙ append-nil (flat_map entries_in items)
@@ -149,7 +157,9 @@ module _ {R S : Type 0} (view : R → Tree) (source_view : S → Tree) where
     pub checkpoint_taken : (body : List ℕ) → HasTaken view source_view c (items ++ a_checkpoint body ∷ [])
     checkpoint_taken body = record {
       stand = stand-append false None items (a_checkpoint body ∷ []) t.stand (reached, tt);
-      replayed = subst (HasReplayed view source_view false c) (sym (no_entry_more body)) t.replayed;
+      state = t.state;
+      replayed = ap replay (no_entry_more body) ∙ t.replayed;
+      keeps = t.keeps;
       kept = t.kept ∙ sym (no_record_more body);
     }
 

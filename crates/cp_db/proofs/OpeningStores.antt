@@ -1,11 +1,11 @@
 -- A file that is opened is a store where a database comes of it, and none where its parts are not those of one.
-use Rattle.std.proofs.Common.{◌≡◌, ◌≤◌, ◌+◌, ◌∙◌, ◌==◌, ◌⊎◌, inl, inr, ℕ, Bool, true, false, if◌then◌else◌, List, length, take, drop, get_or, nat_lt, refl, sym, ap, subst, arith, length-take, Ok, Err}
+use Rattle.std.proofs.Common.{◌≡◌, ◌≤◌, ◌+◌, ◌∙◌, ◌==◌, ◌⊎◌, inl, inr, ℕ, Bool, true, false, IsTrue, if◌then◌else◌, List, length, fold, take, drop, get_or, nat_lt, refl, sym, ap, subst, arith, length-take, Ok, Err}
 use Rattle.std.specs.List.{flat_map}
 use Rattle.std.specs.declared.option.Option.{Option}
 use Rattle.std.specs.declared.option.Option.TheVariants.{None, Some}
 use Rattle.std.proofs.lemmas.Bool.{cases_Bool}
 use Rattle.cp_model.specs.Tree.{Tree}
-use Rattle.cp_model.specs.History.{Entry as History}
+use Rattle.cp_model.specs.History.{Entry as History, State}
 use Rattle.cp_disk.specs.Views.{View, Rests}
 use Rattle.cp_journal.specs.Frames.{Frame, frames_of}
 use Rattle.cp_journal.specs.Headers.{HasHeader, header_in}
@@ -14,17 +14,18 @@ use Rattle.cp_journal.specs.Journals.{JournalState, Describes, HasWalked, Lists}
 use Rattle.cp_journal.specs.declared.header.Header.{Header}
 use Rattle.cp_journal.specs.declared.header.Slot.{Slot}
 use Rattle.cp_journal.specs.declared.limits.TheConstants.{HEADER_SIZE, VERSION_AT}
-use Rattle.cp_frame.specs.Items.{Item, AllStand, Tell, entries_in}
-use Rattle.cp_frame.specs.Stands.{IsStore}
-use Rattle.cp_frame.proofs.Images.{StoreParts, closed_header, parts-store, store-parts}
+use Rattle.cp_frame.specs.Items.{Item, AllStand, AreHeld, Tell, after_item, entries_in}
+use Rattle.cp_frame.specs.Stands.{IsClosed, IsTold, OpensFirst, Replays, header_of}
+use Rattle.cp_frame.proofs.Images.{closed_header, closed-is, held-length, opens-replays, told-parts}
 use Rattle.cp_frame.proofs.Standing.{held-one, replayed-items, rows-right}
-use Rattle.cp_db.specs.Committed.{HasReplayed, HasTaken}
-use Rattle.cp_db.specs.Databases.{IsKept, Stands}
+use Rattle.cp_db.specs.Committed.{HasRows, HasTaken, LeadsTo}
+use Rattle.cp_db.specs.Databases.{HoldsState, IsKept, Stands}
 use Rattle.cp_db.specs.Opening.{HasOpened, OpensAs, TellsAs, open_slot}
 use Rattle.cp_db.specs.declared.committed.Committed.{Committed}
 use Rattle.cp_db.specs.declared.database.Db.{Db}
 use Rattle.cp_db.specs.declared.fault.OpenFault.{OpenFault}
 use Rattle.cp_db.specs.declared.fault.OpenFault.TheVariants.{NoStore, Disk, Memory}
+use Rattle.cp_db.proofs.Taking.{taken-leads}
 
 -- ---- headers
 
@@ -106,33 +107,35 @@ module _ (c : List ℕ) (has : HasHeader c) where
 
 -- ---- the database
 
+-- what a history leads to is one
+one_state : (o : Option State) (s z : State) → o ≡ Some s → o ≡ Some z → s ≡ z
+one_state o s z e f = let same : Some s ≡ Some z = sym e ∙ f in cc
+
+module _ (c : List ℕ) (hd : Header) (has : HasHeader c) (said : hd ≡ header_in (take HEADER_SIZE c)) where
+  version_is : (header_of c).version ≡ hd.version
+  version_is = ap (λ (x : Header). x.version) (sym said)
+
+  -- what is told is told by the frames that are found, in the version that was found
+  pub told_here : (right : Bool) (h : List History) → IsTold right h c → (1 ≤ length (frames_of (drop HEADER_SIZE c)).frames) × Tell right hd.version (frames_of (drop HEADER_SIZE c)).frames h
+  told_here right h is = let p = told-parts right h c is in (p.some, subst (λ (n : ℕ). Tell right n (frames_of (drop HEADER_SIZE c)).frames h) version_is p.tell)
+
+  -- what is held in the version that was found is held in that of the file
+  pub held_here : (fs : List Frame) (items : List Item) → AreHeld hd.version fs items → AreHeld (header_of c).version fs items
+  held_here fs items held = subst (λ (n : ℕ). AreHeld n fs items) (sym version_is) held
+
+  -- its slots are closed
+  pub closed_here : open_slot hd ≡ None → IsClosed (header_of c)
+  closed_here closed = closed-is (header_of c) hd.version (sym said ∙ closed_is hd closed)
+
 module _ {R S : Type 0} (view : R → Tree) (source_view : S → Tree) where
-  -- what is right where the records are, of what has been taken
-  right_replayed : (right : Bool) (c : Committed R S) (items : List Item) → HasTaken view source_view c items → AllStand right None items → HasReplayed view source_view right c (flat_map entries_in items)
-  right_replayed right c items t stand = record {
-    state = t.replayed.state;
-    replayed = t.replayed.replayed;
-    legal = t.replayed.legal;
-    kind = t.replayed.kind;
-    sources = t.replayed.sources;
-    bounded = t.replayed.bounded;
-    tree = t.replayed.tree;
-    rows = λ is. t.kept ∙ sym (rows-right items t.replayed.state (subst (λ (b : Bool). AllStand b None items) is stand) (sym (replayed-items items) ∙ t.replayed.replayed));
-    upto = t.replayed.upto;
-    commits = t.replayed.commits;
-    tids = t.replayed.tids;
-    few = t.replayed.few;
-  }
-
   module _ (c : List ℕ) (hd : Header) (has : HasHeader c) (said : hd ≡ header_in (take HEADER_SIZE c)) where
-    version_is : (right : Bool) (h : List History) (p : StoreParts right h c) → p.version ≡ hd.version
-    version_is right h p = ap (λ (x : Header). x.version) (sym p.says ∙ sym said)
+    -- frames that tell no history are those of a file that tells none
+    pub replays_not : (at : ℕ) → TellsAs view source_view hd.version (frames_of (drop HEADER_SIZE c)).frames (Err (NoStore at)) → Replays c → ⊥
+    replays_not at none (h, is) = let told = told_here c hd has said false h is in none h told.0 told.1
 
-    -- frames that tell no history are none of a store
+    -- which doesn't open
     pub opens_not : (v : View) (e : OpenFault) → TellsAs view source_view hd.version (frames_of (drop HEADER_SIZE c)).frames (Err e) → OpensAs view source_view c v (Err e)
-    opens_not v (NoStore at) none = λ opens.
-        let p = store-parts false opens.0 c opens.1 in
-        none opens.0 p.some (subst (λ (n : ℕ). Tell false n (frames_of (drop HEADER_SIZE c)).frames opens.0) (version_is false opens.0 p) p.tell)
+    opens_not v (NoStore at) none = λ opens. replays_not at none (opens-replays c opens)
     opens_not v Disk none = tt
     opens_not v Memory none = tt
 
@@ -140,42 +143,64 @@ module _ {R S : Type 0} (view : R → Tree) (source_view : S → Tree) where
         (walked : HasWalked HEADER_SIZE (frames_of (drop HEADER_SIZE c)) d.journal c)
         (described : Describes (take HEADER_SIZE c) (frames_of (drop HEADER_SIZE c)).frames d.journal v)
         (tells : TellsAs view source_view hd.version (frames_of (drop HEADER_SIZE c)).frames (Ok d.committed)) where
-      says : header_in (take HEADER_SIZE c) ≡ closed_header hd.version
-      says = sym said ∙ closed_is hd closed
+      abbrev items : List Item
+      items = tells.1
+
+      abbrev taken : HasTaken view source_view d.committed items
+      taken = tells.3
 
       clean : (frames_of (drop HEADER_SIZE c)).clean ≡ true
       clean = clean_of (frames_of (drop HEADER_SIZE c)).clean _ d.journal.broken walked.broken whole
 
-      -- the file is a store
-      opened_parts : StoreParts false (flat_map entries_in tells.1) c
-      opened_parts = record {
-        version = hd.version;
-        header = has;
-        says = says;
-        clean = clean;
-        tell = record { items = tells.1; held = tells.2; stand = tells.3.stand; are = refl };
-        some = tells.0;
+      leads : fold after_item None items ≡ Some taken.state
+      leads = sym (replayed-items items) ∙ taken.replayed
+
+      -- the state to which the items lead is held
+      holds_taken : HoldsState view source_view d taken.state
+      holds_taken = record { committed = taken.keeps; whole = whole; usable = usable }
+
+      opened_holds : (s : State) → fold after_item None items ≡ Some s → HoldsState view source_view d s
+      opened_holds s is = subst (HoldsState view source_view d) (one_state (fold after_item None items) taken.state s leads is) holds_taken
+
+      -- the file opens
+      opened_first : OpensFirst (header_of c).version c
+      opened_first = record {
+        items = items;
+        some = omega (arith, tells.0, held-length hd.version (frames_of (drop HEADER_SIZE c)).frames items tells.2);
+        holds = record {
+          frames = (frames_of (drop HEADER_SIZE c)).frames;
+          stand = record { frames = refl; clean = clean };
+          held = held_here c hd has said (frames_of (drop HEADER_SIZE c)).frames items tells.2;
+        };
+        stand = taken.stand;
       }
 
-      module _ (right : Bool) (h : List History) (is : IsStore right h c) where
+      module _ (right : Bool) (h : List History) (is : IsTold right h c) where
         told : Tell right hd.version (frames_of (drop HEADER_SIZE c)).frames h
-        told = let p = store-parts right h c is in subst (λ (n : ℕ). Tell right n (frames_of (drop HEADER_SIZE c)).frames h) (version_is right h p) p.tell
+        told = (told_here c hd has said right h is).1
 
-        same_items : told.items ≡ tells.1
-        same_items = held-one hd.version (frames_of (drop HEADER_SIZE c)).frames told.items tells.1 told.held tells.2
+        same_items : told.items ≡ items
+        same_items = held-one hd.version (frames_of (drop HEADER_SIZE c)).frames told.items items told.held tells.2
+
+        told_is : h ≡ flat_map entries_in items
+        told_is = told.are ∙ ap (flat_map entries_in) same_items
+
+        -- where the records are right, they are the rows of the state
+        opened_rows : IsTrue right → HasRows d.committed taken.state
+        opened_rows asked = taken.kept ∙ sym (rows-right items taken.state (subst (λ (b : Bool). AllStand b None items) asked (subst (AllStand right None) same_items told.stand)) leads)
 
         opened_stands : Stands view source_view right d h
         opened_stands = record {
-          committed = subst (HasReplayed view source_view right d.committed) (sym (told.are ∙ ap (flat_map entries_in) same_items))
-              (right_replayed right d.committed tells.1 tells.3 (subst (AllStand right None) same_items told.stand));
-          whole = whole;
-          usable = usable;
+          state = taken.state;
+          led = subst (λ (i : List History). LeadsTo i taken.state) (sym told_is) (taken-leads view source_view d.committed items taken);
+          holds = holds_taken;
+          rows = opened_rows;
         }
 
         opened_kept : IsKept right d h v
         opened_kept = record {
           head = take HEADER_SIZE c;
-          is_head = record { size = head_long c has; header = has.1; says = says ∙ ap closed_header (sym version) };
+          is_head = record { size = head_long c has; header = has.1; says = sym said ∙ closed_is hd closed ∙ ap closed_header (sym version) };
           frames = (frames_of (drop HEADER_SIZE c)).frames;
           some = tells.0;
           described = described;
@@ -184,7 +209,9 @@ module _ {R S : Type 0} (view : R → Tree) (source_view : S → Tree) where
 
       -- and the database has opened it
       pub has_opened : HasOpened view source_view d c v
+      unfolding opened_first
       has_opened = record {
-        opens = (flat_map entries_in tells.1, parts-store false (flat_map entries_in tells.1) c opened_parts);
+        opens = record { header = has; closed = closed_here c hd has said closed; first = opened_first };
+        holds = opened_holds;
         stands = λ right h is. (opened_stands right h is, opened_kept right h is);
       }

@@ -1,6 +1,6 @@
 -- What a database keeps in memory where one entry more is replayed.
 use Rattle.std.specs.Prelude.{ℕ, ◌≡◌, ◌≤◌, ◌+◌, ◌++◌, Bool, true, false, List, [], ◌∷◌, length, is_some, refl}
-use Rattle.std.proofs.Common.{sym, ap, subst, ◌∙◌, arith, length-append, append-nil}
+use Rattle.std.proofs.Common.{sym, ap, subst, ◌∙◌, arith, append-nil}
 use Rattle.std.specs.List.{flat_map}
 use Rattle.std.specs.declared.option.Option.{Option}
 use Rattle.std.specs.Option.{option_map}
@@ -18,9 +18,9 @@ use Rattle.cp_model.specs.Literals.{literal_rows}
 use Rattle.cp_model.specs.Past.{Aged}
 use Rattle.cp_model.specs.Place.{target}
 use Rattle.cp_model.specs.Tree.{Tree, IsTree, Source, source}
-use Rattle.cp_model.specs.History.{Entry, State, start, load, start_state, after_load, replay, then_entry, CanFollow, CanLoad}
+use Rattle.cp_model.specs.History.{State, load, start_state, after_load, replay, then_entry, CanFollow, CanLoad}
 use Rattle.cp_model.proofs.Contents.{tree_of-aged}
-use Rattle.cp_model.proofs.Histories.{replay-snoc, legal-snoc}
+use Rattle.cp_model.proofs.Histories.{replay-snoc, sound-begun, sound-then}
 use Rattle.cp_db.proofs.TakingCounts.{len-mapped}
 use Rattle.cp_frame.specs.Trees.{rows_of}
 use Rattle.cp_frame.specs.Entries as written
@@ -29,8 +29,8 @@ use Rattle.cp_frame.specs.Sound.{IsSoundSource}
 use Rattle.cp_frame.specs.declared.entry.Entry.TheVariants as entry
 use Rattle.cp_operation.specs.Loaded.{sources_in}
 use Rattle.cp_frame.specs.Items.{Item, an_entry, CanStand, entry_meant, entries_in, records_in, records_with}
-use Rattle.cp_frame.proofs.Standing.{replayed-items, stand-append}
-use Rattle.cp_db.specs.Committed.{CanTake, HasReplayed, HasTaken, IsLoaded, LoadsSource}
+use Rattle.cp_frame.proofs.Standing.{legal-items, replayed-items, stand-append}
+use Rattle.cp_db.specs.Committed.{CanTake, HasRows, HasTaken, IsLoaded, KeepsState, LeadsTo, LoadsSource}
 use Rattle.cp_db.specs.declared.committed.Committed.{Committed}
 
 -- nothing is found where what is looked up gives nothing
@@ -42,45 +42,50 @@ none-found f o p b e is none = ap is_some (sym e) ∙ mapped o ∙ sym is ∙ no
     mapped (Some x) = refl
 
 module _ {R S : Type 0} (view : R → Tree) (source_view : S → Tree) where
-  -- a tree without sources and without rows is what its start leads to
-  pub replayed-begun : (right : Bool) (k : Kind) (c : Committed R S) → IsTree (view c.tree) → sources_in source_view c.sources ≡ [] → c.store.kind ≡ k → c.store.rows.list ≡ [] → c.store.rows.upto ≡ 0 → c.commits ≡ 0 →
-      HasReplayed view source_view right c (start k (view c.tree) ∷ [])
-  unfolding replay start_state
-  replayed-begun right k c tree none kind list upto counted = record {
-    state = start_state k (view c.tree);
-    replayed = refl;
-    legal = (tree, tt);
+  -- a tree without sources is the state of its start
+  pub keeps-begun : (k : Kind) (c : Committed R S) → IsTree (view c.tree) → sources_in source_view c.sources ≡ [] → c.store.kind ≡ k → c.store.rows.upto ≡ 0 → c.commits ≡ 0 → KeepsState view source_view c (start_state k (view c.tree))
+  unfolding start_state
+  keeps-begun k c tree none kind upto counted = record {
     kind = kind;
     sources = none;
-    bounded = omega arith;
     tree = sym (tree_of-aged (view c.tree));
-    rows = λ r. list;
     upto = upto;
     commits = counted;
     tids = omega arith;
     few = omega arith;
+    sound = sound-begun k (view c.tree) tree;
   }
 
   -- what is counted are the numbers of the state
-  pub stats-replayed : (c : Committed R S) (h : List Entry) (z : HasReplayed view source_view true c h) (r : Stats) → r.kind ≡ c.store.kind → r.tid ≡ c.store.rows.upto → r.transactions ≡ c.commits → r.records ≡ length c.store.rows.list → r.nodes ≡ len (view c.tree) → r.sources ≡ length (sources_in source_view c.sources) → r ≡ stats z.state
-  stats-replayed c h z r kind tid commits rows nodes sources = λ i. record {
+  pub stats-kept : (c : Committed R S) (s : State) (z : KeepsState view source_view c s) → HasRows c s → (r : Stats) → r.kind ≡ c.store.kind → r.tid ≡ c.store.rows.upto → r.transactions ≡ c.commits → r.records ≡ length c.store.rows.list → r.nodes ≡ len (view c.tree) → r.sources ≡ length (sources_in source_view c.sources) → r ≡ stats s
+  stats-kept c s z has r kind tid commits rows nodes sources = λ i. record {
     kind = (kind ∙ z.kind) i;
     tid = (tid ∙ z.upto) i;
     transactions = (commits ∙ z.commits) i;
-    records = (rows ∙ ap length (z.rows refl)) i;
-    nodes = (nodes ∙ ap len z.tree ∙ len-mapped (λ _ (x : Aged). x.content) z.state.tree) i;
+    records = (rows ∙ ap length has) i;
+    nodes = (nodes ∙ ap len z.tree ∙ len-mapped (λ _ (x : Aged). x.content) s.tree) i;
     sources = (sources ∙ ap length z.sources) i;
   }
+
+  -- the state of items that have been taken is that of their history
+  pub taken-leads : (c : Committed R S) (items : List Item) (t : HasTaken view source_view c items) → LeadsTo (flat_map entries_in items) t.state
+  taken-leads c items t = record { legal = legal-items false items t.stand; replayed = t.replayed }
 
   module _ (c m : Committed R S) where
     -- ---- one entry more
 
-    -- the entry is taken where it may stand, its history has been replayed and its records are kept
-    pub taken-more : (items : List Item) (w : WrittenEntry) (old : HasTaken view source_view c items) → CanStand false (Some old.replayed.state) (an_entry w) → HasReplayed view source_view false m (flat_map entries_in items ++ entry_meant w ∷ [])
+    -- the entry is taken where it may stand, the state after it is kept, and its records are
+    pub taken-more : (items : List Item) (w : WrittenEntry) (old : HasTaken view source_view c items) → CanStand false (Some old.state) (an_entry w) → (z : State) → then_entry (Some old.state) (entry_meant w) ≡ Some z → KeepsState view source_view m z
         → m.store.rows.list ≡ c.store.rows.list ++ records_with w → HasTaken view source_view m (items ++ an_entry w ∷ [])
-    taken-more items w old can replayed kept = record {
-      stand = stand-append false None items (an_entry w ∷ []) old.stand (subst (λ (o : Option State). CanStand false o (an_entry w)) (sym old.replayed.replayed ∙ replayed-items items) can, tt);
-      replayed = subst (HasReplayed view source_view false m) (sym (flat_map-append entries_in items (an_entry w ∷ []))) replayed;
+    taken-more items w old can z is keeps kept = record {
+      stand = stand-append false None items (an_entry w ∷ []) old.stand (subst (λ (o : Option State). CanStand false o (an_entry w)) (sym old.replayed ∙ replayed-items items) can, tt);
+      state = z;
+      replayed =
+          ap replay (flat_map-append entries_in items (an_entry w ∷ []))
+          ∙ replay-snoc (flat_map entries_in items) (entry_meant w)
+          ∙ ap (λ (o : Option State). then_entry o (entry_meant w)) old.replayed
+          ∙ is;
+      keeps = keeps;
       kept =
           kept ∙ ap (λ (rs : List Record). rs ++ records_with w) old.kept
           ∙ ap (λ (rs : List Record). flat_map records_in items ++ rs) (sym (append-nil (records_with w)))
@@ -90,28 +95,22 @@ module _ {R S : Type 0} (view : R → Tree) (source_view : S → Tree) where
     -- ---- sources
 
     -- a source that may be loaded has been
-    pub replayed-loaded : (right : Bool) (h : List Entry) (n : List ℕ) (t : Tree) (z : HasReplayed view source_view right c h) → CanLoad z.state n t → m.tree ≡ c.tree → m.store ≡ c.store → m.commits ≡ c.commits
-        → sources_in source_view m.sources ≡ sources_in source_view c.sources ++ record { name = n; tree = t } ∷ [] → HasReplayed view source_view right m (h ++ load n t ∷ [])
-    replayed-loaded right h n t z can tree store counted added =
-        let few = can.few in
-        record {
-          state = after_load z.state n t;
-          replayed = replay-snoc h (load n t) ∙ ap (λ (o : Option State). then_entry o (load n t)) z.replayed;
-          legal = legal-snoc h (load n t) z.legal (subst (λ (o : Option State). CanFollow o (load n t)) (sym z.replayed) can);
-          kind = ap (λ s. s.kind) store ∙ z.kind;
-          sources = added ∙ ap (λ (ss : List Source). ss ++ record { name = n; tree = t } ∷ []) z.sources;
-          bounded = omega (arith, length-append z.state.sources (record { name = n; tree = t } ∷ []), few);
-          tree = ap view tree ∙ z.tree;
-          rows = λ r. ap (λ s. s.rows.list) store ∙ z.rows r;
-          upto = ap (λ s. s.rows.upto) store ∙ z.upto;
-          commits = counted ∙ z.commits;
-          tids = z.tids;
-          few = z.few;
-        }
+    pub keeps-loaded : (n : List ℕ) (t : Tree) (s : State) (z : KeepsState view source_view c s) → CanLoad s n t → m.tree ≡ c.tree → m.store ≡ c.store → m.commits ≡ c.commits
+        → sources_in source_view m.sources ≡ sources_in source_view c.sources ++ record { name = n; tree = t } ∷ [] → KeepsState view source_view m (after_load s n t)
+    keeps-loaded n t s z can tree store counted added = record {
+      kind = ap (λ s. s.kind) store ∙ z.kind;
+      sources = added ∙ ap (λ (ss : List Source). ss ++ record { name = n; tree = t } ∷ []) z.sources;
+      tree = ap view tree ∙ z.tree;
+      upto = ap (λ s. s.rows.upto) store ∙ z.upto;
+      commits = counted ∙ z.commits;
+      tids = z.tids;
+      few = z.few;
+      sound = sound-then (Some s) (load n t) z.sound can;
+    }
 
     module _ (items : List Item) (old : HasTaken view source_view c items) (n : List ℕ) (l : Literal) where
       abbrev s : State
-      s = old.replayed.state
+      s = old.state
 
       -- a sound source may be loaded where its name is no other's and there are few
       can_load : (more : List Source) → IsSoundSource n l → IsLoaded (sources_in source_view c.sources) more n l → CanLoad s n (from_entries (literal_rows l))
@@ -119,8 +118,8 @@ module _ {R S : Type 0} (view : R → Tree) (source_view : S → Tree) where
           let few = is.few in
           record {
             loadable = record { name = sound.name; other = is.other; tree = sound.tree; places = sound.places };
-            fresh = ap (λ (ss : List Source). is_some (source ss n)) (sym old.replayed.sources) ∙ is.fresh;
-            few = subst (λ k. k + 1 ≤ SOURCES_MAX) (ap length old.replayed.sources) (omega (arith, few));
+            fresh = ap (λ (ss : List Source). is_some (source ss n)) (sym old.keeps.sources) ∙ is.fresh;
+            few = subst (λ k. k + 1 ≤ SOURCES_MAX) (ap length old.keeps.sources) (omega (arith, few));
           }
 
       -- it has been taken
@@ -132,7 +131,9 @@ module _ {R S : Type 0} (view : R → Tree) (source_view : S → Tree) where
           let means : load i (from_entries (rows_of t)) ≡ load n (from_entries (literal_rows l)) = λ j. load (is.0 j) (from_entries (is.1 j)) in
           taken-more items (written.load i t) old
           (subst (CanFollow (Some s)) (sym means) can, tt)
-          (subst (λ e. HasReplayed view source_view false m (flat_map entries_in items ++ e ∷ [])) (sym means) (replayed-loaded false (flat_map entries_in items) n (from_entries (literal_rows l)) old.replayed can tree store counted loaded.added))
+          (after_load s n (from_entries (literal_rows l)))
+          (ap (then_entry (Some s)) means)
+          (keeps-loaded n (from_entries (literal_rows l)) s old.keeps can tree store counted loaded.added)
           (ap (λ s. s.rows.list) store ∙ sym (append-nil c.store.rows.list))
       taken-source (written.commit b) is sound loaded tree store counted = absurd is
       taken-source (written.stamped r b) is sound loaded tree store counted = absurd is
@@ -141,11 +142,11 @@ module _ {R S : Type 0} (view : R → Tree) (source_view : S → Tree) where
       pub refused-source : (w : WrittenEntry) (more : List Source) → IsEntry (entry.Load n l) w → LoadsSource (sources_in source_view c.sources) more n l false → CanStand false (replay (flat_map entries_in items)) (an_entry w) → ⊥
       refused-source (written.start k t) more is none can = absurd is
       refused-source (written.load i t) more is none can =
-          let may : CanLoad s i (from_entries (rows_of t)) = subst (λ (o : Option State). CanFollow o (load i (from_entries (rows_of t)))) old.replayed.replayed can.0 in
-          let few = subst (λ k. k + 1 ≤ SOURCES_MAX) (sym (ap length old.replayed.sources)) may.few in
+          let may : CanLoad s i (from_entries (rows_of t)) = subst (λ (o : Option State). CanFollow o (load i (from_entries (rows_of t)))) old.replayed can.0 in
+          let few = subst (λ k. k + 1 ≤ SOURCES_MAX) (sym (ap length old.keeps.sources)) may.few in
           none
           (subst (λ (j : List ℕ). text_eq j target ≡ false) is.0 may.loadable.other)
-          (subst (λ (j : List ℕ). is_some (source (sources_in source_view c.sources) j) ≡ false) is.0 (ap (λ (ss : List Source). is_some (source ss i)) old.replayed.sources ∙ may.fresh))
+          (subst (λ (j : List ℕ). is_some (source (sources_in source_view c.sources) j) ≡ false) is.0 (ap (λ (ss : List Source). is_some (source ss i)) old.keeps.sources ∙ may.fresh))
           (omega (arith, few))
       refused-source (written.commit b) more is none can = absurd is
       refused-source (written.stamped r b) more is none can = absurd is

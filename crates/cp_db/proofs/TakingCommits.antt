@@ -1,27 +1,26 @@
 -- A commit that is replayed after others, or that may not follow them.
-use Rattle.std.specs.Prelude.{ℕ, ◌≡◌, ◌≤◌, ◌+◌, ◌++◌, Bool, false, IsTrue, List, [], ◌∷◌, length, refl}
+use Rattle.std.specs.Prelude.{ℕ, ◌≡◌, ◌≤◌, ◌+◌, ◌++◌, Bool, false, List, [], ◌∷◌, length, refl}
 use Rattle.std.proofs.Common.{sym, ap, subst, ◌∙◌, arith}
 use Rattle.std.specs.List.{flat_map}
 use Rattle.std.specs.declared.option.Option.{Option}
 use Rattle.std.specs.declared.option.Option.TheVariants.{Some}
-use Rattle.cp_model.specs.declared.limits.TheConstants.{SOURCES_MAX}
 use Rattle.cp_model.specs.declared.kind.Kind.{Kind}
 use Rattle.cp_model.specs.declared.op.Op.{Op}
 use Rattle.cp_model.specs.declared.record.Record.{Record}
 use Rattle.cp_model.specs.declared.stamp.Stamp.{Stamp}
 use Rattle.cp_model.specs.Past.{tree_of}
 use Rattle.cp_model.specs.Tree.{Tree, Source}
-use Rattle.cp_model.specs.History.{Entry, State, commit, CanCommit, CanFollow, after_commit, replay, steps_of, then_entry}
-use Rattle.cp_model.proofs.Histories.{replay-snoc, legal-snoc}
+use Rattle.cp_model.specs.History.{State, commit, CanCommit, after_commit, replay, steps_of, then_entry}
+use Rattle.cp_model.proofs.Histories.{sound-commit}
 use Rattle.cp_frame.specs.Entries as written
 use Rattle.cp_frame.specs.Entries.{Batch, WrittenEntry, IsBatchOf, IsEntry}
 use Rattle.cp_frame.specs.declared.entry.Entry.TheVariants as entry
 use Rattle.cp_frame.specs.Sound.{IsSoundBatch}
 use Rattle.cp_operation.specs.Loaded.{sources_in}
-use Rattle.cp_operation.specs.Passed.{stage_after, records_of, AllAccepted}
+use Rattle.cp_operation.specs.Passed.{stage_after, AllAccepted}
 use Rattle.cp_engine.proofs.Committed.{committed, can-commit, commit-accepted}
 use Rattle.cp_frame.specs.Items.{Item, an_entry, CanStand, HasRecords, entry_meant, entries_in, records_with, ops_in, no_stamp}
-use Rattle.cp_db.specs.Committed.{HasReplayed, HasTaken, HasKept, HoldsBatch, IsReplayed, ReplaysCommit, TidsLieBetween}
+use Rattle.cp_db.specs.Committed.{HasTaken, HasKept, HoldsBatch, IsReplayed, KeepsState, ReplaysCommit, TidsLieBetween}
 use Rattle.cp_db.specs.declared.committed.Committed.{Committed}
 use Rattle.cp_db.specs.declared.limits.TheConstants.{TIDS_MAX}
 use Rattle.cp_db.proofs.Taking.{taken-more}
@@ -87,12 +86,10 @@ replays-same ss old new os rs {j} {k} {m} {n} {o} {p} e f g r =
 
 module _ {R S : Type 0} (view : R → Tree) (source_view : S → Tree) (c m : Committed R S) where
   -- a commit that may be made has been
-  pub replayed-committed : (right : Bool) (h : List Entry) (stamp : Stamp) (os : List Op) (z : HasReplayed view source_view right c h) → CanCommit z.state os
-      → view m.tree ≡ (stage_after z.state.kind z.state.sources (tree_of z.state.tree) (z.state.now + 1) os).tree → m.sources ≡ c.sources → m.store.kind ≡ c.store.kind
-      → (IsTrue right → m.store.rows.list ≡ c.store.rows.list ++ records_of z.state.kind z.state.sources (tree_of z.state.tree) (z.state.now + 1) os)
-      → m.store.rows.upto ≡ c.store.rows.upto + length (steps_of z.state.kind os) → m.commits ≡ c.commits + 1 → m.store.rows.upto ≤ TIDS_MAX → HasReplayed view source_view right m (h ++ commit stamp os ∷ [])
-  replayed-committed right h stamp os z can tree sources kind rows upto counted few =
-      let s = z.state in
+  pub keeps-committed : (os : List Op) (s : State) (z : KeepsState view source_view c s) → CanCommit s os
+      → view m.tree ≡ (stage_after s.kind s.sources (tree_of s.tree) (s.now + 1) os).tree → m.sources ≡ c.sources → m.store.kind ≡ c.store.kind
+      → m.store.rows.upto ≡ c.store.rows.upto + length (steps_of s.kind os) → m.commits ≡ c.commits + 1 → m.store.rows.upto ≤ TIDS_MAX → KeepsState view source_view m (after_commit s os)
+  keeps-committed os s z can tree sources kind upto counted few =
       let a = committed s os can.some (commit-accepted s os can) in
       let now = a.now in
       let commits = a.commits in
@@ -100,46 +97,42 @@ module _ {R S : Type 0} (view : R → Tree) (source_view : S → Tree) (c m : Co
       let tids = z.tids in
       let last : m.store.rows.upto ≡ (after_commit s os).now = upto ∙ ap (λ n. n + length (steps_of s.kind os)) z.upto ∙ sym now in
       record {
-        state = after_commit s os;
-        replayed = replay-snoc h (commit stamp os) ∙ ap (λ (o : Option State). then_entry o (commit stamp os)) z.replayed;
-        legal = legal-snoc h (commit stamp os) z.legal (subst (λ (o : Option State). CanFollow o (commit stamp os)) (sym z.replayed) can);
         kind = kind ∙ z.kind ∙ sym a.kind;
         sources = ap (sources_in source_view) sources ∙ z.sources ∙ sym a.sources;
-        bounded = subst (λ (ss : List Source). length ss ≤ SOURCES_MAX) (sym a.sources) z.bounded;
         tree = tree ∙ sym a.tree;
-        rows = λ r. rows r ∙ ap (λ (rs : List Record). rs ++ records_of s.kind s.sources (tree_of s.tree) (s.now + 1) os) (z.rows r) ∙ sym a.rows;
         upto = last;
         commits = counted ∙ ap (λ n. n + 1) z.commits ∙ sym commits;
         tids = omega (arith, now, commits, some, tids);
         few = subst (λ n. n ≤ TIDS_MAX) last few;
+        sound = sound-commit s os z.sound can;
       }
 
 module _ {R S : Type 0} (view : R → Tree) (source_view : S → Tree) (c : Committed R S) (items : List Item) (old : HasTaken view source_view c items) (w : WrittenEntry) (os : List Op) (rs : List Record) (holds : HoldsBatch w os rs) where
   abbrev s : State
-  s = old.replayed.state
+  s = old.state
 
   -- operations that are accepted on what is kept are accepted after its history, and the other way round
   accepted_after : AllAccepted (sources_in source_view c.sources) (view c.tree) os → AllAccepted s.sources (tree_of s.tree) os
-  accepted_after a = subst (λ (ss : List Source). AllAccepted ss (tree_of s.tree) os) old.replayed.sources (subst (λ t. AllAccepted (sources_in source_view c.sources) t os) old.replayed.tree a)
+  accepted_after a = subst (λ (ss : List Source). AllAccepted ss (tree_of s.tree) os) old.keeps.sources (subst (λ t. AllAccepted (sources_in source_view c.sources) t os) old.keeps.tree a)
 
   accepted_here : AllAccepted s.sources (tree_of s.tree) os → AllAccepted (sources_in source_view c.sources) (view c.tree) os
-  accepted_here a = subst (λ (ss : List Source). AllAccepted ss (view c.tree) os) (sym old.replayed.sources) (subst (λ t. AllAccepted s.sources t os) (sym old.replayed.tree) a)
+  accepted_here a = subst (λ (ss : List Source). AllAccepted ss (view c.tree) os) (sym old.keeps.sources) (subst (λ t. AllAccepted s.sources t os) (sym old.keeps.tree) a)
 
   -- the last Tid of the commit
   last_tid : (tids : ℕ) → tids ≡ length (steps_of c.store.kind os) → 1 ≤ length os → AllAccepted s.sources (tree_of s.tree) os → c.store.rows.upto + tids ≡ (after_commit s os).now
   last_tid tids e some a =
-      ap (λ n. c.store.rows.upto + n) (e ∙ ap (λ (k : Kind). length (steps_of k os)) old.replayed.kind) ∙ ap (λ n. n + length (steps_of s.kind os)) old.replayed.upto
+      ap (λ n. c.store.rows.upto + n) (e ∙ ap (λ (k : Kind). length (steps_of k os)) old.keeps.kind) ∙ ap (λ n. n + length (steps_of s.kind os)) old.keeps.upto
       ∙ sym (committed s os some a).now
 
   -- where it may stand, each record has one of the Tids
   tids_of : (tids : ℕ) → tids ≡ length (steps_of c.store.kind os) → CanStand false (Some s) (an_entry w) → TidsLieBetween c.store.rows.upto (c.store.rows.upto + tids) rs
   tids_of tids e can =
       let may = may_when false s w os rs holds can in
-      subst (λ n. TidsLieBetween n (c.store.rows.upto + tids) rs) (sym old.replayed.upto)
+      subst (λ n. TidsLieBetween n (c.store.rows.upto + tids) rs) (sym old.keeps.upto)
       (subst (λ n. TidsLieBetween s.now n rs) (sym (last_tid tids e may.0.some (commit-accepted s os may.0))) may.1.tids)
 
   stands_so : CanStand false (replay (flat_map entries_in items)) (an_entry w) → CanStand false (Some s) (an_entry w)
-  stands_so can = subst (λ (o : Option State). CanStand false o (an_entry w)) old.replayed.replayed can
+  stands_so can = subst (λ (o : Option State). CanStand false o (an_entry w)) old.replayed can
 
   -- a commit may not follow where a record has none of the Tids, or an operation isn't accepted
   pub refused-commit : (TidsLieBetween c.store.rows.upto (c.store.rows.upto + length (steps_of c.store.kind os)) rs → AllAccepted (sources_in source_view c.sources) (view c.tree) os → ⊥) → CanStand false (replay (flat_map entries_in items)) (an_entry w) → ⊥
@@ -155,19 +148,19 @@ module _ {R S : Type 0} (view : R → Tree) (source_view : S → Tree) (c : Comm
     tree_kept : m.tree ≡ u → view m.tree ≡ (stage_after s.kind s.sources (tree_of s.tree) (s.now + 1) os).tree
     tree_kept same =
         ap view same ∙ is.tree s.kind (s.now + 1)
-        ∙ ap (λ (ss : List Source). (stage_after s.kind ss (view c.tree) (s.now + 1) os).tree) old.replayed.sources
-        ∙ ap (λ t. (stage_after s.kind s.sources t (s.now + 1) os).tree) old.replayed.tree
+        ∙ ap (λ (ss : List Source). (stage_after s.kind ss (view c.tree) (s.now + 1) os).tree) old.keeps.sources
+        ∙ ap (λ t. (stage_after s.kind s.sources t (s.now + 1) os).tree) old.keeps.tree
 
     -- the commit has been taken
     pub taken-commit : HasKept (record c { tree = u }) m tids rs → HasTaken view source_view m (items ++ an_entry w ∷ [])
     taken-commit kept =
         let meant = commit_of w os rs holds in
-        let low = subst (λ n. TidsLieBetween n (c.store.rows.upto + tids) rs) old.replayed.upto is.between in
+        let low = subst (λ n. TidsLieBetween n (c.store.rows.upto + tids) rs) old.keeps.upto is.between in
         let between = subst (λ n. TidsLieBetween s.now n rs) (last_tid tids is.counted sound.some (accepted_after is.accepted)) low in
         let can = can_when false s w os rs holds (can_commit, record { tids = between; all = λ f. cc }) in
-        let steps = is.counted ∙ ap (λ (k : Kind). length (steps_of k os)) old.replayed.kind in
-        let replayed =
-        replayed-committed view source_view c m false (flat_map entries_in items) meant.stamp os old.replayed can_commit (tree_kept kept.tree) kept.sources kept.kind (λ f. cc)
+        let steps = is.counted ∙ ap (λ (k : Kind). length (steps_of k os)) old.keeps.kind in
+        let keeps =
+        keeps-committed view source_view c m os s old.keeps can_commit (tree_kept kept.tree) kept.sources kept.kind
         (kept.upto ∙ ap (λ n. c.store.rows.upto + n) steps) kept.commits kept.few in
-        taken-more view source_view c m items w old can (subst (λ (x : Entry). HasReplayed view source_view false m (flat_map entries_in items ++ x ∷ [])) (sym meant.means) replayed)
+        taken-more view source_view c m items w old can (after_commit s os) (ap (then_entry (Some s)) meant.means) keeps
         (kept.rows ∙ ap (λ (x : List Record). c.store.rows.list ++ x) (sym meant.records))

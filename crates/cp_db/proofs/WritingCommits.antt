@@ -6,7 +6,7 @@ use Rattle.std.specs.declared.option.Option.{Option}
 use Rattle.std.specs.declared.option.Option.TheVariants.{None, Some}
 use Rattle.cp_path.specs.declared.loc.Loc.{Loc}
 use Rattle.cp_path.specs.Place.{in_target}
-use Rattle.cp_model.specs.declared.limits.TheConstants.{OPS_MAX, SOURCES_MAX}
+use Rattle.cp_model.specs.declared.limits.TheConstants.{OPS_MAX}
 use Rattle.cp_model.specs.declared.op.Op.{Op}
 use Rattle.cp_model.specs.declared.op.Op.TheVariants.{Ins, Del, Copy}
 use Rattle.cp_model.specs.declared.record.Record.{Record}
@@ -18,7 +18,7 @@ use Rattle.cp_model.specs.Tree.{Tree, Source}
 use Rattle.cp_model.specs.History.{Entry, State, AreWritten, CanCommit, CanFollow, after_commit, replay, steps_of, then_entry}
 use Rattle.cp_model.specs.History as history
 use Rattle.cp_model.specs.Laws.{IsSound}
-use Rattle.cp_model.proofs.Histories.{replay-snoc, legal-snoc}
+use Rattle.cp_model.proofs.Histories.{replay-snoc, legal-snoc, sound-commit}
 use Rattle.cp_model.proofs.Passing.{and_true}
 use Rattle.cp_record.specs.Bytes.{commit_length, record_bytes, records_bytes}
 use Rattle.cp_record.specs.Kept.{is_copy}
@@ -38,7 +38,7 @@ use Rattle.cp_engine.proofs.Committed.{IsCommitted, commit-accepted, committed}
 use Rattle.cp_frame.specs.Items.{IsOfVersion, CanStand, HasRecords, an_entry, entry_meant, ops_in}
 use Rattle.cp_frame.specs.Sizes.{stamped_size}
 use Rattle.cp_frame.proofs.Measures.{stamped-measured}
-use Rattle.cp_db.specs.Committed.{HasKept, HasReplayed}
+use Rattle.cp_db.specs.Committed.{HasKept, HasRows, KeepsState, LeadsTo}
 use Rattle.cp_db.specs.Writing.{commit_size}
 use Rattle.cp_db.specs.declared.committed.Committed.{Committed}
 use Rattle.cp_db.specs.declared.limits.TheConstants.{TIDS_MAX}
@@ -99,7 +99,7 @@ commit_few : (ops : List Op) (rs : List Record) → length rs ≤ commit_length 
 unfolding commit_length
 commit_few ops rs = omega (arith, records_few rs)
 
-module _ {R : Type 0} (view : R → Tree) (h : List Entry) (s : State) (ops : List Op) (x : Step R) (legal : IsSound s) (can : CanCommit s ops)
+module _ {R : Type 0} (view : R → Tree) (s : State) (ops : List Op) (x : Step R) (legal : IsSound s) (can : CanCommit s ops)
     (made : IsStep view s.kind s.sources (tree_of s.tree) (s.now + 1) ops BODY_MAX x) where
   abbrev rows : List Record
   rows = records_of s.kind s.sources (tree_of s.tree) (s.now + 1) ops
@@ -107,16 +107,16 @@ module _ {R : Type 0} (view : R → Tree) (h : List Entry) (s : State) (ops : Li
   accepted : AllAccepted s.sources (tree_of s.tree) ops
   accepted = commit-accepted s ops can
 
-  leads : IsCommitted s ops (after_commit s ops)
-  leads = committed s ops can.some accepted
+  end_of_step : IsCommitted s ops (after_commit s ops)
+  end_of_step = committed s ops can.some accepted
 
   sound_batch : IsSoundBatch true ops rows
   sound_batch = record {
     some = can.some;
     few = can.few;
     ops = sound_ops ops (accepted-targets s.sources (tree_of s.tree) ops legal.tree legal.sources can.written accepted);
-    records = writable s.now (after_commit s ops).now rows leads.next.sources leads.next.between;
-    rise = leads.next.rise;
+    records = writable s.now (after_commit s ops).now rows end_of_step.next.sources end_of_step.next.between;
+    rise = end_of_step.next.rise;
     counted = omega (arith, commit_few ops rows, made.small);
     within = within-passed s.sources (tree_of s.tree) (s.now + 1) ops legal.tree legal.sources can.written accepted s.kind;
   }
@@ -164,27 +164,23 @@ module _ (r : Stamp) (ops : List Op) (rs : List Record) where
 
 -- ---- what it leads to
 
-module _ {R S : Type 0} (view : R → Tree) (source_view : S → Tree) (right : Bool) (c : Committed R S) (h : List Entry) (z : HasReplayed view source_view right c h) (r : Stamp) (ops : List Op) (x : Step R)
-    (can : CanCommit z.state ops) (made : IsStep view z.state.kind z.state.sources (tree_of z.state.tree) (z.state.now + 1) ops BODY_MAX x) where
-  abbrev s : State
-  s = z.state
-
+module _ {R : Type 0} (view : R → Tree) (s : State) (r : Stamp) (ops : List Op) (x : Step R) (can : CanCommit s ops) (made : IsStep view s.kind s.sources (tree_of s.tree) (s.now + 1) ops BODY_MAX x) where
   abbrev made_rows : List Record
   made_rows = records_of s.kind s.sources (tree_of s.tree) (s.now + 1) ops
 
   end : IsCommitted s ops (after_commit s ops)
   end = committed s ops can.some (commit-accepted s ops can)
 
-  -- its entry may follow the history
-  pub step-next : (body : List ℕ) (w : WrittenEntry) → IsEntry (frame.Stamped r x.ops x.rows) w → Reads entry_format body w [] → IsNext 2 h (history.commit r ops) body
-  step-next body w e read =
+  -- its entry may follow a history that led to the state
+  pub step-next : (h : List Entry) (body : List ℕ) (w : WrittenEntry) → LeadsTo h s → IsEntry (frame.Stamped r x.ops x.rows) w → Reads entry_format body w [] → IsNext 2 h (history.commit r ops) body
+  step-next h body w led e read =
       let plain : IsEntry (frame.Stamped r ops made_rows) w = subst (λ (os : List Op). IsEntry (frame.Stamped r os made_rows) w) made.held (subst (λ (rs : List Record). IsEntry (frame.Stamped r x.ops rs) w) made.rows e) in
       let records : HasRecords true s (after_commit s ops) made_rows = record { tids = tids_between s.now (after_commit s ops).now made_rows end.next.between; all = λ asked. end.rows } in
       record {
         written = w;
         read = read;
         allowed = step_allowed r ops made_rows w plain;
-        can = subst (λ (o : Option State). CanStand true o (an_entry w)) (sym z.replayed) (step_follows r ops made_rows s w plain can records);
+        can = subst (λ (o : Option State). CanStand true o (an_entry w)) (sym led.replayed) (step_follows r ops made_rows s w plain can records);
         means = step_meant r ops made_rows w plain;
       }
 
@@ -195,37 +191,45 @@ module _ {R S : Type 0} (view : R → Tree) (source_view : S → Tree) (right : 
       ∙ ap (λ (os : List Op). stamped_size r os x.rows) made.held
       ∙ ap (stamped_size r ops) made.rows
 
-  -- the records may be kept
-  pub step-few : (c.store.rows.upto ≤ TIDS_MAX) × (x.tids ≤ OPS_MAX)
-  step-few = (omega (arith, z.upto, z.few), omega (arith, made.tids, end.few, can.few))
+  -- a history that led to the state leads, with the commit, to that after it
+  pub step-leads : (h : List Entry) → LeadsTo h s → LeadsTo (h ++ history.commit r ops ∷ []) (after_commit s ops)
+  step-leads h led = record {
+    legal = legal-snoc h (history.commit r ops) led.legal (subst (λ (o : Option State). CanFollow o (history.commit r ops)) (sym led.replayed) can);
+    replayed = replay-snoc h (history.commit r ops) ∙ ap (λ (o : Option State). then_entry o (history.commit r ops)) led.replayed;
+  }
 
-  step_tids : c.store.rows.upto + x.tids ≡ (after_commit s ops).now
-  step_tids = omega (arith, z.upto, made.tids, end.now)
+  module _ {S : Type 0} (source_view : S → Tree) (c : Committed R S) (z : KeepsState view source_view c s) where
+    -- the records may be kept
+    pub step-few : (c.store.rows.upto ≤ TIDS_MAX) × (x.tids ≤ OPS_MAX)
+    step-few = (omega (arith, z.upto, z.few), omega (arith, made.tids, end.few, can.few))
 
-  pub records-next : AreNext c.store.rows.upto (c.store.rows.upto + x.tids) x.rows
-  records-next =
-      subst (λ (n : ℕ). AreNext c.store.rows.upto n x.rows) (sym step_tids)
-      (subst (λ (n : ℕ). AreNext n (after_commit s ops).now x.rows) (sym z.upto)
-      (subst (AreNext s.now (after_commit s ops).now) (sym made.rows) end.next))
+    step_tids : c.store.rows.upto + x.tids ≡ (after_commit s ops).now
+    step_tids = omega (arith, z.upto, made.tids, end.now)
 
-  -- the last Tid is that of its last step
-  pub kept-tids : (kept m : Committed R S) → HasKept c kept x.tids x.rows → m.store ≡ kept.store → m.store.rows.upto ≡ s.now + length (steps_of s.kind ops)
-  kept-tids kept m k store = omega (arith, ap (λ s. s.rows.upto) store, k.upto, z.upto, made.tids)
+    pub records-next : AreNext c.store.rows.upto (c.store.rows.upto + x.tids) x.rows
+    records-next =
+        subst (λ (n : ℕ). AreNext c.store.rows.upto n x.rows) (sym step_tids)
+        (subst (λ (n : ℕ). AreNext n (after_commit s ops).now x.rows) (sym z.upto)
+        (subst (AreNext s.now (after_commit s ops).now) (sym made.rows) end.next))
 
-  -- with its records kept and its tree in place, the history goes on with the commit
-  pub replayed-committed : (kept m : Committed R S) → HasKept c kept x.tids x.rows → m.tree ≡ x.tree → m.sources ≡ kept.sources → m.store ≡ kept.store → m.commits ≡ kept.commits → HasReplayed view source_view right m (h ++ history.commit r ops ∷ [])
-  replayed-committed kept m k tree sources store counted =
-      record {
-        state = after_commit s ops;
-        replayed = replay-snoc h (history.commit r ops) ∙ ap (λ (o : Option State). then_entry o (history.commit r ops)) z.replayed;
-        legal = legal-snoc h (history.commit r ops) z.legal (subst (λ (o : Option State). CanFollow o (history.commit r ops)) (sym z.replayed) can);
+    module _ (kept m : Committed R S) (k : HasKept c kept x.tids x.rows) (store : m.store ≡ kept.store) where
+      -- the last Tid is that of its last step
+      pub kept-tids : m.store.rows.upto ≡ s.now + length (steps_of s.kind ops)
+      kept-tids = omega (arith, ap (λ s. s.rows.upto) store, k.upto, z.upto, made.tids)
+
+      -- with its tree in place, the state after the commit is kept
+      pub keeps-stepped : m.tree ≡ x.tree → m.sources ≡ kept.sources → m.commits ≡ kept.commits → KeepsState view source_view m (after_commit s ops)
+      keeps-stepped tree sources counted = record {
         kind = ap (λ s. s.kind) store ∙ k.kind ∙ z.kind ∙ sym end.kind;
         sources = ap (sources_in source_view) (sources ∙ k.sources) ∙ z.sources ∙ sym end.sources;
-        bounded = subst (λ (ss : List Source). length ss ≤ SOURCES_MAX) (sym end.sources) z.bounded;
         tree = ap view tree ∙ made.tree ∙ sym end.tree;
-        rows = λ asked. ap (λ s. s.rows.list) store ∙ k.rows ∙ ap (λ (rs : List Record). rs ++ x.rows) (z.rows asked) ∙ ap (λ (rs : List Record). s.rows ++ rs) made.rows ∙ sym end.rows;
         upto = ap (λ s. s.rows.upto) store ∙ k.upto ∙ step_tids;
         commits = counted ∙ k.commits ∙ ap (λ (n : ℕ). n + 1) z.commits ∙ sym end.commits;
         tids = omega (arith, end.now, end.commits, end.some, z.tids);
         few = omega (arith, k.few, k.upto, step_tids);
+        sound = sound-commit s ops z.sound can;
       }
+
+      -- and its rows, where those before were
+      pub rows-stepped : HasRows c s → HasRows m (after_commit s ops)
+      rows-stepped has = ap (λ s. s.rows.list) store ∙ k.rows ∙ ap (λ (rs : List Record). rs ++ x.rows) has ∙ ap (λ (rs : List Record). s.rows ++ rs) made.rows ∙ sym end.rows

@@ -1,5 +1,5 @@
 -- A source more: its entry, and what the database stands for then.
-use Rattle.std.proofs.Common.{◌≡◌, T, ℕ, ◌<◌, Bool, true, false, List, [], ◌∷◌, ◌++◌, length, is_some, sym, ap, ◌∙◌, subst, arith, length-append, append-nil}
+use Rattle.std.proofs.Common.{◌≡◌, T, ℕ, ◌<◌, Bool, true, false, List, [], ◌∷◌, ◌++◌, length, is_some, sym, ap, ◌∙◌, subst, arith, append-nil}
 use Rattle.std.specs.declared.option.Option.{Option}
 use Rattle.std.specs.declared.option.Option.TheVariants.{Some}
 use Rattle.std.specs.FinMap.Entries.{is_sorted}
@@ -23,7 +23,7 @@ use Rattle.cp_operation.specs.Loaded.{sources_in}
 use Rattle.cp_frame.specs.Items.{IsOfVersion, CanStand, an_entry, entry_meant}
 use Rattle.cp_frame.specs.Sizes.{load_size}
 use Rattle.cp_frame.proofs.Measures.{load-measured}
-use Rattle.cp_db.specs.Committed.{HasReplayed}
+use Rattle.cp_db.specs.Committed.{KeepsState, LeadsTo}
 use Rattle.cp_db.specs.declared.committed.Committed.{Committed}
 use Rattle.cp_db.proofs.WritingFrames.{IsNext}
 
@@ -81,7 +81,7 @@ module _ (n : List ℕ) (l : Literal) (t : Tree) (literal : IsLiteral (literal_r
   load-length body (commit b) e read = absurd e
   load-length body (stamped s b) e read = absurd e
 
-module _ {R S : Type 0} (view : R → Tree) (source_view : S → Tree) (right : Bool) (c : Committed R S) (h : List Entry) (z : HasReplayed view source_view right c h) (n : List ℕ) (t : Tree) (can : CanLoad z.state n t) where
+module _ {R S : Type 0} (view : R → Tree) (source_view : S → Tree) (c : Committed R S) (s : State) (z : KeepsState view source_view c s) (n : List ℕ) (t : Tree) (can : CanLoad s n t) where
   -- the name is new
   pub load-new : is_some (source (sources_in source_view c.sources) n) ≡ false
   load-new = ap (λ (ss : List Source). is_some (source ss n)) z.sources ∙ can.fresh
@@ -90,20 +90,9 @@ module _ {R S : Type 0} (view : R → Tree) (source_view : S → Tree) (right : 
   pub load-few : length (sources_in source_view c.sources) < SOURCES_MAX
   load-few = omega (arith, ap length z.sources, can.few)
 
-  -- with the source more, the history goes on with its load
-  pub replayed-loaded : (m : Committed R S) → m.tree ≡ c.tree → m.store ≡ c.store → m.commits ≡ c.commits → sources_in source_view m.sources ≡ sources_in source_view c.sources ++ record { name = n; tree = t } ∷ [] →
-      HasReplayed view source_view right m (h ++ history.load n t ∷ [])
-  replayed-loaded m same store counted added = record {
-    state = after_load z.state n t;
-    replayed = replay-snoc h (history.load n t) ∙ ap (λ (o : Option State). then_entry o (history.load n t)) z.replayed;
-    legal = legal-snoc h (history.load n t) z.legal (subst (λ (o : Option State). CanFollow o (history.load n t)) (sym z.replayed) can);
-    kind = ap (λ s. s.kind) store ∙ z.kind;
-    sources = added ∙ ap (λ (ss : List Source). ss ++ record { name = n; tree = t } ∷ []) z.sources;
-    bounded = omega (arith, can.few, length-append z.state.sources (record { name = n; tree = t } ∷ []));
-    tree = ap view same ∙ z.tree;
-    rows = λ asked. ap (λ s. s.rows.list) store ∙ z.rows asked;
-    upto = ap (λ s. s.rows.upto) store ∙ z.upto;
-    commits = counted ∙ z.commits;
-    tids = z.tids;
-    few = z.few;
-  }
+-- a history that led to the state leads, with the load, to that with the source
+pub load-leads : (s : State) (n : List ℕ) (t : Tree) → CanLoad s n t → (h : List Entry) → LeadsTo h s → LeadsTo (h ++ history.load n t ∷ []) (after_load s n t)
+load-leads s n t can h led = record {
+  legal = legal-snoc h (history.load n t) led.legal (subst (λ (o : Option State). CanFollow o (history.load n t)) (sym led.replayed) can);
+  replayed = replay-snoc h (history.load n t) ∙ ap (λ (o : Option State). then_entry o (history.load n t)) led.replayed;
+}

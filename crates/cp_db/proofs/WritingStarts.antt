@@ -1,5 +1,5 @@
 -- A new store: its start, and what a crash leaves of it.
-use Rattle.std.proofs.Common.{◌≡◌, ◌⊎◌, inl, inr, ⊎_elim, T, ℕ, ◌≤◌, true, List, [], ◌∷◌, length, Result, IsErrOf, Err, refl, sym, ap, ◌∙◌, subst, arith, append-nil}
+use Rattle.std.proofs.Common.{◌≡◌, ◌⊎◌, inl, inr, ⊎_elim, T, ℕ, ◌≤◌, Bool, true, List, [], ◌∷◌, length, Result, IsErrOf, Err, refl, sym, ap, ◌∙◌, subst, arith, append-nil}
 use Rattle.std.specs.FinMap.Entries.{is_sorted}
 use Rattle.std.specs.declared.option.Option.TheVariants.{None}
 use Rattle.cp_outside.specs.Causes.{Rose}
@@ -10,7 +10,7 @@ use Rattle.cp_model.specs.Keyed.{from_entries}
 use Rattle.cp_model.specs.Literals.{literal_rows}
 use Rattle.cp_model.specs.Place.{Path, path_cmp}
 use Rattle.cp_model.specs.Tree.{Tree, IsTree}
-use Rattle.cp_model.specs.History.{Entry, CanFollow, IsLiteral}
+use Rattle.cp_model.specs.History.{Entry, CanFollow, IsLiteral, replay, start_state}
 use Rattle.cp_model.specs.History as history
 use Rattle.cp_disk.specs.Views.{View, Keeps, Rests}
 use Rattle.cp_disk.proofs.Composing.{keeps_none, keeps_rests, keeps_then}
@@ -29,7 +29,8 @@ use Rattle.cp_frame.specs.Sizes.{start_size}
 use Rattle.cp_frame.proofs.Images.{new-head, store-stands}
 use Rattle.cp_frame.proofs.Measures.{start-measured, start-short}
 use Rattle.cp_frame.proofs.Standing.{tell-first}
-use Rattle.cp_db.specs.Databases.{IsKept}
+use Rattle.cp_db.specs.Committed.{LeadsTo}
+use Rattle.cp_db.specs.Databases.{HoldsState, IsKept, Stands}
 use Rattle.cp_db.specs.Writing.{IsOldOrVacantOrStart}
 use Rattle.cp_db.specs.declared.database.Db.{Db}
 use Rattle.cp_db.specs.declared.fault.InitFault.{InitFault}
@@ -79,6 +80,27 @@ module _ (k : Kind) (l : Literal) (t : Tree) (literal : IsLiteral (literal_rows 
   start-fits (load m u) e read = absurd e
   start-fits (commit b) e read = absurd e
   start-fits (stamped s b) e read = absurd e
+
+-- ---- the database
+
+-- a start leads to its state
+start_leads : (k : Kind) (t : Tree) → IsTree t → LeadsTo (history.start k t ∷ []) (start_state k t)
+unfolding replay
+start_leads k t tree = record { legal = (tree, tt); replayed = refl }
+
+start_rows : (k : Kind) (t : Tree) → (start_state k t).rows ≡ []
+unfolding start_state
+start_rows k t = refl
+
+-- a database that holds the state of a start, without rows, stands for it
+pub stands-started : {R S : Type 0} (view : R → Tree) (source_view : S → Tree) (right : Bool) (k : Kind) (t : Tree) → IsTree t → (d : Db R S) → HoldsState view source_view d (start_state k t) → d.committed.store.rows.list ≡ []
+    → Stands view source_view right d (history.start k t ∷ [])
+stands-started view source_view right k t tree d holds none = record {
+  state = start_state k t;
+  led = start_leads k t tree;
+  holds = holds;
+  rows = λ asked. none ∙ sym (start_rows k t);
+}
 
 -- ---- the disk
 

@@ -17,7 +17,7 @@ use Rattle.cp_engine.specs.declared.txn.Step.{Step}
 use Rattle.cp_engine.specs.declared.txn.Txn.{Txn}
 use Rattle.cp_engine.proofs.Committed.{can-commit}
 use Rattle.cp_frame.specs.Sizes.{has_room}
-use Rattle.cp_db.specs.Databases.{Stands, IsDatabase, IsKept, HasCome, end_in}
+use Rattle.cp_db.specs.Databases.{HoldsState, IsDatabase, IsKept, HasCome, end_in}
 use Rattle.cp_db.specs.Writing.{HasCommitted, HasMade, HasStepped, IsBeforeOrCommitted, commit_size}
 use Rattle.cp_db.specs.declared.database.Db.{Db}
 use Rattle.cp_db.specs.declared.fault.CommitFault.{CommitFault}
@@ -46,37 +46,31 @@ module _ {R S : Type 0} (view : R → Tree) (source_view : S → Tree) (d : Db R
   module _ (step : Step R) (small : limit ≤ BODY_MAX) (gives : Gives step) where
     -- it is a step on the database
     made-step : (ops : List Op) → HasCome view source_view d x (txn.going ops) → HasMade view source_view d ops step
-    made-step ops come right h z =
-        let s : State = z.committed.state in
-        let is = come right h z in
+    made-step ops come s z =
+        let is = come s z in
         let made = gives s.kind s.sources (tree_of s.tree) (s.now + 1) (txn.going ops) is in (
           can-commit s ops made.some is.few is.written is.accepted,
           record { some = made.some; held = made.held; tree = made.tree; rows = made.rows; tids = made.tids; small = omega (arith, small, made.small) },
         )
 
     -- the transaction has not failed
-    pub made-cases : (Q : txn.Progress → Type 0) → ((ops : List Op) → HasMade view source_view d ops step → Q (txn.going ops)) → (p : txn.Progress) → HasCome view source_view d x p → (right : Bool) (h : List Entry) → Stands view source_view right d h → Q p
-    made-cases Q f (txn.going ops) come right h z = f ops (made-step ops come)
-    made-cases Q f (txn.failed j b) come right h z =
-        let s : State = z.committed.state in
-        absurd (gives s.kind s.sources (tree_of s.tree) (s.now + 1) (txn.failed j b) (come right h z))
+    pub made-cases : (Q : txn.Progress → Type 0) → ((ops : List Op) → HasMade view source_view d ops step → Q (txn.going ops)) → (p : txn.Progress) → HasCome view source_view d x p → (s : State) → HoldsState view source_view d s → Q p
+    made-cases Q f (txn.going ops) come s z = f ops (made-step ops come)
+    made-cases Q f (txn.failed j b) come s z = absurd (gives s.kind s.sources (tree_of s.tree) (s.now + 1) (txn.failed j b) (come s z))
 
     pub made-some : (p : txn.Progress) → HasCome view source_view d x p → IsDatabase view source_view d → (ops : List Op) × HasMade view source_view d ops step
-    made-some p come (h, z) = made-cases (λ _. (ops : List Op) × HasMade view source_view d ops step) (λ ops made. (ops, made)) p come false h z
+    made-some p come (s, z) = made-cases (λ _. (ops : List Op) × HasMade view source_view d ops step) (λ ops made. (ops, made)) p come s z
 
     pub made-going : (ops : List Op) → HasCome view source_view d x (txn.going ops) → HasMade view source_view d ops step
     made-going ops come = made-step ops come
 
-module _ {R S : Type 0} (view : R → Tree) (source_view : S → Tree) (right : Bool) (d : Db R S) (h : List Entry) (z : Stands view source_view right d h) (r : Stamp) where
-  abbrev s : State
-  s = z.committed.state
-
+module _ {R S : Type 0} (view : R → Tree) (source_view : S → Tree) (d : Db R S) (s : State) (r : Stamp) where
   abbrev Committed : txn.Progress → Db R S → CommitFault → Type 0
-  Committed p m e = HasCommitted view source_view right d h s r p m (Err e)
+  Committed p m e = HasCommitted view source_view d s r p m (Err e)
 
   -- why a transaction makes nothing
   pub told-unfinished : (limit : ℕ) (p : txn.Progress) (f : FinishFault) (e : CommitFault) → limit + 9 + length r.curator ≡ BODY_MAX → TellsFinish f e
-      → txn.Finishes view s.kind s.sources (tree_of s.tree) (s.now + 1) p limit (Err f) → HasCommitted view source_view right d h s r p d (Err e)
+      → txn.Finishes view s.kind s.sources (tree_of s.tree) (s.now + 1) p limit (Err f) → HasCommitted view source_view d s r p d (Err e)
   told-unfinished limit (txn.going ops) finish.Empty e is tells k = subst (Committed (txn.going ops) d) (sym (tells.0 refl)) (k, refl)
   told-unfinished limit (txn.going ops) (finish.Failed n c) e is tells k = absurd k
   told-unfinished limit (txn.going ops) finish.TooLarge e is tells k =
@@ -88,7 +82,7 @@ module _ {R S : Type 0} (view : R → Tree) (source_view : S → Tree) (right : 
   told-unfinished limit (txn.failed j b) finish.Memory e is tells k = absurd k
 
   -- why a step isn't committed
-  pub told-unwritten : (m : Db R S) (ops : List Op) (f : WriteFault) (e : CommitFault) → 1 ≤ length ops → TellsWrite f e → HasStepped view source_view right d h s r ops m (Err f) → HasCommitted view source_view right d h s r (txn.going ops) m (Err e)
+  pub told-unwritten : (m : Db R S) (ops : List Op) (f : WriteFault) (e : CommitFault) → 1 ≤ length ops → TellsWrite f e → HasStepped view source_view d s r ops m (Err f) → HasCommitted view source_view d s r (txn.going ops) m (Err e)
   told-unwritten m ops write.TooLarge e some tells k = subst (Committed (txn.going ops) m) (sym (tells.2 refl)) (some, k.0, k.1)
   told-unwritten m ops write.Disk e some tells k = subst (Committed (txn.going ops) m) (sym (tells.0 refl)) tt
   told-unwritten m ops write.Memory e some tells k = subst (Committed (txn.going ops) m) (sym (tells.1 refl)) tt

@@ -1,5 +1,5 @@
 -- What a database keeps in memory of its history.
-use Rattle.std.specs.Prelude.{ℕ, ◌≡◌, ◌≤◌, ◌<◌, ◌+◌, ◌++◌, Bool, true, false, IsTrue, List, [], ◌∷◌, length, is_some}
+use Rattle.std.specs.Prelude.{ℕ, ◌≡◌, ◌≤◌, ◌<◌, ◌+◌, ◌++◌, Bool, true, false, List, [], ◌∷◌, length, is_some}
 use Rattle.std.specs.List.{AllByRecursion, flat_map}
 use Rattle.std.specs.declared.option.Option.{Option}
 use Rattle.std.specs.declared.option.Option.TheVariants.{Some, None}
@@ -13,6 +13,7 @@ use Rattle.cp_model.specs.declared.kind.Kind.{Kind}
 use Rattle.cp_model.specs.declared.limits.TheConstants.{SOURCES_MAX}
 use Rattle.cp_model.specs.declared.literal.Literal.{Literal}
 use Rattle.cp_model.specs.History.{Entry, State, AreWritten, IsLegal, replay, steps_of}
+use Rattle.cp_model.specs.Laws.{IsSound}
 use Rattle.cp_model.specs.declared.op.Op.{Op}
 use Rattle.cp_model.specs.declared.record.Record.{Record}
 use Rattle.cp_frame.specs.Entries as written
@@ -23,25 +24,32 @@ use Rattle.cp_frame.specs.Items.{Item, an_entry, AllStand, CanStand, entries_in,
 use Rattle.cp_db.specs.declared.committed.Committed.{Committed}
 use Rattle.cp_db.specs.declared.limits.TheConstants.{TIDS_MAX}
 
--- the tree, the sources, the kind and the counts are those to which the history leads; and so are the rows, where they are right
-pub record HasReplayed {R S : Type 0} (view : R → Tree) (source_view : S → Tree) (right : Bool) (c : Committed R S) (h : List Entry) : Type 0 where
-  pub state : State
-  pub replayed : replay h ≡ Some state
+-- the state is kept in memory: its kind, sources, tree, last Tid and number of commits, and not its pasts and rows; it is within every limit
+pub record KeepsState {R S : Type 0} (view : R → Tree) (source_view : S → Tree) (c : Committed R S) (s : State) : Type 0 where
+  pub kind : c.store.kind ≡ s.kind
+  pub sources : sources_in source_view c.sources ≡ s.sources
+  pub tree : view c.tree ≡ tree_of s.tree
+  pub upto : c.store.rows.upto ≡ s.now
+  pub commits : c.commits ≡ s.commits
+  pub tids : s.commits ≤ s.now
+  pub few : s.now ≤ TIDS_MAX
+  pub sound : IsSound s
+
+-- its rows are kept
+abbrev pub HasRows : {R S : Type 0} → Committed R S → State → Type 0
+HasRows c s = c.store.rows.list ≡ s.rows
+
+-- the history may be one, and leads to the state
+pub record LeadsTo (h : List Entry) (s : State) : Type 0 where
   pub legal : IsLegal h
-  pub kind : c.store.kind ≡ state.kind
-  pub sources : sources_in source_view c.sources ≡ state.sources
-  pub bounded : length state.sources ≤ SOURCES_MAX
-  pub tree : view c.tree ≡ tree_of state.tree
-  pub rows : IsTrue right → c.store.rows.list ≡ state.rows
-  pub upto : c.store.rows.upto ≡ state.now
-  pub commits : c.commits ≡ state.commits
-  pub tids : state.commits ≤ state.now
-  pub few : state.now ≤ TIDS_MAX
+  pub replayed : replay h ≡ Some s
 
 -- these items were replayed one after another, and their records kept
 pub record HasTaken {R S : Type 0} (view : R → Tree) (source_view : S → Tree) (c : Committed R S) (items : List Item) : Type 0 where
   pub stand : AllStand false None items
-  pub replayed : HasReplayed view source_view false c (flat_map entries_in items)
+  pub state : State
+  pub replayed : replay (flat_map entries_in items) ≡ Some state
+  pub keeps : KeepsState view source_view c state
   pub kept : c.store.rows.list ≡ flat_map records_in items
 
 -- ---- replaying one entry more

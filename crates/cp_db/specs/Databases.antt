@@ -1,9 +1,9 @@
 -- What a database stands for, and what the disk holds of it.
-use Rattle.std.specs.Prelude.{ℕ, ◌≡◌, ◌≤◌, ◌+◌, Bool, false, List, length}
+use Rattle.std.specs.Prelude.{ℕ, ◌≡◌, ◌≤◌, ◌+◌, ◌↔◌, Bool, false, IsTrue, List, length}
 use Rattle.std.specs.declared.option.Option.TheVariants.{None}
 use Rattle.cp_model.specs.Tree.{Tree}
 use Rattle.cp_model.specs.Past.{tree_of}
-use Rattle.cp_model.specs.History.{Entry}
+use Rattle.cp_model.specs.History.{Entry, State}
 use Rattle.cp_disk.specs.Views.{View}
 use Rattle.cp_journal.specs.Frames.{Frame}
 use Rattle.cp_journal.specs.Holding.{IsAtRest}
@@ -13,18 +13,30 @@ use Rattle.cp_frame.specs.Items.{Tell}
 use Rattle.cp_frame.specs.Stands.{IsHead}
 use Rattle.cp_engine.specs.Transactions as txn
 use Rattle.cp_engine.specs.declared.txn.Txn.{Txn}
-use Rattle.cp_db.specs.Committed.{HasReplayed}
+use Rattle.cp_db.specs.Committed.{HasRows, KeepsState, LeadsTo}
 use Rattle.cp_db.specs.declared.database.Db.{Db}
 
--- the database stands for the history, with its rows where they are right, and its journal may be written
-pub record Stands {R S : Type 0} (view : R → Tree) (source_view : S → Tree) (right : Bool) (d : Db R S) (h : List Entry) : Type 0 where
-  pub committed : HasReplayed view source_view right d.committed h
+-- the database holds the state, and its journal may be written
+pub record HoldsState {R S : Type 0} (view : R → Tree) (source_view : S → Tree) (d : Db R S) (s : State) : Type 0 where
+  pub committed : KeepsState view source_view d.committed s
   pub whole : d.journal.broken ≡ None
   pub usable : d.journal.spent ≡ false
 
--- it stands for some history
+-- it holds some state; that any history leads there isn't asked
 abbrev pub IsDatabase : {R S : Type 0} → (R → Tree) → (S → Tree) → Db R S → Type 0
-IsDatabase view source_view d = (h : List Entry) × Stands view source_view false d h
+IsDatabase view source_view d = (s : State) × HoldsState view source_view d s
+
+-- it stands for the history: it holds the state to which that leads, with its rows where they are right
+pub record Stands {R S : Type 0} (view : R → Tree) (source_view : S → Tree) (right : Bool) (d : Db R S) (h : List Entry) : Type 0 where
+  pub state : State
+  pub led : LeadsTo h state
+  pub holds : HoldsState view source_view d state
+  pub rows : IsTrue right → HasRows d.committed state
+
+-- they hold the same states, and the one has the rows that the other has
+pub record HoldsSame {R S : Type 0} (view : R → Tree) (source_view : S → Tree) (old new : Db R S) : Type 0 where
+  pub states : (s : State) → HoldsState view source_view old s ↔ HoldsState view source_view new s
+  pub rows : (s : State) → HasRows old.committed s → HasRows new.committed s
 
 -- where the frames of its file end
 abbrev pub end_in : {R S : Type 0} → Db R S → ℕ
@@ -54,8 +66,8 @@ pub record IsKept {R S : Type 0} (right : Bool) (d : Db R S) (h : List Entry) (v
 -- the transaction, which was begun on the database, has come so far
 abbrev pub HasCome : {R S : Type 0} → (R → Tree) → (S → Tree) → Db R S → Txn R → txn.Progress → Type 0
 HasCome view source_view d x p =
-    (right : Bool) (h : List Entry) (z : Stands view source_view right d h)
-    → txn.Stands view x z.committed.state.kind z.committed.state.sources (tree_of z.committed.state.tree) (z.committed.state.now + 1) p
+    (s : State) → HoldsState view source_view d s
+    → txn.Stands view x s.kind s.sources (tree_of s.tree) (s.now + 1) p
 
 -- what it keeps of its file is the same
 abbrev pub IsSameFile : {R S : Type 0} → Db R S → Db R S → Type 0

@@ -1,10 +1,10 @@
 -- What a file gives that is opened.
-use Rattle.std.specs.Prelude.{ℕ, ◌≡◌, ◌≤◌, ◌++◌, nat_lt, Bool, false, List, ◌∷◌, [], length, if◌then◌else◌, Result, Ok, Err, ⊤}
+use Rattle.std.specs.Prelude.{ℕ, ◌≡◌, ◌≤◌, ◌++◌, nat_lt, Bool, false, List, ◌∷◌, [], length, fold, if◌then◌else◌, Result, Ok, Err, ⊤}
 use Rattle.std.specs.List.{flat_map}
 use Rattle.std.specs.declared.option.Option.{Option}
 use Rattle.std.specs.declared.option.Option.TheVariants.{None, Some}
 use Rattle.cp_model.specs.Tree.{Tree}
-use Rattle.cp_model.specs.History.{replay}
+use Rattle.cp_model.specs.History.{State, replay}
 use Rattle.cp_model.specs.History.{Entry as History}
 use Rattle.cp_journal.specs.declared.header.Header.{Header}
 use Rattle.cp_journal.specs.declared.header.Slot.{Slot}
@@ -13,19 +13,20 @@ use Rattle.cp_frame.specs.Entries.{WrittenEntry, IsEntry, entry_format}
 use Rattle.cp_frame.specs.declared.entry.Entry.{Entry}
 use Rattle.cp_disk.specs.Views.{View}
 use Rattle.cp_journal.specs.Frames.{Frame}
-use Rattle.cp_frame.specs.Items.{Item, AreHeld, IsHeld, CanStand, Tell, entries_in}
-use Rattle.cp_frame.specs.Stands.{IsStore, Opens}
+use Rattle.cp_frame.specs.Items.{Item, AreHeld, IsHeld, CanStand, Tell, after_item, entries_in}
+use Rattle.cp_frame.specs.Stands.{IsTold, Opens}
 use Rattle.cp_db.specs.Committed.{HasTaken}
-use Rattle.cp_db.specs.Databases.{Stands, IsKept}
+use Rattle.cp_db.specs.Databases.{HoldsState, IsKept, Stands}
 use Rattle.cp_db.specs.declared.committed.Committed.{Committed}
 use Rattle.cp_db.specs.declared.database.Db.{Db}
 use Rattle.cp_db.specs.declared.fault.OpenFault.{OpenFault}
 use Rattle.cp_db.specs.declared.fault.OpenFault.TheVariants.{NoStore, Disk, Memory}
 
--- it stands for the history that the file tells, and the disk holds that; with the right records where the file has them
+-- it holds the state to which what the file opens with leads; and it stands for the history that the file tells, and the disk holds that, with the right records where the file has them
 pub record HasOpened {R S : Type 0} (view : R → Tree) (source_view : S → Tree) (d : Db R S) (c : List ℕ) (v : View) : Type 0 where
   pub opens : Opens c
-  pub stands : (right : Bool) (h : List History) → IsStore right h c → Stands view source_view right d h × IsKept right d h v
+  pub holds : (s : State) → fold after_item None opens.first.items ≡ Some s → HoldsState view source_view d s
+  pub stands : (right : Bool) (h : List History) → IsTold right h c → Stands view source_view right d h × IsKept right d h v
 
 -- a file that is opened gives its database; one that isn't a store's doesn't open
 abbrev pub OpensAs : {R S : Type 0} → (R → Tree) → (S → Tree) → List ℕ → View → Result (Db R S) OpenFault → Type 0

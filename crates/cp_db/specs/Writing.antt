@@ -1,8 +1,8 @@
 -- What the calls that write do.
-use Rattle.std.specs.Prelude.{ℕ, ◌≡◌, ◌⊎◌, ◌+◌, ◌≤◌, ◌++◌, Bool, true, false, List, [], ◌∷◌, length, Result, Ok, Err, ⊤}
+use Rattle.std.specs.Prelude.{ℕ, ◌≡◌, ◌⊎◌, ◌+◌, ◌≤◌, ◌++◌, true, false, List, [], ◌∷◌, length, Result, Ok, Err, ⊤}
 use Rattle.cp_model.specs.Tree.{Tree}
 use Rattle.cp_model.specs.Past.{tree_of}
-use Rattle.cp_model.specs.History.{Entry, start, load, commit, State, CanCommit, steps_of}
+use Rattle.cp_model.specs.History.{Entry, start, load, commit, State, CanCommit, after_commit, after_load, steps_of}
 use Rattle.cp_model.specs.declared.kind.Kind.{Kind}
 use Rattle.cp_model.specs.declared.op.Op.{Op}
 use Rattle.cp_model.specs.declared.stamp.Stamp.{Stamp}
@@ -14,7 +14,8 @@ use Rattle.cp_engine.specs.Transactions as txn
 use Rattle.cp_engine.specs.declared.txn.Step.{Step}
 use Rattle.cp_frame.specs.Stands.{StandsFor, StandsWithOrWithout}
 use Rattle.cp_frame.specs.Sizes.{has_room, load_size, stamped_size}
-use Rattle.cp_db.specs.Databases.{Stands, end_in}
+use Rattle.cp_db.specs.Committed.{HasRows, LeadsTo}
+use Rattle.cp_db.specs.Databases.{HoldsState, end_in}
 use Rattle.cp_db.specs.declared.database.Db.{Db}
 use Rattle.cp_db.specs.declared.database.Tids.{Tids}
 use Rattle.cp_db.specs.declared.fault.InitFault.{InitFault}
@@ -44,62 +45,64 @@ IsOldOrVacantOrStart v k t c = v.images c ⊎ (IsVacant c ⊎ StandsFor (start k
 
 -- ---- one entry more
 
--- the database stands for the history with the entry, where it stood for it, and its frames end so many bytes later
-pub record HasAdded {R S : Type 0} (view : R → Tree) (source_view : S → Tree) (right : Bool) (old : Db R S) (h : List Entry) (e : Entry) (size : ℕ) (new : Db R S) : Type 0 where
-  pub stands : Stands view source_view right new (h ++ e ∷ [])
+-- The database held the one state and holds the other, which comes of it by the entry: it has the rows of this where it had the rows of that, and
+-- a history that led to that leads to this with the entry. Its frames end so many bytes later.
+pub record HasAdded {R S : Type 0} (view : R → Tree) (source_view : S → Tree) (old : Db R S) (s : State) (e : Entry) (z : State) (size : ℕ) (new : Db R S) : Type 0 where
+  pub holds : HoldsState view source_view new z
+  pub rows : HasRows old.committed s → HasRows new.committed z
+  pub leads : (h : List Entry) → LeadsTo h s → LeadsTo (h ++ e ∷ []) z
   pub end : end_in new ≡ end_in old + FRAME_HEAD + size
 
 -- the source is added, unless there is no room for it
-abbrev pub HasLoaded : {R S : Type 0} → (R → Tree) → (S → Tree) → Bool → Db R S → List Entry → List ℕ → Tree → Db R S → Result ⊤ WriteFault → Type 0
-HasLoaded view source_view right old h n t new (Ok x) =
-    (has_room (end_in old) (load_size n t) ≡ true) × HasAdded view source_view right old h (load n t) (load_size n t) new
-HasLoaded view source_view right old h n t new (Err write.TooLarge) = (has_room (end_in old) (load_size n t) ≡ false) × (new ≡ old)
-HasLoaded view source_view right old h n t new (Err write.Disk) = ⊤
-HasLoaded view source_view right old h n t new (Err write.Memory) = ⊤
+abbrev pub HasLoaded : {R S : Type 0} → (R → Tree) → (S → Tree) → Db R S → State → List ℕ → Tree → Db R S → Result ⊤ WriteFault → Type 0
+HasLoaded view source_view old s n t new (Ok x) =
+    (has_room (end_in old) (load_size n t) ≡ true) × HasAdded view source_view old s (load n t) (after_load s n t) (load_size n t) new
+HasLoaded view source_view old s n t new (Err write.TooLarge) = (has_room (end_in old) (load_size n t) ≡ false) × (new ≡ old)
+HasLoaded view source_view old s n t new (Err write.Disk) = ⊤
+HasLoaded view source_view old s n t new (Err write.Memory) = ⊤
 
 -- the bytes of a commit's entry
 abbrev pub commit_size : State → Stamp → List Op → ℕ
-commit_size z s ops = stamped_size s ops (records_of z.kind z.sources (tree_of z.tree) (z.now + 1) ops)
+commit_size s stamp ops = stamped_size stamp ops (records_of s.kind s.sources (tree_of s.tree) (s.now + 1) ops)
 
 -- the Tids of a commit after this state
 abbrev pub GaveTids : State → List Op → Tids → Type 0
-GaveTids z ops t = (t.low ≡ z.now + 1) × (t.high ≡ z.now + length (steps_of z.kind ops))
+GaveTids s ops t = (t.low ≡ s.now + 1) × (t.high ≡ s.now + length (steps_of s.kind ops))
 
--- the step is that of these operations, which may be committed on what the database stands for
+-- the step is that of these operations, which may be committed on the state that the database holds
 abbrev pub HasMade : {R S : Type 0} → (R → Tree) → (S → Tree) → Db R S → List Op → Step R → Type 0
 HasMade view source_view d ops x =
-    (right : Bool) (h : List Entry) (z : Stands view source_view right d h)
-    → CanCommit z.committed.state ops
-    × txn.IsStep view z.committed.state.kind z.committed.state.sources (tree_of z.committed.state.tree) (z.committed.state.now + 1) ops BODY_MAX x
+    (s : State) → HoldsState view source_view d s
+    → CanCommit s ops × txn.IsStep view s.kind s.sources (tree_of s.tree) (s.now + 1) ops BODY_MAX x
 
 -- the step is committed, unless there is no room for it
-abbrev pub HasStepped : {R S : Type 0} → (R → Tree) → (S → Tree) → Bool → Db R S → List Entry → State → Stamp → List Op → Db R S → Result Tids WriteFault → Type 0
-HasStepped view source_view right old h z s ops new (Ok t) =
-    (has_room (end_in old) (commit_size z s ops) ≡ true) × GaveTids z ops t
-    × HasAdded view source_view right old h (commit s ops) (commit_size z s ops) new
-HasStepped view source_view right old h z s ops new (Err write.TooLarge) = (has_room (end_in old) (commit_size z s ops) ≡ false) × (new ≡ old)
-HasStepped view source_view right old h z s ops new (Err write.Disk) = ⊤
-HasStepped view source_view right old h z s ops new (Err write.Memory) = ⊤
+abbrev pub HasStepped : {R S : Type 0} → (R → Tree) → (S → Tree) → Db R S → State → Stamp → List Op → Db R S → Result Tids WriteFault → Type 0
+HasStepped view source_view old s stamp ops new (Ok t) =
+    (has_room (end_in old) (commit_size s stamp ops) ≡ true) × GaveTids s ops t
+    × HasAdded view source_view old s (commit stamp ops) (after_commit s ops) (commit_size s stamp ops) new
+HasStepped view source_view old s stamp ops new (Err write.TooLarge) = (has_room (end_in old) (commit_size s stamp ops) ≡ false) × (new ≡ old)
+HasStepped view source_view old s stamp ops new (Err write.Disk) = ⊤
+HasStepped view source_view old s stamp ops new (Err write.Memory) = ⊤
 
 -- operations are committed, one at least, unless there is no room for them; of a transaction that has failed the number and the cause are told
-abbrev pub HasCommitted : {R S : Type 0} → (R → Tree) → (S → Tree) → Bool → Db R S → List Entry → State → Stamp → txn.Progress → Db R S → Result Tids CommitFault → Type 0
-HasCommitted view source_view right old h z s (txn.going ops) new (Ok t) =
-    (1 ≤ length ops) × (has_room (end_in old) (commit_size z s ops) ≡ true) × GaveTids z ops t
-    × HasAdded view source_view right old h (commit s ops) (commit_size z s ops) new
-HasCommitted view source_view right old h z s (txn.going ops) new (Err fault.Empty) = (ops ≡ []) × (new ≡ old)
-HasCommitted view source_view right old h z s (txn.going ops) new (Err (fault.Failed n c)) = ⊥
-HasCommitted view source_view right old h z s (txn.going ops) new (Err fault.TooLarge) =
-    (1 ≤ length ops) × (has_room (end_in old) (commit_size z s ops) ≡ false) × (new ≡ old)
-HasCommitted view source_view right old h z s (txn.going ops) new (Err fault.Disk) = ⊤
-HasCommitted view source_view right old h z s (txn.going ops) new (Err fault.Memory) = ⊤
-HasCommitted view source_view right old h z s (txn.failed j b) new (Ok t) = ⊥
-HasCommitted view source_view right old h z s (txn.failed j b) new (Err fault.Empty) = ⊥
-HasCommitted view source_view right old h z s (txn.failed j b) new (Err (fault.Failed n c)) = (n ≡ j) × (c ≡ b) × (new ≡ old)
-HasCommitted view source_view right old h z s (txn.failed j b) new (Err fault.TooLarge) = ⊥
-HasCommitted view source_view right old h z s (txn.failed j b) new (Err fault.Disk) = ⊥
-HasCommitted view source_view right old h z s (txn.failed j b) new (Err fault.Memory) = ⊥
+abbrev pub HasCommitted : {R S : Type 0} → (R → Tree) → (S → Tree) → Db R S → State → Stamp → txn.Progress → Db R S → Result Tids CommitFault → Type 0
+HasCommitted view source_view old s stamp (txn.going ops) new (Ok t) =
+    (1 ≤ length ops) × (has_room (end_in old) (commit_size s stamp ops) ≡ true) × GaveTids s ops t
+    × HasAdded view source_view old s (commit stamp ops) (after_commit s ops) (commit_size s stamp ops) new
+HasCommitted view source_view old s stamp (txn.going ops) new (Err fault.Empty) = (ops ≡ []) × (new ≡ old)
+HasCommitted view source_view old s stamp (txn.going ops) new (Err (fault.Failed n c)) = ⊥
+HasCommitted view source_view old s stamp (txn.going ops) new (Err fault.TooLarge) =
+    (1 ≤ length ops) × (has_room (end_in old) (commit_size s stamp ops) ≡ false) × (new ≡ old)
+HasCommitted view source_view old s stamp (txn.going ops) new (Err fault.Disk) = ⊤
+HasCommitted view source_view old s stamp (txn.going ops) new (Err fault.Memory) = ⊤
+HasCommitted view source_view old s stamp (txn.failed j b) new (Ok t) = ⊥
+HasCommitted view source_view old s stamp (txn.failed j b) new (Err fault.Empty) = ⊥
+HasCommitted view source_view old s stamp (txn.failed j b) new (Err (fault.Failed n c)) = (n ≡ j) × (c ≡ b) × (new ≡ old)
+HasCommitted view source_view old s stamp (txn.failed j b) new (Err fault.TooLarge) = ⊥
+HasCommitted view source_view old s stamp (txn.failed j b) new (Err fault.Disk) = ⊥
+HasCommitted view source_view old s stamp (txn.failed j b) new (Err fault.Memory) = ⊥
 
 -- of a commit a crash leaves the file for the history before, or for that with the operations that the transaction holds
 abbrev pub IsBeforeOrCommitted : List Entry → Stamp → txn.Progress → List ℕ → Type 0
-IsBeforeOrCommitted h s (txn.going ops) c = StandsWithOrWithout h (commit s ops) c
-IsBeforeOrCommitted h s (txn.failed n b) c = StandsFor h c
+IsBeforeOrCommitted h stamp (txn.going ops) c = StandsWithOrWithout h (commit stamp ops) c
+IsBeforeOrCommitted h stamp (txn.failed n b) c = StandsFor h c

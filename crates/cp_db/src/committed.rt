@@ -2,7 +2,7 @@
 ghost use Rattle.std.specs.Prelude.{◌≡◌, ◌≤◌, ◌+◌, ◌∷◌, ◌↔◌, [], true, false, Bool, IsTrue, List, length, IfOk, OnOk};
 ghost use Rattle.std.specs.List.{AllByRecursion};
 ghost use Rattle.cp_model.specs.Answers.{stats};
-ghost use Rattle.cp_model.specs.History.{Entry as HistoryEntry, start, AreWritten};
+ghost use Rattle.cp_model.specs.History.{AreWritten, State, start_state};
 ghost use Rattle.cp_model.specs.declared.limits.TheConstants.{OPS_MAX, SOURCES_MAX};
 ghost use Rattle.cp_model.specs.Changes.{AreNext};
 ghost use Rattle.cp_db.specs.declared.limits.TheConstants.{TIDS_MAX};
@@ -10,7 +10,7 @@ ghost use Rattle.cp_frame.specs.Entries.{WrittenEntry, IsEntry};
 ghost use Rattle.cp_frame.specs.Sound.{IsSoundEntry, IsSoundBatch, IsSoundOp, IsSoundSource};
 ghost use Rattle.cp_operation.specs.Loaded.{sources_in};
 ghost use Rattle.cp_frame.specs.Items.{Item};
-ghost use Rattle.cp_db.specs.Committed.{HasReplayed, HasTaken, TidsLieBetween, HasKept, CanTake, HoldsBatch, LoadsSource, ReplaysCommit};
+ghost use Rattle.cp_db.specs.Committed.{HasRows, HasTaken, KeepsState, TidsLieBetween, HasKept, CanTake, HoldsBatch, LoadsSource, ReplaysCommit};
 
 use crate::limits::TIDS_MAX;
 use cp_engine::{replay, steps_of};
@@ -109,8 +109,7 @@ pub fn replay_commit<R: TreeRep, S: TreeRep>(
 impl<R: TreeRep, S: TreeRep> Committed<R, S> {
     /// A tree without sources and without rows.
     pub(crate) fn start(alloc: Global, kind: Kind, tree: R) -> Result<Committed<R, S>, AllocError>
-        ensures replayed { IfOk result (λ c. (right : Bool)
-            → HasReplayed R.contents S.contents right c (start kind (R.contents tree) ∷ [])) }
+        ensures keeps { IfOk result (λ c. KeepsState R.contents S.contents c (start_state kind (R.contents tree))) }
         ensures none { IfOk result (λ c. c.store.rows.list ≡ []) }
     {
         Ok(Committed {
@@ -123,9 +122,8 @@ impl<R: TreeRep, S: TreeRep> Committed<R, S> {
 
     /// The numbers of the committed state.
     pub(crate) fn stats(&self) -> Stats
-        requires { (h : List HistoryEntry) × HasReplayed R.contents S.contents false self.now h }
-        ensures { (h : List HistoryEntry) (z : HasReplayed R.contents S.contents true self.now h)
-            → result ≡ stats z.state }
+        requires { (s : State) × KeepsState R.contents S.contents self.now s }
+        ensures { (s : State) → KeepsState R.contents S.contents self.now s → HasRows self.now s → result ≡ stats s }
     {
         Stats {
             kind: self.store.kind(),

@@ -1,11 +1,11 @@
-ghost use Rattle.std.specs.Prelude.{◌≡◌, [], Bool, List, true, IfOk, IsErrOf};
+ghost use Rattle.std.specs.Prelude.{◌≡◌, [], List, true, IfOk, IsErrOf};
 ghost use Rattle.cp_model.specs.Past.{tree_of};
-ghost use Rattle.cp_model.specs.History.{Entry};
+ghost use Rattle.cp_model.specs.History.{Entry, State};
 ghost use Rattle.cp_operation.specs.Loaded.{sources_in};
 ghost use Rattle.cp_engine.specs.Transactions.{going};
 ghost use Rattle.cp_query.specs.Asked.{AnswersTo};
 ghost use Rattle.cp_query.specs.declared.fault.QueryFault.TheVariants.{Disk};
-ghost use Rattle.cp_db.specs.Databases.{Stands, IsDatabase, HasCome, IsSameFile, is_spent, version_in};
+ghost use Rattle.cp_db.specs.Databases.{HoldsState, HoldsSame, Stands, IsDatabase, HasCome, IsSameFile, is_spent, version_in};
 
 use crate::committed::Committed;
 use cp_engine::Txn;
@@ -47,31 +47,31 @@ impl<R: TreeRep, S: TreeRep> Db<R, S> {
 
     /// The committed tree.
     pub fn tree(&self) -> &R
-        ensures { (right : Bool) (h : List Entry) (z : Stands R.contents S.contents right self.now h)
-            → R.contents result.now ≡ tree_of z.committed.state.tree }
+        ensures { (s : State) → HoldsState R.contents S.contents self.now s
+            → R.contents result.now ≡ tree_of s.tree }
     {
         &self.committed.tree
     }
 
     /// The loaded sources.
     pub fn sources(&self) -> &Sources<S>
-        ensures { (right : Bool) (h : List Entry) (z : Stands R.contents S.contents right self.now h)
-            → sources_in S.contents result.now ≡ z.committed.state.sources }
+        ensures { (s : State) → HoldsState R.contents S.contents self.now s
+            → sources_in S.contents result.now ≡ s.sources }
     {
         &self.committed.sources
     }
 
     /// The last Tid.
     pub fn now(&self) -> u64
-        ensures { (right : Bool) (h : List Entry) (z : Stands R.contents S.contents right self.now h)
-            → result ≡ z.committed.state.now }
+        ensures { (s : State) → HoldsState R.contents S.contents self.now s
+            → result ≡ s.now }
     {
         self.committed.store.upto()
     }
 
     pub fn kind(&self) -> Kind
-        ensures { (right : Bool) (h : List Entry) (z : Stands R.contents S.contents right self.now h)
-            → result ≡ z.committed.state.kind }
+        ensures { (s : State) → HoldsState R.contents S.contents self.now s
+            → result ≡ s.kind }
     {
         self.committed.store.kind()
     }
@@ -94,9 +94,8 @@ impl<R: TreeRep, S: TreeRep> Db<R, S> {
     pub fn query(&mut self, alloc: Global, query: &Query) -> Result<Answer, QueryFault>
         requires stands { IsDatabase R.contents S.contents self.old }
         ensures answer { (h : List Entry) (z : Stands R.contents S.contents true self.old h)
-            → AnswersTo z.committed.state query.now result }
-        ensures same { (right : Bool) (h : List Entry) → Stands R.contents S.contents right self.old h
-            → Stands R.contents S.contents right self.new h }
+            → AnswersTo z.state query.now result }
+        ensures same { HoldsSame R.contents S.contents self.old self.new }
         ensures disk { IsErrOf result Disk → ⊥ }
         ensures file { IsSameFile self.old self.new }
     {

@@ -19,7 +19,7 @@ ghost use Rattle.cp_frame.specs.declared.entry.Entry.TheVariants.{Load as LoadEn
 ghost use Rattle.cp_frame.specs.Items.{Tell};
 ghost use Rattle.cp_frame.specs.Stands.{StandsFor, StandsWithOrWithout};
 ghost use Rattle.cp_frame.specs.Sizes.{has_room, load_size, start_size};
-ghost use Rattle.cp_db.specs.Databases.{Stands, IsDatabase, IsReady, IsKept, HasCome, end_in, is_spent, version_in};
+ghost use Rattle.cp_db.specs.Databases.{HoldsState, HoldsSame, Stands, IsDatabase, IsReady, IsKept, HasCome, end_in, is_spent, version_in};
 ghost use Rattle.cp_db.specs.Writing.{commit_size, HasCommitted, HasLoaded, HasMade, HasStepped, IsBeforeOrCommitted, IsCommitDisk, IsInitDisk, IsOldOrVacantOrStart, IsWriteDisk};
 
 use crate::committed::Committed;
@@ -139,10 +139,9 @@ impl<R: TreeRep, S: TreeRep> Db<R, S> {
         requires usable { is_spent self.old ≡ false }
         requires stands { IsDatabase R.contents S.contents self.old }
         requires ready { IsTrue D.is_known → IsReady self.old (D.view disk.old) }
-        requires can { (right : Bool) (h : List HistoryEntry) (z : Stands R.contents S.contents right self.old h)
-            → CanLoad z.committed.state name (S.contents tree) }
-        ensures loaded { (right : Bool) (h : List HistoryEntry) → Stands R.contents S.contents right self.old h
-            → HasLoaded R.contents S.contents right self.old h name (S.contents tree) self.new result }
+        requires can { (s : State) → HoldsState R.contents S.contents self.old s → CanLoad s name (S.contents tree) }
+        ensures loaded { (s : State) → HoldsState R.contents S.contents self.old s
+            → HasLoaded R.contents S.contents self.old s name (S.contents tree) self.new result }
         ensures kept { IsTrue D.is_known → (h : List HistoryEntry) → Stands R.contents S.contents true self.old h
             → IsKept true self.old h (D.view disk.old)
             → OnOk result (IsKept true self.new (h ++ load name (S.contents tree) ∷ []) (D.view disk.new)) }
@@ -188,8 +187,8 @@ impl<R: TreeRep, S: TreeRep> Db<R, S> {
         requires ready { IsTrue D.is_known → IsReady self.old (D.view disk.old) }
         requires come { (p : Progress) × HasCome R.contents S.contents self.old transaction p }
         ensures committed { (p : Progress) → HasCome R.contents S.contents self.old transaction p
-            → (right : Bool) (h : List HistoryEntry) (z : Stands R.contents S.contents right self.old h)
-            → HasCommitted R.contents S.contents right self.old h z.committed.state stamp p self.new result }
+            → (s : State) → HoldsState R.contents S.contents self.old s
+            → HasCommitted R.contents S.contents self.old s stamp p self.new result }
         ensures kept { IsTrue D.is_known → (ops : List OpValue)
             → HasCome R.contents S.contents self.old transaction (going ops)
             → (h : List HistoryEntry) → Stands R.contents S.contents true self.old h
@@ -202,8 +201,8 @@ impl<R: TreeRep, S: TreeRep> Db<R, S> {
             → Keeps (IsBeforeOrCommitted h stamp p) (D.view disk.old) (D.view disk.new) }
         ensures room { (ops : List OpValue)
             → HasCome R.contents S.contents self.old transaction (going ops)
-            → (h : List HistoryEntry) (z : Stands R.contents S.contents true self.old h)
-            → has_room (end_in self.old) (commit_size z.committed.state stamp ops) ≡ false → disk.new ≡ disk.old }
+            → (s : State) → HoldsState R.contents S.contents self.old s
+            → has_room (end_in self.old) (commit_size s stamp ops) ≡ false → disk.new ≡ disk.old }
         ensures ready { IsTrue D.is_known → OnOk result (IsReady self.new (D.view disk.new)) }
         ensures durable { IsTrue D.is_known → OnOk result (Only (D.view disk.new).content (D.view disk.new).images) }
         ensures version { version_in self.new ≡ version_in self.old }
@@ -237,8 +236,7 @@ impl<R: TreeRep, S: TreeRep> Db<R, S> {
         requires version { version_in self.old ≡ 1 }
         requires stands { IsDatabase R.contents S.contents self.old }
         requires ready { IsTrue D.is_known → IsReady self.old (D.view disk.old) }
-        ensures stands { (right : Bool) (h : List HistoryEntry) → Stands R.contents S.contents right self.old h
-            → OnOk result (Stands R.contents S.contents right self.new h) }
+        ensures same { OnOk result (HoldsSame R.contents S.contents self.old self.new) }
         ensures kept { IsTrue D.is_known → (right : Bool) (h : List HistoryEntry)
             → IsKept right self.old h (D.view disk.old) → OnOk result (IsKept right self.new h (D.view disk.new)) }
         ensures crash { IsTrue D.is_known → (h : List HistoryEntry) → IsKept true self.old h (D.view disk.old)
@@ -306,10 +304,9 @@ impl<R: TreeRep, S: TreeRep> Db<R, S> {
     ) -> Result<(), WriteFault>
         requires stands { IsDatabase R.contents S.contents self.old }
         requires ready { IsTrue D.is_known → IsReady self.old (D.view disk.old) }
-        requires can { (right : Bool) (h : List HistoryEntry) (z : Stands R.contents S.contents right self.old h)
-            → CanLoad z.committed.state name (S.contents tree) }
-        ensures loaded { (right : Bool) (h : List HistoryEntry) → Stands R.contents S.contents right self.old h
-            → HasLoaded R.contents S.contents right self.old h name (S.contents tree) self.new result }
+        requires can { (s : State) → HoldsState R.contents S.contents self.old s → CanLoad s name (S.contents tree) }
+        ensures loaded { (s : State) → HoldsState R.contents S.contents self.old s
+            → HasLoaded R.contents S.contents self.old s name (S.contents tree) self.new result }
         ensures kept { IsTrue D.is_known → (h : List HistoryEntry) → Stands R.contents S.contents true self.old h
             → IsKept true self.old h (D.view disk.old)
             → OnOk result (IsKept true self.new (h ++ load name (S.contents tree) ∷ []) (D.view disk.new)) }
@@ -349,8 +346,8 @@ impl<R: TreeRep, S: TreeRep> Db<R, S> {
         requires ready { IsTrue D.is_known → IsReady self.old (D.view disk.old) }
         requires come { (p : Progress) × HasCome R.contents S.contents self.old transaction p }
         ensures committed { (p : Progress) → HasCome R.contents S.contents self.old transaction p
-            → (right : Bool) (h : List HistoryEntry) (z : Stands R.contents S.contents right self.old h)
-            → HasCommitted R.contents S.contents right self.old h z.committed.state stamp p self.new result }
+            → (s : State) → HoldsState R.contents S.contents self.old s
+            → HasCommitted R.contents S.contents self.old s stamp p self.new result }
         ensures kept { IsTrue D.is_known → (ops : List OpValue)
             → HasCome R.contents S.contents self.old transaction (going ops)
             → (h : List HistoryEntry) → Stands R.contents S.contents true self.old h
@@ -363,8 +360,8 @@ impl<R: TreeRep, S: TreeRep> Db<R, S> {
             → Keeps (IsBeforeOrCommitted h stamp p) (D.view disk.old) (D.view disk.new) }
         ensures room { (ops : List OpValue)
             → HasCome R.contents S.contents self.old transaction (going ops)
-            → (h : List HistoryEntry) (z : Stands R.contents S.contents true self.old h)
-            → has_room (end_in self.old) (commit_size z.committed.state stamp ops) ≡ false → disk.new ≡ disk.old }
+            → (s : State) → HoldsState R.contents S.contents self.old s
+            → has_room (end_in self.old) (commit_size s stamp ops) ≡ false → disk.new ≡ disk.old }
         ensures ready { IsTrue D.is_known → OnOk result (IsReady self.new (D.view disk.new)) }
         ensures durable { IsTrue D.is_known → OnOk result (Only (D.view disk.new).content (D.view disk.new).images) }
         ensures version { version_in self.new ≡ version_in self.old }
@@ -393,8 +390,8 @@ impl<R: TreeRep, S: TreeRep> Db<R, S> {
         requires ready { IsTrue D.is_known → IsReady self.old (D.view disk.old) }
         requires made { (ops : List OpValue) × HasMade R.contents S.contents self.old ops step }
         ensures committed { (ops : List OpValue) → HasMade R.contents S.contents self.old ops step
-            → (right : Bool) (h : List HistoryEntry) (z : Stands R.contents S.contents right self.old h)
-            → HasStepped R.contents S.contents right self.old h z.committed.state stamp ops self.new result }
+            → (s : State) → HoldsState R.contents S.contents self.old s
+            → HasStepped R.contents S.contents self.old s stamp ops self.new result }
         ensures kept { IsTrue D.is_known → (ops : List OpValue) → HasMade R.contents S.contents self.old ops step
             → (h : List HistoryEntry) → Stands R.contents S.contents true self.old h
             → IsKept true self.old h (D.view disk.old)
@@ -404,8 +401,8 @@ impl<R: TreeRep, S: TreeRep> Db<R, S> {
             → IsKept true self.old h (D.view disk.old)
             → Keeps (StandsWithOrWithout h (commit stamp ops)) (D.view disk.old) (D.view disk.new) }
         ensures room { (ops : List OpValue) → HasMade R.contents S.contents self.old ops step
-            → (h : List HistoryEntry) (z : Stands R.contents S.contents true self.old h)
-            → has_room (end_in self.old) (commit_size z.committed.state stamp ops) ≡ false → disk.new ≡ disk.old }
+            → (s : State) → HoldsState R.contents S.contents self.old s
+            → has_room (end_in self.old) (commit_size s stamp ops) ≡ false → disk.new ≡ disk.old }
         ensures ready { IsTrue D.is_known → OnOk result (IsReady self.new (D.view disk.new)) }
         ensures durable { IsTrue D.is_known → OnOk result (Only (D.view disk.new).content (D.view disk.new).images) }
         ensures version { version_in self.new ≡ version_in self.old }

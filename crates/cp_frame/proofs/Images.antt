@@ -1,87 +1,134 @@
 -- Files: what stands in one that is a store, which ones are none, and headers of either version.
-use Rattle.std.proofs.Common.{◌≡◌, ◌≤◌, ◌<◌, ◌==◌, ◌⊎◌, inl, inr, ℕ, Bool, true, false, if◌then◌else◌, List, length, take, drop, get_or, refl, sym, ap, ◌∙◌, subst, arith, length-take}
+use Rattle.std.proofs.Common.{◌≡◌, ◌≤◌, ◌<◌, ◌==◌, ◌⊎◌, inl, inr, ℕ, suc, Bool, true, false, if◌then◌else◌, List, [], ◌∷◌, length, take, drop, get_or, refl, sym, ap, ◌∙◌, subst, arith, length-take}
+use Rattle.std.specs.List.{flat_map}
 use Rattle.std.specs.declared.option.Option.TheVariants.{None, Some}
 use Rattle.std.proofs.lemmas.Bool.{cases_Bool}
 use Rattle.cp_model.specs.History.{Entry, IsLegal}
 use Rattle.cp_journal.specs.Frames.{Frame, frames_of}
 use Rattle.cp_journal.specs.Headers.{IsHeader, HasHeader, header_in}
-use Rattle.cp_journal.specs.Holding.{Stands}
+use Rattle.cp_journal.specs.Holding.{HasFrames, Stands}
 use Rattle.cp_journal.specs.NewStores.{header}
 use Rattle.cp_journal.specs.Upgrading.{upgraded, HasOtherVersion, StandsInAVersion, with_version}
 use Rattle.cp_journal.specs.declared.header.Header.{Header}
 use Rattle.cp_journal.specs.declared.header.Slot.{Slot}
 use Rattle.cp_journal.specs.declared.limits.TheConstants.{HEADER_SIZE, VERSION_AT}
 use Rattle.cp_journal.proofs.Upgrading.{other_is_header, other_header, upgraded_other, upgraded_gate}
-use Rattle.cp_frame.specs.Items.{Tell}
-use Rattle.cp_frame.specs.Stands.{IsHead, IsStore, Opens, StandsFor}
-use Rattle.cp_frame.proofs.Standing.{tell-legal, tell-newer, tell-one, tell-weaker}
+use Rattle.cp_frame.specs.Items.{Item, AllStand, AreHeld, Tell, entries_in}
+use Rattle.cp_frame.specs.Stands.{HoldsFrom, IsClosed, IsHead, IsStore, IsTold, Opens, OpensFirst, Replays, StandsFor, header_of}
+use Rattle.cp_frame.proofs.Standing.{legal-items, stand-weaker, tell-newer, tell-one}
 
 -- what a header of this version says whose slots are closed
 abbrev pub closed_header : ℕ → Header
 closed_header version = record { version = version; first = None; second = None }
 
--- ---- what stands in a store
+-- its slots are closed
+pub closed-is : (h : Header) (version : ℕ) → h ≡ closed_header version → IsClosed h
+closed-is h version says = record { first = ap (λ (x : Header). x.first) says; second = ap (λ (x : Header). x.second) says }
 
--- a file that begins with a header and has these frames stands for what they tell
-pub store-stands : (v : ℕ) (head : List ℕ) (fs : List Frame) (h : List Entry) (c : List ℕ) → IsHead v head → 1 ≤ length fs → Tell true v fs h → Stands head fs c → StandsFor h c
-store-stands v head fs h c is_head some tell stands = inr (record { version = v; head = head; is_head = is_head; frames = fs; some = some; stands = stands; tell = tell })
+-- ---- what a file tells
 
--- a store's header, version and frames, as they are found in its bytes
-pub record StoreParts (right : Bool) (h : List Entry) (c : List ℕ) : Type 0 where
-  pub version : ℕ
+-- frames hold as many items as they are
+pub held-length : (v : ℕ) (fs : List Frame) (is : List Item) → AreHeld v fs is → length fs ≡ length is
+held-length v [] [] held = refl
+held-length v [] (i ∷ is) held = absurd held
+held-length v (f ∷ fs) [] held = absurd held
+held-length v (f ∷ fs) (i ∷ is) held = ap suc (held-length v fs is held.1)
+
+-- a file's header and frames, as they are found in its bytes, and what they tell
+pub record ToldParts (right : Bool) (h : List Entry) (c : List ℕ) : Type 0 where
   pub header : HasHeader c
-  pub says : header_in (take HEADER_SIZE c) ≡ closed_header version
   pub clean : (frames_of (drop HEADER_SIZE c)).clean ≡ true
-  pub tell : Tell right version (frames_of (drop HEADER_SIZE c)).frames h
+  pub tell : Tell right (header_of c).version (frames_of (drop HEADER_SIZE c)).frames h
   pub some : 1 ≤ length (frames_of (drop HEADER_SIZE c)).frames
 
+-- frames that tell a history, up to a closed gate
+pub told-frames : (right : Bool) (h : List Entry) (c : List ℕ) (fs : List Frame) → HasHeader c → HasFrames HEADER_SIZE fs c → 1 ≤ length fs → Tell right (header_of c).version fs h → IsTold right h c
+told-frames right h c fs header stand some t = record {
+  header = header;
+  frames = fs;
+  stand = stand;
+  items = t.items;
+  some = omega (arith, some, held-length (header_of c).version fs t.items t.held);
+  held = t.held;
+  tell = t.stand;
+  are = t.are;
+}
+
 module _ (right : Bool) (h : List Entry) (c : List ℕ) where
-  -- a store has them
-  pub store-parts : IsStore right h c → StoreParts right h c
-  store-parts s =
-      let size : length s.head ≡ HEADER_SIZE = s.is_head.size in
-      let front : take HEADER_SIZE c ≡ s.head = ap (λ (n : ℕ). take n c) (sym size) ∙ s.stands.front in
-      let long : HEADER_SIZE ≤ length c = omega (arith, ap length front, size, length-take HEADER_SIZE c) in
-      let frames : (frames_of (drop HEADER_SIZE c)).frames ≡ s.frames = ap (λ (n : ℕ). (frames_of (drop n c)).frames) (sym size) ∙ s.stands.frames.frames in
-      let clean : (frames_of (drop HEADER_SIZE c)).clean ≡ true = ap (λ (n : ℕ). (frames_of (drop n c)).clean) (sym size) ∙ s.stands.frames.clean in
+  -- what is told is told by the frames that are found
+  pub told-parts : IsTold right h c → ToldParts right h c
+  told-parts s =
+      let frames : (frames_of (drop HEADER_SIZE c)).frames ≡ s.frames = s.stand.frames in
+      let some : 1 ≤ length s.frames = omega (arith, s.some, held-length (header_of c).version s.frames s.items s.held) in
       record {
-        version = s.version;
-        header = (long, subst IsHeader (sym front) s.is_head.header);
-        says = ap header_in front ∙ s.is_head.says;
-        clean = clean;
-        tell = subst (λ (fs : List Frame). Tell right s.version fs h) (sym frames) s.tell;
-        some = subst (λ (fs : List Frame). 1 ≤ length fs) (sym frames) s.some;
+        header = s.header;
+        clean = s.stand.clean;
+        tell = subst (λ (fs : List Frame). Tell right (header_of c).version fs h) (sym frames) (record { items = s.items; held = s.held; stand = s.tell; are = s.are });
+        some = subst (λ (fs : List Frame). 1 ≤ length fs) (sym frames) some;
       }
 
-  -- what has them is a store
-  pub parts-store : StoreParts right h c → IsStore right h c
-  parts-store p =
-      let long : length (take HEADER_SIZE c) ≡ HEADER_SIZE = omega (arith, p.header.0, length-take HEADER_SIZE c) in
-      record {
-        version = p.version;
-        head = take HEADER_SIZE c;
-        is_head = record { size = long; header = p.header.1; says = p.says };
-        frames = (frames_of (drop HEADER_SIZE c)).frames;
-        some = p.some;
-        stands = record {
-          front = ap (λ (n : ℕ). take n c) long;
-          frames = record { frames = ap (λ (n : ℕ). (frames_of (drop n c)).frames) long; clean = ap (λ (n : ℕ). (frames_of (drop n c)).clean) long ∙ p.clean };
-        };
-        tell = p.tell;
-      }
+  -- and what they tell is told
+  pub parts-told : ToldParts right h c → IsTold right h c
+  parts-told p = told-frames right h c (frames_of (drop HEADER_SIZE c)).frames p.header (record { frames = refl; clean = p.clean }) p.some p.tell
 
--- ---- files that are no store
+-- items that stand from the first frame on tell a history
+pub first-told : (right : Bool) (c : List ℕ) (has : HasHeader c) (o : OpensFirst (header_of c).version c) → AllStand right None o.items → IsTold right (flat_map entries_in o.items) c
+first-told right c has o stand = record {
+  header = has;
+  frames = o.holds.frames;
+  stand = o.holds.stand;
+  items = o.items;
+  some = o.some;
+  held = o.holds.held;
+  tell = stand;
+  are = refl;
+}
 
--- a file without a header is none
+-- what opens tells a history
+pub opens-replays : (c : List ℕ) → Opens c → Replays c
+opens-replays c o = (flat_map entries_in o.first.items, first-told false c o.header o.first o.first.stand)
+
+-- what tells a history opens where no slot is open
+pub told-opens : (c : List ℕ) (h : List Entry) → IsTold false h c → IsClosed (header_of c) → Opens c
+told-opens c h s closed = record {
+  header = s.header;
+  closed = closed;
+  first = record { items = s.items; some = s.some; holds = record { frames = s.frames; stand = s.stand; held = s.held }; stand = s.tell };
+}
+
+-- ---- what stands in a store
+
+-- a file that begins with a header and has these frames tells what they tell
+pub stands-told : (right : Bool) (v : ℕ) (head : List ℕ) (fs : List Frame) (h : List Entry) (c : List ℕ) → IsHead v head → 1 ≤ length fs → Tell right v fs h → Stands head fs c → IsTold right h c × IsClosed (header_of c)
+stands-told right v head fs h c is_head some tell stands =
+    let size : length head ≡ HEADER_SIZE = is_head.size in
+    let front : take HEADER_SIZE c ≡ head = ap (λ (n : ℕ). take n c) (sym size) ∙ stands.front in
+    let long : HEADER_SIZE ≤ length c = omega (arith, ap length front, size, length-take HEADER_SIZE c) in
+    let says : header_of c ≡ closed_header v = ap header_in front ∙ is_head.says in
+    let frames : HasFrames HEADER_SIZE fs c = subst (λ (n : ℕ). HasFrames n fs c) size stands.frames in
+    let version : v ≡ (header_of c).version = sym (ap (λ (x : Header). x.version) says) in (
+      told-frames right h c fs (long, subst IsHeader (sym front) is_head.header) frames some (subst (λ (n : ℕ). Tell right n fs h) version tell),
+      closed-is (header_of c) v says,
+    )
+
+-- and, with the right records, stands for it
+pub store-stands : (v : ℕ) (head : List ℕ) (fs : List Frame) (h : List Entry) (c : List ℕ) → IsHead v head → 1 ≤ length fs → Tell true v fs h → Stands head fs c → StandsFor h c
+store-stands v head fs h c is_head some tell stands =
+    let s = stands-told true v head fs h c is_head some tell stands in
+    inr (record { told = s.0; closed = s.1 })
+
+-- ---- files that don't open
+
+-- a file without a header doesn't
 pub no-store-header : (c : List ℕ) → (HasHeader c → ⊥) → Opens c → ⊥
-no-store-header c none opens = none (store-parts false opens.0 c opens.1).header
+no-store-header c none opens = none opens.header
 
--- nor is one with an open slot
+-- nor does one with an open slot
 pub no-store-first : (c : List ℕ) (s : Slot) → (header_in (take HEADER_SIZE c)).first ≡ Some s → Opens c → ⊥
-no-store-first c s open_slot opens = let no : None ≡ Some s = sym (ap (λ (h : Header). h.first) (store-parts false opens.0 c opens.1).says) ∙ open_slot in absurd (cc no)
+no-store-first c s open_slot opens = let no : None ≡ Some s = sym opens.closed.first ∙ open_slot in absurd (cc no)
 
 pub no-store-second : (c : List ℕ) (s : Slot) → (header_in (take HEADER_SIZE c)).second ≡ Some s → Opens c → ⊥
-no-store-second c s open_slot opens = let no : None ≡ Some s = sym (ap (λ (h : Header). h.second) (store-parts false opens.0 c opens.1).says) ∙ open_slot in absurd (cc no)
+no-store-second c s open_slot opens = let no : None ≡ Some s = sym opens.closed.second ∙ open_slot in absurd (cc no)
 
 pub no-store-slot : (c : List ℕ) (s : Slot) → ((header_in (take HEADER_SIZE c)).first ≡ Some s) ⊎ ((header_in (take HEADER_SIZE c)).second ≡ Some s) → Opens c → ⊥
 no-store-slot c s (inl first) opens = no-store-first c s first opens
@@ -89,7 +136,7 @@ no-store-slot c s (inr second) opens = no-store-second c s second opens
 
 -- nor one whose frames don't end at a closed gate
 pub no-store-broken : (c : List ℕ) → (frames_of (drop HEADER_SIZE c)).clean ≡ false → Opens c → ⊥
-no-store-broken c broken opens = let no : true ≡ false = sym (store-parts false opens.0 c opens.1).clean ∙ broken in absurd (cc no)
+no-store-broken c broken opens = let no : true ≡ false = sym opens.first.holds.stand.clean ∙ broken in absurd (cc no)
 
 -- ---- headers
 
@@ -140,25 +187,26 @@ in-a-version head fs h c is_head some tell (other, changed, stands) = in_either 
 -- ---- the laws
 
 -- a file tells one history at most
-pub one_history : (c : List ℕ) (p q : Bool) (h i : List Entry) → IsStore p h c → IsStore q i c → h ≡ i
-one_history c p q h i s t =
-    let a = store-parts p h c s in
-    let b = store-parts q i c t in
-    let same : a.version ≡ b.version = ap (λ (x : Header). x.version) (sym a.says ∙ b.says) in
-    tell-one p q b.version (frames_of (drop HEADER_SIZE c)).frames h i (subst (λ (v : ℕ). Tell p v (frames_of (drop HEADER_SIZE c)).frames h) same a.tell) b.tell
+pub one_history : (c : List ℕ) (p q : Bool) (h i : List Entry) → IsTold p h c → IsTold q i c → h ≡ i
+one_history c p q h i s t = tell-one p q (header_of c).version (frames_of (drop HEADER_SIZE c)).frames h i (told-parts p h c s).tell (told-parts q i c t).tell
 
 -- it is a legal one
-pub legal_history : (c : List ℕ) (right : Bool) (h : List Entry) → IsStore right h c → IsLegal h
-legal_history c right h s = tell-legal right s.version s.frames h s.tell
+pub legal_history : (c : List ℕ) (right : Bool) (h : List Entry) → IsTold right h c → IsLegal h
+legal_history c right h s = subst IsLegal (sym s.are) (legal-items right s.items s.tell)
 
--- a file with the right records is one that opens
-pub files_open : (c : List ℕ) (h : List Entry) → IsStore true h c → IsStore false h c
-files_open c h s = record {
-  version = s.version;
-  head = s.head;
-  is_head = s.is_head;
+-- what is told with the right records is told where these aren't asked
+pub told-weaker : (c : List ℕ) (h : List Entry) → IsTold true h c → IsTold false h c
+told-weaker c h s = record {
+  header = s.header;
   frames = s.frames;
+  stand = s.stand;
+  items = s.items;
   some = s.some;
-  stands = s.stands;
-  tell = tell-weaker true s.version s.frames h s.tell;
+  held = s.held;
+  tell = stand-weaker true None s.items s.tell;
+  are = s.are;
 }
+
+-- a file that stands for a history opens
+pub files_open : (c : List ℕ) (h : List Entry) → IsStore h c → Opens c
+files_open c h s = told-opens c h (told-weaker c h s.told) s.closed

@@ -12,8 +12,8 @@ use Rattle.cp_model.specs.declared.answer.Answer.TheVariants as answer
 use Rattle.cp_model.specs.declared.row.Row.{Row}
 use Rattle.cp_reply.specs.declared.reply.Reply.{Reply}
 use Rattle.cp_reply.specs.declared.reply.Reply.TheVariants as reply
-use Rattle.cp_db.specs.Databases as database
-use Rattle.cp_db.specs.Databases.{IsSameFile}
+use Rattle.cp_db.specs.Committed.{HasRows, LeadsTo}
+use Rattle.cp_db.specs.Databases.{HoldsSame, HoldsState, IsSameFile}
 use Rattle.cp_db.specs.declared.database.Db.{Db}
 
 -- the data at a path was inserted in a step: the answer to `src` has a Tid
@@ -64,13 +64,14 @@ tid_count (answer.Stats n) = 0
 abbrev pub row_paths : List Row → List Path
 row_paths rows = map (λ r. r.path) rows
 
--- the database stands, its records right, for a history that leads to this state
+-- the database holds this state with its rows, and a history leads there
 pub record IsAt {R S : Type 0} (view : R → Tree) (source_view : S → Tree) (d : Db R S) (t : State) : Type 0 where
   pub history : List Entry
-  pub stands : database.Stands view source_view true d history
-  pub replayed : replay history ≡ Some t
+  pub led : LeadsTo history t
+  pub holds : HoldsState view source_view d t
+  pub rows : HasRows d.committed t
 
--- after queries the database stands for each history for which it stood before, and what it keeps of its file is the same
+-- after queries the database holds the states that it held before, with their rows, and what it keeps of its file is the same
 pub record HasAnswered {R S : Type 0} (view : R → Tree) (source_view : S → Tree) (old new : Db R S) : Type 0 where
-  pub stands : (right : Bool) (h : List Entry) → database.Stands view source_view right old h → database.Stands view source_view right new h
+  pub same : HoldsSame view source_view old new
   pub file : IsSameFile old new

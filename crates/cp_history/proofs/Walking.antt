@@ -24,7 +24,7 @@ use Rattle.cp_frame.specs.Entries.{WrittenEntry, IsEntry, start, load, commit, s
 use Rattle.cp_frame.specs.Sound.{IsSoundBatch, IsSoundSource}
 use Rattle.cp_frame.specs.declared.entry.Entry.TheVariants as entry
 use Rattle.cp_frame.specs.Items.{Item, an_entry, a_checkpoint, CanStand, after_item, entry_meant, entries_in, no_stamp, records_in}
-use Rattle.cp_frame.proofs.Standing.{replayed-items, stand-append, stand-split}
+use Rattle.cp_frame.proofs.Standing.{legal-items, replayed-items, stand-append, stand-split}
 use Rattle.cp_db.specs.Committed.{HasTaken, HoldsBatch, IsReplayed, LoadsSource, ReplaysCommit}
 use Rattle.cp_history.specs.Verify.{FirstDiffer, IsFirstWrong, records_made}
 use Rattle.cp_history.specs.Walk.{AreFindings, AreFirst, CanReach, Finds, HasReached, IsVerdict, Judges, committed_of}
@@ -182,7 +182,7 @@ module _ {R S : Type 0} (view : R → Tree) (source_view : S → Tree) where
 
   module _ (w : HistoryWalk R S) (items : List Item) (g : HasReached view source_view w items) where
     abbrev pub state_of : State
-    state_of = g.taken.replayed.state
+    state_of = g.taken.state
 
     -- ---- a checkpoint
 
@@ -196,24 +196,24 @@ module _ {R S : Type 0} (view : R → Tree) (source_view : S → Tree) where
 
     pub checkpoint-found : (place : ℕ → ℕ) (body : List ℕ) (f : Findings) → AreFindings place items f → AreFindings place (items ++ a_checkpoint body ∷ []) f
     checkpoint-found place body (Log lines) found = found ∙ ap log_of (sym (flat_map-append entries_in items (a_checkpoint body ∷ []) ∙ append-nil (flat_map entries_in items)))
-    checkpoint-found place body (Records v) found = verdict-kept place items (a_checkpoint body) v refl (ap is_some (sym (replayed-items items) ∙ g.taken.replayed.replayed)) found
+    checkpoint-found place body (Records v) found = verdict-kept place items (a_checkpoint body) v refl (ap is_some (sym (replayed-items items) ∙ g.taken.replayed)) found
 
     -- ---- an entry
 
     -- the lines of a history with an entry more
     lines_more : (x : WrittenEntry) (lines more : List LogLine) → lines ≡ log_of (flat_map entries_in items) → more ≡ lines ++ log_after w.kind w.last (entry_meant x ∷ []) → more ≡ log_of (flat_map entries_in (items ++ an_entry x ∷ []))
     lines_more x lines more found kept =
-        let z = g.taken.replayed in
+        let z = g.taken.keeps in
         kept
         ∙ (λ k. found k ++ log_after (z.kind k) (z.upto k) (entry_meant x ∷ []))
-        ∙ sym (log-snoc (flat_map entries_in items) z.state (entry_meant x) z.legal z.replayed)
+        ∙ sym (log-snoc (flat_map entries_in items) g.taken.state (entry_meant x) (legal-items false items g.taken.stand) g.taken.replayed)
         ∙ ap log_of (sym (flat_map-append entries_in items (an_entry x ∷ [])))
 
     -- an entry that has been passed could stand after the others
     pub could-stand : (x : WrittenEntry) (n : HistoryWalk R S) → HasReached view source_view n (items ++ an_entry x ∷ []) → CanStand false (Some state_of) (an_entry x)
     could-stand x n reached =
         let all = (stand-split false None items (an_entry x ∷ []) reached.taken.stand).1 in
-        subst (λ (o : Option State). CanStand false o (an_entry x)) (sym (replayed-items items) ∙ g.taken.replayed.replayed) all.0
+        subst (λ (o : Option State). CanStand false o (an_entry x)) (sym (replayed-items items) ∙ g.taken.replayed) all.0
 
     module _ (n : HistoryWalk R S) (x : WrittenEntry) where
       -- a source that was loaded is in the history of the walk, or may not follow
@@ -237,7 +237,7 @@ module _ {R S : Type 0} (view : R → Tree) (source_view : S → Tree) where
           no_line (stamped r b) is = absurd is
       source-found place name l (Records v) is reached found =
           let can = right_source x is (could-stand x n reached) in
-          verdict-kept place items (an_entry x) v (no_record x is) (subst (λ (o : Option State). CanStand true o (an_entry x)) (sym g.taken.replayed.replayed ∙ replayed-items items) can) found
+          verdict-kept place items (an_entry x) v (no_record x is) (subst (λ (o : Option State). CanStand true o (an_entry x)) (sym g.taken.replayed ∙ replayed-items items) can) found
         where
           no_record : (y : WrittenEntry) → IsEntry (entry.Load name l) y → records_in (an_entry y) ≡ []
           no_record (start k u) is = absurd is
@@ -277,11 +277,11 @@ module _ {R S : Type 0} (view : R → Tree) (source_view : S → Tree) where
     commit-found place n x c tids (Records v) (Log more) holds means at reached finds found = absurd finds
     commit-found place n x c tids (Records v) (Records u) holds means at reached finds found =
         let s = state_of in
-        let z = g.taken.replayed in
+        let z = g.taken.keeps in
         let can = could-stand x n reached in
         let may = may_when false s x c.ops c.records holds can in
         let made = committed s c.ops may.0.some (commit-accepted s c.ops may.0) in
         let expected = records_of w.kind (sources_in source_view w.sources) (view w.tree) (w.last + 1) c.ops in
         let same : records_of s.kind s.sources (tree_of s.tree) (s.now + 1) c.ops ≡ expected = λ j. records_of (sym z.kind j) (sym z.sources j) (sym z.tree j) (sym z.upto j + 1) c.ops in
-        verdict-judged place items s x c.ops c.records expected v u holds z.replayed can (made.rows ∙ ap (λ (rs : List Record). s.rows ++ rs) same)
+        verdict-judged place items s x c.ops c.records expected v u holds g.taken.replayed can (made.rows ∙ ap (λ (rs : List Record). s.rows ++ rs) same)
         (subst (λ (k : ℕ). Judges k c.records expected v u) at finds) found

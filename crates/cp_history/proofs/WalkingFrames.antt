@@ -5,11 +5,10 @@ use Rattle.std.specs.declared.option.Option.TheVariants.{None, Some}
 use Rattle.std.proofs.lemmas.List.{take_all}
 use Rattle.cp_format.specs.Formats.{Reads}
 use Rattle.cp_model.specs.Tree.{Tree}
-use Rattle.cp_model.specs.History.{log_of}
+use Rattle.cp_model.specs.History.{log_of, replay}
 use Rattle.cp_model.specs.declared.answer.LogLine.{LogLine}
 use Rattle.cp_model.specs.declared.record.Verdict.{Verdict}
 use Rattle.cp_model.specs.declared.record.Verdict.TheVariants.{Agrees, Differs, TreeDiffers, NumberDiffers}
-use Rattle.cp_disk.specs.Views.{View}
 use Rattle.cp_journal.specs.Frames.{Frame, frames_of, spelled, spelled_all}
 use Rattle.cp_journal.specs.Headers.{HasHeader, header_in}
 use Rattle.std.specs.Int.{w64, to_be_bytes}
@@ -21,8 +20,8 @@ use Rattle.cp_journal.specs.declared.limits.TheConstants.{HEADER_SIZE}
 use Rattle.cp_journal.specs.declared.frame.TheConstants.{ENTRY}
 use Rattle.cp_frame.specs.Entries.{WrittenEntry, entry_format}
 use Rattle.cp_frame.specs.Items.{Item, an_entry, AllStand, AreHeld, IsOfVersion, entries_in}
-use Rattle.cp_frame.specs.Stands.{IsStore}
-use Rattle.cp_frame.proofs.Images.{one_history}
+use Rattle.cp_frame.specs.Stands.{IsStore, IsTold, OpensAndReplays}
+use Rattle.cp_frame.proofs.Images.{held-length, one_history, told-opens}
 use Rattle.cp_frame.proofs.Standing.{held-append, replayed-items, rows-right, stops-here}
 use Rattle.cp_history.specs.Log.{LogsAs}
 use Rattle.cp_db.specs.Opening.{StartsAs, open_slot}
@@ -35,7 +34,7 @@ use Rattle.cp_history.specs.declared.walk.Findings.{Findings}
 use Rattle.cp_history.specs.declared.walk.Findings.TheVariants.{Log, Records}
 use Rattle.cp_history.specs.declared.walk.HistoryWalk.{HistoryWalk}
 use Rattle.cp_db.proofs.OpeningFrames.{taken_more}
-use Rattle.cp_db.proofs.OpeningStores.{clean_of, closed_is, head_long, opens_not}
+use Rattle.cp_db.proofs.OpeningStores.{clean_of, closed_here, held_here, replays_not}
 use Rattle.cp_history.proofs.Walking.{found-first, reached-first}
 
 -- ---- where frames stand
@@ -103,76 +102,80 @@ module _ {R S : Type 0} (view : R → Tree) (source_view : S → Tree) where
 
   module _ (c : List ℕ) (hd : Header) (has : HasHeader c) (said : hd ≡ header_in (take HEADER_SIZE c)) where
     -- of frames that tell no history nothing is found
-    pub finds_not : (v : View) (e : OpenFault) → TellsPassedAs view source_view HEADER_SIZE hd.version (frames_of (drop HEADER_SIZE c)).frames (Err e) → FindsAs c (Err e)
-    finds_not v (NoStore at) none = opens_not view source_view c hd has said v (NoStore at) none
-    finds_not v Disk none = tt
-    finds_not v Memory none = tt
+    pub finds_not : (e : OpenFault) → TellsPassedAs view source_view HEADER_SIZE hd.version (frames_of (drop HEADER_SIZE c)).frames (Err e) → FindsAs c (Err e)
+    finds_not (NoStore at) none = λ o. replays_not view source_view c hd has said at none o.1
+    finds_not Disk none = tt
+    finds_not Memory none = tt
 
     -- what is found of all frames is found of the file
     pub finds : (j : JournalState) (w : HistoryWalk R S) → open_slot hd ≡ None → j.broken ≡ None → HasWalked HEADER_SIZE (frames_of (drop HEADER_SIZE c)) j c
         → TellsPassedAs view source_view HEADER_SIZE hd.version (frames_of (drop HEADER_SIZE c)).frames (Ok w) → FindsAs c (Ok w.findings)
     finds j w closed whole walked (some, items, held, passed) =
-        let long = head_long c has in
         let fs = (frames_of (drop HEADER_SIZE c)).frames in
         let clean = clean_of (frames_of (drop HEADER_SIZE c)).clean _ j.broken walked.broken whole in
         let taken = passed.reached.taken in
-        record {
-          version = hd.version;
-          head = take HEADER_SIZE c;
-          is_head = record { size = long; header = has.1; says = sym said ∙ closed_is hd closed };
+        let told : IsTold false (flat_map entries_in items) c = record {
+          header = has;
           frames = fs;
-          some = some;
-          stands = record {
-            front = ap (λ (n : ℕ). take n c) long;
-            frames = record { frames = ap (λ (n : ℕ). (frames_of (drop n c)).frames) long; clean = ap (λ (n : ℕ). (frames_of (drop n c)).clean) long ∙ clean };
-          };
+          stand = record { frames = refl; clean = clean };
           items = items;
-          held = held;
-          stand = taken.stand;
-          state = taken.replayed.state;
-          replayed = taken.replayed.replayed;
-          findings = subst (λ (n : ℕ). AreFindings (frame_place n fs) items w.findings) (sym long) passed.found;
+          some = omega (arith, some, held-length hd.version fs items held);
+          held = held_here c hd has said fs items held;
+          tell = taken.stand;
+          are = refl;
+        } in
+        record {
+          opens = told-opens c (flat_map entries_in items) told (closed_here c hd has said closed);
+          history = flat_map entries_in items;
+          told = told;
+          state = taken.state;
+          replayed = taken.replayed;
+          findings = passed.found;
         }
 
 -- ---- what is found of a file
 
 module _ (c : List ℕ) where
-  -- the file is a store's
-  store_of : (right : Bool) (f : Findings) (h : HasFound c f) → AllStand right None h.items → IsStore right (flat_map entries_in h.items) c
-  store_of right f h stand = record {
-    version = h.version;
-    head = h.head;
-    is_head = h.is_head;
-    frames = h.frames;
-    some = h.some;
-    stands = h.stands;
-    tell = record { items = h.items; held = h.held; stand = stand; are = refl };
-  }
+  -- the file opens, and tells a history
+  found-opens : (f : Findings) → HasFound c f → OpensAndReplays c
+  found-opens f h = (h.opens, (h.history, h.told))
 
   -- the lines that are found are the log of the file
   pub lines_found : (lines : List LogLine) → HasFound c (Log lines) → LogsAs c (Ok lines)
-  lines_found lines h =
-      let store = store_of false (Log lines) h h.stand in
-      ((flat_map entries_in h.items, store), λ i is. h.findings ∙ ap log_of (one_history c false false (flat_map entries_in h.items) i store is))
+  lines_found lines h = (
+    found-opens (Log lines) h,
+    λ i is. h.findings ∙ ap log_of (sym h.told.are ∙ one_history c false false h.history i h.told is),
+  )
+
+  -- where the records are right, the file stands for the history
+  found-store : (f : Findings) (h : HasFound c f) → AllStand true None h.told.items → IsStore h.history c
+  found-store f h right = record {
+    told = record {
+      header = h.told.header;
+      frames = h.told.frames;
+      stand = h.told.stand;
+      items = h.told.items;
+      some = h.told.some;
+      held = h.told.held;
+      tell = right;
+      are = h.told.are;
+    };
+    closed = h.opens.closed;
+  }
 
   -- the verdict that is found is that on the file
   pub verdict_found : (v : Verdict) → HasFound c (Records v) → VerifiesAs c (Ok v)
   verdict_found (Agrees n) h = record {
-    history = flat_map entries_in h.items;
-    store = store_of true (Records (Agrees n)) h h.findings.0;
+    history = h.history;
+    store = found-store (Records (Agrees n)) h h.findings.0;
     state = h.state;
     replayed = h.replayed;
-    counted = h.findings.1 ∙ ap length (sym (rows-right h.items h.state h.findings.0 (sym (replayed-items h.items) ∙ h.replayed)));
+    counted = h.findings.1 ∙ ap length (sym (rows-right h.told.items h.state h.findings.0 (sym (replayed-items h.told.items) ∙ ap replay (sym h.told.are) ∙ h.replayed)));
   }
   verdict_found (Differs at a b) h = record {
-    version = h.version;
-    head = h.head;
-    is_head = h.is_head;
-    frames = h.frames;
-    stands = h.stands;
-    items = h.items;
-    held = h.held;
-    stand = h.stand;
+    opens = h.opens;
+    history = h.history;
+    told = h.told;
     number = h.findings.0;
     wrong = h.findings.1;
     place = h.findings.2;

@@ -9,10 +9,10 @@ use Rattle.cp_model.specs.declared.record.Record.{Record}
 use Rattle.cp_model.specs.declared.record.Verdict.{Verdict}
 use Rattle.cp_model.specs.declared.record.Verdict.TheVariants.{Agrees, Differs, TreeDiffers, NumberDiffers}
 use Rattle.cp_frame.specs.Entries.{WrittenEntry}
-use Rattle.cp_journal.specs.Frames.{Frame, spelled_all}
-use Rattle.cp_journal.specs.Holding.{Stands}
-use Rattle.cp_frame.specs.Items.{Item, an_entry, AllStand, AreHeld, entries_in, entry_meant, records_with}
-use Rattle.cp_frame.specs.Stands.{IsHead, IsStore, Opens}
+use Rattle.cp_journal.specs.Frames.{spelled_all}
+use Rattle.cp_journal.specs.declared.limits.TheConstants.{HEADER_SIZE}
+use Rattle.cp_frame.specs.Items.{Item, an_entry, AllStand, entries_in, entry_meant, records_with}
+use Rattle.cp_frame.specs.Stands.{IsStore, IsTold, Opens, OpensAndReplays}
 use Rattle.cp_db.specs.declared.fault.OpenFault.{OpenFault}
 use Rattle.cp_db.specs.declared.fault.OpenFault.TheVariants.{NoStore, Disk, Memory}
 
@@ -47,34 +47,29 @@ pub record IsFirstWrong (items : List Item) (number : ℕ) (a b : Option Record)
   pub replayed : replay (flat_map entries_in before) ≡ Some state
   pub differ : FirstDiffer (records_with entry) (records_made state (entry_meant entry)) a b
 
--- the file opens, and the frame at this offset is the first with other records than its operations make
+-- the file opens and tells a history, and the frame at this offset is the first with other records than its operations make
 pub record HasWrong (c : List ℕ) (at : ℕ) (a b : Option Record) : Type 0 where
-  pub version : ℕ
-  pub head : List ℕ
-  pub is_head : IsHead version head
-  pub frames : List Frame
-  pub stands : Stands head frames c
-  pub items : List Item
-  pub held : AreHeld version frames items
-  pub stand : AllStand false None items
+  pub opens : Opens c
+  pub history : List History
+  pub told : IsTold false history c
   pub number : ℕ
-  pub wrong : IsFirstWrong items number a b
-  pub place : at ≡ length head + length (spelled_all (take number frames))
+  pub wrong : IsFirstWrong told.items number a b
+  pub place : at ≡ HEADER_SIZE + length (spelled_all (take number told.frames))
 
 -- the file stands for a history, of so many records
 pub record HasRight (c : List ℕ) (count : ℕ) : Type 0 where
   pub history : List History
-  pub store : IsStore true history c
+  pub store : IsStore history c
   pub state : State
   pub replayed : replay history ≡ Some state
   pub counted : count ≡ length state.rows
 
--- the records of the file are right, or the first that aren't are told; a file that isn't a store's has no verdict
+-- the records of the file are right, or the first that aren't are told; a file that doesn't open, or of which the walk over all frames tells no history, has no verdict
 abbrev pub VerifiesAs : List ℕ → Result Verdict OpenFault → Type 0
 VerifiesAs c (Ok (Agrees n)) = HasRight c n
 VerifiesAs c (Ok (Differs at a b)) = HasWrong c at a b
 VerifiesAs c (Ok (TreeDiffers at q)) = ⊥
 VerifiesAs c (Ok (NumberDiffers at m n)) = ⊥
-VerifiesAs c (Err (NoStore at)) = Opens c → ⊥
+VerifiesAs c (Err (NoStore at)) = OpensAndReplays c → ⊥
 VerifiesAs c (Err Disk) = ⊤
 VerifiesAs c (Err Memory) = ⊤

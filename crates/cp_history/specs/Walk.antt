@@ -5,6 +5,7 @@ use Rattle.std.specs.declared.option.Option.{Option}
 use Rattle.std.specs.declared.option.Option.TheVariants.{Some, None}
 use Rattle.cp_model.specs.Tree.{Tree, Source}
 use Rattle.cp_model.specs.History.{State, replay, log_line, log_of}
+use Rattle.cp_model.specs.History.{Entry as History}
 use Rattle.cp_model.specs.declared.kind.Kind.{Kind}
 use Rattle.cp_model.specs.declared.record.Record.{Record}
 use Rattle.cp_model.specs.declared.record.Verdict.{Verdict}
@@ -12,9 +13,9 @@ use Rattle.cp_model.specs.declared.record.Verdict.TheVariants.{Agrees, Differs, 
 use Rattle.cp_operation.specs.Passed.{records_of}
 use Rattle.cp_frame.specs.Entries.{WrittenEntry}
 use Rattle.cp_journal.specs.Frames.{Frame, spelled_all}
-use Rattle.cp_journal.specs.Holding.{Stands}
+use Rattle.cp_journal.specs.declared.limits.TheConstants.{HEADER_SIZE}
 use Rattle.cp_frame.specs.Items.{Item, an_entry, AllStand, AreHeld, IsHeld, CanStand, entries_in, records_in}
-use Rattle.cp_frame.specs.Stands.{IsHead, Opens}
+use Rattle.cp_frame.specs.Stands.{IsTold, Opens, OpensAndReplays}
 use Rattle.cp_db.specs.Committed.{HasTaken}
 use Rattle.cp_db.specs.Opening.{RefusesAs, TellsAs}
 use Rattle.cp_history.specs.Verify.{FirstDiffer, IsFirstWrong}
@@ -120,24 +121,18 @@ TellsPassedAs view source_view from version fs (Err e) = TellsAs view source_vie
 
 -- ---- a file
 
--- the file opens, and this is found of its items
+-- the file opens and tells a history, and this is found of its items
 pub record HasFound (c : List ℕ) (found : Findings) : Type 0 where
-  pub version : ℕ
-  pub head : List ℕ
-  pub is_head : IsHead version head
-  pub frames : List Frame
-  pub some : 1 ≤ length frames
-  pub stands : Stands head frames c
-  pub items : List Item
-  pub held : AreHeld version frames items
-  pub stand : AllStand false None items
+  pub opens : Opens c
+  pub history : List History
+  pub told : IsTold false history c
   pub state : State
-  pub replayed : replay (flat_map entries_in items) ≡ Some state
-  pub findings : AreFindings (frame_place (length head) frames) items found
+  pub replayed : replay history ≡ Some state
+  pub findings : AreFindings (frame_place HEADER_SIZE told.frames) told.items found
 
--- what is found of a file; one that isn't a store's is refused
+-- what is found of a file; one that doesn't open, or of which the walk over all frames tells no history, is refused
 abbrev pub FindsAs : List ℕ → Result Findings OpenFault → Type 0
 FindsAs c (Ok found) = HasFound c found
-FindsAs c (Err (NoStore at)) = Opens c → ⊥
+FindsAs c (Err (NoStore at)) = OpensAndReplays c → ⊥
 FindsAs c (Err Disk) = ⊤
 FindsAs c (Err Memory) = ⊤

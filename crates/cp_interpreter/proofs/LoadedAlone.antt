@@ -52,7 +52,7 @@ pub alone-opened : {R S : Type 0} (view : R → Tree) (source_view : S → Tree)
 alone-opened view source_view v w db d curator none same o r i f = (
   o.opens,
   λ h moments store. (
-      let x = o.stands true h store in
+      let x = o.stands true h store.told in
       let ends = kept-end db h w.view x.1 i ∙ ap frames_end r.content in (
         subst (λ n. Stands view source_view (record { ends = record { entries = h; at = n }; curator = [] }) d (opened_session h moments)) ends
             (subst (λ u. Stands view source_view (record { ends = end_now h db; curator = u }) d (opened_session h moments)) none (f h moments x.0)),
@@ -133,7 +133,7 @@ module _ {R S : Type 0} (view : R → Tree) (source_view : S → Tree) (l : Load
     abbrev HasReads : Result Reply WorkspaceFault → Type 0
     HasReads r = (terms : Terms) (s : Session) → Stands view source_view terms old s → Reads IsFileFault (statement_reads s (stmt.Load l)) f g r
 
-    module _ (known : IsTrue v.known) (files : FileTable) (t : IsTable files f g) (h : List Entry) (store : IsStore true h v.view.content) where
+    module _ (known : IsTrue v.known) (files : FileTable) (t : IsTable files f g) (h : List Entry) (store : IsStore h v.view.content) where
       abbrev terms : Terms
       terms = store_terms h v.view.content []
 

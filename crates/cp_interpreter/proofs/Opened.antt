@@ -74,7 +74,7 @@ module _ {R S : Type 0} (view : R → Tree) (source_view : S → Tree) (v m w : 
   opened-then d e known o r i g = (
     o.opens,
     λ h store. (
-        let x = o.stands true h store in
+        let x = o.stands true h store.told in
         let y = (g h x.0 known x.1).1 in
         record { stands = y.0; kept = y.1; is_end = y.2 ∙ kept-end d h m.view x.1 i ∙ ap frames_end r.content }
         ),
@@ -93,8 +93,8 @@ module _ {R S : Type 0} (view : R → Tree) (source_view : S → Tree) (v m w : 
   opened-result d (Err stop) known o r i g k = opened-not d stop o k
 
   -- a crash leaves what it could leave, and then the history
-  pub opened-leaves : (d : Db R S) (r : Result (Db R S) Stop) → IsTrue m.known → HasOpened view source_view d v.view.content m.view → Rests v.view m.view → Migrated view source_view d m w r → (h : List Entry) → IsStore true h v.view.content → LeavesHistory h v w
-  opened-leaves d r known o rests g h store = let x = o.stands true h store in leave-then h v m w rests (g h x.0 known x.1).0
+  pub opened-leaves : (d : Db R S) (r : Result (Db R S) Stop) → IsTrue m.known → HasOpened view source_view d v.view.content m.view → Rests v.view m.view → Migrated view source_view d m w r → (h : List Entry) → IsStore h v.view.content → LeavesHistory h v w
+  opened-leaves d r known o rests g h store = let x = o.stands true h store.told in leave-then h v m w rests (g h x.0 known x.1).0
 
 -- a content that isn't opened
 pub opened-fault : {R S : Type 0} (view : R → Tree) (source_view : S → Tree) (v w : KnownDisk) (fault : OpenFault) (stop : Stop)
@@ -259,7 +259,7 @@ ran-early-on curator i f k o p v w e early wrote none never leaves = record {
 -- a call that ran a session on its store
 module _ {R S : Type 0} (view : R → Tree) (source_view : S → Tree) (curator : List ℕ) (x : Interpreter R S) (b a : Outside) (v m w : KnownDisk) (e : End)
     (none : x.refused ≡ false) (same : IsTrue v.known → IsTrue m.known) (opened : IsTrue v.known → BegunOn view source_view curator v m (Ok x)) (leaves : LeavesStore v m) (r : RanFrom view source_view x 0 b a m w e) where
-  module _ (known : IsTrue v.known) (files : FileTable) (t : IsTable files b.files a.files) (h : List Entry) (store : IsStore true h v.view.content) where
+  module _ (known : IsTrue v.known) (files : FileTable) (t : IsTable files b.files a.files) (h : List Entry) (store : IsStore h v.view.content) where
     abbrev terms : Terms
     terms = store_terms h v.view.content curator
 

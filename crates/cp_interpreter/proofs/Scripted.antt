@@ -247,7 +247,7 @@ committed-early file curator i f k o p v w e early wrote none never leaves = rec
 -- a call that ran the script of its file, or said why there is none
 module _ {R S : Type 0} (view : R → Tree) (source_view : S → Tree) (file curator : List ℕ) (x : Interpreter R S) (i : KnownInput) (f fa : KnownFiles) (k ka : KnownClock) (o oa : KnownOutput) (v m w : KnownDisk) (e : End)
     (none : x.refused ≡ false) (same : IsTrue v.known → IsTrue m.known) (opened : IsTrue v.known → BegunOn view source_view curator v m (Ok x)) (leaves : LeavesStore v m) (r : RanScript view source_view x file (world f k o) (world fa ka oa) m w e) where
-  module _ (known : IsTrue v.known) (files : FileTable) (t : IsTable files f fa) (h : List Entry) (store : IsStore true h v.view.content) where
+  module _ (known : IsTrue v.known) (files : FileTable) (t : IsTable files f fa) (h : List Entry) (store : IsStore h v.view.content) where
     abbrev terms : Terms
     terms = store_terms h v.view.content curator
 

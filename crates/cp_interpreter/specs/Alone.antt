@@ -68,5 +68,5 @@ pub record Loaded (l : Load) (before now : Outside) (v w : KnownDisk) (end : End
   pub short : end ≡ how.TooLong → ⊥
   pub no_store : IsTrue v.known → (at : ℕ) → end ≡ how.NoStore at → HasNotBegun [] [] before now end × Rests v.view w.view × (Opens v.view.content → ⊥)
   pub unopened : IsTrue v.known → (Opens v.view.content → ⊥) → HasNotBegun [] [] before now end × Rests v.view w.view
-  pub did : IsTrue v.known → (files : FileTable) → IsTable files before.files now.files → (h : List Entry) → IsStore true h v.view.content
+  pub did : IsTrue v.known → (files : FileTable) → IsTable files before.files now.files → (h : List Entry) → IsStore h v.view.content
       → DidLoad (report_on files h v.view.content (stmt.Load l)) h before now v w end

@@ -53,7 +53,7 @@ pub record LeavesHistory (h : List Entry) (v w : KnownDisk) : Type 0 where
 
 -- where the content stands for a history
 abbrev pub LeavesStore : KnownDisk → KnownDisk → Type 0
-LeavesStore v w = IsTrue v.known → (h : List Entry) → IsStore true h v.view.content → LeavesHistory h v w
+LeavesStore v w = IsTrue v.known → (h : List Entry) → IsStore h v.view.content → LeavesHistory h v w
 
 -- the database stands for the history that the one before stood for, and the frames end where they did
 abbrev pub IsMigrated : {R S : Type 0} → (R → Tree) → (S → Tree) → Db R S → List Entry → KnownDisk → Result (Db R S) Stop → Type 0
@@ -67,14 +67,14 @@ Migrated view source_view old v w result = (h : List Entry) → database.Stands 
 
 -- a content that opens gives its database; what isn't opened is no store; where it doesn't open, a crash leaves what it could leave
 abbrev pub OpenedAs : {R S : Type 0} → (R → Tree) → (S → Tree) → KnownDisk → KnownDisk → Result (Db R S) Stop → Type 0
-OpenedAs view source_view v w (Ok d) = Opens v.view.content × ((h : List Entry) → IsStore true h v.view.content → IsOpenedOn view source_view d h v.view.content w)
+OpenedAs view source_view v w (Ok d) = Opens v.view.content × ((h : List Entry) → IsStore h v.view.content → IsOpenedOn view source_view d h v.view.content w)
 OpenedAs view source_view v w (Err (NoStore at)) = (Opens v.view.content → ⊥) × Rests v.view w.view
 OpenedAs view source_view v w (Err stop) = (Opens v.view.content → ⊥) → Rests v.view w.view
 
 -- the same of its session
 abbrev pub BegunOn : {R S : Type 0} → (R → Tree) → (S → Tree) → List ℕ → KnownDisk → KnownDisk → Result (Interpreter R S) Stop → Type 0
 BegunOn view source_view curator v w (Ok x) = Opens v.view.content
-    × ((h : List Entry) (moments : List ℕ) → IsStore true h v.view.content → Follows view source_view w x (begun (store_terms h v.view.content curator) (opened_session h moments)))
+    × ((h : List Entry) (moments : List ℕ) → IsStore h v.view.content → Follows view source_view w x (begun (store_terms h v.view.content curator) (opened_session h moments)))
 BegunOn view source_view curator v w (Err (NoStore at)) = (Opens v.view.content → ⊥) × Rests v.view w.view
 BegunOn view source_view curator v w (Err stop) = (Opens v.view.content → ⊥) → Rests v.view w.view
 
@@ -125,7 +125,7 @@ GivesScript (Err w) (Err y) = y ≡ w
 -- a content that opens gives its workspace, which commits nothing; what isn't opened is no store
 abbrev pub OpenedAlone : {R S : Type 0} → (R → Tree) → (S → Tree) → KnownDisk → KnownDisk → Result (Workspace R S) Stop → Type 0
 OpenedAlone view source_view v w (Ok d) = Opens v.view.content
-    × ((h : List Entry) (moments : List ℕ) → IsStore true h v.view.content → workspace.Stands view source_view (store_terms h v.view.content []) d (opened_session h moments) × HoldsFile d h w)
+    × ((h : List Entry) (moments : List ℕ) → IsStore h v.view.content → workspace.Stands view source_view (store_terms h v.view.content []) d (opened_session h moments) × HoldsFile d h w)
 OpenedAlone view source_view v w (Err (NoStore at)) = Opens v.view.content → ⊥
 OpenedAlone view source_view v w (Err stop) = ⊤
 
@@ -152,18 +152,18 @@ LoadGives r h before now w (Err Memory) = left_on w h r.history
 pub record LoadedAs (l : Load) (before now : KnownFiles) (v w : KnownDisk) (result : Result Reply Stop) : Type 0 where
   pub no_store : IsTrue v.known → (at : ℕ) → result ≡ Err (NoStore at) → NotOpened before now v w result × (Opens v.view.content → ⊥)
   pub unopened : IsTrue v.known → (Opens v.view.content → ⊥) → NotOpened before now v w result
-  pub did : IsTrue v.known → (files : FileTable) → IsTable files before now → (h : List Entry) → IsStore true h v.view.content
+  pub did : IsTrue v.known → (files : FileTable) → IsTable files before now → (h : List Entry) → IsStore h v.view.content
       → NotOpened before now v w result ⊎ LoadGives (report_on files h v.view.content (stmt.Load l)) h before now w result
-  pub later : IsTrue v.known → (files : FileTable) → IsTable files before now → (h : List Entry) → IsStore true h v.view.content → v.view.moment ≤ w.view.moment
-  pub crash : IsTrue v.known → (files : FileTable) → IsTable files before now → (h : List Entry) → IsStore true h v.view.content
+  pub later : IsTrue v.known → (files : FileTable) → IsTable files before now → (h : List Entry) → IsStore h v.view.content → v.view.moment ≤ w.view.moment
+  pub crash : IsTrue v.known → (files : FileTable) → IsTable files before now → (h : List Entry) → IsStore h v.view.content
       → LeavesOneOf h (report_on files h v.view.content (stmt.Load l)).history v.view w.view
   pub kinds : IfErr result (λ e. (e ≡ Output → ⊥) × (e ≡ Full → ⊥) × (e ≡ Clock → ⊥))
 
--- a content that opens has a reply of which this is so; what isn't opened is no store
-abbrev pub AnsweredAs : (List ℕ → Reply → Type 0) → KnownDisk → Result Reply Stop → Type 0
-AnsweredAs IsReply v (Ok y) = Opens v.view.content × IsReply v.view.content y
-AnsweredAs IsReply v (Err (NoStore at)) = Opens v.view.content → ⊥
-AnsweredAs IsReply v (Err stop) = ⊤
+-- a content from which the call answers has a reply of which this is so; what is no store is no such content
+abbrev pub AnsweredAs : (List ℕ → Type 0) → (List ℕ → Reply → Type 0) → KnownDisk → Result Reply Stop → Type 0
+AnsweredAs Answers IsReply v (Ok y) = Answers v.view.content × IsReply v.view.content y
+AnsweredAs Answers IsReply v (Err (NoStore at)) = Answers v.view.content → ⊥
+AnsweredAs Answers IsReply v (Err stop) = ⊤
 
 -- the answer was written, or the last line of what stopped the call
 abbrev pub GaveAnswer : Result Reply Stop → KnownOutput → KnownOutput → End → Type 0

@@ -92,5 +92,5 @@ pub record Committed (file curator : List ℕ) (before now : Outside) (v w : Kno
   pub short : end ≡ how.TooLong → ⊥
   pub no_store : IsTrue v.known → (at : ℕ) → end ≡ how.NoStore at → HasNotBegun taken moments before now end × Rests v.view w.view × (Opens v.view.content → ⊥)
   pub unopened : IsTrue v.known → (Opens v.view.content → ⊥) → HasNotBegun taken moments before now end × Rests v.view w.view
-  pub did : IsTrue v.known → (files : FileTable) → IsTable files before.files now.files → (h : List Entry) → IsStore true h v.view.content
+  pub did : IsTrue v.known → (files : FileTable) → IsTable files before.files now.files → (h : List Entry) → IsStore h v.view.content
       → DidCommit files h file curator taken moments before now v w end

@@ -257,7 +257,7 @@ pub record RanOn (curator : List ℕ) (before now : Outside) (v w : KnownDisk) (
   pub ended : OnOk (result_of end) (IsAtEnd now.input.left)
   pub no_store : IsTrue v.known → (at : ℕ) → end ≡ how.NoStore at → HasNotBegun taken moments before now end × Rests v.view w.view × (Opens v.view.content → ⊥)
   pub unopened : IsTrue v.known → (Opens v.view.content → ⊥) → HasNotBegun taken moments before now end × Rests v.view w.view
-  pub did : IsTrue v.known → (files : FileTable) → IsTable files before.files now.files → (h : List Entry) → IsStore true h v.view.content
+  pub did : IsTrue v.known → (files : FileTable) → IsTable files before.files now.files → (h : List Entry) → IsStore h v.view.content
       → DidOn files h curator taken moments before now v w end
 
 -- ---- a new store

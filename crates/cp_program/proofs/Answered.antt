@@ -6,7 +6,7 @@ use Rattle.cp_outside.specs.Causes.{Accounts}
 use Rattle.cp_outside.specs.FileReads.{FileTable}
 use Rattle.cp_model.specs.Tree.{Tree}
 use Rattle.cp_disk.specs.Views.{Rests}
-use Rattle.cp_frame.specs.Stands.{Opens}
+use Rattle.cp_frame.specs.Stands.{Opens, OpensAndReplays}
 use Rattle.cp_model.specs.declared.answer.LogLine.{LogLine}
 use Rattle.cp_model.specs.declared.record.Verdict.{Verdict}
 use Rattle.cp_history.specs.Log.{LogsAs}
@@ -41,23 +41,23 @@ use Rattle.cp_program.proofs.Verdicts.{verdict-opens}
 -- a statement was run on the workspace that was opened
 pub answered-statement : {R S : Type 0} (view : R → Tree) (source_view : S → Tree) (v m : KnownDisk) (old new : Workspace R S) (x : Stmt) (y : Reply) → OpenedAlone view source_view v m (Ok old)
     → ((t : FileTable) (terms : Terms) (s : Session) → Stands view source_view terms old s → Turned view source_view terms (turn_of (setting t terms) s (says x)) new (Some y))
-    → AnsweredAs (IsAnswerTo x) v (Ok y)
+    → AnsweredAs Opens (IsAnswerTo x) v (Ok y)
 answered-statement view source_view v m old new x y o f = (
   o.0,
   λ h store. statement-said no_files (store_terms h v.view.content []) (opened_session h []) x y (f no_files (store_terms h v.view.content []) (opened_session h []) (o.1 h [] store).0).0,
 )
 
 -- the records of a store were compared
-pub answered-verdict : (v : KnownDisk) (x : Verdict) → VerifiesAs v.view.content (Ok x) → AnsweredAs IsVerdictOn v (Ok (reply.Verified x))
+pub answered-verdict : (v : KnownDisk) (x : Verdict) → VerifiesAs v.view.content (Ok x) → AnsweredAs OpensAndReplays IsVerdictOn v (Ok (reply.Verified x))
 answered-verdict v x h = (verdict-opens v.view.content x h, (x, refl, h))
 
 -- the commits of a store were listed
-pub answered-log : (v : KnownDisk) (commits : List LogLine) → LogsAs v.view.content (Ok commits) → AnsweredAs IsLogOf v (Ok (reply.Logged commits))
+pub answered-log : (v : KnownDisk) (commits : List LogLine) → LogsAs v.view.content (Ok commits) → AnsweredAs OpensAndReplays IsLogOf v (Ok (reply.Logged commits))
 answered-log v commits o = (o.0, λ h store. ap (λ z. reply.Logged z) (o.1 h store))
 
 -- ---- calls that answer
 
-module _ (IsReply : List ℕ → Reply → Type 0) (i : KnownInput) (f : KnownFiles) (k : KnownClock) (o p : KnownOutput) (v w : KnownDisk) where
+module _ (Answers : List ℕ → Type 0) (IsReply : List ℕ → Reply → Type 0) (i : KnownInput) (f : KnownFiles) (k : KnownClock) (o p : KnownOutput) (v w : KnownDisk) where
   abbrev b : Outside
   b = record { input = i; files = f; clock = k; output = o }
 
@@ -65,7 +65,7 @@ module _ (IsReply : List ℕ → Reply → Type 0) (i : KnownInput) (f : KnownFi
   a = record { input = i; files = f; clock = k; output = p }
 
   -- what isn't opened is no store
-  none-at : (stop : Stop) (at : ℕ) → end_of_stop stop ≡ how.NoStore at → AnsweredAs IsReply v (Err stop) → Opens v.view.content → ⊥
+  none-at : (stop : Stop) (at : ℕ) → end_of_stop stop ≡ how.NoStore at → AnsweredAs Answers IsReply v (Err stop) → Answers v.view.content → ⊥
   none-at Output at h n = absurd (cc)
   none-at Full at h n = absurd (cc)
   none-at File at h n = absurd (cc)
@@ -75,7 +75,7 @@ module _ (IsReply : List ℕ → Reply → Type 0) (i : KnownInput) (f : KnownFi
   none-at Memory at h n = absurd (cc)
 
   -- the answer was written
-  answered-line : (y : Reply) (e : End) → (IsTrue v.known → AnsweredAs IsReply v (Ok y)) → (IsTrue v.known → Rests v.view w.view) → SaidLine (lines y) (is_refusal y) o p e → Answered IsReply b a v w e
+  answered-line : (y : Reply) (e : End) → (IsTrue v.known → AnsweredAs Answers IsReply v (Ok y)) → (IsTrue v.known → Rests v.view w.view) → SaidLine (lines y) (is_refusal y) o p e → Answered Answers IsReply b a v w e
   answered-line y e answered rests s = record {
     input = refl;
     files = refl;
@@ -86,7 +86,7 @@ module _ (IsReply : List ℕ → Reply → Type 0) (i : KnownInput) (f : KnownFi
   }
 
   -- the call was stopped
-  answered-early : (stop : Stop) → IsOpeningStop stop → (IsTrue v.known → AnsweredAs IsReply v (Err stop)) → (IsTrue v.known → Rests v.view w.view) → TellsStop o p stop → Answered IsReply b a v w (end_of_stop stop)
+  answered-early : (stop : Stop) → IsOpeningStop stop → (IsTrue v.known → AnsweredAs Answers IsReply v (Err stop)) → (IsTrue v.known → Rests v.view w.view) → TellsStop o p stop → Answered Answers IsReply b a v w (end_of_stop stop)
   answered-early stop kind none rests tells = (let early = stop-early o p stop kind tells in record {
     input = refl;
     files = refl;
@@ -97,9 +97,9 @@ module _ (IsReply : List ℕ → Reply → Type 0) (i : KnownInput) (f : KnownFi
   })
 
   -- what came of the answer
-  pub answered-end : (r : Result Reply Stop) (e : End) → IfErr r IsOpeningStop → (IsTrue v.known → AnsweredAs IsReply v r) → (IsTrue v.known → Rests v.view w.view) → GaveAnswer r o p e → Answered IsReply b a v w e
+  pub answered-end : (r : Result Reply Stop) (e : End) → IfErr r IsOpeningStop → (IsTrue v.known → AnsweredAs Answers IsReply v r) → (IsTrue v.known → Rests v.view w.view) → GaveAnswer r o p e → Answered Answers IsReply b a v w e
   answered-end (Ok y) e kind answered rests gave = answered-line y e answered rests gave
-  answered-end (Err stop) e kind answered rests gave = subst (Answered IsReply b a v w) (sym gave.0) (answered-early stop kind answered rests gave.1)
+  answered-end (Err stop) e kind answered rests gave = subst (Answered Answers IsReply b a v w) (sym gave.0) (answered-early stop kind answered rests gave.1)
 
 -- the causes of its end
 pub causes-answer : (i : KnownInput) (f : KnownFiles) (k : KnownClock) (o p : KnownOutput) (r : Result Reply Stop) (e : End) → IfErr r IsOpeningStop → GaveAnswer r o p e → Accounts (λ z. z ≡ how.Output) o.faults p.faults (result_of e)

@@ -10,6 +10,7 @@ use Rattle.cp_words.specs.declared.command.Command.{Command}
 use Rattle.cp_words.specs.declared.command.Command.TheVariants as words
 use Rattle.cp_workspace.specs.Files.{KnownFiles}
 use Rattle.cp_workspace.specs.Disks.{KnownDisk}
+use Rattle.cp_frame.specs.Stands.{Opens, OpensAndReplays}
 use Rattle.cp_program.specs.Texts.{usage_text}
 use Rattle.cp_interpreter.specs.Texts.{memory_line}
 use Rattle.cp_interpreter.specs.Outside.{KnownInput, KnownClock, KnownOutput, Outside}
@@ -45,8 +46,8 @@ said-not-none : (line : List ℕ) (refused : Bool) (o p : KnownOutput) (e : End)
 said-not-none line refused o p e s at h = subst (SaidLine line refused o p) h s
 
 -- an answer from a store doesn't end with the usage
-answered-fits : (IsReply : List ℕ → Reply → Type 0) (before now : Outside) (v w : KnownDisk) (e : End) → Answered IsReply before now v w e → e ≡ how.Usage → ⊥
-answered-fits IsReply before now v w e r h = elim r.ended [
+answered-fits : (Answers : List ℕ → Type 0) (IsReply : List ℕ → Reply → Type 0) (before now : Outside) (v w : KnownDisk) (e : End) → Answered Answers IsReply before now v w e → e ≡ how.Usage → ⊥
+answered-fits Answers IsReply before now v w e r h = elim r.ended [
   | inl early ↦ early-not-usage e early.0 h
   | inr said ↦ said-not-usage (lines said.0) (is_refusal said.0) before.output now.output e said.1 h
 ]
@@ -62,11 +63,11 @@ fits (words.Init k s) before now v w e r = r.running.fitting
 fits (words.Run curator) before now v w e r = r.fitting
 fits (words.Commit file curator) before now v w e r = r.fitting
 fits (words.Load l) before now v w e r = r.fitting
-fits (words.Ask q) before now v w e r = answered-fits (IsAnswerTo (stmt.Ask q)) before now v w e r
-fits (words.Show p) before now v w e r = answered-fits (IsAnswerTo (stmt.Show p)) before now v w e r
+fits (words.Ask q) before now v w e r = answered-fits Opens (IsAnswerTo (stmt.Ask q)) before now v w e r
+fits (words.Show p) before now v w e r = answered-fits Opens (IsAnswerTo (stmt.Show p)) before now v w e r
 fits (words.Generate seed count k) before now v w e r = generated-not k seed count before now e how.Usage r (λ h. absurd (cc)) (λ line said h. said-not-usage line false before.output now.output e said h)
-fits words.Log before now v w e r = answered-fits IsLogOf before now v w e r
-fits words.Verify before now v w e r = answered-fits IsVerdictOn before now v w e r
+fits words.Log before now v w e r = answered-fits OpensAndReplays IsLogOf before now v w e r
+fits words.Verify before now v w e r = answered-fits OpensAndReplays IsVerdictOn before now v w e r
 
 -- where there is a store, if there is to be one, it is found
 opens : (x : Command) (before now : Outside) (v w : KnownDisk) (e : End) → DidCommand x before now v w e → HasItsStore x v → (at : ℕ) → e ≡ how.NoStore at → ⊥

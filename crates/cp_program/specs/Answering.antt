@@ -4,7 +4,7 @@ use Rattle.cp_model.specs.History.{Entry, log_of}
 use Rattle.cp_model.specs.declared.kind.Kind.{Kind}
 use Rattle.cp_model.specs.declared.record.Verdict.{Verdict}
 use Rattle.cp_disk.specs.Views.{Rests}
-use Rattle.cp_frame.specs.Stands.{IsStore, Opens}
+use Rattle.cp_frame.specs.Stands.{IsStore, IsTold}
 use Rattle.cp_history.specs.Verify.{VerifiesAs}
 use Rattle.cp_lang.specs.declared.syntax_tree.Stmt.{Stmt}
 use Rattle.cp_reply.specs.Lines.{lines}
@@ -23,11 +23,11 @@ use Rattle.cp_interpreter.specs.declared.end.End.TheVariants as how
 
 -- the reply is that to the statement, which reads no file, in the session that begins on the history for which the content stands
 abbrev pub IsAnswerTo : Stmt → List ℕ → Reply → Type 0
-IsAnswerTo x c y = (h : List Entry) → IsStore true h c → (lines y ≡ (report_on no_files h c x).out) × (is_refusal y ≡ (report_on no_files h c x).refused)
+IsAnswerTo x c y = (h : List Entry) → IsStore h c → (lines y ≡ (report_on no_files h c x).out) × (is_refusal y ≡ (report_on no_files h c x).refused)
 
 -- the reply lists the commits of the history that the content tells, be its records right or not
 abbrev pub IsLogOf : List ℕ → Reply → Type 0
-IsLogOf c y = (h : List Entry) → IsStore false h c → y ≡ reply.Logged (log_of h)
+IsLogOf c y = (h : List Entry) → IsTold false h c → y ≡ reply.Logged (log_of h)
 
 -- the reply is the verdict on the records of the content
 abbrev pub IsVerdictOn : List ℕ → Reply → Type 0
@@ -38,15 +38,15 @@ abbrev pub SaidReply : Reply → Outside → Outside → End → Type 0
 SaidReply y before now end = SaidLine (lines y) (is_refusal y) before.output now.output end
 
 -- A call that was to answer from a store took no input, read no file, asked no clock, and left the disk as it was.
--- What isn't opened is no store, and what is none isn't opened. What opens has a reply, of which this is so.
-pub record Answered (IsReply : List ℕ → Reply → Type 0) (before now : Outside) (v w : KnownDisk) (end : End) : Type 0 where
+-- Of the contents from which it answers each has a reply, of which this is so; any other is no store, and has none.
+pub record Answered (Answers : List ℕ → Type 0) (IsReply : List ℕ → Reply → Type 0) (before now : Outside) (v w : KnownDisk) (end : End) : Type 0 where
   pub input : now.input ≡ before.input
   pub files : now.files ≡ before.files
   pub clock : now.clock ≡ before.clock
   pub rests : IsTrue v.known → Rests v.view w.view
-  pub no_store : IsTrue v.known → (at : ℕ) → end ≡ how.NoStore at → EndedEarly before now end × (Opens v.view.content → ⊥)
+  pub no_store : IsTrue v.known → (at : ℕ) → end ≡ how.NoStore at → EndedEarly before now end × (Answers v.view.content → ⊥)
   pub ended : EndedEarly before now end
-      ⊎ ((y : Reply) × SaidReply y before now end × (IsTrue v.known → Opens v.view.content × IsReply v.view.content y))
+      ⊎ ((y : Reply) × SaidReply y before now end × (IsTrue v.known → Answers v.view.content × IsReply v.view.content y))
 
 -- ---- generated workloads
 

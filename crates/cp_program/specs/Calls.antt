@@ -4,7 +4,7 @@ use Rattle.std.specs.Prelude.{◌≡◌, ◌⊎◌, ℕ, ◌≤◌, List, [], le
 use Rattle.std.specs.declared.option.Option.{Option}
 use Rattle.std.specs.declared.option.Option.TheVariants.{None, Some}
 use Rattle.cp_disk.specs.Views.{Rests}
-use Rattle.cp_frame.specs.Stands.{Opens}
+use Rattle.cp_frame.specs.Stands.{Opens, OpensAndReplays}
 use Rattle.cp_lang.specs.declared.syntax_tree.Stmt.TheVariants as stmt
 use Rattle.cp_words.specs.declared.command.Command.{Command}
 use Rattle.cp_words.specs.declared.command.Command.TheVariants as words
@@ -48,11 +48,11 @@ DidCommand (words.Init k from) before now v w end = Made k (λ files. start_give
 DidCommand (words.Run curator) before now v w end = RanOn curator before now v w end
 DidCommand (words.Commit file curator) before now v w end = Committed file curator before now v w end
 DidCommand (words.Load l) before now v w end = Loaded l before now v w end
-DidCommand (words.Ask q) before now v w end = Answered (IsAnswerTo (stmt.Ask q)) before now v w end
-DidCommand (words.Show p) before now v w end = Answered (IsAnswerTo (stmt.Show p)) before now v w end
+DidCommand (words.Ask q) before now v w end = Answered Opens (IsAnswerTo (stmt.Ask q)) before now v w end
+DidCommand (words.Show p) before now v w end = Answered Opens (IsAnswerTo (stmt.Show p)) before now v w end
 DidCommand (words.Generate seed count k) before now v w end = Generated k seed count before now end
-DidCommand words.Log before now v w end = Answered IsLogOf before now v w end
-DidCommand words.Verify before now v w end = Answered IsVerdictOn before now v w end
+DidCommand words.Log before now v w end = Answered OpensAndReplays IsLogOf before now v w end
+DidCommand words.Verify before now v w end = Answered OpensAndReplays IsVerdictOn before now v w end
 
 -- What was done for the words: for their command, or, where they fit no row, the usage was given.
 abbrev pub RanAs : Option Command → Outside → Outside → KnownDisk → KnownDisk → End → Type 0
@@ -88,7 +88,11 @@ IsShort (Some all) = length all ≤ INPUT_MAX
 abbrev pub HasOpenStore : KnownDisk → Type 0
 HasOpenStore v = IsTrue v.known × Opens v.view.content
 
--- The command needs no store, or there is one.
+-- The disk is known to hold a store that opens, and whose frames all tell a history.
+abbrev pub HasWholeStore : KnownDisk → Type 0
+HasWholeStore v = IsTrue v.known × OpensAndReplays v.view.content
+
+-- The command needs no store, or there is one from which it works: `log` and `verify` read the whole file.
 abbrev pub HasItsStore : Command → KnownDisk → Type 0
 HasItsStore (words.Scratch k from) v = ⊤
 HasItsStore (words.Init k from) v = ⊤
@@ -98,8 +102,8 @@ HasItsStore (words.Load l) v = HasOpenStore v
 HasItsStore (words.Ask q) v = HasOpenStore v
 HasItsStore (words.Show p) v = HasOpenStore v
 HasItsStore (words.Generate seed count k) v = ⊤
-HasItsStore words.Log v = HasOpenStore v
-HasItsStore words.Verify v = HasOpenStore v
+HasItsStore words.Log v = HasWholeStore v
+HasItsStore words.Verify v = HasWholeStore v
 
 -- What the words ask for needs no store, or the disk is known to hold one that opens.
 abbrev pub HasStore : Option Command → KnownDisk → Type 0

@@ -2,6 +2,7 @@
 ghost use Rattle.std.specs.Prelude.{◌≡◌, IsTrue, IfErr};
 ghost use Rattle.cp_outside.specs.Causes.{Accounts};
 ghost use Rattle.cp_disk.specs.Views.{Rests};
+ghost use Rattle.cp_frame.specs.Stands.{Opens, OpensAndReplays};
 ghost use Rattle.cp_lang.specs.declared.syntax_tree.Stmt.TheVariants as stmt;
 ghost use Rattle.cp_workspace.specs.Disks.{known_disk};
 ghost use Rattle.cp_workspace.specs.Files.{KnownFiles};
@@ -28,7 +29,7 @@ fn reply_to_query<R: TreeRep, S: TreeRep, D: Disk>(
     query: Query,
     disk: &mut D,
 ) -> Result<Reply, Stop>
-    ensures answered { IsTrue D.is_known → AnsweredAs (IsAnswerTo (stmt.Ask query)) (known_disk D.Disk disk.old) result }
+    ensures answered { IsTrue D.is_known → AnsweredAs Opens (IsAnswerTo (stmt.Ask query)) (known_disk D.Disk disk.old) result }
     ensures rests { IsTrue D.is_known → Rests (D.view disk.old) (D.view disk.new) }
     ensures cause { Accounts IsDiskStop (D.counts disk.old).faults (D.counts disk.new).faults result }
     ensures kinds { IfErr result IsOpeningStop }
@@ -52,7 +53,7 @@ fn reply_to_show<R: TreeRep, S: TreeRep, D: Disk>(
     place: Loc,
     disk: &mut D,
 ) -> Result<Reply, Stop>
-    ensures answered { IsTrue D.is_known → AnsweredAs (IsAnswerTo (stmt.Show place)) (known_disk D.Disk disk.old) result }
+    ensures answered { IsTrue D.is_known → AnsweredAs Opens (IsAnswerTo (stmt.Show place)) (known_disk D.Disk disk.old) result }
     ensures rests { IsTrue D.is_known → Rests (D.view disk.old) (D.view disk.new) }
     ensures cause { Accounts IsDiskStop (D.counts disk.old).faults (D.counts disk.new).faults result }
     ensures kinds { IfErr result IsOpeningStop }
@@ -72,7 +73,7 @@ fn reply_to_show<R: TreeRep, S: TreeRep, D: Disk>(
 
 /// The commits of a store.
 fn commits_in<R: TreeRep, S: TreeRep, D: Disk>(alloc: Global, disk: &mut D) -> Result<Reply, Stop>
-    ensures answered { IsTrue D.is_known → AnsweredAs IsLogOf (known_disk D.Disk disk.old) result }
+    ensures answered { IsTrue D.is_known → AnsweredAs OpensAndReplays IsLogOf (known_disk D.Disk disk.old) result }
     ensures rests { IsTrue D.is_known → Rests (D.view disk.old) (D.view disk.new) }
     ensures cause { Accounts IsDiskStop (D.counts disk.old).faults (D.counts disk.new).faults result }
     ensures kinds { IfErr result IsOpeningStop }
@@ -83,7 +84,7 @@ fn commits_in<R: TreeRep, S: TreeRep, D: Disk>(alloc: Global, disk: &mut D) -> R
 
 /// The verdict on the records of a store.
 fn verdict_on<R: TreeRep, S: TreeRep, D: Disk>(alloc: Global, disk: &mut D) -> Result<Reply, Stop>
-    ensures answered { IsTrue D.is_known → AnsweredAs IsVerdictOn (known_disk D.Disk disk.old) result }
+    ensures answered { IsTrue D.is_known → AnsweredAs OpensAndReplays IsVerdictOn (known_disk D.Disk disk.old) result }
     ensures rests { IsTrue D.is_known → Rests (D.view disk.old) (D.view disk.new) }
     ensures cause { Accounts IsDiskStop (D.counts disk.old).faults (D.counts disk.new).faults result }
     ensures kinds { IfErr result IsOpeningStop }
@@ -110,7 +111,7 @@ pub(crate) fn ask<R: TreeRep, S: TreeRep, D: Disk, O: Sink>(
     disk: &mut D,
     output: &mut O,
 ) -> End
-    ensures ran { (i : KnownInput) (f : KnownFiles) (k : KnownClock) → Answered (IsAnswerTo (stmt.Ask query))
+    ensures ran { (i : KnownInput) (f : KnownFiles) (k : KnownClock) → Answered Opens (IsAnswerTo (stmt.Ask query))
         (record { input = i; files = f; clock = k; output = known_output O.Sink output.old })
         (record { input = i; files = f; clock = k; output = known_output O.Sink output.new })
         (known_disk D.Disk disk.old) (known_disk D.Disk disk.new) result }
@@ -131,7 +132,7 @@ pub(crate) fn show<R: TreeRep, S: TreeRep, D: Disk, O: Sink>(
     disk: &mut D,
     output: &mut O,
 ) -> End
-    ensures ran { (i : KnownInput) (f : KnownFiles) (k : KnownClock) → Answered (IsAnswerTo (stmt.Show place))
+    ensures ran { (i : KnownInput) (f : KnownFiles) (k : KnownClock) → Answered Opens (IsAnswerTo (stmt.Show place))
         (record { input = i; files = f; clock = k; output = known_output O.Sink output.old })
         (record { input = i; files = f; clock = k; output = known_output O.Sink output.new })
         (known_disk D.Disk disk.old) (known_disk D.Disk disk.new) result }
@@ -151,7 +152,7 @@ pub(crate) fn list_commits<R: TreeRep, S: TreeRep, D: Disk, O: Sink>(
     disk: &mut D,
     output: &mut O,
 ) -> End
-    ensures ran { (i : KnownInput) (f : KnownFiles) (k : KnownClock) → Answered IsLogOf
+    ensures ran { (i : KnownInput) (f : KnownFiles) (k : KnownClock) → Answered OpensAndReplays IsLogOf
         (record { input = i; files = f; clock = k; output = known_output O.Sink output.old })
         (record { input = i; files = f; clock = k; output = known_output O.Sink output.new })
         (known_disk D.Disk disk.old) (known_disk D.Disk disk.new) result }
@@ -172,7 +173,7 @@ pub(crate) fn verify_records<R: TreeRep, S: TreeRep, D: Disk, O: Sink>(
     disk: &mut D,
     output: &mut O,
 ) -> End
-    ensures ran { (i : KnownInput) (f : KnownFiles) (k : KnownClock) → Answered IsVerdictOn
+    ensures ran { (i : KnownInput) (f : KnownFiles) (k : KnownClock) → Answered OpensAndReplays IsVerdictOn
         (record { input = i; files = f; clock = k; output = known_output O.Sink output.old })
         (record { input = i; files = f; clock = k; output = known_output O.Sink output.new })
         (known_disk D.Disk disk.old) (known_disk D.Disk disk.new) result }

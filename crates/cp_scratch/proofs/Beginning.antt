@@ -9,7 +9,7 @@ use Rattle.cp_model.specs.declared.kind.Kind.{Kind}
 use Rattle.cp_journal.specs.declared.limits.TheConstants.{HEADER_SIZE, FRAME_HEAD}
 use Rattle.cp_frame.specs.Sizes.{start_size, load_size}
 use Rattle.cp_frame.proofs.Ends.{end_of-none}
-use Rattle.cp_db.specs.Databases as database
+use Rattle.cp_db.specs.Databases.{HoldsState, Stands}
 use Rattle.cp_db.specs.declared.database.Db.{Db}
 use Rattle.cp_db.specs.declared.fault.WriteFault.TheVariants as fault
 use Rattle.cp_gen.specs.Source.{source_name, source_tree}
@@ -28,16 +28,16 @@ start-sources : (k : Kind) (t : Tree) (s : State) → replay (start k t ∷ []) 
 unfolding replay start_state
 start-sources k t s h = ap sources_in_state (sym h)
 
--- nor has any history for which a database stands that stands for a start alone
-no-sources : {R S : Type 0} (view : R → Tree) (source_view : S → Tree) (k : Kind) (t : Tree) (d : Db R S) → database.Stands view source_view false d (start k t ∷ [])
-    → (right : Bool) (h : List Entry) (z : database.Stands view source_view right d h) → z.committed.state.sources ≡ []
-no-sources view source_view k t d y right h z = sym z.committed.sources ∙ y.committed.sources ∙ start-sources k t y.committed.state y.committed.replayed
+-- nor has any state that a database holds that stands for a start alone
+no-sources : {R S : Type 0} (view : R → Tree) (source_view : S → Tree) (k : Kind) (t : Tree) (d : Db R S) → Stands view source_view false d (start k t ∷ [])
+    → (s : State) → HoldsState view source_view d s → s.sources ≡ []
+no-sources view source_view k t d y s z = sym z.committed.sources ∙ y.holds.committed.sources ∙ start-sources k t y.state y.led.replayed
 
 -- the source of the scripts may be loaded into it
-pub can-load-source : {R S : Type 0} (view : R → Tree) (source_view : S → Tree) (k : Kind) (t u : Tree) (n : List ℕ) (d : Db R S) → database.Stands view source_view false d (start k t ∷ []) → n ≡ source_name → u ≡ source_tree
-    → (right : Bool) (h : List Entry) (z : database.Stands view source_view right d h) → CanLoad z.committed.state n u
-can-load-source view source_view k t u n d y named is right h z =
-    let none = no-sources view source_view k t d y right h z in
+pub can-load-source : {R S : Type 0} (view : R → Tree) (source_view : S → Tree) (k : Kind) (t u : Tree) (n : List ℕ) (d : Db R S) → Stands view source_view false d (start k t ∷ []) → n ≡ source_name → u ≡ source_tree
+    → (s : State) → HoldsState view source_view d s → CanLoad s n u
+can-load-source view source_view k t u n d y named is s z =
+    let none = no-sources view source_view k t d y s z in
     record {
       loadable = subst (λ m. IsSource m u) (sym named) (subst (λ m. IsSource source_name m) (sym is) source-loads);
       fresh = ap (λ l. is_some (source l n)) none;

@@ -191,8 +191,8 @@ module _ {R S : Type 0} (view : R → Tree) (source_view : S → Tree) where
       → IfOk r (λ y. (t : State) → IsAt view source_view x t → y ≡ summary_of t)
       → IfOk r (λ y. ComesTo k seed count y)
   comes-to k seed count d x (Ok y) same z f =
-      let t = z.db.committed.state in
+      let t = z.db.state in
       let s = session_after_statements (setting no_files (workload_terms k)) (workload_session k) (script seed count) in
-      let at : IsAt view source_view (db_in d) t = record { history = s.history; stands = z.db; replayed = z.db.committed.replayed } in
-      record { state = t; led = z.db.committed.replayed; is = f t (subst (λ b. IsAt view source_view b t) (sym same) at) }
+      let at : IsAt view source_view (db_in d) t = record { history = s.history; led = z.db.led; holds = z.db.holds; rows = z.db.rows refl } in
+      record { state = t; led = z.db.led.replayed; is = f t (subst (λ b. IsAt view source_view b t) (sym same) at) }
   comes-to k seed count d x (Err e) same z f = tt

@@ -30,7 +30,8 @@ pub fn new_db<R: TreeRep, S: TreeRep>(
 {
     match Db::init(alloc, disk, kind, tree) {
         Ok(db) => Ok(db),
-        Err(InitFault::Exists | InitFault::Disk) => unreachable!(),
+        Err(InitFault::Exists) => unreachable!(),
+        Err(InitFault::Disk) => unreachable!(),
         Err(InitFault::Memory) => Err(AllocError),
     }
 }

@@ -8,7 +8,7 @@ use Rattle.cp_model.specs.Subtrees.{is_there, below}
 use Rattle.cp_model.specs.Tree.{Tree, Source}
 use Rattle.cp_model.specs.Step.{step}
 use Rattle.cp_model.specs.Past.{tree_of}
-use Rattle.cp_model.specs.History.{Entry, State, replay}
+use Rattle.cp_model.specs.History.{State}
 use Rattle.cp_model.specs.declared.kind.Kind.{Kind}
 use Rattle.cp_model.specs.Answers.{answer_to}
 use Rattle.cp_model.specs.declared.answer.Answer.{Answer}
@@ -27,9 +27,9 @@ use Rattle.cp_engine.specs.declared.txn.Txn.{Txn}
 use Rattle.cp_engine.specs.declared.state.TxnState.{TxnState}
 use Rattle.cp_engine.specs.declared.state.TxnState.TheVariants as state
 use Rattle.cp_outside.specs.FileReads.{FileTable}
-use Rattle.cp_db.specs.Databases as database
-use Rattle.cp_db.specs.Databases.{IsDatabase, HasCome, IsSameFile}
+use Rattle.cp_db.specs.Databases.{HasCome, HoldsSame, IsSameFile}
 use Rattle.cp_db.specs.declared.database.Db.{Db}
+use Rattle.cp_db.proofs.Keeping.{stands-same}
 use Rattle.cp_workspace.specs.Texts.{Terms, setting}
 use Rattle.cp_workspace.specs.Workspaces.{Stands, Opens, EndsAt, IsBegun, IsWorkspace, Turned, shown_tree, shown_reply}
 use Rattle.cp_workspace.specs.declared.workspace.Workspace.{Workspace}
@@ -45,7 +45,7 @@ working_tree k t n ops a =
 
 module _ {R S : Type 0} (view : R → Tree) (source_view : S → Tree) (terms : Terms) (d : Workspace R S) (s : Session) (z : Stands view source_view terms d s) where
   abbrev t : State
-  t = z.db.committed.state
+  t = z.db.state
 
   closed_tree : (o : OpenTransaction) → Opens view source_view d.db None o → tree_of t.tree ≡ current_tree t o
   closed_tree closed h = refl
@@ -61,7 +61,7 @@ module _ {R S : Type 0} (view : R → Tree) (source_view : S → Tree) (terms : 
     stands_open = subst (λ y. Opens view source_view d.db y s.opened) there z.opened
 
     come_now : (p : txn.Progress) → HasCome view source_view d.db x p → txn.Stands view x t.kind t.sources (tree_of t.tree) (t.now + 1) p
-    come_now p h = h true s.history z.db
+    come_now p h = h z.db.state z.db.holds
 
     state_now : (p : txn.Progress) → HasCome view source_view d.db x p → k ≡ txn.state_of p
     state_now p h = is t.kind t.sources (tree_of t.tree) (t.now + 1) p (come_now p h)
@@ -88,17 +88,17 @@ module _ {R S : Type 0} (view : R → Tree) (source_view : S → Tree) (terms : 
 -- ---- show
 
 module _ {R S : Type 0} (view : R → Tree) (source_view : S → Tree) (files : FileTable) (terms : Terms) (d : Workspace R S) (s : Session) (z : Stands view source_view terms d s) where
-  shows : (q : Loc) (r : Option Reply) → Turned view source_view terms (show_at s q (shown_tree z.db.committed.state s.opened q)) d r → Turned view source_view terms (turn_of (setting files terms) s (says (stmt.Show q))) d r
+  shows : (q : Loc) (r : Option Reply) → Turned view source_view terms (show_at s q (shown_tree z.db.state s.opened q)) d r → Turned view source_view terms (turn_of (setting files terms) s (says (stmt.Show q))) d r
   shows q r h = turned-stands view source_view terms d d s z files (stmt.Show q) r h
 
   -- there is no such database
-  pub turned-no_source : (q : Loc) → shown_tree z.db.committed.state s.opened q ≡ None → Turned view source_view terms (turn_of (setting files terms) s (says (stmt.Show q))) d (Some (reply.Refused of.Statement (why.NoSource q.db)))
+  pub turned-no_source : (q : Loc) → shown_tree z.db.state s.opened q ≡ None → Turned view source_view terms (turn_of (setting files terms) s (says (stmt.Show q))) d (Some (reply.Refused of.Statement (why.NoSource q.db)))
   turned-no_source q e =
       let r = Some (reply.Refused of.Statement (why.NoSource q.db)) in
       shows q r (subst (λ o. Turned view source_view terms (show_at s q o) d r) (sym e) (refl, z))
 
   -- what the tree has at and below a place is shown
-  pub turned-shown : (q : Loc) (u : Tree) → shown_tree z.db.committed.state s.opened q ≡ Some u → Turned view source_view terms (turn_of (setting files terms) s (says (stmt.Show q))) d (Some (shown_reply q u))
+  pub turned-shown : (q : Loc) (u : Tree) → shown_tree z.db.state s.opened q ≡ Some u → Turned view source_view terms (turn_of (setting files terms) s (says (stmt.Show q))) d (Some (shown_reply q u))
   turned-shown q u e = shows q (Some (shown_reply q u)) (subst (λ o. Turned view source_view terms (show_at s q o) d (Some (shown_reply q u))) (sym e) (by (is_there u q.path)))
     where
       by : (b : Bool) → Turned view source_view terms (if b then replies (reply.Show q (map row_of (below q.path u))) s else refuses (why.NoPlace q) s) d (Some (if b then reply.Show q (map row_of (below q.path u)) else reply.Refused of.Statement (why.NoPlace q)))
@@ -107,7 +107,7 @@ module _ {R S : Type 0} (view : R → Tree) (source_view : S → Tree) (files : 
 
 -- what the tree of a place's database has at and below the place is shown, if memory is enough
 pub told-shown : {R S E : Type 0} (view : R → Tree) (source_view : S → Tree) (d : Workspace R S) (q : Loc) (u : Tree) (r : Result Reply E) →
-    ((terms : Terms) (s : Session) (z : Stands view source_view terms d s) → shown_tree z.db.committed.state s.opened q ≡ Some u) → IfOk r (λ x. x ≡ shown_reply q u) →
+    ((terms : Terms) (s : Session) (z : Stands view source_view terms d s) → shown_tree z.db.state s.opened q ≡ Some u) → IfOk r (λ x. x ≡ shown_reply q u) →
     IfOk r (λ x. (files : FileTable) (terms : Terms) (s : Session) → Stands view source_view terms d s → Turned view source_view terms (turn_of (setting files terms) s (says (stmt.Show q))) d (Some x))
 told-shown view source_view d q u (Ok x) e h =
     λ files terms s z. subst (λ y. Turned view source_view terms (turn_of (setting files terms) s (says (stmt.Show q))) d (Some y)) (sym h) (turned-shown view source_view files terms d s z q u (e terms s z))
@@ -115,26 +115,10 @@ told-shown view source_view d q u (Err y) e h = tt
 
 -- ---- queries
 
--- what a history leads to is one
-pub one-state : (h : List Entry) (t u : State) → replay h ≡ Some t → replay h ≡ Some u → t ≡ u
-one-state h t u e f = let same : Some t ≡ Some u = sym e ∙ f in cc
-
-module _ {R S : Type 0} (view : R → Tree) (source_view : S → Tree) (d new : Db R S) (some : IsDatabase view source_view d) (same : (right : Bool) (h : List Entry) → database.Stands view source_view right d h → database.Stands view source_view right new h) where
-  -- a transaction has come as far on a database that stands for each history that it stood for
+module _ {R S : Type 0} (view : R → Tree) (source_view : S → Tree) (d new : Db R S) (same : HoldsSame view source_view d new) where
+  -- a transaction has come as far on a database that holds the same states
   pub come-kept : (x : Txn R) (p : txn.Progress) → HasCome view source_view d x p → HasCome view source_view new x p
-  come-kept x p come right h w =
-      let old = some.1.committed in
-      let now = (same false some.0 some.1).committed in
-      let later = w.committed in
-      let is = one-state some.0 now.state old.state now.replayed old.replayed in
-      let kind : old.state.kind ≡ later.state.kind = sym (ap (λ t. t.kind) is) ∙ sym now.kind ∙ later.kind in
-      let sources : old.state.sources ≡ later.state.sources = sym (ap (λ t. t.sources) is) ∙ sym now.sources ∙ later.sources in
-      let tree : tree_of old.state.tree ≡ tree_of later.state.tree = sym (ap (λ t. tree_of t.tree) is) ∙ sym now.tree ∙ later.tree in
-      let upto : old.state.now ≡ later.state.now = sym (ap (λ t. t.now) is) ∙ sym now.upto ∙ later.upto in
-      subst (λ k. txn.Stands view x k later.state.sources (tree_of later.state.tree) (later.state.now + 1) p) kind
-      (subst (λ ss. txn.Stands view x old.state.kind ss (tree_of later.state.tree) (later.state.now + 1) p) sources
-      (subst (λ u. txn.Stands view x old.state.kind old.state.sources u (later.state.now + 1) p) tree
-      (subst (λ n. txn.Stands view x old.state.kind old.state.sources (tree_of old.state.tree) (n + 1) p) upto (come false some.0 some.1))))
+  come-kept x p come t w = come t ((same.states t).1 w)
 
   -- so a session's is still the session's
   pub opens-kept : (x : Option (Txn R)) (o : OpenTransaction) → Opens view source_view d x o → Opens view source_view new x o
@@ -149,34 +133,34 @@ module _ {R S : Type 0} (view : R → Tree) (source_view : S → Tree) (d new : 
   begun_kept None h = tt
   begun_kept (Some x) h = (h.0, come-kept x h.0 h.1)
 
--- a workspace is one whose database stands for the same after a query
-pub workspace-asked : {R S : Type 0} (view : R → Tree) (source_view : S → Tree) (d m : Workspace R S) → IsSameFile d.db m.db → ((right : Bool) (h : List Entry) → database.Stands view source_view right d.db h → database.Stands view source_view right m.db h) → m.transaction ≡ d.transaction
+-- a workspace is one whose database holds the same after a query
+pub workspace-asked : {R S : Type 0} (view : R → Tree) (source_view : S → Tree) (d m : Workspace R S) → IsSameFile d.db m.db → HoldsSame view source_view d.db m.db → m.transaction ≡ d.transaction
     → IsWorkspace view source_view d → IsWorkspace view source_view m
 workspace-asked view source_view d m file same there w = record {
-  stands = (w.stands.0, same false w.stands.0 w.stands.1);
+  stands = (w.stands.0, (same.states w.stands.0).0 w.stands.1);
   usable = file.2 ∙ w.usable;
-  begun = subst (IsBegun view source_view m.db) (sym there) (begun_kept view source_view d.db m.db w.stands same d.transaction w.begun);
+  begun = subst (IsBegun view source_view m.db) (sym there) (begun_kept view source_view d.db m.db same d.transaction w.begun);
 }
 
-module _ {R S : Type 0} (view : R → Tree) (source_view : S → Tree) (terms : Terms) (d m : Workspace R S) (s : Session) (z : Stands view source_view terms d s) (some : IsDatabase view source_view d.db) (file : IsSameFile d.db m.db) (same : (right : Bool) (h : List Entry) → database.Stands view source_view right d.db h → database.Stands view source_view right m.db h) (curator : m.curator ≡ d.curator) (there : m.transaction ≡ d.transaction) where
+module _ {R S : Type 0} (view : R → Tree) (source_view : S → Tree) (terms : Terms) (d m : Workspace R S) (s : Session) (z : Stands view source_view terms d s) (file : IsSameFile d.db m.db) (same : HoldsSame view source_view d.db m.db) (curator : m.curator ≡ d.curator) (there : m.transaction ≡ d.transaction) where
   -- it stands for the same session after a query
   pub stands-asked : Stands view source_view terms m s
   stands-asked = record {
-    db = same true s.history z.db;
+    db = stands-same view source_view d.db m.db same true s.history z.db;
     ends = subst (λ j. EndsAt terms.ends s.history j.next) (sym file.0) z.ends;
     curator = curator ∙ z.curator;
-    opened = subst (λ x. Opens view source_view m.db x s.opened) (sym there) (opens-kept view source_view d.db m.db some same d.transaction s.opened z.opened);
+    opened = subst (λ x. Opens view source_view m.db x s.opened) (sym there) (opens-kept view source_view d.db m.db same d.transaction s.opened z.opened);
   }
 
-module _ {R S : Type 0} (view : R → Tree) (source_view : S → Tree) (files : FileTable) (terms : Terms) (d m : Workspace R S) (s : Session) (z : Stands view source_view terms d s) (some : IsDatabase view source_view d.db) (file : IsSameFile d.db m.db) (same : (right : Bool) (h : List Entry) → database.Stands view source_view right d.db h → database.Stands view source_view right m.db h) (curator : m.curator ≡ d.curator) (there : m.transaction ≡ d.transaction) where
+module _ {R S : Type 0} (view : R → Tree) (source_view : S → Tree) (files : FileTable) (terms : Terms) (d m : Workspace R S) (s : Session) (z : Stands view source_view terms d s) (file : IsSameFile d.db m.db) (same : HoldsSame view source_view d.db m.db) (curator : m.curator ≡ d.curator) (there : m.transaction ≡ d.transaction) where
   -- an answer is replied
-  pub turned-answered : (q : Query) (a : Answer) → answer_to z.db.committed.state q ≡ Some a → Turned view source_view terms (turn_of (setting files terms) s (says (stmt.Ask q))) m (Some (reply.Answered q a))
+  pub turned-answered : (q : Query) (a : Answer) → answer_to z.db.state q ≡ Some a → Turned view source_view terms (turn_of (setting files terms) s (says (stmt.Ask q))) m (Some (reply.Answered q a))
   turned-answered q a e =
       let r = Some (reply.Answered q a) in
-      turned-stands view source_view terms d m s z files (stmt.Ask q) r (subst (λ o. Turned view source_view terms (answer_or_refuse s q o) m r) (sym e) (refl, stands-asked view source_view terms d m s z some file same curator there))
+      turned-stands view source_view terms d m s z files (stmt.Ask q) r (subst (λ o. Turned view source_view terms (answer_or_refuse s q o) m r) (sym e) (refl, stands-asked view source_view terms d m s z file same curator there))
 
   -- a query without one is refused
-  pub turned-unanswered : (q : Query) → answer_to z.db.committed.state q ≡ None → Turned view source_view terms (turn_of (setting files terms) s (says (stmt.Ask q))) m (Some (reply.Refused of.Statement (no_place_of q)))
+  pub turned-unanswered : (q : Query) → answer_to z.db.state q ≡ None → Turned view source_view terms (turn_of (setting files terms) s (says (stmt.Ask q))) m (Some (reply.Refused of.Statement (no_place_of q)))
   turned-unanswered q e =
       let r = Some (reply.Refused of.Statement (no_place_of q)) in
-      turned-stands view source_view terms d m s z files (stmt.Ask q) r (subst (λ o. Turned view source_view terms (answer_or_refuse s q o) m r) (sym e) (refl, stands-asked view source_view terms d m s z some file same curator there))
+      turned-stands view source_view terms d m s z files (stmt.Ask q) r (subst (λ o. Turned view source_view terms (answer_or_refuse s q o) m r) (sym e) (refl, stands-asked view source_view terms d m s z file same curator there))

@@ -61,21 +61,19 @@ module _ {R S : Type 0} (view : R → Tree) (source_view : S → Tree) (d : Db R
 
   -- a transaction that is going holds some operations
   pub going-come : (j : ℕ) → TellsState view x (state.Going j) → IsDatabase view source_view d → IsBegun view source_view d (Some x) → (ops : List Op) × HasCome view source_view d x (txn.going ops)
-  going-come j tells (h, z) (p, come) =
-      let s : State = z.committed.state in
-      going_from j p come (tells s.kind s.sources (tree_of s.tree) (s.now + 1) p (come false h z))
+  going-come j tells (s, z) (p, come) = going_from j p come (tells s.kind s.sources (tree_of s.tree) (s.now + 1) p (come s z))
 
 -- ---- refused, or given up
 
 module _ {R S : Type 0} (view : R → Tree) (source_view : S → Tree) (terms : Terms) (d m : Workspace R S) (s : Session) (z : Stands view source_view terms d s) (same : m.db ≡ d.db) (signed : m.curator ≡ d.curator) (none : m.transaction ≡ None) where
   -- a commit is refused, and no transaction is open any more
-  turns_refused : (c : Setting) (w : Why) (v : KnownDisk) (rest : List ℕ) → on_commit c s z.db.committed.state s.opened ≡ refused_commit w s → s.moments ≡ rest
+  turns_refused : (c : Setting) (w : Why) (v : KnownDisk) (rest : List ℕ) → on_commit c s z.db.state s.opened ≡ refused_commit w s → s.moments ≡ rest
       → TurnsAs view source_view (λ r. Some r) terms (turn_of c s (says stmt.Commit)) s rest d m v v (Ok (reply.Refused of.Commit w))
   turns_refused c w v rest is timed =
       subst (λ (t : Turn). TurnsAs view source_view (λ r. Some r) terms t s rest d m v v (Ok (reply.Refused of.Commit w))) (sym (turn-is view source_view terms d m s z c stmt.Commit ∙ is))
       (turns-still view source_view (λ r. Some r) terms (refused_commit w s) s rest d m v (Ok (reply.Refused of.Commit w)) same refl timed (refl, stands-closed view source_view terms d m s z same signed none))
 
-  nothing_open : (c : Setting) (o : OpenTransaction) → Opens view source_view d.db None o → on_commit c s z.db.committed.state o ≡ refused_commit why.NoOperation s
+  nothing_open : (c : Setting) (o : OpenTransaction) → Opens view source_view d.db None o → on_commit c s z.db.state o ≡ refused_commit why.NoOperation s
   nothing_open c closed h = refl
   nothing_open c (going ops) h = absurd h
   nothing_open c (failed j b) h = absurd h
@@ -104,15 +102,15 @@ module _ {R S : Type 0} (view : R → Tree) (source_view : S → Tree) (terms : 
     opens = subst (λ y. Opens view source_view d.db y s.opened) there z.opened
 
     abbrev t : State
-    t = z.db.committed.state
+    t = z.db.state
 
     abbrev Is : txn.Progress → Type 0
     Is p = txn.Stands view x t.kind t.sources (tree_of t.tree) (t.now + 1) p
 
     aborts : (count : ℕ) (o : OpenTransaction) → Opens view source_view d.db (Some x) o → ((p : txn.Progress) → Is p → count ≡ txn.held_count p) → count ≡ count_given_up o
     aborts count closed h e = absurd h
-    aborts count (going ops) h e = e (txn.going ops) (h.0 true s.history z.db)
-    aborts count (failed j b) h e = e (txn.failed j b) (h true s.history z.db)
+    aborts count (going ops) h e = e (txn.going ops) (h.0 z.db.state z.db.holds)
+    aborts count (failed j b) h e = e (txn.failed j b) (h z.db.state z.db.holds)
 
     -- the accepted operations are given up
     pub turned-aborted : (c : Setting) (count : ℕ) → ((k : Kind) (ss : List Source) (u : Tree) (n : ℕ) (p : txn.Progress) → txn.Stands view x k ss u n p → count ≡ txn.held_count p) → Turned view source_view terms (turn_of c s (says stmt.Abort)) m (Some (reply.Aborted count))
@@ -120,8 +118,8 @@ module _ {R S : Type 0} (view : R → Tree) (source_view : S → Tree) (terms : 
 
     fails : (c : Setting) (j : ℕ) (b : Cause) (o : OpenTransaction) → Opens view source_view d.db (Some x) o → ((p : txn.Progress) → Is p → state.Failed j b ≡ txn.state_of p) → on_commit c s t o ≡ refused_commit (why.FailedAt j) s
     fails c j b closed h e = absurd h
-    fails c j b (going ops) h e = let other = e (txn.going ops) (h.0 true s.history z.db) in absurd (cc)
-    fails c j b (failed i a) h e = ap (λ (w : TxnState). refused_commit (why.FailedAt (number_in w)) s) (sym (e (txn.failed i a) (h true s.history z.db)))
+    fails c j b (going ops) h e = let other = e (txn.going ops) (h.0 z.db.state z.db.holds) in absurd (cc)
+    fails c j b (failed i a) h e = ap (λ (w : TxnState). refused_commit (why.FailedAt (number_in w)) s) (sym (e (txn.failed i a) (h z.db.state z.db.holds)))
 
     -- a failed transaction commits nothing
     pub turns-unfinished : (c : Setting) (j : ℕ) (b : Cause) (v : KnownDisk) (rest : List ℕ) → TellsState view x (state.Failed j b) → s.moments ≡ rest
@@ -167,7 +165,7 @@ module _ {R S D : Type 0} (view : R → Tree) (source_view : S → Tree) (g : di
   c = setting files terms
 
   abbrev at : State
-  at = z.db.committed.state
+  at = z.db.state
 
   abbrev v : KnownDisk
   v = known_disk g k
@@ -191,7 +189,7 @@ module _ {R S D : Type 0} (view : R → Tree) (source_view : S → Tree) (g : di
   module _ (ops : List Op) (held : s.opened ≡ going ops) (come : HasCome view source_view d.db x (txn.going ops)) (some : 1 ≤ length ops) where
     -- the records of the commit are those that are counted for it
     records_are : new_records at (after_commit at ops) ≡ records_of at.kind at.sources (tree_of at.tree) (at.now + 1) ops
-    records_are = ap (drop (length at.rows)) (committed at ops some (come true s.history z.db).accepted).rows ∙ drop-append_seam at.rows (records_of at.kind at.sources (tree_of at.tree) (at.now + 1) ops)
+    records_are = ap (drop (length at.rows)) (committed at ops some (come z.db.state z.db.holds).accepted).rows ∙ drop-append_seam at.rows (records_of at.kind at.sources (tree_of at.tree) (at.now + 1) ops)
 
     fits_is : c.fits s.history (stamp_of c s) ops (new_records at (after_commit at ops)) ≡ has_room (end_in d.db) (commit_size at stamp ops)
     fits_is =
@@ -212,7 +210,7 @@ module _ {R S D : Type 0} (view : R → Tree) (source_view : S → Tree) (g : di
         ∙ ap (λ (y : Bool). if y then done (stamp_of c s) else full) (fits_is ∙ e)
         ∙ ap (λ (r : Stamp). if b then done r else full) stamp_is
 
-    turns_done : (tids : Tids) → m.curator ≡ d.curator → m.transaction ≡ None → HasCommitted view source_view true d.db s.history at stamp (txn.going ops) m.db (Ok tids)
+    turns_done : (tids : Tids) → m.curator ≡ d.curator → m.transaction ≡ None → HasCommitted view source_view d.db at stamp (txn.going ops) m.db (Ok tids)
         → (IsTrue v.known → IsKept true d.db s.history v.view → IsKept true m.db (s.history ++ commit stamp ops ∷ []) w.view)
         → (IsTrue v.known → IsKept true d.db s.history v.view → Keeps (IsBeforeOrCommitted s.history stamp (txn.going ops)) v.view w.view)
         → TurnsAs view source_view (λ r. Some r) terms the_turn s rest (holding d x) m v w (Ok (reply.Committed tids.low tids.high))
@@ -220,7 +218,7 @@ module _ {R S D : Type 0} (view : R → Tree) (source_view : S → Tree) (g : di
         subst (λ (t : Turn). TurnsAs view source_view (λ r. Some r) terms t s rest (holding d x) m v w (Ok (reply.Committed tids.low tids.high))) (sym (turn_if true is.1)) (record {
           turned = (
             ap (λ i. Some (reply.Committed i tids.high)) is.2.0 ∙ ap (λ j. Some (reply.Committed (at.now + 1) j)) is.2.1,
-            stands-added view source_view terms (holding d x) m s z (commit stamp ops) (commit_size at stamp ops) closed (drop 1 s.moments) is.3 (ap (stamped_size stamp ops) records_are) signs
+            stands-added view source_view terms (holding d x) m s z (commit stamp ops) (after_commit at ops) (commit_size at stamp ops) closed (drop 1 s.moments) is.3 (ap (stamped_size stamp ops) records_are) signs
                 (subst (λ y. Opens view source_view m.db y closed) (sym none) tt),
           );
           asked = ap (drop 1) timed;
@@ -247,7 +245,7 @@ module _ {R S D : Type 0} (view : R → Tree) (source_view : S → Tree) (g : di
 
   -- the operations are committed
   pub turns-committed : (tids : Tids) → m.curator ≡ d.curator → m.transaction ≡ None
-      → ((p : txn.Progress) → HasCome view source_view d.db x p → HasCommitted view source_view true d.db s.history at stamp p m.db (Ok tids))
+      → ((p : txn.Progress) → HasCome view source_view d.db x p → HasCommitted view source_view d.db at stamp p m.db (Ok tids))
       → (IsTrue v.known → (ops : List Op) → HasCome view source_view d.db x (txn.going ops) → IsKept true d.db s.history v.view → IsKept true m.db (s.history ++ commit stamp ops ∷ []) w.view)
       → (IsTrue v.known → (p : txn.Progress) → HasCome view source_view d.db x p → IsKept true d.db s.history v.view → Keeps (IsBeforeOrCommitted s.history stamp p) v.view w.view)
       → TurnsAs view source_view (λ r. Some r) terms the_turn s rest (holding d x) m v w (Ok (reply.Committed tids.low tids.high))
@@ -258,7 +256,7 @@ module _ {R S D : Type 0} (view : R → Tree) (source_view : S → Tree) (g : di
 
   -- there is no room for them
   pub turns-too_large : l ≡ k → m.db ≡ d.db → m.curator ≡ d.curator → m.transaction ≡ None
-      → ((p : txn.Progress) → HasCome view source_view d.db x p → HasCommitted view source_view true d.db s.history at stamp p m.db (Err fault.TooLarge))
+      → ((p : txn.Progress) → HasCome view source_view d.db x p → HasCommitted view source_view d.db at stamp p m.db (Err fault.TooLarge))
       → TurnsAs view source_view (λ r. Some r) terms the_turn s rest (holding d x) m v w (Ok (reply.Refused of.Commit why.TransactionTooLarge))
   turns-too_large y same signs none is =
       by_opened (TurnsAs view source_view (λ r. Some r) terms the_turn s rest (holding d x) m v w (Ok (reply.Refused of.Commit why.TransactionTooLarge)))
@@ -266,7 +264,7 @@ module _ {R S D : Type 0} (view : R → Tree) (source_view : S → Tree) (g : di
       (λ j b o come. absurd (is (txn.failed j b) come)) s.opened refl z.opened
 
   -- an open transaction that is going holds some, so that it is never found empty
-  pub turns-empty : (result : Result Reply WorkspaceFault) → ((p : txn.Progress) → HasCome view source_view d.db x p → HasCommitted view source_view true d.db s.history at stamp p m.db (Err fault.Empty))
+  pub turns-empty : (result : Result Reply WorkspaceFault) → ((p : txn.Progress) → HasCome view source_view d.db x p → HasCommitted view source_view d.db at stamp p m.db (Err fault.Empty))
       → TurnsAs view source_view (λ r. Some r) terms the_turn s rest (holding d x) m v w result
   turns-empty result is =
       by_opened (TurnsAs view source_view (λ r. Some r) terms the_turn s rest (holding d x) m v w result)

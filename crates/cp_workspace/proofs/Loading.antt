@@ -11,7 +11,7 @@ use Rattle.cp_path.specs.Text.{is_name}
 use Rattle.cp_model.specs.Place.{label_eq, target}
 use Rattle.cp_model.specs.Keyed.{len}
 use Rattle.cp_model.specs.Tree.{Tree, IsTree, Source, source}
-use Rattle.cp_model.specs.History.{Entry, State, replay, load, CanLoad}
+use Rattle.cp_model.specs.History.{State, after_load, replay, load, CanLoad}
 use Rattle.cp_model.proofs.Accepted.{none_is}
 use Rattle.cp_lang.specs.declared.syntax_tree.Load.{Load}
 use Rattle.cp_lang.specs.declared.syntax_tree.Stmt.TheVariants as stmt
@@ -26,8 +26,7 @@ use Rattle.cp_disk.specs.declared.disk.Disk as disk
 use Rattle.cp_engine.specs.declared.txn.Txn.{Txn}
 use Rattle.cp_frame.specs.Stands.{StandsWithOrWithout}
 use Rattle.cp_frame.specs.Sizes.{has_room, load_size}
-use Rattle.cp_db.specs.Databases as database
-use Rattle.cp_db.specs.Databases.{IsKept, end_in}
+use Rattle.cp_db.specs.Databases.{HoldsState, IsKept, end_in}
 use Rattle.cp_db.specs.Writing.{HasLoaded}
 use Rattle.cp_db.specs.declared.database.Db.{Db}
 use Rattle.cp_db.specs.declared.fault.WriteFault.TheVariants as fault
@@ -74,7 +73,7 @@ not_all_taken n e = grind (arith, nat_tests)
 module _ {R S : Type 0} (view : R → Tree) (source_view : S → Tree) (d : Workspace R S) (name : List ℕ) where
   module _ (terms : Terms) (s : Session) (z : Stands view source_view terms d s) where
     abbrev t : State
-    t = z.db.committed.state
+    t = z.db.state
 
     is_open : is_some d.transaction ≡ true → is_closed s.opened ≡ false
     is_open e = let x = some_is d.transaction e in open_isn't_closed view source_view d.db x.0 s.opened (subst (λ y. Opens view source_view d.db y s.opened) x.1 z.opened)
@@ -101,28 +100,28 @@ module _ {R S : Type 0} (view : R → Tree) (source_view : S → Tree) (d : Work
 
     -- what is in the way says how many files the load reads
     pub reads-unless : (w : Option Why) → w ≡ why_not_loaded t s.opened name → load_reads s (replay s.history) name ≡ reads_unless w
-    reads-unless w e = ap (λ o. load_reads s o name) z.db.committed.replayed ∙ ap reads_unless (sym e)
+    reads-unless w e = ap (λ o. load_reads s o name) z.db.led.replayed ∙ ap reads_unless (sym e)
 
   few_more : (n m : ℕ) → n ≤ SOURCES_MAX → m ≡ n → (m ≡ SOURCES_MAX → ⊥) → n + 1 ≤ SOURCES_MAX
   few_more n m h e f = grind (arith, nat_tests)
 
   -- a source with this name may be loaded
-  pub may-load : (ss : List Source) → ((right : Bool) (h : List Entry) (z : database.Stands view source_view right d.db h) → ss ≡ z.committed.state.sources) → is_some d.transaction ≡ false → is_some (source ss name) ≡ false → (length ss ≡ SOURCES_MAX → ⊥) → MayLoad view source_view d name
+  pub may-load : (ss : List Source) → ((s : State) → HoldsState view source_view d.db s → ss ≡ s.sources) → is_some d.transaction ≡ false → is_some (source ss name) ≡ false → (length ss ≡ SOURCES_MAX → ⊥) → MayLoad view source_view d name
   may-load ss loaded e new many = record {
     closed = none_is d.transaction e;
-    fresh = λ right h z. ap (λ xs. is_some (source xs name)) (sym (loaded right h z)) ∙ new;
-    few = λ right h z. few_more (length z.committed.state.sources) (length ss) z.committed.bounded (ap length (loaded right h z)) many;
+    fresh = λ s z. ap (λ xs. is_some (source xs name)) (sym (loaded s z)) ∙ new;
+    few = λ s z. few_more (length s.sources) (length ss) z.committed.sound.sources.few (ap length (loaded s z)) many;
   }
 
 -- ---- what is loaded
 
--- the source may be loaded on whatever the database stands for
+-- the source may be loaded on whatever state the database holds
 pub can-load : {R S : Type 0} (view : R → Tree) (source_view : S → Tree) (d : Workspace R S) (name : List ℕ) (u : Tree) → MayLoad view source_view d name → is_name name ≡ true → label_eq name target ≡ false → IsTree u → FitsUnder name u
-    → (right : Bool) (h : List Entry) (z : database.Stands view source_view right d.db h) → CanLoad z.committed.state name u
-can-load view source_view d name u may named other tree fits right h z = record {
+    → (s : State) → HoldsState view source_view d.db s → CanLoad s name u
+can-load view source_view d name u may named other tree fits s z = record {
   loadable = record { name = named; other = other; tree = tree; places = fits };
-  fresh = may.fresh right h z;
-  few = may.few right h z;
+  fresh = may.fresh s z;
+  few = may.few s z;
 }
 
 module _ {R S D : Type 0} (view : R → Tree) (source_view : S → Tree) (g : disk.Ghosts D) (terms : Terms) (files : FileTable) (d m : Workspace R S) (s : Session) (z : Stands view source_view terms d s) (k l : D) (name : List ℕ) (u : Tree) (none : d.transaction ≡ None) where
@@ -151,7 +150,7 @@ module _ {R S D : Type 0} (view : R → Tree) (source_view : S → Tree) (g : di
   opens_none = none-opens view source_view d.db m.db s.opened (subst (λ y. Opens view source_view d.db y s.opened) none z.opened)
 
   -- the tree is a source of the session's history
-  pub turns-loaded : (loaded : List ℕ) (nodes : ℕ) → loaded ≡ name → nodes ≡ len u → m.curator ≡ d.curator → m.transaction ≡ d.transaction → HasLoaded view source_view true d.db s.history name u m.db (Ok tt)
+  pub turns-loaded : (loaded : List ℕ) (nodes : ℕ) → loaded ≡ name → nodes ≡ len u → m.curator ≡ d.curator → m.transaction ≡ d.transaction → HasLoaded view source_view d.db z.db.state name u m.db (Ok tt)
       → (IsTrue v.known → IsKept true d.db s.history v.view → IsKept true m.db (s.history ++ load name u ∷ []) w.view)
       → (IsTrue v.known → IsKept true d.db s.history v.view → Keeps (StandsWithOrWithout s.history (load name u)) v.view w.view)
       → TurnsAs view source_view (λ r. Some r) terms the_turn s s.moments d m v w (Ok (reply.Loaded loaded nodes))
@@ -159,7 +158,7 @@ module _ {R S D : Type 0} (view : R → Tree) (source_view : S → Tree) (g : di
       subst (λ (t : Turn). TurnsAs view source_view (λ r. Some r) terms t s s.moments d m v w (Ok (reply.Loaded loaded nodes))) (sym (turn_if true is.0)) (record {
         turned = (
           ap (λ (n : List ℕ). Some (reply.Loaded n nodes)) named ∙ ap (λ (i : ℕ). Some (reply.Loaded name i)) counted,
-          stands-added view source_view terms d m s z (load name u) (load_size name u) s.opened s.moments is.1 refl signed
+          stands-added view source_view terms d m s z (load name u) (after_load z.db.state name u) (load_size name u) s.opened s.moments is.1 refl signed
               (subst (λ y. Opens view source_view m.db y s.opened) (sym (same ∙ none)) opens_none),
         );
         asked = refl;
@@ -230,8 +229,8 @@ module _ {R S : Type 0} (view : R → Tree) (source_view : S → Tree) (terms : 
   of_load = turn_of (setting files terms) s (says (stmt.Load l))
 
   -- the turn of a load is that of what is in its way
-  way_is : (w : Option Why) → w ≡ why_not_loaded z.db.committed.state s.opened l.name → of_load ≡ loading_by (setting files terms) s l w
-  way_is w e = turn-is view source_view terms d d s z (setting files terms) (stmt.Load l) ∙ loading-is (setting files terms) s z.db.committed.state l ∙ ap (loading_by (setting files terms) s l) (sym e)
+  way_is : (w : Option Why) → w ≡ why_not_loaded z.db.state s.opened l.name → of_load ≡ loading_by (setting files terms) s l w
+  way_is w e = turn-is view source_view terms d d s z (setting files terms) (stmt.Load l) ∙ loading-is (setting files terms) s z.db.state l ∙ ap (loading_by (setting files terms) s l) (sym e)
 
   -- a load is refused, which changes nothing
   turns_refused : (w : Why) (v : KnownDisk) → of_load ≡ refused_load w s → TurnsAs view source_view (λ r. Some r) terms of_load s s.moments d d v v (Ok (reply.Refused of.Load w))
@@ -240,15 +239,15 @@ module _ {R S : Type 0} (view : R → Tree) (source_view : S → Tree) (terms : 
       (turns-still view source_view (λ r. Some r) terms (refused_load w s) s s.moments d d v (Ok (reply.Refused of.Load w)) refl refl refl (refl, z))
 
   -- what is in the way is the refusal
-  pub turns-not_loaded : (w : Why) (v : KnownDisk) → Some w ≡ why_not_loaded z.db.committed.state s.opened l.name → TurnsAs view source_view (λ r. Some r) terms of_load s s.moments d d v v (Ok (reply.Refused of.Load w))
+  pub turns-not_loaded : (w : Why) (v : KnownDisk) → Some w ≡ why_not_loaded z.db.state s.opened l.name → TurnsAs view source_view (λ r. Some r) terms of_load s s.moments d d v v (Ok (reply.Refused of.Load w))
   turns-not_loaded w v e = turns_refused w v (way_is (Some w) e)
 
   -- and so is why the file gives no tree
-  pub turns-withheld : (w : Why) (v : KnownDisk) → None ≡ why_not_loaded z.db.committed.state s.opened l.name → fetch files l ≡ withholds w → TurnsAs view source_view (λ r. Some r) terms of_load s s.moments d d v v (Ok (reply.Refused of.Load w))
+  pub turns-withheld : (w : Why) (v : KnownDisk) → None ≡ why_not_loaded z.db.state s.opened l.name → fetch files l ≡ withholds w → TurnsAs view source_view (λ r. Some r) terms of_load s s.moments d d v v (Ok (reply.Refused of.Load w))
   turns-withheld w v e found = turns_refused w v (way_is None e ∙ ap (load_fetched (setting files terms) s l.name) found)
 
   -- the tree that the file gives is loaded
-  pub turns-given : (m : Workspace R S) (v w : KnownDisk) (u : Tree) (result : Result Reply WorkspaceFault) → None ≡ why_not_loaded z.db.committed.state s.opened l.name → fetch files l ≡ gives u
+  pub turns-given : (m : Workspace R S) (v w : KnownDisk) (u : Tree) (result : Result Reply WorkspaceFault) → None ≡ why_not_loaded z.db.state s.opened l.name → fetch files l ≡ gives u
       → TurnsAs view source_view (λ r. Some r) terms (load_fetched (setting files terms) s l.name (gives u)) s s.moments d m v w result → TurnsAs view source_view (λ r. Some r) terms of_load s s.moments d m v w result
   turns-given m v w u result e found y =
       subst (λ (t : Turn). TurnsAs view source_view (λ r. Some r) terms t s s.moments d m v w result) (sym (way_is None e ∙ ap (load_fetched (setting files terms) s l.name) found)) y

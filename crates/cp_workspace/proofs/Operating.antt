@@ -6,7 +6,7 @@ use Rattle.std.specs.declared.option.Option.TheVariants.{None, Some}
 use Rattle.cp_model.specs.Tree.{Tree, Source, refusal}
 use Rattle.cp_model.specs.Step.{step}
 use Rattle.cp_model.specs.Past.{tree_of}
-use Rattle.cp_model.specs.History.{Entry, State}
+use Rattle.cp_model.specs.History.{State}
 use Rattle.cp_model.specs.declared.kind.Kind.{Kind}
 use Rattle.cp_model.specs.declared.op.Op.{Op}
 use Rattle.cp_model.specs.declared.refusal.Refusal.{Refusal}
@@ -25,8 +25,7 @@ use Rattle.cp_engine.specs.declared.txn.Txn.{Txn}
 use Rattle.cp_engine.specs.declared.fault.ApplyFault.{ApplyFault}
 use Rattle.cp_engine.specs.declared.fault.ApplyFault.TheVariants as denied
 use Rattle.cp_outside.specs.FileReads.{FileTable}
-use Rattle.cp_db.specs.Databases as database
-use Rattle.cp_db.specs.Databases.{HasCome}
+use Rattle.cp_db.specs.Databases.{HasCome, HoldsState}
 use Rattle.cp_db.specs.declared.database.Db.{Db}
 use Rattle.cp_workspace.specs.Texts.{Terms, setting}
 use Rattle.cp_workspace.specs.Workspaces.{Stands, Opens, IsBegun, IsWorkspace, IsOpened, Turned, progress_of}
@@ -73,36 +72,33 @@ module _ {R S : Type 0} (view : R → Tree) (source_view : S → Tree) where
 
 -- ---- what is done to it
 
--- the operation was applied so, to whatever state the database stands for
+-- the operation was applied so, to whatever state the database holds
 abbrev pub AppliesTo : {R S : Type 0} → (R → Tree) → (S → Tree) → Db R S → Txn R → txn.Progress → Op → Result ⊤ ApplyFault → Type 0
 AppliesTo view source_view d x p op r =
-    (right : Bool) (h : List Entry) (w : database.Stands view source_view right d h)
-    → txn.Applies view w.committed.state.kind w.committed.state.sources (tree_of w.committed.state.tree) (w.committed.state.now + 1) p op x r
+    (t : State) → HoldsState view source_view d t → txn.Applies view t.kind t.sources (tree_of t.tree) (t.now + 1) p op x r
 
 -- the sources of a database are those of one that is the same
-pub sources-same : {R S : Type 0} (view : R → Tree) (source_view : S → Tree) (d e : Db R S) → e ≡ d → (ss : List Source) → ((right : Bool) (h : List Entry) (w : database.Stands view source_view right e h) → ss ≡ w.committed.state.sources)
-    → (right : Bool) (h : List Entry) (w : database.Stands view source_view right d h) → ss ≡ w.committed.state.sources
-sources-same view source_view d e same ss = subst (λ b. (right : Bool) (h : List Entry) (w : database.Stands view source_view right b h) → ss ≡ w.committed.state.sources) same
+pub sources-same : {R S : Type 0} (view : R → Tree) (source_view : S → Tree) (d e : Db R S) → e ≡ d → (ss : List Source) → ((t : State) → HoldsState view source_view e t → ss ≡ t.sources) → (t : State) → HoldsState view source_view d t → ss ≡ t.sources
+sources-same view source_view d e same ss = subst (λ b. (t : State) → HoldsState view source_view b t → ss ≡ t.sources) same
 
 module _ {R S : Type 0} (view : R → Tree) (source_view : S → Tree) (d : Db R S) (x : Txn R) where
   -- with its sources an operation is applied to a transaction that was begun on it
-  pub applies-to : (y : Txn R) (op : Op) (r : Result ⊤ ApplyFault) (loaded : List Source) → ((right : Bool) (h : List Entry) (w : database.Stands view source_view right d h) → loaded ≡ w.committed.state.sources)
+  pub applies-to : (y : Txn R) (op : Op) (r : Result ⊤ ApplyFault) (loaded : List Source) → ((t : State) → HoldsState view source_view d t → loaded ≡ t.sources)
       → ((k : Kind) (t : Tree) (n : ℕ) (p : txn.Progress) → txn.Stands view y k loaded t n p → txn.Applies view k loaded t n p op x r) → (p : txn.Progress) → HasCome view source_view d y p → AppliesTo view source_view d x p op r
-  applies-to y op r loaded same applies p come right h w =
-      let t = w.committed.state in
-      subst (λ ss. txn.Stands view y t.kind ss (tree_of t.tree) (t.now + 1) p → txn.Applies view t.kind ss (tree_of t.tree) (t.now + 1) p op x r) (same right h w)
-      (applies t.kind (tree_of t.tree) (t.now + 1) p) (come right h w)
+  applies-to y op r loaded same applies p come t w =
+      subst (λ ss. txn.Stands view y t.kind ss (tree_of t.tree) (t.now + 1) p → txn.Applies view t.kind ss (tree_of t.tree) (t.now + 1) p op x r) (same t w)
+      (applies t.kind (tree_of t.tree) (t.now + 1) p) (come t w)
 
   -- it has come further, or has failed
   pub begun-applied : (op : Op) (r : Result ⊤ ApplyFault) (p : txn.Progress) → AppliesTo view source_view d x p op r → (q : txn.Progress) × HasCome view source_view d x q
-  begun-applied op (Ok u) (txn.going ops) a = (txn.going (ops ++ op ∷ []), λ right h w. (a right h w).1)
-  begun-applied op (Err (denied.Failed j)) (txn.going ops) a = (txn.going ops, λ right h w. absurd (a right h w))
-  begun-applied op (Err (denied.Refused r)) (txn.going ops) a = (txn.failed (length ops + 1) (Refused r), λ right h w. (a right h w).1)
+  begun-applied op (Ok u) (txn.going ops) a = (txn.going (ops ++ op ∷ []), λ t w. (a t w).1)
+  begun-applied op (Err (denied.Failed j)) (txn.going ops) a = (txn.going ops, λ t w. absurd (a t w))
+  begun-applied op (Err (denied.Refused r)) (txn.going ops) a = (txn.failed (length ops + 1) (Refused r), λ t w. (a t w).1)
   begun-applied op (Err denied.Memory) (txn.going ops) a = (txn.going ops, a)
-  begun-applied op (Ok u) (txn.failed i c) a = (txn.failed i c, λ right h w. absurd (a right h w))
-  begun-applied op (Err (denied.Failed j)) (txn.failed i c) a = (txn.failed i c, λ right h w. (a right h w).1)
-  begun-applied op (Err (denied.Refused r)) (txn.failed i c) a = (txn.failed i c, λ right h w. absurd (a right h w))
-  begun-applied op (Err denied.Memory) (txn.failed i c) a = (txn.failed i c, λ right h w. absurd (a right h w))
+  begun-applied op (Ok u) (txn.failed i c) a = (txn.failed i c, λ t w. absurd (a t w))
+  begun-applied op (Err (denied.Failed j)) (txn.failed i c) a = (txn.failed i c, λ t w. (a t w).1)
+  begun-applied op (Err (denied.Refused r)) (txn.failed i c) a = (txn.failed i c, λ t w. absurd (a t w))
+  begun-applied op (Err denied.Memory) (txn.failed i c) a = (txn.failed i c, λ t w. absurd (a t w))
 
 module _ {R S : Type 0} (view : R → Tree) (source_view : S → Tree) (terms : Terms) (d m : Workspace R S) (s : Session) (z : Stands view source_view terms d s) (x : Txn R) (same : m.db ≡ d.db) (curator : m.curator ≡ d.curator) (there : m.transaction ≡ Some x) where
   -- the transaction is put back
@@ -124,39 +120,39 @@ module _ {R S : Type 0} (view : R → Tree) (source_view : S → Tree) (terms : 
 
   module _ (files : FileTable) (y : Txn R) (op : Op) where
     abbrev t : State
-    t = z.db.committed.state
+    t = z.db.state
 
     accepts : (ops : List Op) → HasCome view source_view d.db y (txn.going ops) → AppliesTo view source_view d.db x (txn.going ops) op (Ok tt) → Turned view source_view terms (decide_op s ops op (refusal_after t ops op)) m None
     accepts ops i a =
         let len = length-append ops (op ∷ []) in
-        let at = i true s.history z.db in
-        subst (λ r. Turned view source_view terms (decide_op s ops op r) m None) (sym (refusal-is t.kind t (t.now + 1) ops op at.accepted ∙ (a true s.history z.db).0))
-        (refl, puts_back (going (ops ++ op ∷ [])) ((λ right h w. (a right h w).1), omega (arith, len)))
+        let at = i z.db.state z.db.holds in
+        subst (λ r. Turned view source_view terms (decide_op s ops op r) m None) (sym (refusal-is t.kind t (t.now + 1) ops op at.accepted ∙ (a z.db.state z.db.holds).0))
+        (refl, puts_back (going (ops ++ op ∷ [])) ((λ t w. (a t w).1), omega (arith, len)))
 
     denies : (r : Refusal) (ops : List Op) → HasCome view source_view d.db y (txn.going ops) → AppliesTo view source_view d.db x (txn.going ops) op (Err (denied.Refused r)) →
         Turned view source_view terms (decide_op s ops op (refusal_after t ops op)) m (Some (reply.Refused of.Statement (why_refused op r)))
     denies r ops i a =
-        let at = i true s.history z.db in
-        subst (λ q. Turned view source_view terms (decide_op s ops op q) m (Some (reply.Refused of.Statement (why_refused op r)))) (sym (refusal-is t.kind t (t.now + 1) ops op at.accepted ∙ (a true s.history z.db).0))
-        (refl, puts_back (failed (length ops + 1) (Refused r)) (λ right h w. (a right h w).1))
+        let at = i z.db.state z.db.holds in
+        subst (λ q. Turned view source_view terms (decide_op s ops op q) m (Some (reply.Refused of.Statement (why_refused op r)))) (sym (refusal-is t.kind t (t.now + 1) ops op at.accepted ∙ (a z.db.state z.db.holds).0))
+        (refl, puts_back (failed (length ops + 1) (Refused r)) (λ t w. (a t w).1))
 
     accepted : (o : OpenTransaction) → HasCome view source_view d.db y (progress_of o) → AppliesTo view source_view d.db x (progress_of o) op (Ok tt) → Turned view source_view terms (on_operation s t op o) m None
     accepted closed i a = accepts [] i a
     accepted (going ops) i a = accepts ops i a
-    accepted (failed k c) i a = absurd (a true s.history z.db)
+    accepted (failed k c) i a = absurd (a z.db.state z.db.holds)
 
     refused : (r : Refusal) (o : OpenTransaction) → HasCome view source_view d.db y (progress_of o) → AppliesTo view source_view d.db x (progress_of o) op (Err (denied.Refused r)) →
         Turned view source_view terms (on_operation s t op o) m (Some (reply.Refused of.Statement (why_refused op r)))
     refused r closed i a = denies r [] i a
     refused r (going ops) i a = denies r ops i a
-    refused r (failed k c) i a = absurd (a true s.history z.db)
+    refused r (failed k c) i a = absurd (a z.db.state z.db.holds)
 
     failed_before : (j : ℕ) (o : OpenTransaction) → s.opened ≡ o → AppliesTo view source_view d.db x (progress_of o) op (Err (denied.Failed j)) → Turned view source_view terms (on_operation s t op o) m (Some (reply.Refused of.Statement (why.FailedAt j)))
-    failed_before j closed e a = absurd (a true s.history z.db)
-    failed_before j (going ops) e a = absurd (a true s.history z.db)
+    failed_before j closed e a = absurd (a z.db.state z.db.holds)
+    failed_before j (going ops) e a = absurd (a z.db.state z.db.holds)
     failed_before j (failed k c) e a = (
-      ap (λ i. Some (reply.Refused of.Statement (why.FailedAt i))) (a true s.history z.db).0,
-      subst (λ o. Stands view source_view terms m (with_opened s o)) (sym e) (puts_back (failed k c) (λ right h w. (a right h w).1)),
+      ap (λ i. Some (reply.Refused of.Statement (why.FailedAt i))) (a z.db.state z.db.holds).0,
+      subst (λ o. Stands view source_view terms m (with_opened s o)) (sym e) (puts_back (failed k c) (λ t w. (a t w).1)),
     )
 
     -- an operation that the transaction holds is silent

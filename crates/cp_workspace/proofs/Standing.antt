@@ -17,7 +17,7 @@ use Rattle.cp_db.specs.Databases as database
 use Rattle.cp_db.specs.Databases.{IsDatabase, IsReady, IsKept, end_in, is_spent}
 use Rattle.cp_db.specs.Writing.{HasAdded}
 use Rattle.cp_db.specs.declared.database.Db.{Db}
-use Rattle.cp_db.proofs.Keeping.{kept-images}
+use Rattle.cp_db.proofs.Keeping.{kept-images, stands-then}
 use Rattle.cp_workspace.specs.Texts.{Terms}
 use Rattle.cp_workspace.specs.Disks.{KnownDisk, known_disk, LeavesEither}
 use Rattle.cp_workspace.specs.Workspaces.{Stands, Opens, EndsAt, IsWorkspace, IsUsable, IsBegun, HoldsFile, Turned, TurnsAs, end_now}
@@ -40,8 +40,8 @@ module _ {R S : Type 0} (view : R → Tree) (source_view : S → Tree) where
 
   module _ (terms : Terms) (d m : Workspace R S) (s : Session) (z : Stands view source_view terms d s) where
     -- a turn is the one on the state to which the history leads
-    pub turn-is : (c : Setting) (x : Stmt) → turn_of c s (says x) ≡ turn_on c s z.db.committed.state x
-    turn-is c x = ap (λ o. turn_by c s o x) z.db.committed.replayed
+    pub turn-is : (c : Setting) (x : Stmt) → turn_of c s (says x) ≡ turn_on c s z.db.state x
+    turn-is c x = ap (λ o. turn_by c s o x) z.db.led.replayed
 
     -- it stands for a session whose transaction alone has changed
     pub stands-with : (o : OpenTransaction) → m.db ≡ d.db → m.curator ≡ d.curator → Opens view source_view d.db m.transaction o → Stands view source_view terms m (with_opened s o)
@@ -71,15 +71,15 @@ ends-added f h at now e x is =
       is_end = is ∙ ap (λ (n : ℕ). end_after n (replay h) (e ∷ [])) x.is_end ∙ sym more;
     }
 
--- it stands for the history with an entry more, where its database does
-pub stands-added : {R S : Type 0} (view : R → Tree) (source_view : S → Tree) (terms : Terms) (d m : Workspace R S) (s : Session) (z : Stands view source_view terms d s) (e : Entry) (size : ℕ) (o : OpenTransaction) (moments : List ℕ)
-    → HasAdded view source_view true d.db s.history e size m.db → entry_size (Some z.db.committed.state) e ≡ size → m.curator ≡ d.curator → Opens view source_view m.db m.transaction o
+-- it stands for the history with an entry more, which was added to its database
+pub stands-added : {R S : Type 0} (view : R → Tree) (source_view : S → Tree) (terms : Terms) (d m : Workspace R S) (s : Session) (z : Stands view source_view terms d s) (e : Entry) (t : State) (size : ℕ) (o : OpenTransaction) (moments : List ℕ)
+    → HasAdded view source_view d.db z.db.state e t size m.db → entry_size (Some z.db.state) e ≡ size → m.curator ≡ d.curator → Opens view source_view m.db m.transaction o
     → Stands view source_view terms m (record { history = s.history ++ e ∷ []; opened = o; moments = moments })
-stands-added view source_view terms d m s z e size o moments added counted signed h =
-    let sized : HasAdded view source_view true d.db s.history e (entry_size (replay s.history) e) m.db =
-    subst (λ (n : ℕ). HasAdded view source_view true d.db s.history e n m.db) (sym (ap (λ (x : Option State). entry_size x e) z.db.committed.replayed ∙ counted)) added in
+stands-added view source_view terms d m s z e t size o moments added counted signed h =
+    let sized : HasAdded view source_view d.db z.db.state e t (entry_size (replay s.history) e) m.db =
+    subst (λ (n : ℕ). HasAdded view source_view d.db z.db.state e t n m.db) (sym (ap (λ (x : Option State). entry_size x e) z.db.led.replayed ∙ counted)) added in
     record {
-      db = added.stands;
+      db = stands-then view source_view true d.db m.db s.history z.db e t (entry_size (replay s.history) e) sized;
       ends = ends-added terms.ends s.history (end_in d.db) (end_in m.db) e z.ends sized.end;
       curator = signed ∙ z.curator;
       opened = h;

@@ -47,8 +47,8 @@ file-same d new e = (ap (λ b. b.journal) e, ap (λ b. b.version) e, ap (λ b. b
 
 module _ {R S : Type 0} (view : R → Tree) (source_view : S → Tree) (terms : Terms) (d m : Workspace R S) (s : Session) (z : Stands view source_view terms d s) where
   -- a turn is the one on the state to which the history leads
-  pub turned-stands : (files : FileTable) (x : Stmt) (r : Option Reply) → Turned view source_view terms (turn_on (setting files terms) s z.db.committed.state x) m r → Turned view source_view terms (turn_of (setting files terms) s (says x)) m r
-  turned-stands files x r h = subst (λ o. Turned view source_view terms (turn_by (setting files terms) s o x) m r) (sym z.db.committed.replayed) h
+  pub turned-stands : (files : FileTable) (x : Stmt) (r : Option Reply) → Turned view source_view terms (turn_on (setting files terms) s z.db.state x) m r → Turned view source_view terms (turn_of (setting files terms) s (says x)) m r
+  turned-stands files x r h = subst (λ o. Turned view source_view terms (turn_by (setting files terms) s o x) m r) (sym z.db.led.replayed) h
 
   -- it stands for a session whose transaction alone has changed
   pub stands-opened : (o : OpenTransaction) → m.db ≡ d.db → m.curator ≡ d.curator → Opens view source_view d.db m.transaction o → Stands view source_view terms m (with_opened s o)

@@ -19,7 +19,7 @@ use Rattle.cp_outside.specs.Moments.{HasTold}
 use Rattle.cp_frame.specs.Sizes.{FrameEnd, end_of}
 use Rattle.cp_outside.specs.FileReads.{FileTable}
 use Rattle.cp_db.specs.Databases as database
-use Rattle.cp_db.specs.Databases.{IsDatabase, IsReady, IsKept, HasCome, IsSameFile, end_in, is_spent, version_in}
+use Rattle.cp_db.specs.Databases.{HoldsState, IsDatabase, IsReady, IsKept, HasCome, IsSameFile, end_in, is_spent, version_in}
 use Rattle.cp_db.specs.declared.database.Db.{Db}
 use Rattle.cp_workspace.specs.Texts.{Terms}
 use Rattle.cp_workspace.specs.Disks.{KnownDisk, LeavesEither}
@@ -66,7 +66,7 @@ abbrev pub IsBegun : {R S : Type 0} → (R → Tree) → (S → Tree) → Db R S
 IsBegun view source_view d None = ⊤
 IsBegun view source_view d (Some x) = (p : txn.Progress) × HasCome view source_view d x p
 
--- its database stands for some history, and may be written
+-- its database holds some state, and may be written
 pub record IsWorkspace {R S : Type 0} (view : R → Tree) (source_view : S → Tree) (d : Workspace R S) : Type 0 where
   pub stands : IsDatabase view source_view d.db
   pub usable : is_spent d.db ≡ false
@@ -133,8 +133,8 @@ IsOpened view source_view d x = (terms : Terms) (s : Session) → Stands view so
 -- nothing is in the way of a source with this name, whatever its file gives
 pub record MayLoad {R S : Type 0} (view : R → Tree) (source_view : S → Tree) (d : Workspace R S) (name : List ℕ) : Type 0 where
   pub closed : d.transaction ≡ None
-  pub fresh : (right : Bool) (h : List Entry) (z : database.Stands view source_view right d.db h) → is_some (source z.committed.state.sources name) ≡ false
-  pub few : (right : Bool) (h : List Entry) (z : database.Stands view source_view right d.db h) → length z.committed.state.sources + 1 ≤ SOURCES_MAX
+  pub fresh : (s : State) → HoldsState view source_view d.db s → is_some (source s.sources name) ≡ false
+  pub few : (s : State) → HoldsState view source_view d.db s → length s.sources + 1 ≤ SOURCES_MAX
 
 -- ---- beginnings
 

@@ -67,7 +67,7 @@ impl<R: TreeRep, S: TreeRep> Workspace<R, S> {
     fn why_not_loaded(&self, name: &Name) -> Result<Option<Why>, AllocError>
         requires workspace { IsWorkspace R.contents S.contents self.now }
         ensures why { IfOk result (λ w. (terms : Terms) (s : Session) (z : Stands R.contents S.contents terms self.now s)
-            → w ≡ why_not_loaded z.db.committed.state s.opened name.now) }
+            → w ≡ why_not_loaded z.db.state s.opened name.now) }
         ensures open { IfOk result (λ w. w ≡ None → MayLoad R.contents S.contents self.now name.now) }
     {
         if self.transaction.is_some() {

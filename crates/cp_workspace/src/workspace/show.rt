@@ -29,7 +29,7 @@ impl<R: TreeRep, S: TreeRep> Workspace<R, S> {
     /// The working tree of a transaction that hasn't failed, else the committed tree.
     fn current_tree(&self) -> &R
         ensures { (terms : Terms) (s : Session) (z : Stands R.contents S.contents terms self.now s)
-            → R.contents result.now ≡ current_tree z.db.committed.state s.opened }
+            → R.contents result.now ≡ current_tree z.db.state s.opened }
     {
         if let Some(transaction) = &self.transaction {
             if let TxnState::Going(_) = transaction.state() {

@@ -21,7 +21,7 @@ returns-in_err-walk-clause-found g c = λ known.
     let frames = (frames_of (drop HEADER_SIZE u.content)).frames in
     let fault = c.in_err-walk.field-0.0 in
     passed (FindsAs u.content) c.from_residual-in_err-walk.result fault (err_from_is_err_and c.from_residual-in_err-walk.result c.from_residual-in_err-walk.ensures.1)
-    (finds_not view source_view u.content c.in_ok-header.header header.0 header.1 x fault
+    (finds_not view source_view u.content c.in_ok-header.header header.0 header.1 fault
     (subst (λ (n : ℕ). TellsPassedAs view source_view HEADER_SIZE n frames (Err fault)) (version_kept (take HEADER_SIZE u.content) c.in_ok-header.header _ header.1 c.version_of-version.ensures.said)
     (c.in_err-walk.ensures.passed known HEADER_SIZE frames lists)))
 

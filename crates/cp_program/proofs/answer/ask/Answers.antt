@@ -1,3 +1,4 @@
+use Rattle.cp_frame.specs.Stands.{Opens}
 use Rattle.cp_lang.specs.declared.syntax_tree.Stmt.TheVariants as stmt
 use Rattle.cp_workspace.specs.Disks.{known_disk}
 use Rattle.cp_program.specs.Answering.{IsAnswerTo}
@@ -8,7 +9,7 @@ use Rattle.cp_program.proofs.answer.ask.Goals as goal
 pub returns-clause-ran : goal.returns-clause-ran
 returns-clause-ran g c = λ i f k.
     let met = c.reply_to_query-answer.ensures in
-    answered-end (IsAnswerTo (stmt.Ask c.args.query)) i f k (known_output g.O.Sink c.args.output.now) (known_output g.O.Sink c.give_answer.new.output)
+    answered-end Opens (IsAnswerTo (stmt.Ask c.args.query)) i f k (known_output g.O.Sink c.args.output.now) (known_output g.O.Sink c.give_answer.new.output)
     (known_disk g.D.Disk c.args.disk.now) (known_disk g.D.Disk c.reply_to_query-answer.new.disk) c.reply_to_query-answer.result c.give_answer.result met.kinds met.answered met.rests c.give_answer.ensures.gave
 
 pub returns-clause-causes : goal.returns-clause-causes

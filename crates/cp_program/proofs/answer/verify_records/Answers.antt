@@ -1,3 +1,4 @@
+use Rattle.cp_frame.specs.Stands.{OpensAndReplays}
 use Rattle.cp_workspace.specs.Disks.{known_disk}
 use Rattle.cp_program.specs.Answering.{IsVerdictOn}
 use Rattle.cp_interpreter.specs.Outside.{known_output}
@@ -7,7 +8,7 @@ use Rattle.cp_program.proofs.answer.verify_records.Goals as goal
 pub returns-clause-ran : goal.returns-clause-ran
 returns-clause-ran g c = λ i f k.
     let met = c.verdict_on-answer.ensures in
-    answered-end IsVerdictOn i f k (known_output g.O.Sink c.args.output.now) (known_output g.O.Sink c.give_answer.new.output)
+    answered-end OpensAndReplays IsVerdictOn i f k (known_output g.O.Sink c.args.output.now) (known_output g.O.Sink c.give_answer.new.output)
     (known_disk g.D.Disk c.args.disk.now) (known_disk g.D.Disk c.verdict_on-answer.new.disk) c.verdict_on-answer.result c.give_answer.result met.kinds met.answered met.rests c.give_answer.ensures.gave
 
 pub returns-clause-causes : goal.returns-clause-causes

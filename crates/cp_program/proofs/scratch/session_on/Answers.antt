@@ -4,7 +4,7 @@ use Rattle.cp_program.proofs.FromStart.{scratch-follows, scratch-goes_on}
 use Rattle.cp_program.proofs.scratch.session_on.Goals as goal
 
 pub new-requires-clause-stands : goal.new-requires-clause-stands
-new-requires-clause-stands g c = (_, c.in_ok-db.ensures.stands false)
+new-requires-clause-stands g c = let z = c.in_ok-db.ensures.stands false in (z.state, z.holds)
 
 pub returns-clause-follows : goal.returns-clause-follows
 returns-clause-follows g c =

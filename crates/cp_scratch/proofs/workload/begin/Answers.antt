@@ -6,7 +6,7 @@ use Rattle.cp_scratch.specs.Workloads.{workload_start, workload_terms}
 use Rattle.cp_scratch.proofs.workload.begin.Goals as goal
 
 pub new-requires-clause-stands : goal.new-requires-clause-stands
-new-requires-clause-stands g c = (_, c.in_ok-db.ensures.stands false)
+new-requires-clause-stands g c = let z = c.in_ok-db.ensures.stands false in (z.state, z.holds)
 
 pub returns-clause-stands : goal.returns-clause-stands
 returns-clause-stands g c =

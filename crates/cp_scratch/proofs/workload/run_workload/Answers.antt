@@ -1,4 +1,5 @@
-use Rattle.std.proofs.Common.{refl, subst}
+use Rattle.std.proofs.Common.{refl, subst, sym}
+use Rattle.cp_db.specs.Databases.{IsDatabase}
 use Rattle.cp_reply.specs.Session.{session_after_statements}
 use Rattle.cp_workspace.specs.Texts.{setting}
 use Rattle.cp_workspace.specs.Workspaces.{Stands}
@@ -16,3 +17,8 @@ returns-in-Ok g c =
     (subst (λ all. Stands view source_view terms c.run_script.new.workspace (session_after_statements (setting no_files terms) (workload_session c.args.kind) all)) c.new-script.ensures
     (c.in-Ok.ensures.ran terms (workload_session c.args.kind) c.in_ok-workspace.ensures.stands refl))
     c.summary_in-reply.ensures.summary
+
+pub summary_in-reply-requires : goal.summary_in-reply-requires
+summary_in-reply-requires g c = record {
+  stands = subst (IsDatabase g.R.TreeRep.contents g.S.TreeRep.contents) (sym c.into_db-db.ensures) c.in-Ok.ensures.stays.stands;
+}

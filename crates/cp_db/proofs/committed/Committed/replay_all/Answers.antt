@@ -57,3 +57,6 @@ pub returns-clause-replayed : goal.returns-clause-replayed
 returns-clause-replayed g c = λ known from fs lists.
     let all : c.loop-n.n ≡ length fs = omega (arith, listed_length from fs c.args.journal.now _ lists) in
     gone_all g.R.TreeRep.contents g.S.TreeRep.contents c.args.version fs c.loop-n.n c.loop-n.committed (c.loop-n.invariant.gone known from fs lists) c.loop-n.invariant.some all
+
+pub returns-in-Err-clause-rests : goal.returns-in-Err-clause-rests
+returns-in-Err-clause-rests g c = λ known. rests_then _ _ _ (c.loop-n.invariant.rests known) (c.in-Err.ensures.rests known)

@@ -15,7 +15,7 @@ returns-in_ok-start-in-Start-clause-started g c = λ v f rest w tag entry reads.
     let is = subst (λ (e : Entry). IsEntry e w) c.in-Start.is entry in
     let sound = subst IsSoundEntry c.in-Start.is c.requires.sound in
     starts_as view source_view v f rest c.in_ok-start-in-Start.field-0 c.in-Start.kind c.in-Start.tree (view c.in_ok-tree-in-Start.tree) w tag is reads sound.1 c.in_ok-tree-in-Start.ensures
-    (c.in_ok-start-in-Start.ensures.replayed _) c.in_ok-start-in-Start.ensures.none
+    c.in_ok-start-in-Start.ensures.keeps c.in_ok-start-in-Start.ensures.none
 
 pub returns-in_ok-start-in-Start-clause-taken : goal.returns-in_ok-start-in-Start-clause-taken
 returns-in_ok-start-in-Start-clause-taken g c =

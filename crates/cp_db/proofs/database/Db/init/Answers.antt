@@ -4,7 +4,7 @@ use Rattle.cp_model.specs.History.{start}
 use Rattle.cp_journal.specs.Frames.{entry}
 use Rattle.cp_frame.specs.Items.{Tell}
 use Rattle.cp_db.specs.declared.fault.InitFault.TheVariants as init
-use Rattle.cp_db.proofs.WritingStarts.{kept-started, crash-started, memory-started}
+use Rattle.cp_db.proofs.WritingStarts.{kept-started, crash-started, memory-started, stands-started}
 use Rattle.cp_db.proofs.database.Db.init.Goals as goal
 
 pub create-requires-clause-short : goal.create-requires-clause-short
@@ -26,7 +26,8 @@ returns-in_err-journal-clause-memory g c = λ known memory.
 
 pub returns-clause-stands : goal.returns-clause-stands
 returns-clause-stands g c = λ right.
-    record { committed = c.in_ok-committed.ensures.replayed right; whole = c.in_ok-journal.ensures.usable.0; usable = c.in_ok-journal.ensures.usable.1 }
+    stands-started g.R.TreeRep.contents g.S.TreeRep.contents right c.args.kind (g.R.TreeRep.contents c.args.tree) (g.met.R.TreeRep.is_tree c.args.tree) _
+    (record { committed = c.in_ok-committed.ensures.keeps; whole = c.in_ok-journal.ensures.usable.0; usable = c.in_ok-journal.ensures.usable.1 }) c.in_ok-committed.ensures.none
 
 pub returns-clause-kept : goal.returns-clause-kept
 returns-clause-kept g c = λ known.

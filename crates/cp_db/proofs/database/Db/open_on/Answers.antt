@@ -63,3 +63,8 @@ returns-clause-ready g c = λ known.
 pub returns-clause-rests : goal.returns-clause-rests
 returns-clause-rests g c = λ known.
     rests_then _ _ _ (c.in_ok-header.ensures.rests known) (rests_then _ _ _ (c.in_ok-journal.ensures.rests known) (c.in_ok-committed.ensures.rests known))
+
+pub returns-clause-stands : goal.returns-clause-stands
+returns-clause-stands g c =
+    let t = c.in_ok-committed.ensures.taken.1 in
+    (t.state, record { committed = t.keeps; whole = sym c.broken.ensures ∙ c.in_default-broken.is; usable = c.in_ok-journal.ensures.usable })

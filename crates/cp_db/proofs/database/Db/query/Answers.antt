@@ -1,13 +1,17 @@
-use Rattle.cp_db.proofs.WritingStanding.{stands-read, state-asked}
+use Rattle.std.proofs.Common.{refl}
+use Rattle.cp_db.proofs.WritingStanding.{holds-read, state-asked}
 use Rattle.cp_db.proofs.database.Db.query.Goals as goal
+
+pub stats-numbers-requires : goal.stats-numbers-requires
+stats-numbers-requires g c = (c.requires.stands.0, c.requires.stands.1.committed)
 
 pub returns-clause-answer : goal.returns-clause-answer
 returns-clause-answer g c = λ h z.
-    c.answer.ensures.answer z.committed.state
-    (state-asked g.R.TreeRep.contents g.S.TreeRep.contents c.args.self.now.committed h z.committed)
-    (c.stats-numbers.ensures h z.committed)
+    c.answer.ensures.answer z.state
+    (state-asked g.R.TreeRep.contents g.S.TreeRep.contents c.args.self.now.committed h z.state z.led z.holds.committed (z.rows refl))
+    (c.stats-numbers.ensures z.state z.holds.committed (z.rows refl))
 
 pub returns-clause-same : goal.returns-clause-same
-returns-clause-same g c = λ right h z.
-    stands-read g.R.TreeRep.contents g.S.TreeRep.contents right h c.args.self.now c.answer.new.store
-    c.answer.ensures.asks.kind c.answer.ensures.asks.last c.answer.ensures.asks.rows z
+returns-clause-same g c =
+    holds-read g.R.TreeRep.contents g.S.TreeRep.contents c.args.self.now c.answer.new.store
+    c.answer.ensures.asks.kind c.answer.ensures.asks.last c.answer.ensures.asks.rows

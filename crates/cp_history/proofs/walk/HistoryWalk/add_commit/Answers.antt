@@ -1,6 +1,5 @@
 use Rattle.std.proofs.Common.{refl, sym, subst, ◌+◌, arith}
 use Rattle.cp_model.specs.Laws.{AreSources}
-use Rattle.cp_model.proofs.Histories.{legal-tree}
 use Rattle.cp_history.specs.Walk.{Finds}
 use Rattle.cp_db.proofs.TakingCommits.{replays-same}
 use Rattle.cp_history.proofs.Walking.{commit-found, reached-commit, refused-same}
@@ -8,8 +7,8 @@ use Rattle.cp_history.proofs.walk.HistoryWalk.add_commit.Goals as goal
 
 pub look_at-requires-clause-sources : goal.look_at-requires-clause-sources
 look_at-requires-clause-sources g c =
-    let z = c.requires.reached.1.taken.replayed in
-    subst AreSources (sym z.sources) (legal-tree _ z.state z.legal z.replayed).sources
+    let z = c.requires.reached.1.taken.keeps in
+    subst AreSources (sym z.sources) z.sound.sources
 
 pub returns-in_default-clause-reached : goal.returns-in_default-clause-reached
 returns-in_default-clause-reached g c = λ items w reached holds.

@@ -34,8 +34,8 @@ unreachable-requires g c =
     let source_view = g.S.TreeRep.contents in
     let h = c.requires.usable.workspace.stands in
     let stamp : Stamp = record { curator = c.in_ok-curator.curator; moment = c.in_ok-moment.moment } in
-    subst (λ e. HasCommitted view source_view false c.args.self.now.db h.0 h.1.committed.state stamp (txn.going c.requires.going.0) c.commit.new.self (Err e)) c.in-Err-Failed.field-0-is
-    (c.in-Err-Failed.ensures.committed (txn.going c.requires.going.0) c.requires.going.1 false h.0 h.1)
+    subst (λ e. HasCommitted view source_view c.args.self.now.db h.0 stamp (txn.going c.requires.going.0) c.commit.new.self (Err e)) c.in-Err-Failed.field-0-is
+    (c.in-Err-Failed.ensures.committed (txn.going c.requires.going.0) c.requires.going.1 h.0 h.1)
 
 pub returns-in-Ok-clause-turned : goal.returns-in-Ok-clause-turned
 returns-in-Ok-clause-turned g c =
@@ -45,7 +45,7 @@ returns-in-Ok-clause-turned g c =
       turns = λ files known terms s rest z e.
           turns-committed g.R.TreeRep.contents g.S.TreeRep.contents g.D.Disk terms files c.args.self.now (record c.args.self.now { db = c.commit.new.self }) c.args.transaction s z c.args.disk.now c.commit.new.disk (record { curator = c.in_ok-curator.curator; moment = c.in_ok-moment.moment }) rest c.in_ok-curator.ensures.cases e
           c.in-Ok.tids refl c.requires.taken
-          (λ p come. c.in-Ok.ensures.committed p come true s.history z.db)
+          (λ p come. c.in-Ok.ensures.committed p come z.db.state z.db.holds)
           (λ known ops come held. c.in-Ok.ensures.kept known ops come s.history z.db held)
           (λ known p come held. c.commit.ensures.crash known p come s.history z.db held);
     }
@@ -53,9 +53,9 @@ returns-in-Ok-clause-turned g c =
 pub returns-in-Ok-clause-stays : goal.returns-in-Ok-clause-stays
 returns-in-Ok-clause-stays g c =
     let h = c.requires.usable.workspace.stands in
-    let made = c.in-Ok.ensures.committed (txn.going c.requires.going.0) c.requires.going.1 false h.0 h.1 in
+    let made = c.in-Ok.ensures.committed (txn.going c.requires.going.0) c.requires.going.1 h.0 h.1 in
     record {
-      workspace = workspace-added g.R.TreeRep.contents g.S.TreeRep.contents c.args.self.now (record c.args.self.now { db = c.commit.new.self }) c.requires.taken c.requires.usable.workspace (_, made.3.stands) (made-unspent c.commit.new.self.spent c.in-Ok.tids c.in-Ok.ensures.spent.0);
+      workspace = workspace-added g.R.TreeRep.contents g.S.TreeRep.contents c.args.self.now (record c.args.self.now { db = c.commit.new.self }) c.requires.taken c.requires.usable.workspace (_, made.3.holds) (made-unspent c.commit.new.self.spent c.in-Ok.tids c.in-Ok.ensures.spent.0);
       ready = c.in-Ok.ensures.ready;
     }
 
@@ -65,8 +65,8 @@ returns-in-Err-TooLarge-clause-turned g c =
     let source_view = g.S.TreeRep.contents in
     let h = c.requires.usable.workspace.stands in
     let stamp : Stamp = record { curator = c.in_ok-curator.curator; moment = c.in_ok-moment.moment } in
-    let refused = subst (λ e. HasCommitted view source_view false c.args.self.now.db h.0 h.1.committed.state stamp (txn.going c.requires.going.0) c.commit.new.self (Err e)) c.in-Err-TooLarge.field-0-is
-    (c.in-Err-TooLarge.ensures.committed (txn.going c.requires.going.0) c.requires.going.1 false h.0 h.1) in
+    let refused = subst (λ e. HasCommitted view source_view c.args.self.now.db h.0 stamp (txn.going c.requires.going.0) c.commit.new.self (Err e)) c.in-Err-TooLarge.field-0-is
+    (c.in-Err-TooLarge.ensures.committed (txn.going c.requires.going.0) c.requires.going.1 h.0 h.1) in
     record {
       moments = c.in_ok-moment.moment ∷ [];
       told = told-one _ _ c.in_ok-moment.moment c.in_ok-moment.ensures.told;
@@ -74,7 +74,7 @@ returns-in-Err-TooLarge-clause-turned g c =
           rw (c.refused_commit.ensures)
           (turns-too_large view source_view g.D.Disk terms files c.args.self.now (record c.args.self.now { db = c.commit.new.self }) c.args.transaction s z c.args.disk.now c.commit.new.disk stamp rest c.in_ok-curator.ensures.cases e
           (at-plain c.in-Err-TooLarge.field-0 (too_large-plain c.in-Err-TooLarge.field-0 c.in-Err-TooLarge.field-0-is) c.in-Err-TooLarge.ensures.unchanged) refused.2 refl c.requires.taken
-          (λ p come. subst (λ x. HasCommitted view source_view true c.args.self.now.db s.history z.db.committed.state stamp p c.commit.new.self (Err x)) c.in-Err-TooLarge.field-0-is (c.in-Err-TooLarge.ensures.committed p come true s.history z.db)));
+          (λ p come. subst (λ x. HasCommitted view source_view c.args.self.now.db z.db.state stamp p c.commit.new.self (Err x)) c.in-Err-TooLarge.field-0-is (c.in-Err-TooLarge.ensures.committed p come z.db.state z.db.holds)));
     }
 
 pub returns-in-Err-TooLarge-clause-stays : goal.returns-in-Err-TooLarge-clause-stays
@@ -83,8 +83,8 @@ returns-in-Err-TooLarge-clause-stays g c =
     let source_view = g.S.TreeRep.contents in
     let h = c.requires.usable.workspace.stands in
     let stamp : Stamp = record { curator = c.in_ok-curator.curator; moment = c.in_ok-moment.moment } in
-    let refused = subst (λ e. HasCommitted view source_view false c.args.self.now.db h.0 h.1.committed.state stamp (txn.going c.requires.going.0) c.commit.new.self (Err e)) c.in-Err-TooLarge.field-0-is
-    (c.in-Err-TooLarge.ensures.committed (txn.going c.requires.going.0) c.requires.going.1 false h.0 h.1) in
+    let refused = subst (λ e. HasCommitted view source_view c.args.self.now.db h.0 stamp (txn.going c.requires.going.0) c.commit.new.self (Err e)) c.in-Err-TooLarge.field-0-is
+    (c.in-Err-TooLarge.ensures.committed (txn.going c.requires.going.0) c.requires.going.1 h.0 h.1) in
     usable-shut view source_view c.args.self.now (record c.args.self.now { db = c.commit.new.self }) c.requires.taken g.D.Disk c.args.disk.now c.commit.new.disk
     (at-plain c.in-Err-TooLarge.field-0 (too_large-plain c.in-Err-TooLarge.field-0 c.in-Err-TooLarge.field-0-is) c.in-Err-TooLarge.ensures.unchanged) c.requires.usable refused.2
 
@@ -96,7 +96,7 @@ returns-in-Err-Empty-clause-turned g c =
       told = told-one _ _ c.in_ok-moment.moment c.in_ok-moment.ensures.told;
       turns = λ files known terms s rest z e.
           turns-empty g.R.TreeRep.contents g.S.TreeRep.contents g.D.Disk terms files c.args.self.now (record c.args.self.now { db = c.commit.new.self }) c.args.transaction s z c.args.disk.now c.commit.new.disk stamp rest c.in_ok-curator.ensures.cases e (Ok c.refused_commit-in-Err-Empty.result)
-          (λ p come. subst (λ x. HasCommitted g.R.TreeRep.contents g.S.TreeRep.contents true c.args.self.now.db s.history z.db.committed.state stamp p c.commit.new.self (Err x)) c.in-Err-Empty.field-0-is (c.in-Err-Empty.ensures.committed p come true s.history z.db));
+          (λ p come. subst (λ x. HasCommitted g.R.TreeRep.contents g.S.TreeRep.contents c.args.self.now.db z.db.state stamp p c.commit.new.self (Err x)) c.in-Err-Empty.field-0-is (c.in-Err-Empty.ensures.committed p come z.db.state z.db.holds));
     }
 
 pub returns-in-Err-Empty-clause-stays : goal.returns-in-Err-Empty-clause-stays
@@ -105,8 +105,8 @@ returns-in-Err-Empty-clause-stays g c =
     let source_view = g.S.TreeRep.contents in
     let h = c.requires.usable.workspace.stands in
     let stamp : Stamp = record { curator = c.in_ok-curator.curator; moment = c.in_ok-moment.moment } in
-    let empty = subst (λ e. HasCommitted view source_view false c.args.self.now.db h.0 h.1.committed.state stamp (txn.going c.requires.going.0) c.commit.new.self (Err e)) c.in-Err-Empty.field-0-is
-    (c.in-Err-Empty.ensures.committed (txn.going c.requires.going.0) c.requires.going.1 false h.0 h.1) in
+    let empty = subst (λ e. HasCommitted view source_view c.args.self.now.db h.0 stamp (txn.going c.requires.going.0) c.commit.new.self (Err e)) c.in-Err-Empty.field-0-is
+    (c.in-Err-Empty.ensures.committed (txn.going c.requires.going.0) c.requires.going.1 h.0 h.1) in
     usable-shut view source_view c.args.self.now (record c.args.self.now { db = c.commit.new.self }) c.requires.taken g.D.Disk c.args.disk.now c.commit.new.disk
     (at-plain c.in-Err-Empty.field-0 (empty-plain c.in-Err-Empty.field-0 c.in-Err-Empty.field-0-is) c.in-Err-Empty.ensures.unchanged) c.requires.usable empty.1
 
@@ -117,7 +117,7 @@ returns-in-Err-Disk-clause-turned g c =
       told = told-one _ _ c.in_ok-moment.moment c.in_ok-moment.ensures.told;
       turns = λ files known terms s rest z e.
           turns-uncommitted g.R.TreeRep.contents g.S.TreeRep.contents g.D.Disk terms files c.args.self.now (record c.args.self.now { db = c.commit.new.self }) c.args.transaction s z c.args.disk.now c.commit.new.disk (record { curator = c.in_ok-curator.curator; moment = c.in_ok-moment.moment }) rest c.in_ok-curator.ensures.cases e
-          (Err failed.Disk) (failed.Disk, refl) (λ known p come held. c.commit.ensures.crash known p come s.history z.db held) (λ ops come none. c.commit.ensures.room ops come s.history z.db none);
+          (Err failed.Disk) (failed.Disk, refl) (λ known p come held. c.commit.ensures.crash known p come s.history z.db held) (λ ops come none. c.commit.ensures.room ops come z.db.state z.db.holds none);
     }
 
 pub returns-in-Err-Memory-clause-turned : goal.returns-in-Err-Memory-clause-turned
@@ -127,5 +127,5 @@ returns-in-Err-Memory-clause-turned g c =
       told = told-one _ _ c.in_ok-moment.moment c.in_ok-moment.ensures.told;
       turns = λ files known terms s rest z e.
           turns-uncommitted g.R.TreeRep.contents g.S.TreeRep.contents g.D.Disk terms files c.args.self.now (record c.args.self.now { db = c.commit.new.self }) c.args.transaction s z c.args.disk.now c.commit.new.disk (record { curator = c.in_ok-curator.curator; moment = c.in_ok-moment.moment }) rest c.in_ok-curator.ensures.cases e
-          (Err failed.Memory) (failed.Memory, refl) (λ known p come held. c.commit.ensures.crash known p come s.history z.db held) (λ ops come none. c.commit.ensures.room ops come s.history z.db none);
+          (Err failed.Memory) (failed.Memory, refl) (λ known p come held. c.commit.ensures.crash known p come s.history z.db held) (λ ops come none. c.commit.ensures.room ops come z.db.state z.db.holds none);
     }

@@ -9,7 +9,7 @@ returns-in-Going g c = λ terms s z.
 
 pub returns : goal.returns
 returns g c = λ terms s z.
-    c.tree-2.ensures _ _ z.db ∙
+    c.tree-2.ensures _ z.db.holds ∙
     elim c.match-self.branch [
       | in-Some+in_default-state w ↦ tree-failed g.R.TreeRep.contents g.S.TreeRep.contents terms c.args.self.now s z w.in-Some.transaction w.in-Some.is w.state.result w.state.ensures (λ j e. w.in_default-state.not-Going j e)
       | in_default w ↦ tree-closed g.R.TreeRep.contents g.S.TreeRep.contents terms c.args.self.now s z w.in_default.is

@@ -21,7 +21,7 @@ pub returns-in-Ok-clause-turned : goal.returns-in-Ok-clause-turned
 returns-in-Ok-clause-turned g c = λ files terms s z.
     turns-loaded g.R.TreeRep.contents g.S.TreeRep.contents g.D.Disk terms files c.args.self.now (record c.args.self.now { db = c.load.new.self }) s z c.args.disk.now c.load.new.disk c.args.name (g.S.TreeRep.contents c.args.tree) c.requires.may.closed
     c.in_ok-loaded.loaded c.count-nodes.result c.in_ok-loaded.ensures.cases c.count-nodes.ensures refl refl
-    (c.in-Ok.ensures.loaded true s.history z.db)
+    (c.in-Ok.ensures.loaded z.db.state z.db.holds)
     (λ known held. c.in-Ok.ensures.kept known s.history z.db held)
     (λ known held. c.load.ensures.crash known s.history z.db held)
 
@@ -30,7 +30,7 @@ returns-in-Ok-clause-stays g c =
     let h = c.requires.usable.workspace.stands in
     record {
       workspace = workspace-added g.R.TreeRep.contents g.S.TreeRep.contents c.args.self.now (record c.args.self.now { db = c.load.new.self }) c.requires.may.closed c.requires.usable.workspace
-          (_, (c.in-Ok.ensures.loaded false h.0 h.1).1.stands) (kept-unspent c.load.new.self.spent tt c.in-Ok.ensures.spent.0);
+          (_, (c.in-Ok.ensures.loaded h.0 h.1).1.holds) (kept-unspent c.load.new.self.spent tt c.in-Ok.ensures.spent.0);
       ready = c.in-Ok.ensures.ready;
     }
 
@@ -38,7 +38,7 @@ pub returns-in-Err-TooLarge-clause-turned : goal.returns-in-Err-TooLarge-clause-
 returns-in-Err-TooLarge-clause-turned g c = λ files terms s z.
     let view = g.R.TreeRep.contents in
     let source_view = g.S.TreeRep.contents in
-    let refused = subst (λ e. HasLoaded view source_view true c.args.self.now.db s.history c.args.name (source_view c.args.tree) c.load.new.self (Err e)) c.in-Err-TooLarge.field-0-is (c.in-Err-TooLarge.ensures.loaded true s.history z.db) in
+    let refused = subst (λ e. HasLoaded view source_view c.args.self.now.db z.db.state c.args.name (source_view c.args.tree) c.load.new.self (Err e)) c.in-Err-TooLarge.field-0-is (c.in-Err-TooLarge.ensures.loaded z.db.state z.db.holds) in
     rw (c.refused_load.ensures)
     (turns-no_room view source_view g.D.Disk terms files c.args.self.now (record c.args.self.now { db = c.load.new.self }) s z c.args.disk.now c.load.new.disk c.args.name (source_view c.args.tree) c.requires.may.closed
     (c.in-Err-TooLarge.ensures.unchanged (ap (λ e. Err e) c.in-Err-TooLarge.field-0-is)) (ap (λ b. record c.args.self.now { db = b }) refused.1) refused.0)
@@ -48,7 +48,7 @@ returns-in-Err-TooLarge-clause-stays g c =
     let view = g.R.TreeRep.contents in
     let source_view = g.S.TreeRep.contents in
     let h = c.requires.usable.workspace.stands in
-    let refused = subst (λ e. HasLoaded view source_view false c.args.self.now.db h.0 c.args.name (source_view c.args.tree) c.load.new.self (Err e)) c.in-Err-TooLarge.field-0-is (c.in-Err-TooLarge.ensures.loaded false h.0 h.1) in
+    let refused = subst (λ e. HasLoaded view source_view c.args.self.now.db h.0 c.args.name (source_view c.args.tree) c.load.new.self (Err e)) c.in-Err-TooLarge.field-0-is (c.in-Err-TooLarge.ensures.loaded h.0 h.1) in
     usable-shut view source_view c.args.self.now (record c.args.self.now { db = c.load.new.self }) c.requires.may.closed g.D.Disk c.args.disk.now c.load.new.disk
     (c.in-Err-TooLarge.ensures.unchanged (ap (λ e. Err e) c.in-Err-TooLarge.field-0-is)) c.requires.usable refused.1
 

@@ -10,19 +10,19 @@ pub returns-then-is_some-2-clause-why : goal.returns-then-is_some-2-clause-why
 returns-then-is_some-2-clause-why g c = λ terms s z.
     let ss = sources_in g.S.TreeRep.contents c.sources-sources.result.now in
     ap (λ n. Some (why.SourceThere n)) c.in_ok-clone.ensures.cases
-    ∙ why-there g.R.TreeRep.contents g.S.TreeRep.contents c.args.self.now c.args.name.now terms s z ss (c.sources-sources.ensures true s.history z.db) (sym c.is_some.ensures ∙ c.if-is_some.false)
+    ∙ why-there g.R.TreeRep.contents g.S.TreeRep.contents c.args.self.now c.args.name.now terms s z ss (c.sources-sources.ensures z.db.state z.db.holds) (sym c.is_some.ensures ∙ c.if-is_some.false)
     (is_some-seen _ c.get.result (source ss c.args.name.now) c.get.ensures ∙ sym c.is_some-2.ensures ∙ c.if-is_some-2.true)
 
 pub returns-then-len-eq-SOURCES_MAX-clause-why : goal.returns-then-len-eq-SOURCES_MAX-clause-why
 returns-then-len-eq-SOURCES_MAX-clause-why g c = λ terms s z.
     let ss = sources_in g.S.TreeRep.contents c.sources-sources.result.now in
-    why-many g.R.TreeRep.contents g.S.TreeRep.contents c.args.self.now c.args.name.now terms s z ss (c.sources-sources.ensures true s.history z.db) (sym c.is_some.ensures ∙ c.if-is_some.false)
+    why-many g.R.TreeRep.contents g.S.TreeRep.contents c.args.self.now c.args.name.now terms s z ss (c.sources-sources.ensures z.db.state z.db.holds) (sym c.is_some.ensures ∙ c.if-is_some.false)
     (is_some-seen _ c.get.result (source ss c.args.name.now) c.get.ensures ∙ sym c.is_some-2.ensures ∙ c.if-is_some-2.false) (omega (arith, c.len.ensures, c.if-len-eq-SOURCES_MAX.true))
 
 pub returns-clause-why : goal.returns-clause-why
 returns-clause-why g c = λ terms s z.
     let ss = sources_in g.S.TreeRep.contents c.sources-sources.result.now in
-    why-none g.R.TreeRep.contents g.S.TreeRep.contents c.args.self.now c.args.name.now terms s z ss (c.sources-sources.ensures true s.history z.db) (sym c.is_some.ensures ∙ c.if-is_some.false)
+    why-none g.R.TreeRep.contents g.S.TreeRep.contents c.args.self.now c.args.name.now terms s z ss (c.sources-sources.ensures z.db.state z.db.holds) (sym c.is_some.ensures ∙ c.if-is_some.false)
     (is_some-seen _ c.get.result (source ss c.args.name.now) c.get.ensures ∙ sym c.is_some-2.ensures ∙ c.if-is_some-2.false) (λ h. omega (arith, c.len.ensures, c.if-len-eq-SOURCES_MAX.false, h))
 
 pub returns-clause-open : goal.returns-clause-open
