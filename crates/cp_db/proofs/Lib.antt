@@ -6,6 +6,8 @@ pub mod TakingCommits
 pub mod OpeningFrames
 pub mod OpeningItems
 pub mod OpeningStores
+mod Walking
+mod WalkingFrames
 mod WritingStanding
 mod WritingFrames
 mod WritingLoads

@@ -21,8 +21,8 @@ use Rattle.cp_frame.specs.declared.entry.Entry.{Entry}
 use Rattle.cp_frame.specs.declared.entry.Entry.TheVariants as entry
 use Rattle.cp_frame.specs.Items.{Item, an_entry, a_checkpoint, IsHeld, IsOfVersion, AreHeld, CanStand, AllStand, Tell, after_item, entries_in, records_in}
 use Rattle.cp_frame.proofs.Standing.{held-append, replayed-items, stand-append, stops-here}
-use Rattle.cp_db.specs.Committed.{CanTake, HasTaken, KeepsState}
-use Rattle.cp_db.specs.Opening.{RefusesAs, ReplaysAs, SpellsAs, StartsAs, TellsAs}
+use Rattle.cp_db.specs.Committed.{HasTaken, KeepsState}
+use Rattle.cp_db.specs.Opening.{RefusesAs, SpellsAs, StartsAs, TellsAs}
 use Rattle.cp_db.specs.declared.committed.Committed.{Committed}
 use Rattle.cp_db.specs.declared.fault.OpenFault.{OpenFault}
 use Rattle.cp_db.specs.declared.fault.OpenFault.TheVariants.{NoStore, Disk, Memory}
@@ -162,49 +162,6 @@ module _ {R S : Type 0} (view : R → Tree) (source_view : S → Tree) where
       keeps = t.keeps;
       kept = t.kept ∙ sym (no_record_more body);
     }
-
-  -- an entry that may follow has been taken
-  pub taken_here : (v : ℕ) (f : Frame) (items : List Item) (w : WrittenEntry) (new : Committed R S) → f.tag ≡ ENTRY → Reads entry_format f.body w [] → IsOfVersion v w → CanTake view source_view items w new true → ReplaysAs view source_view v f items new (Ok tt)
-  taken_here v f items w new tag reads allowed taken = (an_entry w, record { tag = tag; body = reads; allowed = allowed }, taken)
-
-  -- ---- all frames
-
-  -- what the first n frames hold has been taken
-  pub record HasGone (v : ℕ) (fs : List Frame) (n : ℕ) (c : Committed R S) : Type 0 where
-    pub items : List Item
-    pub held : AreHeld v (take n fs) items
-    pub taken : HasTaken view source_view c items
-
-  -- the first frame has been taken
-  pub gone_first : (v : ℕ) (fs : List Frame) (c : Committed R S) → StartsAs view source_view v fs (Ok c) → HasGone v fs 1 c
-  gone_first v fs c (f, rest, i, are, held, taken) = record {
-    items = i ∷ [];
-    held = subst (λ (l : List Frame). AreHeld v (take 1 l) (i ∷ [])) (sym are) (held, tt);
-    taken = taken;
-  }
-
-  -- and one more
-  pub gone_on : (v : ℕ) (fs : List Frame) (n : ℕ) (f : Frame) (old new : Committed R S) (g : HasGone v fs n old) → slice_get fs n ≡ Some f → ReplaysAs view source_view v f g.items new (Ok tt) → HasGone v fs (n + 1) new
-  gone_on v fs n f old new g here (i, held, taken) = record {
-    items = g.items ++ i ∷ [];
-    held = subst (λ (l : List Frame). AreHeld v l (g.items ++ i ∷ [])) (sym (taken_more fs n f here)) (held-append v (take n fs) (f ∷ []) g.items (i ∷ []) g.held (held, tt));
-    taken = taken;
-  }
-
-  -- and all
-  pub gone_all : (v : ℕ) (fs : List Frame) (n : ℕ) (c : Committed R S) → HasGone v fs n c → 1 ≤ n → n ≡ length fs → TellsAs view source_view v fs (Ok c)
-  gone_all v fs n c g some all = (
-    omega (arith, some, all),
-    g.items,
-    subst (λ (l : List Frame). AreHeld v l g.items) (take_all n fs (omega (arith, all))) g.held,
-    g.taken,
-  )
-
-  -- or a frame holds nothing that may follow
-  pub gone_stops : (v : ℕ) (fs : List Frame) (n : ℕ) (f : Frame) (old new : Committed R S) (g : HasGone v fs n old) → slice_get fs n ≡ Some f → (e : OpenFault) → ReplaysAs view source_view v f g.items new (Err e) → TellsAs view source_view v fs (Err e)
-  gone_stops v fs n f old new g here (NoStore at) none = λ h some t. stops-here false v fs h n f g.items g.held here none t
-  gone_stops v fs n f old new g here Disk none = tt
-  gone_stops v fs n f old new g here Memory none = tt
 
   -- or the first holds no start
   pub first_stops : (v : ℕ) (fs : List Frame) (e : OpenFault) → StartsAs view source_view v fs (Err e) → TellsAs view source_view v fs (Err e)

@@ -30,7 +30,7 @@ use Rattle.cp_frame.specs.declared.entry.Entry.TheVariants as entry
 use Rattle.cp_operation.specs.Loaded.{sources_in}
 use Rattle.cp_frame.specs.Items.{Item, an_entry, CanStand, entry_meant, entries_in, records_in, records_with}
 use Rattle.cp_frame.proofs.Standing.{legal-items, replayed-items, stand-append}
-use Rattle.cp_db.specs.Committed.{CanTake, HasRows, HasTaken, IsLoaded, KeepsState, LeadsTo, LoadsSource}
+use Rattle.cp_db.specs.Committed.{HasRows, HasTaken, IsLoaded, KeepsState, LeadsTo, LoadsSource}
 use Rattle.cp_db.specs.declared.committed.Committed.{Committed}
 
 -- nothing is found where what is looked up gives nothing
@@ -150,9 +150,3 @@ module _ {R S : Type 0} (view : R → Tree) (source_view : S → Tree) where
           (omega (arith, few))
       refused-source (written.commit b) more is none can = absurd is
       refused-source (written.stamped r b) more is none can = absurd is
-
-      -- a source that was loaded has been taken, or may not follow
-      pub takes-source : (w : WrittenEntry) (b : Bool) → IsEntry (entry.Load n l) w → IsSoundSource n l → LoadsSource (sources_in source_view c.sources) (sources_in source_view m.sources) n l b
-          → m.tree ≡ c.tree → m.store ≡ c.store → m.commits ≡ c.commits → CanTake view source_view items w m b
-      takes-source w true is sound loaded tree store counted = taken-source w is sound loaded tree store counted
-      takes-source w false is sound none tree store counted = refused-source w (sources_in source_view m.sources) is none

@@ -47,6 +47,19 @@ holds-stamped stamp os rs (written.load n t) is = absurd is
 holds-stamped stamp os rs (written.commit b) is = absurd is
 holds-stamped stamp os rs (written.stamped r b) is = is.1
 
+-- what is written of a commit means a commit of these operations, with its stamp or with none
+pub means-commit : (os : List Op) (rs : List Record) (w : WrittenEntry) → IsEntry (entry.Commit os rs) w → entry_meant w ≡ commit no_stamp os
+means-commit os rs (written.start k t) is = absurd is
+means-commit os rs (written.load n t) is = absurd is
+means-commit os rs (written.commit b) is = ap (commit no_stamp) is.ops
+means-commit os rs (written.stamped r b) is = absurd is
+
+pub means-stamped : (stamp : Stamp) (os : List Op) (rs : List Record) (w : WrittenEntry) → IsEntry (entry.Stamped stamp os rs) w → entry_meant w ≡ commit stamp os
+means-stamped stamp os rs (written.start k t) is = absurd is
+means-stamped stamp os rs (written.load n t) is = absurd is
+means-stamped stamp os rs (written.commit b) is = absurd is
+means-stamped stamp os rs (written.stamped r b) is = λ j. commit (is.0 j) (is.1.ops j)
+
 -- it may stand after a state where the operations may be committed and the records have Tids of theirs, or are theirs
 abbrev pub MayStand : Bool → State → List Op → List Record → Type 0
 MayStand right s os rs = CanCommit s os × HasRecords right s (after_commit s os) rs

@@ -77,28 +77,3 @@ all_between low high (r ∷ rs) w t =
 -- the records of a sound batch that have these Tids come next
 pub records-next : (trees : Bool) (os : List Op) (low high : ℕ) (rs : List Record) → IsSoundBatch trees os rs → TidsLieBetween low high rs → AreNext low high rs
 records-next trees os low high rs s t = record { rise = s.rise; sources = all_sources rs s.records; between = all_between low high rs s.records t }
-
--- ---- operations that are written
-
-written_snoc : (os : List Op) (o : Op) → AreWritten os → IsWritten o → AreWritten (os ++ o ∷ [])
-written_snoc [] o h w = (w, tt)
-written_snoc (p ∷ os) o h w = (h.0, written_snoc os o h.1 w)
-
--- a sound insertion is written, if its label is short
-pub written-ins : (trees : Bool) (p : Loc) (a : Label) (l : Literal) → IsSoundOp trees (Ins p a l) → length a ≤ LABEL_MAX → IsWritten (Ins p a l)
-written-ins trees p a l s short = (short, s.1.0)
-
--- and every other operation is
-pub written-other : (o : Op) → ((p : Loc) (a : Label) (l : Literal) → o ≡ Ins p a l → ⊥) → IsWritten o
-written-other (Ins p a l) other = absurd (other p a l refl)
-written-other (Del a p) other = tt
-written-other (Copy q p) other = tt
-
-module _ (os : List Op) where
-  -- each of the operations is sound where all are
-  pub sound-at : (trees : Bool) → AllByRecursion (IsSoundOp trees) os → (i : ℕ) (o : Op) → i < length os → o ≡ get_or os i o → IsSoundOp trees o
-  sound-at trees sound i o h e = all_at (IsSoundOp trees) os i o h e sound
-
-  -- one operation more is written
-  pub written-more : (i : ℕ) (o : Op) → i < length os → o ≡ get_or os i o → IsWritten o → AreWritten (take i os) → AreWritten (take (i + 1) os)
-  written-more i o h e one w = subst AreWritten (sym (next_front IsWritten os i o h e)) (written_snoc (take i os) o w one)

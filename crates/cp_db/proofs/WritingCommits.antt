@@ -115,6 +115,7 @@ module _ {R : Type 0} (view : R → Tree) (s : State) (ops : List Op) (x : Step 
     some = can.some;
     few = can.few;
     ops = sound_ops ops (accepted-targets s.sources (tree_of s.tree) ops legal.tree legal.sources can.written accepted);
+    written = can.written;
     records = writable s.now (after_commit s ops).now rows end_of_step.next.sources end_of_step.next.between;
     rise = end_of_step.next.rise;
     counted = omega (arith, commit_few ops rows, made.small);

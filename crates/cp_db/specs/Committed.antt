@@ -99,8 +99,3 @@ HoldsBatch (written.start k t) os rs = ⊥
 HoldsBatch (written.load n t) os rs = ⊥
 HoldsBatch (written.commit b) os rs = IsBatchOf b os rs
 HoldsBatch (written.stamped s b) os rs = IsBatchOf b os rs
-
--- the entry may follow these items and has been replayed after them, or may not
-abbrev pub CanTake : {R S : Type 0} → (R → Tree) → (S → Tree) → List Item → WrittenEntry → Committed R S → Bool → Type 0
-CanTake view source_view items w new true = HasTaken view source_view new (items ++ an_entry w ∷ [])
-CanTake view source_view items w new false = CanStand false (replay (flat_map entries_in items)) (an_entry w) → ⊥

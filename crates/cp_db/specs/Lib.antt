@@ -2,3 +2,5 @@ pub mod Committed
 pub mod Databases
 pub mod Opening
 pub mod Writing
+pub mod Work
+pub mod Walk

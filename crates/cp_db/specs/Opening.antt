@@ -70,11 +70,6 @@ RefusesAs version f items (NoStore at) = (i : Item) → IsHeld version f i → C
 RefusesAs version f items Disk = ⊤
 RefusesAs version f items Memory = ⊤
 
--- what the frame holds has been taken after these items, or it holds nothing that may follow them
-abbrev pub ReplaysAs : {R S : Type 0} → (R → Tree) → (S → Tree) → ℕ → Frame → List Item → Committed R S → Result ⊤ OpenFault → Type 0
-ReplaysAs view source_view version f items new (Ok x) = (i : Item) × IsHeld version f i × HasTaken view source_view new (items ++ i ∷ [])
-ReplaysAs view source_view version f items new (Err e) = RefusesAs version f items e
-
 -- what all frames hold has been taken; or they tell no history
 abbrev pub TellsAs : {R S : Type 0} → (R → Tree) → (S → Tree) → ℕ → List Frame → Result (Committed R S) OpenFault → Type 0
 TellsAs view source_view version fs (Ok c) = (1 ≤ length fs) × (items : List Item) × AreHeld version fs items × HasTaken view source_view c items

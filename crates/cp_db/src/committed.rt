@@ -2,21 +2,18 @@
 ghost use Rattle.std.specs.Prelude.{◌≡◌, ◌≤◌, ◌+◌, ◌∷◌, ◌↔◌, [], true, false, Bool, IsTrue, List, length, IfOk, OnOk};
 ghost use Rattle.std.specs.List.{AllByRecursion};
 ghost use Rattle.cp_model.specs.Answers.{stats};
-ghost use Rattle.cp_model.specs.History.{AreWritten, State, start_state};
+ghost use Rattle.cp_model.specs.History.{State, start_state};
 ghost use Rattle.cp_model.specs.declared.limits.TheConstants.{OPS_MAX, SOURCES_MAX};
 ghost use Rattle.cp_model.specs.Changes.{AreNext};
 ghost use Rattle.cp_db.specs.declared.limits.TheConstants.{TIDS_MAX};
-ghost use Rattle.cp_frame.specs.Entries.{WrittenEntry, IsEntry};
-ghost use Rattle.cp_frame.specs.Sound.{IsSoundEntry, IsSoundBatch, IsSoundOp, IsSoundSource};
+ghost use Rattle.cp_frame.specs.Sound.{IsSoundBatch, IsSoundSource};
 ghost use Rattle.cp_operation.specs.Loaded.{sources_in};
-ghost use Rattle.cp_frame.specs.Items.{Item};
-ghost use Rattle.cp_db.specs.Committed.{HasRows, HasTaken, KeepsState, TidsLieBetween, HasKept, CanTake, HoldsBatch, LoadsSource, ReplaysCommit};
+ghost use Rattle.cp_db.specs.Committed.{HasRows, KeepsState, TidsLieBetween, HasKept, LoadsSource, ReplaysCommit};
 
 use crate::limits::TIDS_MAX;
 use cp_engine::{replay, steps_of};
-use cp_frame::Entry;
 use cp_kinds::KindStore;
-use cp_model::{Kind, Literal, Op, OpList, ProvStore, Record, RecordList, SOURCES_MAX, Stats};
+use cp_model::{Kind, Literal, OpList, ProvStore, Record, RecordList, SOURCES_MAX, Stats};
 use cp_operation::Sources;
 use cp_path::Name;
 use cp_tree::{TreeRep, tree_of};
@@ -42,19 +39,6 @@ pub fn tids_lie_between(records: &[Record], low: u64, high: u64) -> bool
         }
     }
     true
-}
-
-/// Does nothing. The text of a label says that it is short, as it has to be where its operation is applied. Costs the
-/// number of operations.
-pub fn look_at_labels(ops: &[Op])
-    requires { (trees : Bool) × AllByRecursion (IsSoundOp trees) ops.now }
-    ensures { AreWritten ops.now }
-{
-    for op in ops {
-        if let Op::Ins { label, .. } = op {
-            let _text = label.as_str();
-        }
-    }
 }
 
 /// Keeps a tree as a source, if one may be loaded under the name; says whether it may. Where it may not, and after an
@@ -99,7 +83,6 @@ pub fn replay_commit<R: TreeRep, S: TreeRep>(
     if !tids_lie_between(&records.items, last, last + tids) {
         return Ok(None);
     }
-    look_at_labels(&ops.items);
     if !replay(alloc, tree, sources, &ops.items)? {
         return Ok(None);
     }
@@ -156,54 +139,6 @@ impl<R: TreeRep, S: TreeRep> Committed<R, S> {
                 Ok(())
             }
             Err(_) => Err(AllocError),
-        }
-    }
-
-    /// Replays a commit and keeps its records, if it may follow; says whether it may.
-    fn take_commit(
-        &mut self,
-        alloc: Global,
-        ops: &OpList,
-        records: &RecordList,
-    ) -> Result<bool, AllocError>
-        requires sound { (trees : Bool) × IsSoundBatch trees ops.now records.now }
-        requires replayed { (items : List Item) × HasTaken R.contents S.contents self.old items }
-        ensures taken { (items : List Item) (w : WrittenEntry)
-            → HasTaken R.contents S.contents self.old items → HoldsBatch w ops.now records.now
-            → IfOk result (CanTake R.contents S.contents items w self.new) }
-    {
-        let kind = self.store.kind();
-        let last = self.store.upto();
-        let replayed = replay_commit(
-            alloc,
-            kind,
-            last,
-            &mut self.tree,
-            &self.sources,
-            ops,
-            records,
-        )?;
-        let Some(tids) = replayed else {
-            return Ok(false);
-        };
-        self.keep_records(alloc, tids, &records.items)?;
-        Ok(true)
-    }
-
-    /// Replays an entry, if it may follow those before it; says whether it may. After an entry that may not, and after an
-    /// error, what is kept isn't said.
-    pub(crate) fn take(&mut self, alloc: Global, entry: Entry) -> Result<bool, AllocError>
-        requires sound { IsSoundEntry entry }
-        requires replayed { (items : List Item) × HasTaken R.contents S.contents self.old items }
-        ensures taken { (items : List Item) (w : WrittenEntry)
-            → HasTaken R.contents S.contents self.old items → IsEntry entry w
-            → IfOk result (CanTake R.contents S.contents items w self.new) }
-    {
-        match entry {
-            Entry::Start { .. } => Ok(false),
-            Entry::Load { name, tree } => load_source(alloc, &mut self.sources, name, &tree),
-            Entry::Commit { ops, records } => self.take_commit(alloc, &ops, &records),
-            Entry::Stamped { ops, records, .. } => self.take_commit(alloc, &ops, &records),
         }
     }
 }

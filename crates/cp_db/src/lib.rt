@@ -10,10 +10,15 @@ mod database;
 mod fault;
 mod limits;
 mod opening;
+mod rows;
+mod walk;
+mod work;
 mod writing;
 
-pub use committed::{Committed, load_source, look_at_labels, replay_commit, tids_lie_between};
+pub use committed::{replay_commit, tids_lie_between};
 pub use database::{Db, Tids};
 pub use fault::{CommitFault, InitFault, OpenFault, WriteFault};
 pub use limits::TIDS_MAX;
-pub use opening::{entry_in, is_of_version, open_slot, version_of};
+pub use opening::open_slot;
+pub use walk::work_over;
+pub use work::{CommitAt, Work};

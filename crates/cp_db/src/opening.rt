@@ -1,6 +1,5 @@
 //! A file that is opened: its header, and its entries, replayed one after another.
 ghost use Rattle.std.specs.Prelude.{◌≡◌, ◌≤◌, ◌<◌, ◌∷◌, ◌⊎◌, ◌↔◌, [], true, false, IsTrue, List, ℕ, length, take, IfOk, IfErr, OnOk, None, Some};
-ghost use Rattle.std.specs.List.{slice_get};
 ghost use Rattle.cp_outside.specs.Causes.{Accounts};
 ghost use Rattle.cp_disk.specs.Views.{Only, Rests};
 ghost use Rattle.cp_journal.specs.Frames.{Frame};
@@ -12,15 +11,17 @@ ghost use Rattle.cp_format.specs.Formats.{Reads};
 ghost use Rattle.cp_frame.specs.Sound.{IsSoundEntry};
 ghost use Rattle.cp_db.specs.Committed.{HasTaken};
 ghost use Rattle.cp_db.specs.Databases.{IsDatabase, IsReady, is_spent, version_in};
-ghost use Rattle.cp_db.specs.Opening.{OpensAs, IsOpenDisk, open_slot, SpellsAs, ReplaysAs, StartsAs, TellsAs};
+ghost use Rattle.cp_db.specs.Opening.{OpensAs, IsOpenDisk, open_slot, SpellsAs, StartsAs};
 
 use crate::committed::Committed;
 use crate::database::Db;
 use crate::fault::OpenFault;
+use crate::walk::HistoryWalk;
 use cp_disk::Disk;
 use cp_format::FormatFault;
 use cp_frame::{Entry, entry_of};
 use cp_journal::{ENTRY, HEADER_SIZE, Header, Journal};
+use cp_kinds::KindStore;
 use cp_tree::{TreeRep, tree_of};
 use std::alloc::Global;
 
@@ -127,90 +128,6 @@ impl<R: TreeRep, S: TreeRep> Committed<R, S> {
             _ => Err(OpenFault::NoStore(at)),
         }
     }
-
-    /// Replays what the frame of this number holds.
-    fn replay_frame<D: Disk>(
-        &mut self,
-        alloc: Global,
-        disk: &mut D,
-        journal: &Journal,
-        n: usize,
-        version: u8,
-        body: &mut Vec<u8>,
-    ) -> Result<(), OpenFault>
-        requires within { n < length journal.now.frames }
-        requires listed { IsTrue D.is_known
-            → (from : ℕ) × (fs : List Frame) × Lists from fs journal.now (D.view disk.old).content }
-        requires taken { (items : List Item) × HasTaken R.contents S.contents self.old items }
-        ensures replayed { IsTrue D.is_known → (from : ℕ) (fs : List Frame) (f : Frame) (items : List Item)
-            → Lists from fs journal.now (D.view disk.old).content → slice_get fs n ≡ Some f
-            → HasTaken R.contents S.contents self.old items
-            → ReplaysAs R.contents S.contents version f items self.new result }
-        ensures taken { OnOk result ((items : List Item) × HasTaken R.contents S.contents self.new items) }
-        ensures rests { IsTrue D.is_known → Rests (D.view disk.old) (D.view disk.new) }
-        ensures cause { Accounts IsOpenDisk (D.counts disk.old).faults (D.counts disk.new).faults result }
-    {
-        let frame = journal.read(disk, n, body)?;
-        if frame.tag != ENTRY {
-            return Ok(());
-        }
-        self.replay_entry(alloc, body, frame.at, version)
-    }
-
-    /// Replays the entry that these bytes of the frame at this offset spell, if they spell one that may follow.
-    fn replay_entry(
-        &mut self,
-        alloc: Global,
-        body: &[u8],
-        at: u64,
-        version: u8,
-    ) -> Result<(), OpenFault>
-        requires taken { (items : List Item) × HasTaken R.contents S.contents self.old items }
-        ensures replayed { (f : Frame) (items : List Item) → f.tag ≡ ENTRY → f.body ≡ body.now
-            → HasTaken R.contents S.contents self.old items
-            → ReplaysAs R.contents S.contents version f items self.new result }
-        ensures taken { OnOk result ((items : List Item) × HasTaken R.contents S.contents self.new items) }
-        ensures disk { IfErr result (λ e. e ≡ OpenFault.Disk → ⊥) }
-    {
-        let entry = entry_in(alloc, body, at)?;
-        if !is_of_version(&entry, version) {
-            drop(entry);
-            return Err(OpenFault::NoStore(at));
-        }
-        if !self.take(alloc, entry)? {
-            return Err(OpenFault::NoStore(at));
-        }
-        Ok(())
-    }
-
-    /// Replays what all frames hold.
-    fn replay_all<D: Disk>(
-        alloc: Global,
-        disk: &mut D,
-        journal: &Journal,
-        version: u8,
-    ) -> Result<Committed<R, S>, OpenFault>
-        requires listed { IsTrue D.is_known
-            → (from : ℕ) × (fs : List Frame) × Lists from fs journal.now (D.view disk.old).content }
-        ensures replayed { IsTrue D.is_known → (from : ℕ) (fs : List Frame)
-            → Lists from fs journal.now (D.view disk.old).content
-            → TellsAs R.contents S.contents version fs result }
-        ensures taken { IfOk result (λ c. (items : List Item) × HasTaken R.contents S.contents c items) }
-        ensures rests { IsTrue D.is_known → Rests (D.view disk.old) (D.view disk.new) }
-        ensures cause { Accounts IsOpenDisk (D.counts disk.old).faults (D.counts disk.new).faults result }
-    {
-        let mut body = Vec::new(alloc);
-        let mut committed = Committed::first(alloc, disk, journal, &mut body)?;
-        for n in 1..journal.len() {
-            if let Err(fault) = committed.replay_frame(
-                alloc, disk, journal, n, version, &mut body,
-            ) {
-                drop(committed);
-                return Err(fault);
-            }
-        }
-        Ok(committed)
-    }
 }
 
 /// The version that a header says, which is 1 or 2.
@@ -241,12 +158,15 @@ impl<R: TreeRep, S: TreeRep> Db<R, S> {
         }
         let version = version_of(&header);
         let journal = Journal::open_on(alloc, disk, HEADER_SIZE as u64)?;
-        let committed = Committed::replay_all(alloc, disk, &journal, version)?;
+        let walk: HistoryWalk<R, S, KindStore> = HistoryWalk::over_all(
+            alloc, disk, &journal, version,
+        )?;
         if let Some(at) = journal.broken() {
+            drop(walk);
             return Err(OpenFault::NoStore(at));
         }
         Ok(Db {
-            committed,
+            committed: walk.into_committed(),
             version,
             journal,
             spent: false,

@@ -4,7 +4,7 @@ use Rattle.std.proofs.lemmas.List.{length-map}
 use Rattle.std.specs.List.{AllByRecursion}
 use Rattle.cp_path.specs.Place.{in_target}
 use Rattle.cp_path.specs.declared.loc.Loc.{Loc}
-use Rattle.cp_model.specs.History.{IsLiteral}
+use Rattle.cp_model.specs.History.{AreWritten, IsLiteral}
 use Rattle.cp_model.specs.Keyed.{from_entries}
 use Rattle.cp_model.specs.Literals.{literal_rows}
 use Rattle.cp_model.specs.Place.{at_target}
@@ -96,6 +96,14 @@ ops_sound trees (w ∷ ws) f h =
     let others = ops_sound trees ws f.1 (part_all (length (written_bytes w)) (ops_checks ws) (all_second (written_checks w) rest h)) in
     ((first.0, others.0), (first.1, others.1))
 
+all_written : (trees : Bool) (ws : List WrittenOp) → AllByRecursion (λ w. IsFit w × IsAllowed trees w) ws → AllHold (ops_checks ws) → AreWritten (map op_of ws)
+all_written trees [] f h = tt
+all_written trees (w ∷ ws) f h =
+    let rest = moved (length (written_bytes w)) (ops_checks ws) in (
+      ops_written w f.0.0 (all_first (written_checks w) rest h),
+      all_written trees ws f.1 (part_all (length (written_bytes w)) (ops_checks ws) (all_second (written_checks w) rest h)),
+    )
+
 -- ---- records
 
 -- records that have a spelling
@@ -133,6 +141,7 @@ batch_sound trees b os rs f h is =
       some = omega (arith, count, f.some);
       few = omega (arith, count, f.few);
       ops = subst (AllByRecursion (IsSoundOp trees)) is.ops ops.0;
+      written = subst AreWritten is.ops (all_written trees b.ops f.ops (part_all 4 (ops_checks b.ops) (all_first front back h)));
       records = subst AreWritable is.records records.0;
       rise = subst (λ z. rises z ≡ true) is.records rise;
       counted = subst (λ z. length z < 2 ^ 32) is.records f.counted;

@@ -171,4 +171,4 @@ ops_allowed trees (Del a p ∷ os) h = (h.0, ops_allowed trees os h.1)
 ops_allowed trees (Copy q p ∷ os) h = (h.0, ops_allowed trees os h.1)
 
 pub batch_allowed : (trees : Bool) (os : List Op) (rs : List Record) → IsSoundBatch trees os rs → IsSoundBatch true os rs
-batch_allowed trees os rs h = record { some = h.some; few = h.few; ops = ops_allowed trees os h.ops; records = h.records; rise = h.rise; counted = h.counted; within = h.within }
+batch_allowed trees os rs h = record { some = h.some; few = h.few; ops = ops_allowed trees os h.ops; written = h.written; records = h.records; rise = h.rise; counted = h.counted; within = h.within }

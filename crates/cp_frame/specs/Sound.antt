@@ -3,7 +3,7 @@ use Rattle.std.specs.Prelude.{ℕ, ◌^◌, ◌≡◌, ◌≤◌, ◌<◌, Bool,
 use Rattle.std.specs.List.{AllByRecursion}
 use Rattle.cp_path.specs.Place.{in_target, over_limit}
 use Rattle.cp_path.specs.Text.{is_name}
-use Rattle.cp_model.specs.History.{IsLiteral}
+use Rattle.cp_model.specs.History.{AreWritten, IsLiteral}
 use Rattle.cp_model.specs.Keyed.{from_entries}
 use Rattle.cp_model.specs.Literals.{literal_rows}
 use Rattle.cp_model.specs.Place.{Path}
@@ -59,11 +59,12 @@ IsRecordWithin r = (over_limit r.loc ≡ false) × IfSome r.src (λ q. over_limi
 abbrev pub AreWithin : List Op → List Record → Type 0
 AreWithin os rs = AllByRecursion IsOpWithin os × AllByRecursion IsRecordWithin rs
 
--- operations, one at least and no more than a commit may have, and records in order, whose number has four bytes
+-- operations that a statement can write, one at least and no more than a commit may have, and records in order, whose number has four bytes
 pub record IsSoundBatch (trees : Bool) (os : List Op) (rs : List Record) : Type 0 where
   pub some : 1 ≤ length os
   pub few : length os ≤ OPS_MAX
   pub ops : AllByRecursion (IsSoundOp trees) os
+  pub written : AreWritten os
   pub records : AreWritable rs
   pub rise : rises rs ≡ true
   pub counted : length rs < 2 ^ 32

@@ -1,2 +1,2 @@
-mod Walking
-mod WalkingFrames
+mod Working
+mod Found

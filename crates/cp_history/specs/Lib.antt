@@ -1,3 +1,3 @@
 pub mod Log
 pub mod Verify
-pub mod Walk
+pub mod Verdicts

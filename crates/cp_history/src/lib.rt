@@ -6,7 +6,6 @@
 
 mod log;
 mod verification;
-mod walk;
 
 pub use log::log_of;
 pub use verification::verify;

@@ -1,18 +1,16 @@
 //! The log of a file: a line for each commit of its history.
-ghost use Rattle.std.specs.Prelude.{◌≡◌, ◌≤◌, ◌∷◌, ◌++◌, [], Bool, IsTrue, length, IfOk, OnOk};
+ghost use Rattle.std.specs.Prelude.{◌≡◌, ◌≤◌, IsTrue, length, ⊤};
+ghost use Rattle.std.specs.List.{flat_map};
 ghost use Rattle.cp_outside.specs.Causes.{Accounts};
-ghost use Rattle.cp_model.specs.History.{log_line};
+ghost use Rattle.cp_model.specs.History.{log_line, log_of};
 ghost use Rattle.cp_model.specs.declared.limits.TheConstants.{OPS_MAX};
 ghost use Rattle.cp_disk.specs.Views.{Rests};
-ghost use Rattle.cp_frame.specs.Sound.{IsSoundBatch};
-ghost use Rattle.cp_operation.specs.Loaded.{sources_in};
-ghost use Rattle.cp_db.specs.Committed.{ReplaysCommit};
+ghost use Rattle.cp_frame.specs.Items.{entries_in};
 ghost use Rattle.cp_db.specs.Opening.{IsOpenDisk};
 ghost use Rattle.cp_history.specs.Log.{LogsAs};
 ghost use Rattle.cp_db.specs.declared.limits.TheConstants.{TIDS_MAX};
 
-use crate::walk::{CommitAt, Findings, Wanted, findings_in};
-use cp_db::{OpenFault, replay_commit};
+use cp_db::{CommitAt, OpenFault, Work, replay_commit, work_over};
 use cp_disk::Disk;
 use cp_engine::steps_of;
 use cp_model::{Kind, LogLine, LogList, OpList, Stamp};
@@ -36,33 +34,49 @@ fn commit_line(kind: Kind, last: u64, stamp: Stamp, ops: &OpList) -> LogLine
     }
 }
 
-/// Replays a commit as `replay_commit` does, and adds its line.
-pub(crate) fn log_commit<R: TreeRep, S: TreeRep>(
-    alloc: Global,
-    kind: Kind,
-    last: u64,
-    tree: &mut R,
-    sources: &Sources<S>,
-    commit: CommitAt,
-    lines: &mut LogList,
-) -> Result<Option<u64>, AllocError>
-    requires few { last ≤ TIDS_MAX }
-    requires sound { (trees : Bool) × IsSoundBatch trees commit.ops commit.records }
-    ensures replayed { IfOk result (ReplaysCommit (sources_in S.contents sources.now)
-        (R.contents tree.old) (R.contents tree.new) kind last commit.ops commit.records) }
-    ensures added { OnOk result (lines.new ≡ lines.old ++ log_line kind last commit.stamp commit.ops ∷ []) }
-{
-    let line = commit_line(kind, last, commit.stamp, &commit.ops);
-    lines.items.push(line)?;
-    replay_commit(
-        alloc,
-        kind,
-        last,
-        tree,
-        sources,
-        &commit.ops,
-        &commit.records,
-    )
+/// The log of what a walk has come past.
+#[derive(Drop)]
+struct Logging {
+    lines: LogList,
+}
+
+/// A walk that lists commits adds a line for each.
+impl Work for Logging {
+    ghost fits = { λ work kind last. ⊤ };
+
+    ghost done = { λ work place items. work.lines ≡ log_of (flat_map entries_in items) };
+
+    fn none(alloc: Global, _kind: Kind, _last: u64) -> Result<Logging, AllocError> {
+        Ok(Logging {
+            lines: LogList {
+                items: Vec::new(alloc),
+            },
+        })
+    }
+
+    fn commit<R: TreeRep, S: TreeRep>(
+        &mut self,
+        alloc: Global,
+        kind: Kind,
+        last: u64,
+        tree: &mut R,
+        sources: &Sources<S>,
+        commit: CommitAt,
+    ) -> Result<Option<u64>, AllocError> {
+        let line = commit_line(kind, last, commit.stamp, &commit.ops);
+        self.lines.items.push(line)?;
+        replay_commit(
+            alloc,
+            kind,
+            last,
+            tree,
+            sources,
+            &commit.ops,
+            &commit.records,
+        )
+    }
+
+    fn pass(&mut self) {}
 }
 
 /// The commits of the history in a file, in their order. Replays its entries as an opening does, and refuses the same
@@ -77,8 +91,6 @@ pub fn log_of<R: TreeRep, S: TreeRep, D: Disk>(
     ensures rests { IsTrue D.is_known → Rests (D.view disk.old) (D.view disk.new) }
     ensures cause { Accounts IsOpenDisk (D.counts disk.old).faults (D.counts disk.new).faults result }
 {
-    match findings_in::<R, S, D>(alloc, disk, Wanted::Log)? {
-        Findings::Log(lines) => Ok(lines),
-        Findings::Records(_) => unreachable!(),
-    }
+    let work = work_over::<R, S, Logging, D>(alloc, disk)?;
+    Ok(work.lines)
 }

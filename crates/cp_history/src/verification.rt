@@ -1,22 +1,15 @@
 //! Whether the records of a file are those that its operations make.
-ghost use Rattle.std.specs.Prelude.{◌≡◌, ◌≤◌, ◌+◌, ◌↔◌, Bool, IsTrue, IfOk, OnOk};
+ghost use Rattle.std.specs.Prelude.{◌≡◌, ◌↔◌, IsTrue, IfOk, OnOk, ⊤};
 ghost use Rattle.std.specs.List.{slice_get};
 ghost use Rattle.std.specs.declared.option.Option.TheVariants.{None, Some};
 ghost use Rattle.cp_model.specs.declared.record.Verdict.TheVariants.{Agrees};
 ghost use Rattle.cp_outside.specs.Causes.{Accounts};
-ghost use Rattle.cp_model.specs.Laws.{AreSources};
 ghost use Rattle.cp_disk.specs.Views.{Rests};
-ghost use Rattle.cp_frame.specs.Sound.{IsSoundBatch};
-ghost use Rattle.cp_operation.specs.Loaded.{sources_in};
-ghost use Rattle.cp_operation.specs.Passed.{records_of};
-ghost use Rattle.cp_db.specs.Committed.{ReplaysCommit};
 ghost use Rattle.cp_db.specs.Opening.{IsOpenDisk};
 ghost use Rattle.cp_history.specs.Verify.{IsDifference, VerifiesAs};
-ghost use Rattle.cp_history.specs.Walk.{Judges, JudgesCommit};
-ghost use Rattle.cp_db.specs.declared.limits.TheConstants.{TIDS_MAX};
+ghost use Rattle.cp_history.specs.Verdicts.{IsVerdict, Judges};
 
-use crate::walk::{CommitAt, Findings, Wanted, findings_in};
-use cp_db::{OpenFault, TIDS_MAX, look_at_labels, tids_lie_between};
+use cp_db::{CommitAt, OpenFault, Work, tids_lie_between, work_over};
 use cp_disk::Disk;
 use cp_engine::{replay_recording, steps_of};
 use cp_model::{Kind, Record, Verdict};
@@ -125,36 +118,51 @@ fn judge(
     Ok(())
 }
 
-/// Replays a commit as `replay_commit` does, and judges its records. Costs the operations and their records.
-pub(crate) fn verify_commit<R: TreeRep, S: TreeRep>(
-    alloc: Global,
-    kind: Kind,
-    last: u64,
-    tree: &mut R,
-    sources: &Sources<S>,
-    commit: &CommitAt,
-    verdict: &mut Verdict,
-) -> Result<Option<u64>, AllocError>
-    requires few { last ≤ TIDS_MAX }
-    requires sound { (trees : Bool) × IsSoundBatch trees commit.now.ops commit.now.records }
-    requires sources { AreSources (sources_in S.contents sources.now) }
-    ensures replayed { IfOk result (ReplaysCommit (sources_in S.contents sources.now)
-        (R.contents tree.old) (R.contents tree.new) kind last commit.now.ops commit.now.records) }
-    ensures judged { IfOk result (JudgesCommit commit.now.at commit.now.records
-        (records_of kind (sources_in S.contents sources.now) (R.contents tree.old) (last + 1) commit.now.ops)
-        verdict.old verdict.new) }
-{
-    let tids = steps_of(kind, commit.ops.items.len() as u32);
-    if !tids_lie_between(&commit.records.items, last, last + tids) {
-        return Ok(None);
+/// The verdict on what a walk has come past.
+#[derive(Drop)]
+struct Verifying {
+    verdict: Verdict,
+}
+
+/// A walk that verifies compares the records of each commit with those that its operations make.
+impl Work for Verifying {
+    ghost fits = { λ work kind last. ⊤ };
+
+    ghost done = { λ work place items. IsVerdict place items work.verdict };
+
+    fn none(_alloc: Global, _kind: Kind, _last: u64) -> Result<Verifying, AllocError> {
+        Ok(Verifying {
+            verdict: Verdict::Agrees(0),
+        })
     }
-    look_at_labels(&commit.ops.items);
-    let recorded = replay_recording(alloc, kind, last + 1, tree, sources, &commit.ops.items)?;
-    let Some(expected) = recorded else {
-        return Ok(None);
-    };
-    judge(commit.at, &commit.records.items, &expected.items, verdict)?;
-    Ok(Some(tids))
+
+    fn commit<R: TreeRep, S: TreeRep>(
+        &mut self,
+        alloc: Global,
+        kind: Kind,
+        last: u64,
+        tree: &mut R,
+        sources: &Sources<S>,
+        commit: CommitAt,
+    ) -> Result<Option<u64>, AllocError> {
+        let tids = steps_of(kind, commit.ops.items.len() as u32);
+        if !tids_lie_between(&commit.records.items, last, last + tids) {
+            return Ok(None);
+        }
+        let recorded = replay_recording(alloc, kind, last + 1, tree, sources, &commit.ops.items)?;
+        let Some(expected) = recorded else {
+            return Ok(None);
+        };
+        judge(
+            commit.at,
+            &commit.records.items,
+            &expected.items,
+            &mut self.verdict,
+        )?;
+        Ok(Some(tids))
+    }
+
+    fn pass(&mut self) {}
 }
 
 /// Compares each record of a file with the one that a replay of its operations makes, in order, and gives the number of
@@ -169,8 +177,6 @@ pub fn verify<R: TreeRep, S: TreeRep, D: Disk>(
     ensures rests { IsTrue D.is_known → Rests (D.view disk.old) (D.view disk.new) }
     ensures cause { Accounts IsOpenDisk (D.counts disk.old).faults (D.counts disk.new).faults result }
 {
-    match findings_in::<R, S, D>(alloc, disk, Wanted::Verdict)? {
-        Findings::Records(verdict) => Ok(verdict),
-        Findings::Log(_) => unreachable!(),
-    }
+    let work = work_over::<R, S, Verifying, D>(alloc, disk)?;
+    Ok(work.verdict)
 }

@@ -1,0 +1,52 @@
+//! The rows of a history that is opened.
+ghost use Rattle.std.specs.Prelude.{◌≡◌, ⊤};
+ghost use Rattle.std.specs.List.{flat_map};
+ghost use Rattle.cp_frame.specs.Items.{records_in};
+
+use crate::committed::replay_commit;
+use crate::work::{CommitAt, Work};
+use cp_kinds::KindStore;
+use cp_model::{Kind, ProvStore};
+use cp_operation::Sources;
+use cp_tree::TreeRep;
+use std::alloc::{AllocError, Global};
+
+/// A walk that opens a file keeps the records of each commit.
+impl Work for KindStore {
+    ghost fits = { λ rows kind last. (rows.kind ≡ kind) × (rows.rows.upto ≡ last) };
+
+    ghost done = { λ rows place items. rows.rows.list ≡ flat_map records_in items };
+
+    fn none(alloc: Global, kind: Kind, last: u64) -> Result<KindStore, AllocError> {
+        KindStore::new(alloc, kind, last)
+    }
+
+    fn commit<R: TreeRep, S: TreeRep>(
+        &mut self,
+        alloc: Global,
+        kind: Kind,
+        last: u64,
+        tree: &mut R,
+        sources: &Sources<S>,
+        commit: CommitAt,
+    ) -> Result<Option<u64>, AllocError> {
+        let replayed = replay_commit(
+            alloc,
+            kind,
+            last,
+            tree,
+            sources,
+            &commit.ops,
+            &commit.records,
+        )?;
+        let Some(tids) = replayed else {
+            return Ok(None);
+        };
+        match self.absorb(alloc, tids, &commit.records.items) {
+            Ok(()) => Ok(Some(tids)),
+            Err(_) => Err(AllocError),
+        }
+    }
+
+    fn pass(&mut self) {}
+}

@@ -1,0 +1,309 @@
+//! A walk over the history in a file: what its entries lead to, without their records, and what is found on the way.
+ghost use Rattle.std.specs.Prelude.{◌≡◌, ◌≤◌, ◌<◌, ◌∷◌, ◌++◌, [], false, Bool, IsTrue, List, ℕ, length, IfOk, IfErr, OnOk, None, Some};
+ghost use Rattle.cp_outside.specs.Causes.{Accounts};
+ghost use Rattle.cp_model.specs.History.{State, commit as commit_entry};
+ghost use Rattle.cp_disk.specs.Views.{Rests};
+ghost use Rattle.cp_journal.specs.Frames.{Frame};
+ghost use Rattle.cp_journal.specs.Journals.{Lists};
+ghost use Rattle.cp_journal.specs.declared.frame.TheConstants.{ENTRY};
+ghost use Rattle.cp_frame.specs.Entries.{WrittenEntry, IsEntry};
+ghost use Rattle.cp_frame.specs.Sound.{IsSoundEntry, IsSoundBatch};
+ghost use Rattle.cp_frame.specs.Items.{Item, CanStand, after_item, an_entry, entry_meant, no_stamp, records_in};
+ghost use Rattle.std.specs.List.{flat_map, slice_get};
+ghost use Rattle.cp_db.specs.Committed.{HasTaken, HoldsBatch, KeepsState};
+ghost use Rattle.cp_db.specs.Opening.{IsOpenDisk};
+ghost use Rattle.cp_db.specs.Walk.{CanReach, HasPassed, HasReached, FindsAs, PassesFrameAs, TellsPassedAs, committed_of, frame_place};
+
+use crate::committed::{Committed, load_source};
+use crate::fault::OpenFault;
+use crate::limits::TIDS_MAX;
+use crate::opening::{entry_in, is_of_version, open_slot, version_of};
+use crate::work::{CommitAt, Work};
+use cp_disk::Disk;
+use cp_frame::Entry;
+use cp_journal::{ENTRY, HEADER_SIZE, Journal};
+use cp_kinds::KindStore;
+use cp_model::{Kind, ProvStore, Stamp};
+use cp_operation::Sources;
+use cp_path::Label;
+use cp_tree::TreeRep;
+use std::alloc::{AllocError, Global};
+
+/// A walk over a history: the tree, the sources and the last Tid to which the entries up to now lead, the kind, and the work
+/// that was done. It keeps no records.
+#[derive(Drop)]
+pub(crate) struct HistoryWalk<R: TreeRep, S: TreeRep, W: Work> {
+    pub(crate) tree: R,
+    pub(crate) sources: Sources<S>,
+    pub(crate) kind: Kind,
+    pub(crate) last: u64,
+    pub(crate) commits: u64,
+    pub(crate) work: W,
+}
+
+/// The stamp of a commit that was written without one.
+fn no_stamp(alloc: Global) -> Result<Stamp, AllocError>
+    ensures { IfOk result (λ stamp. stamp ≡ no_stamp) }
+{
+    let curator = Label::copy_of(alloc, "")?;
+    Ok(Stamp { curator, moment: 0 })
+}
+
+impl<R: TreeRep, S: TreeRep, W: Work> HistoryWalk<R, S, W> {
+    /// A walk that has come past the start, and has done nothing yet.
+    fn begin(alloc: Global, first: Committed<R, S>) -> Result<HistoryWalk<R, S, W>, AllocError>
+        ensures first { IfOk result (λ w. committed_of w first.store.rows.list ≡ first) }
+        ensures fits { IfOk result (λ w. W.fits w.work w.kind w.last) }
+        ensures done { IfOk result (λ w. (place : ℕ → ℕ) (i : Item) (s : State) → CanStand false None i
+            → after_item None i ≡ Some s → W.done w.work place (i ∷ [])) }
+    {
+        let Committed {
+            tree,
+            sources,
+            store,
+            commits,
+        } = first;
+        let kind = store.kind();
+        let last = store.upto();
+        drop(store);
+        let work = W::none(alloc, kind, last)?;
+        Ok(HistoryWalk {
+            tree,
+            sources,
+            kind,
+            last,
+            commits,
+            work,
+        })
+    }
+
+    /// Replays the entry of the frame at this offset, if it may follow those before it, and does the work at a commit; says whether
+    /// it may.
+    fn add(&mut self, alloc: Global, entry: Entry, at: u64) -> Result<bool, AllocError>
+        requires sound { IsSoundEntry entry }
+        requires reached { (items : List Item) × HasReached R.contents S.contents W.fits self.old items }
+        ensures reached { (items : List Item) (w : WrittenEntry)
+            → HasReached R.contents S.contents W.fits self.old items → IsEntry entry w
+            → IfOk result (CanReach R.contents S.contents W.fits items w self.new) }
+        ensures found { (place : ℕ → ℕ) (items : List Item) (w : WrittenEntry)
+            → HasPassed R.contents S.contents W.fits W.done place self.old items → at ≡ place (length items)
+            → IsEntry entry w
+            → IfOk result (λ b. IsTrue b → W.done self.new.work place (items ++ an_entry w ∷ [])) }
+    {
+        match entry {
+            Entry::Start { tree, .. } => {
+                drop(tree);
+                Ok(false)
+            }
+            Entry::Load { name, tree } => {
+                let loaded = load_source(alloc, &mut self.sources, name, &tree);
+                drop(tree);
+                let loaded = loaded?;
+                self.work.pass();
+                Ok(loaded)
+            }
+            Entry::Commit { ops, records } => {
+                let stamp = no_stamp(alloc)?;
+                let commit = CommitAt {
+                    at,
+                    stamp,
+                    ops,
+                    records,
+                };
+                self.add_commit(alloc, commit)
+            }
+            Entry::Stamped {
+                stamp,
+                ops,
+                records,
+            } => {
+                let commit = CommitAt {
+                    at,
+                    stamp,
+                    ops,
+                    records,
+                };
+                self.add_commit(alloc, commit)
+            }
+        }
+    }
+
+    /// Replays a commit, if it may follow what is before it, and does the work; says whether it may.
+    fn add_commit(&mut self, alloc: Global, commit: CommitAt) -> Result<bool, AllocError>
+        requires sound { (trees : Bool) × IsSoundBatch trees commit.ops commit.records }
+        requires reached { (items : List Item) × HasReached R.contents S.contents W.fits self.old items }
+        ensures reached { (items : List Item) (w : WrittenEntry)
+            → HasReached R.contents S.contents W.fits self.old items → HoldsBatch w commit.ops commit.records
+            → IfOk result (CanReach R.contents S.contents W.fits items w self.new) }
+        ensures found { (place : ℕ → ℕ) (items : List Item) (w : WrittenEntry)
+            → HasPassed R.contents S.contents W.fits W.done place self.old items → commit.at ≡ place (length items)
+            → HoldsBatch w commit.ops commit.records → entry_meant w ≡ commit_entry commit.stamp commit.ops
+            → IfOk result (λ b. IsTrue b → W.done self.new.work place (items ++ an_entry w ∷ [])) }
+    {
+        let replayed = self.work.commit(
+            alloc,
+            self.kind,
+            self.last,
+            &mut self.tree,
+            &self.sources,
+            commit,
+        )?;
+        let Some(tids) = replayed else {
+            return Ok(false);
+        };
+        if self.last + tids > TIDS_MAX {
+            return Err(AllocError);
+        }
+        self.last += tids;
+        self.commits += 1;
+        Ok(true)
+    }
+
+    /// Adds the entry that these bytes of the frame at this offset spell, if they spell one that may follow.
+    fn add_entry(
+        &mut self,
+        alloc: Global,
+        body: &[u8],
+        at: u64,
+        version: u8,
+    ) -> Result<(), OpenFault>
+        requires reached { (items : List Item) × HasReached R.contents S.contents W.fits self.old items }
+        ensures added { (f : Frame) (place : ℕ → ℕ) (items : List Item)
+            → f.tag ≡ ENTRY → f.body ≡ body.now
+            → HasPassed R.contents S.contents W.fits W.done place self.old items → at ≡ place (length items)
+            → PassesFrameAs R.contents S.contents W.fits W.done place version f items self.new result }
+        ensures reached { OnOk result ((items : List Item) × HasReached R.contents S.contents W.fits self.new items) }
+        ensures disk { IfErr result (λ e. e ≡ OpenFault.Disk → ⊥) }
+    {
+        let entry = entry_in(alloc, body, at)?;
+        if !is_of_version(&entry, version) {
+            drop(entry);
+            return Err(OpenFault::NoStore(at));
+        }
+        if !self.add(alloc, entry, at)? {
+            return Err(OpenFault::NoStore(at));
+        }
+        Ok(())
+    }
+
+    /// Adds what the frame of this number holds.
+    fn add_frame<D: Disk>(
+        &mut self,
+        alloc: Global,
+        disk: &mut D,
+        journal: &Journal,
+        n: usize,
+        version: u8,
+        body: &mut Vec<u8>,
+    ) -> Result<(), OpenFault>
+        requires within { n < length journal.now.frames }
+        requires listed { IsTrue D.is_known
+            → (from : ℕ) × (fs : List Frame) × Lists from fs journal.now (D.view disk.old).content }
+        requires reached { (items : List Item) × HasReached R.contents S.contents W.fits self.old items }
+        ensures added { IsTrue D.is_known → (from : ℕ) (fs : List Frame) (f : Frame)
+            (items : List Item) → Lists from fs journal.now (D.view disk.old).content
+            → slice_get fs n ≡ Some f → length items ≡ n
+            → HasPassed R.contents S.contents W.fits W.done (frame_place from fs) self.old items
+            → PassesFrameAs R.contents S.contents W.fits W.done (frame_place from fs) version f items self.new result }
+        ensures reached { OnOk result ((items : List Item) × HasReached R.contents S.contents W.fits self.new items) }
+        ensures rests { IsTrue D.is_known → Rests (D.view disk.old) (D.view disk.new) }
+        ensures cause { Accounts IsOpenDisk (D.counts disk.old).faults (D.counts disk.new).faults result }
+    {
+        let frame = journal.read(disk, n, body)?;
+        if frame.tag != ENTRY {
+            self.work.pass();
+            return Ok(());
+        }
+        self.add_entry(alloc, body, frame.at, version)
+    }
+
+    /// The work that was done.
+    fn into_work(self) -> W
+        ensures { result ≡ self.work }
+    {
+        let HistoryWalk {
+            tree,
+            sources,
+            work,
+            ..
+        } = self;
+        drop(tree);
+        drop(sources);
+        work
+    }
+
+    /// The walk over all frames.
+    pub(crate) fn over_all<D: Disk>(
+        alloc: Global,
+        disk: &mut D,
+        journal: &Journal,
+        version: u8,
+    ) -> Result<HistoryWalk<R, S, W>, OpenFault>
+        requires listed { IsTrue D.is_known
+            → (from : ℕ) × (fs : List Frame) × Lists from fs journal.now (D.view disk.old).content }
+        ensures passed { IsTrue D.is_known → (from : ℕ) (fs : List Frame)
+            → Lists from fs journal.now (D.view disk.old).content
+            → TellsPassedAs R.contents S.contents W.fits W.done from version fs result }
+        ensures reached { IfOk result (λ w. (items : List Item) × HasReached R.contents S.contents W.fits w items) }
+        ensures rests { IsTrue D.is_known → Rests (D.view disk.old) (D.view disk.new) }
+        ensures cause { Accounts IsOpenDisk (D.counts disk.old).faults (D.counts disk.new).faults result }
+    {
+        let mut body = Vec::new(alloc);
+        let first = Committed::first(alloc, disk, journal, &mut body)?;
+        let mut walk: HistoryWalk<R, S, W> = HistoryWalk::begin(alloc, first)?;
+        for n in 1..journal.len() {
+            if let Err(fault) = walk.add_frame(alloc, disk, journal, n, version, &mut body) {
+                drop(walk);
+                return Err(fault);
+            }
+        }
+        Ok(walk)
+    }
+}
+
+impl<R: TreeRep, S: TreeRep> HistoryWalk<R, S, KindStore> {
+    /// What the walk leads to, with the rows that were kept on the way.
+    pub(crate) fn into_committed(self) -> Committed<R, S>
+        ensures keeps { (items : List Item) (g : HasReached R.contents S.contents (λ rows kind last. (rows.kind ≡ kind) × (rows.rows.upto ≡ last)) self items)
+            → KeepsState R.contents S.contents result g.taken.state }
+        ensures taken { (place : ℕ → ℕ) (items : List Item) → HasPassed R.contents S.contents (λ rows kind last. (rows.kind ≡ kind) × (rows.rows.upto ≡ last))
+            (λ rows place items. rows.rows.list ≡ flat_map records_in items) place self items → HasTaken R.contents S.contents result items }
+    {
+        let HistoryWalk {
+            tree,
+            sources,
+            commits,
+            work,
+            ..
+        } = self;
+        Committed {
+            tree,
+            sources,
+            store: work,
+            commits,
+        }
+    }
+}
+
+/// The work that a walk over the history in a file does. Refuses the files that an opening refuses.
+pub fn work_over<R: TreeRep, S: TreeRep, W: Work, D: Disk>(
+    alloc: Global,
+    disk: &mut D,
+) -> Result<W, OpenFault>
+    ensures found { IsTrue D.is_known → FindsAs W.done (D.view disk.old).content result }
+    ensures rests { IsTrue D.is_known → Rests (D.view disk.old) (D.view disk.new) }
+    ensures cause { Accounts IsOpenDisk (D.counts disk.old).faults (D.counts disk.new).faults result }
+{
+    let header = Journal::header(disk)?;
+    if let Some(at) = open_slot(&header) {
+        return Err(OpenFault::NoStore(at));
+    }
+    let version = version_of(&header);
+    let journal = Journal::open_on(alloc, disk, HEADER_SIZE as u64)?;
+    let walk: HistoryWalk<R, S, W> = HistoryWalk::over_all(alloc, disk, &journal, version)?;
+    if let Some(at) = journal.broken() {
+        drop(walk);
+        return Err(OpenFault::NoStore(at));
+    }
+    Ok(walk.into_work())
+}
