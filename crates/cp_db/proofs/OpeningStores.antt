@@ -1,5 +1,5 @@
 -- A file that is opened is a store where a database comes of it, and none where its parts are not those of one.
-use Rattle.std.proofs.Common.{◌≡◌, ◌≤◌, ◌+◌, ◌∙◌, ◌==◌, ◌⊎◌, inl, inr, ℕ, Bool, true, false, IsTrue, if◌then◌else◌, List, length, fold, take, drop, get_or, nat_lt, refl, sym, ap, subst, arith, length-take, Ok, Err}
+use Rattle.std.proofs.Common.{◌≡◌, ◌≤◌, ◌+◌, ◌∙◌, ◌==◌, ◌⊎◌, inl, inr, ℕ, Bool, true, false, IsTrue, if◌then◌else◌, List, [], length, fold, take, drop, get_or, nat_lt, refl, sym, ap, subst, arith, length-take, Ok, Err}
 use Rattle.std.specs.List.{flat_map}
 use Rattle.std.specs.declared.option.Option.{Option}
 use Rattle.std.specs.declared.option.Option.TheVariants.{None, Some}
@@ -7,7 +7,7 @@ use Rattle.std.proofs.lemmas.Bool.{cases_Bool}
 use Rattle.cp_model.specs.Tree.{Tree}
 use Rattle.cp_model.specs.History.{Entry as History, State}
 use Rattle.cp_disk.specs.Views.{View, Rests}
-use Rattle.cp_journal.specs.Frames.{Frame, frames_of}
+use Rattle.cp_journal.specs.Frames.{Frame, Walk, frames_of, spelled_all}
 use Rattle.cp_journal.specs.Headers.{HasHeader, header_in}
 use Rattle.cp_journal.specs.Holding.{IsAtRest}
 use Rattle.cp_journal.specs.Journals.{JournalState, Describes, HasWalked, Lists}
@@ -15,12 +15,14 @@ use Rattle.cp_journal.specs.declared.header.Header.{Header}
 use Rattle.cp_journal.specs.declared.header.Slot.{Slot}
 use Rattle.cp_journal.specs.declared.limits.TheConstants.{HEADER_SIZE, VERSION_AT}
 use Rattle.cp_frame.specs.Items.{Item, AllStand, AreHeld, Tell, after_item, entries_in}
-use Rattle.cp_frame.specs.Stands.{IsClosed, IsTold, OpensFirst, Replays, header_of}
-use Rattle.cp_frame.proofs.Images.{closed_header, closed-is, held-length, opens-replays, told-parts}
-use Rattle.cp_frame.proofs.Standing.{held-one, replayed-items, rows-right}
+use Rattle.cp_frame.specs.Stands.{IsClosed, IsTold, Opens, OpensAndReplays, OpensFirst, header_of}
+use Rattle.cp_frame.specs.Stops.{IsNot, StopsAt, StopsAtFrame, StopsWalk, at_gate, at_slot, open_slot}
+use Rattle.cp_frame.proofs.Images.{closed_header, closed-is, held-length, told-parts}
+use Rattle.cp_frame.proofs.Stopping.{stopped-not}
+use Rattle.cp_frame.proofs.Standing.{held-one, rows-right}
 use Rattle.cp_db.specs.Committed.{HasRows, HasTaken, LeadsTo}
 use Rattle.cp_db.specs.Databases.{HoldsState, IsKept, Stands}
-use Rattle.cp_db.specs.Opening.{HasOpened, OpensAs, TellsAs, open_slot}
+use Rattle.cp_db.specs.Opening.{HasOpened, OpensAs}
 use Rattle.cp_db.specs.declared.committed.Committed.{Committed}
 use Rattle.cp_db.specs.declared.database.Db.{Db}
 use Rattle.cp_db.specs.declared.fault.OpenFault.{OpenFault}
@@ -127,33 +129,67 @@ module _ (c : List ℕ) (hd : Header) (has : HasHeader c) (said : hd ≡ header_
   pub closed_here : open_slot hd ≡ None → IsClosed (header_of c)
   closed_here closed = closed-is (header_of c) hd.version (sym said ∙ closed_is hd closed)
 
+-- ---- where a file stops
+
+-- frames that stop a walk stop it in their walk
+pub stops_in : (w : Walk) (version at : ℕ) → ((w.frames ≡ []) × (at ≡ HEADER_SIZE)) ⊎ StopsAtFrame HEADER_SIZE version None w.frames at → StopsWalk HEADER_SIZE version None w at
+stops_in w version at (inl (none, place)) = inr (record {
+  items = [];
+  held = subst (λ (l : List Frame). AreHeld version l []) (sym none) tt;
+  stand = tt;
+  ended = inl none;
+  place = place ∙ ap (λ (l : List Frame). HEADER_SIZE + length (spelled_all l)) (sym none);
+})
+stops_in w version at (inr stops) = inl stops
+
+-- the gate at which a journal's walk ended without being closed stops it
+pub stops_after : (c : List ℕ) (version at : ℕ) (j : JournalState) → HasWalked HEADER_SIZE (frames_of (drop HEADER_SIZE c)) j c → j.broken ≡ Some at → (items : List Item) → AreHeld version (frames_of (drop HEADER_SIZE c)).frames items → AllStand false None items
+    → StopsWalk HEADER_SIZE version None (frames_of (drop HEADER_SIZE c)) at
+stops_after c version at j walked broken items held stand =
+    let cut = cut_short (frames_of (drop HEADER_SIZE c)).clean _ at (sym walked.broken ∙ broken) in
+    inr (record { items = items; held = held; stand = stand; ended = inr cut.0; place = cut.1 })
+  where
+    cut_short : (clean : Bool) (n m : ℕ) → (if clean then None else Some n) ≡ Some m → (clean ≡ false) × (m ≡ n)
+    cut_short true n m is = let no : None ≡ Some m = is in absurd (cc no)
+    cut_short false n m is = let same : Some n ≡ Some m = is in (refl, cc same)
+
+module _ (c : List ℕ) (hd : Header) (has : HasHeader c) (said : hd ≡ header_in (take HEADER_SIZE c)) where
+  -- where its walk stops a file without an open slot stops
+  pub stops_at_gate : open_slot hd ≡ None → (at : ℕ) → StopsWalk HEADER_SIZE hd.version None (frames_of (drop HEADER_SIZE c)) at → StopsAt c at
+  stops_at_gate closed at stops =
+      at_gate has (ap open_slot (sym said) ∙ closed) (subst (λ (n : ℕ). StopsWalk HEADER_SIZE n None (frames_of (drop HEADER_SIZE c)) at) (sym (version_is c hd has said)) stops)
+
+  -- a file with an open slot stops there
+  pub stops_at_slot : (at : ℕ) → open_slot hd ≡ Some at → StopsAt c at
+  stops_at_slot at is = at_slot has (ap open_slot (sym said) ∙ is)
+
+module _ (c : List ℕ) (at : ℕ) (stops : StopsAt c at) where
+  -- a file that stops doesn't open
+  pub opens_not : IsNot Opens c at
+  opens_not = (stopped-not c at stops, stops)
+
+  -- nor does it open and tell a history
+  pub whole_not : IsNot OpensAndReplays c at
+  whole_not = ((λ both. stopped-not c at stops both.0), stops)
+
+-- where a call of the disk fails, or memory is out, an opening says nothing
+pub opens_says_not : {R S : Type 0} (view : R → Tree) (source_view : S → Tree) (c : List ℕ) (v : View) (e : OpenFault) → ((at : ℕ) → e ≡ NoStore at → IsNot Opens c at) → OpensAs view source_view c v (Err e)
+opens_says_not view source_view c v (NoStore at) is = is at refl
+opens_says_not view source_view c v Disk is = tt
+opens_says_not view source_view c v Memory is = tt
+
 module _ {R S : Type 0} (view : R → Tree) (source_view : S → Tree) where
   module _ (c : List ℕ) (hd : Header) (has : HasHeader c) (said : hd ≡ header_in (take HEADER_SIZE c)) where
-    -- frames that tell no history are those of a file that tells none
-    pub replays_not : (at : ℕ) → TellsAs view source_view hd.version (frames_of (drop HEADER_SIZE c)).frames (Err (NoStore at)) → Replays c → ⊥
-    replays_not at none (h, is) = let told = told_here c hd has said false h is in none h told.0 told.1
-
-    -- which doesn't open
-    pub opens_not : (v : View) (e : OpenFault) → TellsAs view source_view hd.version (frames_of (drop HEADER_SIZE c)).frames (Err e) → OpensAs view source_view c v (Err e)
-    opens_not v (NoStore at) none = λ opens. replays_not at none (opens-replays c opens)
-    opens_not v Disk none = tt
-    opens_not v Memory none = tt
-
     module _ (d : Db R S) (v : View) (version : d.version ≡ hd.version) (closed : open_slot hd ≡ None) (whole : d.journal.broken ≡ None) (usable : d.journal.spent ≡ false)
         (walked : HasWalked HEADER_SIZE (frames_of (drop HEADER_SIZE c)) d.journal c)
         (described : Describes (take HEADER_SIZE c) (frames_of (drop HEADER_SIZE c)).frames d.journal v)
-        (tells : TellsAs view source_view hd.version (frames_of (drop HEADER_SIZE c)).frames (Ok d.committed)) where
-      abbrev items : List Item
-      items = tells.1
-
-      abbrev taken : HasTaken view source_view d.committed items
-      taken = tells.3
+        (some : 1 ≤ length (frames_of (drop HEADER_SIZE c)).frames) (items : List Item) (held_all : AreHeld hd.version (frames_of (drop HEADER_SIZE c)).frames items) (taken : HasTaken view source_view None d.committed items) where
 
       clean : (frames_of (drop HEADER_SIZE c)).clean ≡ true
       clean = clean_of (frames_of (drop HEADER_SIZE c)).clean _ d.journal.broken walked.broken whole
 
       leads : fold after_item None items ≡ Some taken.state
-      leads = sym (replayed-items items) ∙ taken.replayed
+      leads = taken.replayed
 
       -- the state to which the items lead is held
       holds_taken : HoldsState view source_view d taken.state
@@ -166,11 +202,11 @@ module _ {R S : Type 0} (view : R → Tree) (source_view : S → Tree) where
       opened_first : OpensFirst (header_of c).version c
       opened_first = record {
         items = items;
-        some = omega (arith, tells.0, held-length hd.version (frames_of (drop HEADER_SIZE c)).frames items tells.2);
+        some = omega (arith, some, held-length hd.version (frames_of (drop HEADER_SIZE c)).frames items held_all);
         holds = record {
           frames = (frames_of (drop HEADER_SIZE c)).frames;
           stand = record { frames = refl; clean = clean };
-          held = held_here c hd has said (frames_of (drop HEADER_SIZE c)).frames items tells.2;
+          held = held_here c hd has said (frames_of (drop HEADER_SIZE c)).frames items held_all;
         };
         stand = taken.stand;
       }
@@ -180,7 +216,7 @@ module _ {R S : Type 0} (view : R → Tree) (source_view : S → Tree) where
         told = (told_here c hd has said right h is).1
 
         same_items : told.items ≡ items
-        same_items = held-one hd.version (frames_of (drop HEADER_SIZE c)).frames told.items items told.held tells.2
+        same_items = held-one hd.version (frames_of (drop HEADER_SIZE c)).frames told.items items told.held held_all
 
         told_is : h ≡ flat_map entries_in items
         told_is = told.are ∙ ap (flat_map entries_in) same_items
@@ -202,7 +238,7 @@ module _ {R S : Type 0} (view : R → Tree) (source_view : S → Tree) where
           head = take HEADER_SIZE c;
           is_head = record { size = head_long c has; header = has.1; says = sym said ∙ closed_is hd closed ∙ ap closed_header (sym version) };
           frames = (frames_of (drop HEADER_SIZE c)).frames;
-          some = tells.0;
+          some = some;
           described = described;
           tell = subst (λ (n : ℕ). Tell right n (frames_of (drop HEADER_SIZE c)).frames h) (sym version) told;
         }

@@ -1,11 +1,12 @@
 -- What a database keeps in memory where one entry more is replayed.
-use Rattle.std.specs.Prelude.{ℕ, ◌≡◌, ◌≤◌, ◌+◌, ◌++◌, Bool, true, false, List, [], ◌∷◌, length, is_some, refl}
+use Rattle.std.specs.Prelude.{ℕ, ◌≡◌, ◌≤◌, ◌+◌, ◌++◌, Bool, true, false, List, [], ◌∷◌, length, fold, is_some, refl}
 use Rattle.std.proofs.Common.{sym, ap, subst, ◌∙◌, arith, append-nil}
 use Rattle.std.specs.List.{flat_map}
 use Rattle.std.specs.declared.option.Option.{Option}
 use Rattle.std.specs.Option.{option_map}
 use Rattle.std.specs.declared.option.Option.TheVariants.{None, Some}
 use Rattle.std.proofs.lemmas.List.Concat.{flat_map-append}
+use Rattle.std.proofs.lemmas.List.Sums.{fold-append}
 use Rattle.cp_path.specs.Text.{text_eq}
 use Rattle.cp_model.specs.declared.limits.TheConstants.{SOURCES_MAX}
 use Rattle.cp_model.specs.declared.kind.Kind.{Kind}
@@ -18,9 +19,9 @@ use Rattle.cp_model.specs.Literals.{literal_rows}
 use Rattle.cp_model.specs.Past.{Aged}
 use Rattle.cp_model.specs.Place.{target}
 use Rattle.cp_model.specs.Tree.{Tree, IsTree, Source, source}
-use Rattle.cp_model.specs.History.{State, load, start_state, after_load, replay, then_entry, CanFollow, CanLoad}
+use Rattle.cp_model.specs.History.{State, load, start_state, after_load, then_entry, CanFollow, CanLoad}
 use Rattle.cp_model.proofs.Contents.{tree_of-aged}
-use Rattle.cp_model.proofs.Histories.{replay-snoc, sound-begun, sound-then}
+use Rattle.cp_model.proofs.Histories.{sound-begun, sound-then}
 use Rattle.cp_db.proofs.TakingCounts.{len-mapped}
 use Rattle.cp_frame.specs.Trees.{rows_of}
 use Rattle.cp_frame.specs.Entries as written
@@ -28,7 +29,7 @@ use Rattle.cp_frame.specs.Entries.{WrittenEntry, IsEntry}
 use Rattle.cp_frame.specs.Sound.{IsSoundSource}
 use Rattle.cp_frame.specs.declared.entry.Entry.TheVariants as entry
 use Rattle.cp_operation.specs.Loaded.{sources_in}
-use Rattle.cp_frame.specs.Items.{Item, an_entry, CanStand, entry_meant, entries_in, records_in, records_with}
+use Rattle.cp_frame.specs.Items.{Item, an_entry, CanStand, after_item, entry_meant, entries_in, records_in, records_with}
 use Rattle.cp_frame.proofs.Standing.{legal-items, replayed-items, stand-append}
 use Rattle.cp_db.specs.Committed.{HasRows, HasTaken, IsLoaded, KeepsState, LeadsTo, LoadsSource}
 use Rattle.cp_db.specs.declared.committed.Committed.{Committed}
@@ -68,32 +69,10 @@ module _ {R S : Type 0} (view : R → Tree) (source_view : S → Tree) where
   }
 
   -- the state of items that have been taken is that of their history
-  pub taken-leads : (c : Committed R S) (items : List Item) (t : HasTaken view source_view c items) → LeadsTo (flat_map entries_in items) t.state
-  taken-leads c items t = record { legal = legal-items false items t.stand; replayed = t.replayed }
+  pub taken-leads : (c : Committed R S) (items : List Item) (t : HasTaken view source_view None c items) → LeadsTo (flat_map entries_in items) t.state
+  taken-leads c items t = record { legal = legal-items false items t.stand; replayed = replayed-items items ∙ t.replayed }
 
   module _ (c m : Committed R S) where
-    -- ---- one entry more
-
-    -- the entry is taken where it may stand, the state after it is kept, and its records are
-    pub taken-more : (items : List Item) (w : WrittenEntry) (old : HasTaken view source_view c items) → CanStand false (Some old.state) (an_entry w) → (z : State) → then_entry (Some old.state) (entry_meant w) ≡ Some z → KeepsState view source_view m z
-        → m.store.rows.list ≡ c.store.rows.list ++ records_with w → HasTaken view source_view m (items ++ an_entry w ∷ [])
-    taken-more items w old can z is keeps kept = record {
-      stand = stand-append false None items (an_entry w ∷ []) old.stand (subst (λ (o : Option State). CanStand false o (an_entry w)) (sym old.replayed ∙ replayed-items items) can, tt);
-      state = z;
-      replayed =
-          ap replay (flat_map-append entries_in items (an_entry w ∷ []))
-          ∙ replay-snoc (flat_map entries_in items) (entry_meant w)
-          ∙ ap (λ (o : Option State). then_entry o (entry_meant w)) old.replayed
-          ∙ is;
-      keeps = keeps;
-      kept =
-          kept ∙ ap (λ (rs : List Record). rs ++ records_with w) old.kept
-          ∙ ap (λ (rs : List Record). flat_map records_in items ++ rs) (sym (append-nil (records_with w)))
-          ∙ sym (flat_map-append records_in items (an_entry w ∷ []));
-    }
-
-    -- ---- sources
-
     -- a source that may be loaded has been
     pub keeps-loaded : (n : List ℕ) (t : Tree) (s : State) (z : KeepsState view source_view c s) → CanLoad s n t → m.tree ≡ c.tree → m.store ≡ c.store → m.commits ≡ c.commits
         → sources_in source_view m.sources ≡ sources_in source_view c.sources ++ record { name = n; tree = t } ∷ [] → KeepsState view source_view m (after_load s n t)
@@ -108,7 +87,26 @@ module _ {R S : Type 0} (view : R → Tree) (source_view : S → Tree) where
       sound = sound-then (Some s) (load n t) z.sound can;
     }
 
-    module _ (items : List Item) (old : HasTaken view source_view c items) (n : List ℕ) (l : Literal) where
+  module _ (first : Option State) (c m : Committed R S) where
+    -- ---- one entry more
+
+    -- the entry is taken where it may stand, the state after it is kept, and its records are
+    pub taken-more : (items : List Item) (w : WrittenEntry) (old : HasTaken view source_view first c items) → CanStand false (Some old.state) (an_entry w) → (z : State) → then_entry (Some old.state) (entry_meant w) ≡ Some z → KeepsState view source_view m z
+        → m.store.rows.list ≡ c.store.rows.list ++ records_with w → HasTaken view source_view first m (items ++ an_entry w ∷ [])
+    taken-more items w old can z is keeps kept = record {
+      stand = stand-append false first items (an_entry w ∷ []) old.stand (subst (λ (o : Option State). CanStand false o (an_entry w)) (sym old.replayed) can, tt);
+      state = z;
+      replayed = fold-append after_item first items (an_entry w ∷ []) ∙ ap (λ (o : Option State). then_entry o (entry_meant w)) old.replayed ∙ is;
+      keeps = keeps;
+      kept =
+          kept ∙ ap (λ (rs : List Record). rs ++ records_with w) old.kept
+          ∙ ap (λ (rs : List Record). flat_map records_in items ++ rs) (sym (append-nil (records_with w)))
+          ∙ sym (flat_map-append records_in items (an_entry w ∷ []));
+    }
+
+    -- ---- sources
+
+    module _ (items : List Item) (old : HasTaken view source_view first c items) (n : List ℕ) (l : Literal) where
       abbrev s : State
       s = old.state
 
@@ -124,7 +122,7 @@ module _ {R S : Type 0} (view : R → Tree) (source_view : S → Tree) where
 
       -- it has been taken
       pub taken-source : (w : WrittenEntry) → IsEntry (entry.Load n l) w → IsSoundSource n l → IsLoaded (sources_in source_view c.sources) (sources_in source_view m.sources) n l
-          → m.tree ≡ c.tree → m.store ≡ c.store → m.commits ≡ c.commits → HasTaken view source_view m (items ++ an_entry w ∷ [])
+          → m.tree ≡ c.tree → m.store ≡ c.store → m.commits ≡ c.commits → HasTaken view source_view first m (items ++ an_entry w ∷ [])
       taken-source (written.start k t) is sound loaded tree store counted = absurd is
       taken-source (written.load i t) is sound loaded tree store counted =
           let can = can_load (sources_in source_view m.sources) sound loaded in
@@ -133,13 +131,13 @@ module _ {R S : Type 0} (view : R → Tree) (source_view : S → Tree) where
           (subst (CanFollow (Some s)) (sym means) can, tt)
           (after_load s n (from_entries (literal_rows l)))
           (ap (then_entry (Some s)) means)
-          (keeps-loaded n (from_entries (literal_rows l)) s old.keeps can tree store counted loaded.added)
+          (keeps-loaded c m n (from_entries (literal_rows l)) s old.keeps can tree store counted loaded.added)
           (ap (λ s. s.rows.list) store ∙ sym (append-nil c.store.rows.list))
       taken-source (written.commit b) is sound loaded tree store counted = absurd is
       taken-source (written.stamped r b) is sound loaded tree store counted = absurd is
 
       -- one that may not be loaded may not follow
-      pub refused-source : (w : WrittenEntry) (more : List Source) → IsEntry (entry.Load n l) w → LoadsSource (sources_in source_view c.sources) more n l false → CanStand false (replay (flat_map entries_in items)) (an_entry w) → ⊥
+      pub refused-source : (w : WrittenEntry) (more : List Source) → IsEntry (entry.Load n l) w → LoadsSource (sources_in source_view c.sources) more n l false → CanStand false (fold after_item first items) (an_entry w) → ⊥
       refused-source (written.start k t) more is none can = absurd is
       refused-source (written.load i t) more is none can =
           let may : CanLoad s i (from_entries (rows_of t)) = subst (λ (o : Option State). CanFollow o (load i (from_entries (rows_of t)))) old.replayed can.0 in

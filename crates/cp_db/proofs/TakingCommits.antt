@@ -1,7 +1,6 @@
 -- A commit that is replayed after others, or that may not follow them.
-use Rattle.std.specs.Prelude.{ℕ, ◌≡◌, ◌≤◌, ◌+◌, ◌++◌, Bool, false, List, [], ◌∷◌, length, refl}
+use Rattle.std.specs.Prelude.{ℕ, ◌≡◌, ◌≤◌, ◌+◌, ◌++◌, Bool, false, List, [], ◌∷◌, length, fold, refl}
 use Rattle.std.proofs.Common.{sym, ap, subst, ◌∙◌, arith}
-use Rattle.std.specs.List.{flat_map}
 use Rattle.std.specs.declared.option.Option.{Option}
 use Rattle.std.specs.declared.option.Option.TheVariants.{Some}
 use Rattle.cp_model.specs.declared.kind.Kind.{Kind}
@@ -10,7 +9,7 @@ use Rattle.cp_model.specs.declared.record.Record.{Record}
 use Rattle.cp_model.specs.declared.stamp.Stamp.{Stamp}
 use Rattle.cp_model.specs.Past.{tree_of}
 use Rattle.cp_model.specs.Tree.{Tree, Source}
-use Rattle.cp_model.specs.History.{State, commit, CanCommit, after_commit, replay, steps_of, then_entry}
+use Rattle.cp_model.specs.History.{State, commit, CanCommit, after_commit, steps_of, then_entry}
 use Rattle.cp_model.proofs.Histories.{sound-commit}
 use Rattle.cp_frame.specs.Entries as written
 use Rattle.cp_frame.specs.Entries.{Batch, WrittenEntry, IsBatchOf, IsEntry}
@@ -19,7 +18,7 @@ use Rattle.cp_frame.specs.Sound.{IsSoundBatch}
 use Rattle.cp_operation.specs.Loaded.{sources_in}
 use Rattle.cp_operation.specs.Passed.{stage_after, AllAccepted}
 use Rattle.cp_engine.proofs.Committed.{committed, can-commit, commit-accepted}
-use Rattle.cp_frame.specs.Items.{Item, an_entry, CanStand, HasRecords, entry_meant, entries_in, records_with, ops_in, no_stamp}
+use Rattle.cp_frame.specs.Items.{Item, an_entry, CanStand, HasRecords, after_item, entry_meant, records_with, ops_in, no_stamp}
 use Rattle.cp_db.specs.Committed.{HasTaken, HasKept, HoldsBatch, IsReplayed, KeepsState, ReplaysCommit, TidsLieBetween}
 use Rattle.cp_db.specs.declared.committed.Committed.{Committed}
 use Rattle.cp_db.specs.declared.limits.TheConstants.{TIDS_MAX}
@@ -120,7 +119,7 @@ module _ {R S : Type 0} (view : R → Tree) (source_view : S → Tree) (c m : Co
         sound = sound-commit s os z.sound can;
       }
 
-module _ {R S : Type 0} (view : R → Tree) (source_view : S → Tree) (c : Committed R S) (items : List Item) (old : HasTaken view source_view c items) (w : WrittenEntry) (os : List Op) (rs : List Record) (holds : HoldsBatch w os rs) where
+module _ {R S : Type 0} (view : R → Tree) (source_view : S → Tree) (first : Option State) (c : Committed R S) (items : List Item) (old : HasTaken view source_view first c items) (w : WrittenEntry) (os : List Op) (rs : List Record) (holds : HoldsBatch w os rs) where
   abbrev s : State
   s = old.state
 
@@ -144,11 +143,11 @@ module _ {R S : Type 0} (view : R → Tree) (source_view : S → Tree) (c : Comm
       subst (λ n. TidsLieBetween n (c.store.rows.upto + tids) rs) (sym old.keeps.upto)
       (subst (λ n. TidsLieBetween s.now n rs) (sym (last_tid tids e may.0.some (commit-accepted s os may.0))) may.1.tids)
 
-  stands_so : CanStand false (replay (flat_map entries_in items)) (an_entry w) → CanStand false (Some s) (an_entry w)
+  stands_so : CanStand false (fold after_item first items) (an_entry w) → CanStand false (Some s) (an_entry w)
   stands_so can = subst (λ (o : Option State). CanStand false o (an_entry w)) old.replayed can
 
   -- a commit may not follow where a record has none of the Tids, or an operation isn't accepted
-  pub refused-commit : (TidsLieBetween c.store.rows.upto (c.store.rows.upto + length (steps_of c.store.kind os)) rs → AllAccepted (sources_in source_view c.sources) (view c.tree) os → ⊥) → CanStand false (replay (flat_map entries_in items)) (an_entry w) → ⊥
+  pub refused-commit : (TidsLieBetween c.store.rows.upto (c.store.rows.upto + length (steps_of c.store.kind os)) rs → AllAccepted (sources_in source_view c.sources) (view c.tree) os → ⊥) → CanStand false (fold after_item first items) (an_entry w) → ⊥
   refused-commit none can =
       let so = stands_so can in
       none (tids_of (length (steps_of c.store.kind os)) refl so) (accepted_here (commit-accepted s os (may_when false s w os rs holds so).0))
@@ -165,7 +164,7 @@ module _ {R S : Type 0} (view : R → Tree) (source_view : S → Tree) (c : Comm
         ∙ ap (λ t. (stage_after s.kind s.sources t (s.now + 1) os).tree) old.keeps.tree
 
     -- the commit has been taken
-    pub taken-commit : HasKept (record c { tree = u }) m tids rs → HasTaken view source_view m (items ++ an_entry w ∷ [])
+    pub taken-commit : HasKept (record c { tree = u }) m tids rs → HasTaken view source_view first m (items ++ an_entry w ∷ [])
     taken-commit kept =
         let meant = commit_of w os rs holds in
         let low = subst (λ n. TidsLieBetween n (c.store.rows.upto + tids) rs) old.keeps.upto is.between in
@@ -175,5 +174,5 @@ module _ {R S : Type 0} (view : R → Tree) (source_view : S → Tree) (c : Comm
         let keeps =
         keeps-committed view source_view c m os s old.keeps can_commit (tree_kept kept.tree) kept.sources kept.kind
         (kept.upto ∙ ap (λ n. c.store.rows.upto + n) steps) kept.commits kept.few in
-        taken-more view source_view c m items w old can (after_commit s os) (ap (then_entry (Some s)) meant.means) keeps
+        taken-more view source_view first c m items w old can (after_commit s os) (ap (then_entry (Some s)) meant.means) keeps
         (kept.rows ∙ ap (λ (x : List Record). c.store.rows.list ++ x) (sym meant.records))

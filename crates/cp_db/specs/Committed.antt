@@ -1,5 +1,5 @@
 -- What a database keeps in memory of its history.
-use Rattle.std.specs.Prelude.{ℕ, ◌≡◌, ◌≤◌, ◌<◌, ◌+◌, ◌++◌, Bool, true, false, List, [], ◌∷◌, length, is_some}
+use Rattle.std.specs.Prelude.{ℕ, ◌≡◌, ◌≤◌, ◌<◌, ◌+◌, ◌++◌, Bool, true, false, List, [], ◌∷◌, length, fold, is_some}
 use Rattle.std.specs.List.{AllByRecursion, flat_map}
 use Rattle.std.specs.declared.option.Option.{Option}
 use Rattle.std.specs.declared.option.Option.TheVariants.{Some, None}
@@ -20,7 +20,7 @@ use Rattle.cp_frame.specs.Entries as written
 use Rattle.cp_frame.specs.Entries.{WrittenEntry, IsBatchOf}
 use Rattle.cp_operation.specs.Loaded.{sources_in}
 use Rattle.cp_operation.specs.Passed.{stage_after, AllAccepted}
-use Rattle.cp_frame.specs.Items.{Item, an_entry, AllStand, CanStand, entries_in, records_in}
+use Rattle.cp_frame.specs.Items.{Item, AllStand, after_item, records_in}
 use Rattle.cp_db.specs.declared.committed.Committed.{Committed}
 use Rattle.cp_db.specs.declared.limits.TheConstants.{TIDS_MAX}
 
@@ -44,11 +44,11 @@ pub record LeadsTo (h : List Entry) (s : State) : Type 0 where
   pub legal : IsLegal h
   pub replayed : replay h ≡ Some s
 
--- these items were replayed one after another, and their records kept
-pub record HasTaken {R S : Type 0} (view : R → Tree) (source_view : S → Tree) (c : Committed R S) (items : List Item) : Type 0 where
-  pub stand : AllStand false None items
+-- from this state on, or from the beginning, these items were replayed one after another, and their records kept
+pub record HasTaken {R S : Type 0} (view : R → Tree) (source_view : S → Tree) (first : Option State) (c : Committed R S) (items : List Item) : Type 0 where
+  pub stand : AllStand false first items
   pub state : State
-  pub replayed : replay (flat_map entries_in items) ≡ Some state
+  pub replayed : fold after_item first items ≡ Some state
   pub keeps : KeepsState view source_view c state
   pub kept : c.store.rows.list ≡ flat_map records_in items
 

@@ -1,28 +1,48 @@
--- What a walk over a history does at its commits.
-use Rattle.std.specs.Prelude.{ℕ, ◌≡◌, false, List, length, ⊤}
-use Rattle.std.specs.List.{flat_map}
-use Rattle.std.specs.declared.option.Option.TheVariants.{Some}
+-- What a walk over a history does at its items.
+use Rattle.std.specs.Prelude.{ℕ, ◌≡◌, false, List, [], ◌∷◌, length, fold}
+use Rattle.std.specs.declared.option.Option.{Option}
+use Rattle.std.specs.declared.option.Option.TheVariants.{None, Some}
 use Rattle.cp_model.specs.Past.{tree_of}
 use Rattle.cp_model.specs.Tree.{Tree, Source}
 use Rattle.cp_model.specs.History.{State, commit}
 use Rattle.cp_model.specs.declared.kind.Kind.{Kind}
 use Rattle.cp_frame.specs.Entries as written
 use Rattle.cp_frame.specs.Entries.{WrittenEntry}
-use Rattle.cp_frame.specs.Items.{Item, an_entry, a_checkpoint, CanStand, entries_in, entry_meant}
-use Rattle.cp_db.specs.Committed.{HoldsBatch, LeadsTo}
+use Rattle.cp_frame.specs.Items.{Item, an_entry, a_checkpoint, AllStand, CanStand, after_item, entry_meant}
+use Rattle.cp_db.specs.Committed.{HoldsBatch}
 use Rattle.cp_db.specs.declared.work.CommitAt.{CommitAt}
+use Rattle.cp_db.specs.declared.work.Passed.{Passed}
+use Rattle.cp_db.specs.declared.work.Passed.TheVariants.{Load, Checkpoint}
 
--- the item has no steps
-abbrev pub IsNoCommit : Item → Type 0
-IsNoCommit (an_entry (written.start k t)) = ⊤
-IsNoCommit (an_entry (written.load n t)) = ⊤
-IsNoCommit (an_entry (written.commit b)) = ⊥
-IsNoCommit (an_entry (written.stamped s b)) = ⊥
-IsNoCommit (a_checkpoint body) = ⊤
+-- a walk begins with these items: from a state on with none, and else with one that may be first and leads to this state
+abbrev pub BeginsWith : Option State → List Item → State → Type 0
+BeginsWith None [] s = ⊥
+BeginsWith None (i ∷ []) s = CanStand false None i × (after_item None i ≡ Some s)
+BeginsWith None (i ∷ j ∷ items) s = ⊥
+BeginsWith (Some z) [] s = z ≡ s
+BeginsWith (Some z) (i ∷ items) s = ⊥
 
--- the items lead to a state of this kind, with this last Tid, these sources and this tree; the entry of the commit may follow, and stands in the next place
-pub record IsAtCommit (place : ℕ → ℕ) (items : List Item) (s : State) (x : WrittenEntry) (c : CommitAt) (kind : Kind) (last : ℕ) (ss : List Source) (t : Tree) : Type 0 where
-  pub leads : LeadsTo (flat_map entries_in items) s
+-- it begins with them in a state of this kind, with this last Tid and this tree
+pub record IsBegun (first : Option State) (items : List Item) (s : State) (kind : Kind) (last : ℕ) (t : Tree) : Type 0 where
+  pub begins : BeginsWith first items s
+  pub of_kind : s.kind ≡ kind
+  pub after : s.now ≡ last
+  pub tree : tree_of s.tree ≡ t
+
+-- what is passed is this item, whose frame stands at this offset
+abbrev pub IsPassed : Passed → ℕ → Item → Type 0
+IsPassed (Load at) place (an_entry (written.start k t)) = ⊥
+IsPassed (Load at) place (an_entry (written.load n t)) = at ≡ place
+IsPassed (Load at) place (an_entry (written.commit b)) = ⊥
+IsPassed (Load at) place (an_entry (written.stamped s b)) = ⊥
+IsPassed (Load at) place (a_checkpoint body) = ⊥
+IsPassed (Checkpoint at) place (an_entry w) = ⊥
+IsPassed (Checkpoint at) place (a_checkpoint body) = at ≡ place
+
+-- from the first state on the items lead to a state of this kind, with this last Tid, these sources and this tree; the entry of the commit may follow, and stands in the next place
+pub record IsAtCommit (first : Option State) (place : ℕ → ℕ) (items : List Item) (s : State) (x : WrittenEntry) (c : CommitAt) (kind : Kind) (last : ℕ) (ss : List Source) (t : Tree) : Type 0 where
+  pub stand : AllStand false first items
+  pub leads : fold after_item first items ≡ Some s
   pub of_kind : s.kind ≡ kind
   pub after : s.now ≡ last
   pub sources : s.sources ≡ ss

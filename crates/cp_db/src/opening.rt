@@ -1,28 +1,25 @@
-//! A file that is opened: its header, and its entries, replayed one after another.
+//! A file that is opened: its header, and its entries, which a walk replays one after another.
 ghost use Rattle.std.specs.Prelude.{◌≡◌, ◌≤◌, ◌<◌, ◌∷◌, ◌⊎◌, ◌↔◌, [], true, false, IsTrue, List, ℕ, length, take, IfOk, IfErr, OnOk, None, Some};
 ghost use Rattle.cp_outside.specs.Causes.{Accounts};
 ghost use Rattle.cp_disk.specs.Views.{Only, Rests};
 ghost use Rattle.cp_journal.specs.Frames.{Frame};
-ghost use Rattle.cp_journal.specs.Journals.{Lists};
-ghost use Rattle.cp_journal.specs.declared.frame.TheConstants.{ENTRY};
-ghost use Rattle.cp_frame.specs.Items.{Item, IsOfVersion};
+ghost use Rattle.cp_frame.specs.Items.{IsOfVersion};
 ghost use Rattle.cp_frame.specs.Entries.{WrittenEntry, IsEntry, entry_format};
 ghost use Rattle.cp_format.specs.Formats.{Reads};
 ghost use Rattle.cp_frame.specs.Sound.{IsSoundEntry};
-ghost use Rattle.cp_db.specs.Committed.{HasTaken};
+ghost use Rattle.cp_frame.specs.Stops.{open_slot};
 ghost use Rattle.cp_db.specs.Databases.{IsDatabase, IsReady, is_spent, version_in};
-ghost use Rattle.cp_db.specs.Opening.{OpensAs, IsOpenDisk, open_slot, SpellsAs, StartsAs};
+ghost use Rattle.cp_db.specs.Opening.{OpensAs, IsOpenDisk, SpellsAs};
 
-use crate::committed::Committed;
 use crate::database::Db;
 use crate::fault::OpenFault;
 use crate::walk::HistoryWalk;
 use cp_disk::Disk;
 use cp_format::FormatFault;
 use cp_frame::{Entry, entry_of};
-use cp_journal::{ENTRY, HEADER_SIZE, Header, Journal};
+use cp_journal::{HEADER_SIZE, Header, Journal};
 use cp_kinds::KindStore;
-use cp_tree::{TreeRep, tree_of};
+use cp_tree::TreeRep;
 use std::alloc::Global;
 
 /// The offset in the file, in bytes, of the slot that names the newest checkpoint, if one is open.
@@ -68,68 +65,6 @@ pub fn is_of_version(entry: &Entry, version: u8) -> bool
     }
 }
 
-impl<R: TreeRep, S: TreeRep> Committed<R, S> {
-    /// What the first frame starts from; `NoStore` with the offset of what isn't a start. Reads the frame, and leaves its
-    /// bytes in `body`. Costs the tree.
-    pub fn first<D: Disk>(
-        alloc: Global,
-        disk: &mut D,
-        journal: &Journal,
-        body: &mut Vec<u8>,
-    ) -> Result<Committed<R, S>, OpenFault>
-        requires listed { IsTrue D.is_known
-            → (from : ℕ) × (fs : List Frame) × Lists from fs journal.now (D.view disk.old).content }
-        ensures started { IsTrue D.is_known → (from version : ℕ) (fs : List Frame)
-            → Lists from fs journal.now (D.view disk.old).content
-            → StartsAs R.contents S.contents version fs result }
-        ensures taken { IfOk result (λ c. (i : Item) × HasTaken R.contents S.contents c (i ∷ [])) }
-        ensures some { OnOk result (1 ≤ length journal.now.frames) }
-        ensures rests { IsTrue D.is_known → Rests (D.view disk.old) (D.view disk.new) }
-        ensures cause { Accounts IsOpenDisk (D.counts disk.old).faults (D.counts disk.new).faults result }
-    {
-        if journal.len() == 0 {
-            return Err(OpenFault::NoStore(HEADER_SIZE as u64));
-        }
-        let frame = journal.read(disk, 0, body)?;
-        if frame.tag != ENTRY {
-            return Err(OpenFault::NoStore(frame.at));
-        }
-        Committed::first_entry(alloc, body, frame.at)
-    }
-
-    /// What the entry starts from that these bytes of the frame at this offset spell, if they spell a start.
-    fn first_entry(alloc: Global, body: &[u8], at: u64) -> Result<Committed<R, S>, OpenFault>
-        ensures started { (version : ℕ) (f : Frame) (rest : List Frame) → f.tag ≡ ENTRY → f.body ≡ body.now
-            → StartsAs R.contents S.contents version (f ∷ rest) result }
-        ensures taken { IfOk result (λ c. (i : Item) × HasTaken R.contents S.contents c (i ∷ [])) }
-        ensures disk { IfErr result (λ e. e ≡ OpenFault.Disk → ⊥) }
-    {
-        let entry = entry_in(alloc, body, at)?;
-        let started = Committed::started_by(alloc, &entry, at);
-        drop(entry);
-        started
-    }
-
-    /// What this entry of the frame at this offset starts from, if it is a start.
-    fn started_by(alloc: Global, entry: &Entry, at: u64) -> Result<Committed<R, S>, OpenFault>
-        requires sound { IsSoundEntry entry.now }
-        requires spelled { (bytes : List ℕ) × (w : WrittenEntry) × IsEntry entry.now w × Reads entry_format bytes w [] }
-        ensures started { (version : ℕ) (f : Frame) (rest : List Frame) (w : WrittenEntry) → f.tag ≡ ENTRY
-            → IsEntry entry.now w → Reads entry_format f.body w []
-            → StartsAs R.contents S.contents version (f ∷ rest) result }
-        ensures taken { IfOk result (λ c. (i : Item) × HasTaken R.contents S.contents c (i ∷ [])) }
-        ensures disk { IfErr result (λ e. e ≡ OpenFault.Disk → ⊥) }
-    {
-        match entry {
-            Entry::Start { kind, tree } => {
-                let tree = tree_of(alloc, tree)?;
-                Ok(Committed::start(alloc, *kind, tree)?)
-            }
-            _ => Err(OpenFault::NoStore(at)),
-        }
-    }
-}
-
 /// The version that a header says, which is 1 or 2.
 pub fn version_of(header: &Header) -> u8
     ensures either { (result ≡ 1) ⊎ (result ≡ 2) }
@@ -159,7 +94,11 @@ impl<R: TreeRep, S: TreeRep> Db<R, S> {
         let version = version_of(&header);
         let journal = Journal::open_on(alloc, disk, HEADER_SIZE as u64)?;
         let walk: HistoryWalk<R, S, KindStore> = HistoryWalk::over_all(
-            alloc, disk, &journal, version,
+            alloc,
+            disk,
+            &journal,
+            HEADER_SIZE as u64,
+            version,
         )?;
         if let Some(at) = journal.broken() {
             drop(walk);

@@ -4,7 +4,7 @@ ghost use Rattle.std.specs.List.{flat_map};
 ghost use Rattle.cp_frame.specs.Items.{records_in};
 
 use crate::committed::replay_commit;
-use crate::work::{CommitAt, Work};
+use crate::work::{CommitAt, Passed, Work};
 use cp_kinds::KindStore;
 use cp_model::{Kind, ProvStore};
 use cp_operation::Sources;
@@ -15,9 +15,14 @@ use std::alloc::{AllocError, Global};
 impl Work for KindStore {
     ghost fits = { λ rows kind last. (rows.kind ≡ kind) × (rows.rows.upto ≡ last) };
 
-    ghost done = { λ rows place items. rows.rows.list ≡ flat_map records_in items };
+    ghost done = { λ rows first place items. rows.rows.list ≡ flat_map records_in items };
 
-    fn none(alloc: Global, kind: Kind, last: u64) -> Result<KindStore, AllocError> {
+    fn begin<R: TreeRep>(
+        alloc: Global,
+        kind: Kind,
+        last: u64,
+        _tree: &R,
+    ) -> Result<KindStore, AllocError> {
         KindStore::new(alloc, kind, last)
     }
 
@@ -48,5 +53,5 @@ impl Work for KindStore {
         }
     }
 
-    fn pass(&mut self) {}
+    fn pass(&mut self, _passed: Passed) {}
 }

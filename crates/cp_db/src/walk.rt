@@ -8,22 +8,24 @@ ghost use Rattle.cp_journal.specs.Journals.{Lists};
 ghost use Rattle.cp_journal.specs.declared.frame.TheConstants.{ENTRY};
 ghost use Rattle.cp_frame.specs.Entries.{WrittenEntry, IsEntry};
 ghost use Rattle.cp_frame.specs.Sound.{IsSoundEntry, IsSoundBatch};
-ghost use Rattle.cp_frame.specs.Items.{Item, CanStand, after_item, an_entry, entry_meant, no_stamp, records_in};
+ghost use Rattle.cp_frame.specs.Items.{Item, an_entry, entry_meant, no_stamp, records_in};
+ghost use Rattle.std.specs.declared.option.Option.{Option as OptionValue};
 ghost use Rattle.std.specs.List.{flat_map, slice_get};
 ghost use Rattle.cp_db.specs.Committed.{HasTaken, HoldsBatch, KeepsState};
-ghost use Rattle.cp_db.specs.Opening.{IsOpenDisk};
-ghost use Rattle.cp_db.specs.Walk.{CanReach, HasPassed, HasReached, FindsAs, PassesFrameAs, TellsPassedAs, committed_of, frame_place};
+ghost use Rattle.cp_db.specs.Opening.{IsOpenDisk, IsStartOf};
+ghost use Rattle.cp_db.specs.Walk.{CanReach, FindsAs, GoesOnAs, HasCome, HasPassed, HasReached, PassesFrameAs, TellsPassedAs, frame_place};
 
 use crate::committed::{Committed, load_source};
 use crate::fault::OpenFault;
 use crate::limits::TIDS_MAX;
 use crate::opening::{entry_in, is_of_version, open_slot, version_of};
-use crate::work::{CommitAt, Work};
+use crate::start::Start;
+use crate::work::{CommitAt, Passed, Work};
 use cp_disk::Disk;
 use cp_frame::Entry;
 use cp_journal::{ENTRY, HEADER_SIZE, Journal};
 use cp_kinds::KindStore;
-use cp_model::{Kind, ProvStore, Stamp};
+use cp_model::{Kind, Stamp};
 use cp_operation::Sources;
 use cp_path::Label;
 use cp_tree::TreeRep;
@@ -50,29 +52,21 @@ fn no_stamp(alloc: Global) -> Result<Stamp, AllocError>
 }
 
 impl<R: TreeRep, S: TreeRep, W: Work> HistoryWalk<R, S, W> {
-    /// A walk that has come past the start, and has done nothing yet.
-    fn begin(alloc: Global, first: Committed<R, S>) -> Result<HistoryWalk<R, S, W>, AllocError>
-        ensures first { IfOk result (λ w. committed_of w first.store.rows.list ≡ first) }
-        ensures fits { IfOk result (λ w. W.fits w.work w.kind w.last) }
-        ensures done { IfOk result (λ w. (place : ℕ → ℕ) (i : Item) (s : State) → CanStand false None i
-            → after_item None i ≡ Some s → W.done w.work place (i ∷ [])) }
+    /// A walk that has come past the start.
+    fn begin(alloc: Global, start: Start<R>) -> Result<HistoryWalk<R, S, W>, AllocError>
+        ensures reached { IfOk result (λ w. (i : Item) → IsStartOf i start.kind (R.contents start.tree)
+            → HasReached R.contents S.contents W.fits None w (i ∷ [])) }
+        ensures done { IfOk result (λ w. (place : ℕ → ℕ) (i : Item) → IsStartOf i start.kind (R.contents start.tree)
+            → W.done w.work None place (i ∷ [])) }
     {
-        let Committed {
-            tree,
-            sources,
-            store,
-            commits,
-        } = first;
-        let kind = store.kind();
-        let last = store.upto();
-        drop(store);
-        let work = W::none(alloc, kind, last)?;
+        let Start { kind, tree } = start;
+        let work = W::begin(alloc, kind, 0, &tree)?;
         Ok(HistoryWalk {
             tree,
-            sources,
+            sources: Sources::new(alloc),
             kind,
-            last,
-            commits,
+            last: 0,
+            commits: 0,
             work,
         })
     }
@@ -81,14 +75,14 @@ impl<R: TreeRep, S: TreeRep, W: Work> HistoryWalk<R, S, W> {
     /// it may.
     fn add(&mut self, alloc: Global, entry: Entry, at: u64) -> Result<bool, AllocError>
         requires sound { IsSoundEntry entry }
-        requires reached { (items : List Item) × HasReached R.contents S.contents W.fits self.old items }
-        ensures reached { (items : List Item) (w : WrittenEntry)
-            → HasReached R.contents S.contents W.fits self.old items → IsEntry entry w
-            → IfOk result (CanReach R.contents S.contents W.fits items w self.new) }
-        ensures found { (place : ℕ → ℕ) (items : List Item) (w : WrittenEntry)
-            → HasPassed R.contents S.contents W.fits W.done place self.old items → at ≡ place (length items)
+        requires reached { (first : OptionValue State) × (items : List Item) × HasReached R.contents S.contents W.fits first self.old items }
+        ensures reached { (first : OptionValue State) (items : List Item) (w : WrittenEntry)
+            → HasReached R.contents S.contents W.fits first self.old items → IsEntry entry w
+            → IfOk result (CanReach R.contents S.contents W.fits first items w self.new) }
+        ensures found { (first : OptionValue State) (place : ℕ → ℕ) (items : List Item) (w : WrittenEntry)
+            → HasPassed R.contents S.contents W.fits W.done first place self.old items → at ≡ place (length items)
             → IsEntry entry w
-            → IfOk result (λ b. IsTrue b → W.done self.new.work place (items ++ an_entry w ∷ [])) }
+            → IfOk result (λ b. IsTrue b → W.done self.new.work first place (items ++ an_entry w ∷ [])) }
     {
         match entry {
             Entry::Start { tree, .. } => {
@@ -99,7 +93,7 @@ impl<R: TreeRep, S: TreeRep, W: Work> HistoryWalk<R, S, W> {
                 let loaded = load_source(alloc, &mut self.sources, name, &tree);
                 drop(tree);
                 let loaded = loaded?;
-                self.work.pass();
+                self.work.pass(Passed::Load(at));
                 Ok(loaded)
             }
             Entry::Commit { ops, records } => {
@@ -131,14 +125,14 @@ impl<R: TreeRep, S: TreeRep, W: Work> HistoryWalk<R, S, W> {
     /// Replays a commit, if it may follow what is before it, and does the work; says whether it may.
     fn add_commit(&mut self, alloc: Global, commit: CommitAt) -> Result<bool, AllocError>
         requires sound { (trees : Bool) × IsSoundBatch trees commit.ops commit.records }
-        requires reached { (items : List Item) × HasReached R.contents S.contents W.fits self.old items }
-        ensures reached { (items : List Item) (w : WrittenEntry)
-            → HasReached R.contents S.contents W.fits self.old items → HoldsBatch w commit.ops commit.records
-            → IfOk result (CanReach R.contents S.contents W.fits items w self.new) }
-        ensures found { (place : ℕ → ℕ) (items : List Item) (w : WrittenEntry)
-            → HasPassed R.contents S.contents W.fits W.done place self.old items → commit.at ≡ place (length items)
+        requires reached { (first : OptionValue State) × (items : List Item) × HasReached R.contents S.contents W.fits first self.old items }
+        ensures reached { (first : OptionValue State) (items : List Item) (w : WrittenEntry)
+            → HasReached R.contents S.contents W.fits first self.old items → HoldsBatch w commit.ops commit.records
+            → IfOk result (CanReach R.contents S.contents W.fits first items w self.new) }
+        ensures found { (first : OptionValue State) (place : ℕ → ℕ) (items : List Item) (w : WrittenEntry)
+            → HasPassed R.contents S.contents W.fits W.done first place self.old items → commit.at ≡ place (length items)
             → HoldsBatch w commit.ops commit.records → entry_meant w ≡ commit_entry commit.stamp commit.ops
-            → IfOk result (λ b. IsTrue b → W.done self.new.work place (items ++ an_entry w ∷ [])) }
+            → IfOk result (λ b. IsTrue b → W.done self.new.work first place (items ++ an_entry w ∷ [])) }
     {
         let replayed = self.work.commit(
             alloc,
@@ -167,12 +161,13 @@ impl<R: TreeRep, S: TreeRep, W: Work> HistoryWalk<R, S, W> {
         at: u64,
         version: u8,
     ) -> Result<(), OpenFault>
-        requires reached { (items : List Item) × HasReached R.contents S.contents W.fits self.old items }
-        ensures added { (f : Frame) (place : ℕ → ℕ) (items : List Item)
+        requires reached { (first : OptionValue State) × (items : List Item) × HasReached R.contents S.contents W.fits first self.old items }
+        ensures added { (f : Frame) (first : OptionValue State) (place : ℕ → ℕ) (items : List Item)
             → f.tag ≡ ENTRY → f.body ≡ body.now
-            → HasPassed R.contents S.contents W.fits W.done place self.old items → at ≡ place (length items)
-            → PassesFrameAs R.contents S.contents W.fits W.done place version f items self.new result }
-        ensures reached { OnOk result ((items : List Item) × HasReached R.contents S.contents W.fits self.new items) }
+            → HasPassed R.contents S.contents W.fits W.done first place self.old items → at ≡ place (length items)
+            → PassesFrameAs R.contents S.contents W.fits W.done first place version f items self.new result }
+        ensures reached { (first : OptionValue State) (items : List Item) → HasReached R.contents S.contents W.fits first self.old items
+            → OnOk result ((more : List Item) × HasReached R.contents S.contents W.fits first self.new more) }
         ensures disk { IfErr result (λ e. e ≡ OpenFault.Disk → ⊥) }
     {
         let entry = entry_in(alloc, body, at)?;
@@ -199,19 +194,20 @@ impl<R: TreeRep, S: TreeRep, W: Work> HistoryWalk<R, S, W> {
         requires within { n < length journal.now.frames }
         requires listed { IsTrue D.is_known
             → (from : ℕ) × (fs : List Frame) × Lists from fs journal.now (D.view disk.old).content }
-        requires reached { (items : List Item) × HasReached R.contents S.contents W.fits self.old items }
+        requires reached { (first : OptionValue State) × (items : List Item) × HasReached R.contents S.contents W.fits first self.old items }
         ensures added { IsTrue D.is_known → (from : ℕ) (fs : List Frame) (f : Frame)
-            (items : List Item) → Lists from fs journal.now (D.view disk.old).content
+            (first : OptionValue State) (items : List Item) → Lists from fs journal.now (D.view disk.old).content
             → slice_get fs n ≡ Some f → length items ≡ n
-            → HasPassed R.contents S.contents W.fits W.done (frame_place from fs) self.old items
-            → PassesFrameAs R.contents S.contents W.fits W.done (frame_place from fs) version f items self.new result }
-        ensures reached { OnOk result ((items : List Item) × HasReached R.contents S.contents W.fits self.new items) }
+            → HasPassed R.contents S.contents W.fits W.done first (frame_place from fs) self.old items
+            → PassesFrameAs R.contents S.contents W.fits W.done first (frame_place from fs) version f items self.new result }
+        ensures reached { (first : OptionValue State) (items : List Item) → HasReached R.contents S.contents W.fits first self.old items
+            → OnOk result ((more : List Item) × HasReached R.contents S.contents W.fits first self.new more) }
         ensures rests { IsTrue D.is_known → Rests (D.view disk.old) (D.view disk.new) }
         ensures cause { Accounts IsOpenDisk (D.counts disk.old).faults (D.counts disk.new).faults result }
     {
         let frame = journal.read(disk, n, body)?;
         if frame.tag != ENTRY {
-            self.work.pass();
+            self.work.pass(Passed::Checkpoint(frame.at));
             return Ok(());
         }
         self.add_entry(alloc, body, frame.at, version)
@@ -232,31 +228,54 @@ impl<R: TreeRep, S: TreeRep, W: Work> HistoryWalk<R, S, W> {
         work
     }
 
-    /// The walk over all frames.
+    /// Goes on with the frame of this number, from 0 on, up to the last that the journal lists.
+    pub(crate) fn go_on<D: Disk>(
+        &mut self,
+        alloc: Global,
+        disk: &mut D,
+        journal: &Journal,
+        number: usize,
+        version: u8,
+        body: &mut Vec<u8>,
+    ) -> Result<(), OpenFault>
+        requires within { number ≤ length journal.now.frames }
+        requires listed { IsTrue D.is_known
+            → (from : ℕ) × (fs : List Frame) × Lists from fs journal.now (D.view disk.old).content }
+        requires reached { (first : OptionValue State) × (items : List Item) × HasReached R.contents S.contents W.fits first self.old items }
+        ensures passed { IsTrue D.is_known → (first : OptionValue State) (from : ℕ) (fs : List Frame)
+            → Lists from fs journal.now (D.view disk.old).content
+            → HasCome R.contents S.contents W.fits W.done first version from fs number self.old
+            → GoesOnAs R.contents S.contents W.fits W.done first version from fs self.new result }
+        ensures reached { (first : OptionValue State) (items : List Item) → HasReached R.contents S.contents W.fits first self.old items
+            → OnOk result ((more : List Item) × HasReached R.contents S.contents W.fits first self.new more) }
+        ensures rests { IsTrue D.is_known → Rests (D.view disk.old) (D.view disk.new) }
+        ensures cause { Accounts IsOpenDisk (D.counts disk.old).faults (D.counts disk.new).faults result }
+    {
+        for n in number..journal.len() {
+            self.add_frame(alloc, disk, journal, n, version, body)?;
+        }
+        Ok(())
+    }
+
+    /// The walk from a start on, over all frames that the journal lists, the first of which stands at this offset.
     pub(crate) fn over_all<D: Disk>(
         alloc: Global,
         disk: &mut D,
         journal: &Journal,
+        from: u64,
         version: u8,
     ) -> Result<HistoryWalk<R, S, W>, OpenFault>
-        requires listed { IsTrue D.is_known
-            → (from : ℕ) × (fs : List Frame) × Lists from fs journal.now (D.view disk.old).content }
-        ensures passed { IsTrue D.is_known → (from : ℕ) (fs : List Frame)
-            → Lists from fs journal.now (D.view disk.old).content
-            → TellsPassedAs R.contents S.contents W.fits W.done from version fs result }
-        ensures reached { IfOk result (λ w. (items : List Item) × HasReached R.contents S.contents W.fits w items) }
+        requires listed { IsTrue D.is_known → (fs : List Frame) × Lists from fs journal.now (D.view disk.old).content }
+        ensures passed { IsTrue D.is_known → (fs : List Frame) → Lists from fs journal.now (D.view disk.old).content
+            → TellsPassedAs R.contents S.contents W.fits W.done version from fs result }
+        ensures reached { IfOk result (λ w. (items : List Item) × HasReached R.contents S.contents W.fits None w items) }
         ensures rests { IsTrue D.is_known → Rests (D.view disk.old) (D.view disk.new) }
         ensures cause { Accounts IsOpenDisk (D.counts disk.old).faults (D.counts disk.new).faults result }
     {
         let mut body = Vec::new(alloc);
-        let first = Committed::first(alloc, disk, journal, &mut body)?;
-        let mut walk: HistoryWalk<R, S, W> = HistoryWalk::begin(alloc, first)?;
-        for n in 1..journal.len() {
-            if let Err(fault) = walk.add_frame(alloc, disk, journal, n, version, &mut body) {
-                drop(walk);
-                return Err(fault);
-            }
-        }
+        let start = Start::read(alloc, disk, journal, from, &mut body)?;
+        let mut walk: HistoryWalk<R, S, W> = HistoryWalk::begin(alloc, start)?;
+        walk.go_on(alloc, disk, journal, 1, version, &mut body)?;
         Ok(walk)
     }
 }
@@ -264,10 +283,13 @@ impl<R: TreeRep, S: TreeRep, W: Work> HistoryWalk<R, S, W> {
 impl<R: TreeRep, S: TreeRep> HistoryWalk<R, S, KindStore> {
     /// What the walk leads to, with the rows that were kept on the way.
     pub(crate) fn into_committed(self) -> Committed<R, S>
-        ensures keeps { (items : List Item) (g : HasReached R.contents S.contents (λ rows kind last. (rows.kind ≡ kind) × (rows.rows.upto ≡ last)) self items)
+        ensures keeps { (first : OptionValue State) (items : List Item)
+            (g : HasReached R.contents S.contents (λ rows kind last. (rows.kind ≡ kind) × (rows.rows.upto ≡ last)) first self items)
             → KeepsState R.contents S.contents result g.taken.state }
-        ensures taken { (place : ℕ → ℕ) (items : List Item) → HasPassed R.contents S.contents (λ rows kind last. (rows.kind ≡ kind) × (rows.rows.upto ≡ last))
-            (λ rows place items. rows.rows.list ≡ flat_map records_in items) place self items → HasTaken R.contents S.contents result items }
+        ensures taken { (first : OptionValue State) (place : ℕ → ℕ) (items : List Item)
+            → HasPassed R.contents S.contents (λ rows kind last. (rows.kind ≡ kind) × (rows.rows.upto ≡ last))
+            (λ rows first place items. rows.rows.list ≡ flat_map records_in items) first place self items
+            → HasTaken R.contents S.contents first result items }
     {
         let HistoryWalk {
             tree,
@@ -300,7 +322,13 @@ pub fn work_over<R: TreeRep, S: TreeRep, W: Work, D: Disk>(
     }
     let version = version_of(&header);
     let journal = Journal::open_on(alloc, disk, HEADER_SIZE as u64)?;
-    let walk: HistoryWalk<R, S, W> = HistoryWalk::over_all(alloc, disk, &journal, version)?;
+    let walk: HistoryWalk<R, S, W> = HistoryWalk::over_all(
+        alloc,
+        disk,
+        &journal,
+        HEADER_SIZE as u64,
+        version,
+    )?;
     if let Some(at) = journal.broken() {
         drop(walk);
         return Err(OpenFault::NoStore(at));

@@ -21,5 +21,6 @@ pub mod SoundEntries
 pub mod SpelledEntries
 pub mod Standing
 pub mod Images
+pub mod Stopping
 pub mod Ends
 pub mod Measures

@@ -12,6 +12,7 @@ use Rattle.cp_journal.specs.declared.frame.TheConstants.{ENTRY, CHECKPOINT}
 use Rattle.cp_frame.specs.Entries.{WrittenEntry, start, load, commit, stamped}
 use Rattle.cp_frame.proofs.EntryForms.{plain_entry}
 use Rattle.cp_frame.specs.Items.{Item, an_entry, a_checkpoint, IsHeld, IsEntryFrame, AreHeld, entry_meant, entries_in, records_in, after_item, HasRecords, HasItsRecordsAfter, CanStand, AllStand, Tell}
+use Rattle.cp_frame.specs.Stops.{IsRefused}
 
 -- ---- the history of items
 
@@ -185,21 +186,19 @@ front_back [] n f is = absurd (cc is)
 front_back (g ∷ fs) zero f is = let same : g ≡ f = cc in (fs, ap (λ x. x ∷ fs) same)
 front_back (g ∷ fs) (suc n) f is = let more = front_back fs n f is in (more.0, ap (λ l. g ∷ l) more.1)
 
-stops_at : (right : Bool) (v : ℕ) (f : Frame) (rest : List Frame) (front back : List Item) → AreHeld v (f ∷ rest) back → AllStand right (replay (flat_map entries_in front)) back
-    → ((i : Item) → IsHeld v f i → CanStand false (replay (flat_map entries_in front)) i → ⊥) → ⊥
-stops_at right v f rest front [] held stand none = held
-stops_at right v f rest front (i ∷ is) held stand none = none i held.0 (item-weaker right (replay (flat_map entries_in front)) i stand.0)
+stops_at : (right : Bool) (v : ℕ) (f : Frame) (rest : List Frame) (o : Option State) (back : List Item) → AreHeld v (f ∷ rest) back → AllStand right o back → IsRefused v o f → ⊥
+stops_at right v f rest o [] held stand none = held
+stops_at right v f rest o (i ∷ is) held stand none = none i held.0 (item-weaker right o i stand.0)
 
--- where a frame holds no item that may follow those of the frames before it, the frames tell no history
-pub stops-here : (right : Bool) (v : ℕ) (fs : List Frame) (h : List Entry) (n : ℕ) (f : Frame) (items : List Item) → AreHeld v (take n fs) items → slice_get fs n ≡ Some f
-    → ((i : Item) → IsHeld v f i → CanStand false (replay (flat_map entries_in items)) i → ⊥) → Tell right v fs h → ⊥
-stops-here right v fs h n f items before here none t =
+-- where a frame holds no item that may follow those of the frames before it, not all frames hold items that may follow each other
+pub stops-here : (right : Bool) (v : ℕ) (first : Option State) (fs : List Frame) (n : ℕ) (f : Frame) (items all : List Item) → AreHeld v (take n fs) items → slice_get fs n ≡ Some f
+    → IsRefused v (fold after_item first items) f → AreHeld v fs all → AllStand right first all → ⊥
+stops-here right v first fs n f items all before here none held stand =
     let cut = front_back fs n f here in
-    let parts = held-split v (take n fs) (f ∷ cut.0) t.items (subst (λ (l : List Frame). AreHeld v l t.items) cut.1 t.held) in
+    let parts = held-split v (take n fs) (f ∷ cut.0) all (subst (λ (l : List Frame). AreHeld v l all) cut.1 held) in
     let same = held-one v (take n fs) parts.front items parts.front_held before in
-    let all = (stand-split right None parts.front parts.back (subst (AllStand right None) parts.are t.stand)).1 in
-    let state : fold after_item None parts.front ≡ replay (flat_map entries_in items) = ap (fold after_item None) same ∙ sym (replayed-items items) in
-    stops_at right v f cut.0 items parts.back parts.back_held (subst (λ (o : Option State). AllStand right o parts.back) state all) none
+    let after = (stand-split right first parts.front parts.back (subst (AllStand right first) parts.are stand)).1 in
+    stops_at right v f cut.0 (fold after_item first items) parts.back parts.back_held (subst (λ (l : List Item). AllStand right (fold after_item first l) parts.back) same after) none
 
 -- ---- old frames in new files
 

@@ -1,9 +1,10 @@
--- The laws of files: each tells one history at most, which is legal; one that stands for a history opens.
+-- The laws of files: each tells one history at most, which is legal; one that stands for a history opens; one that stops somewhere doesn't.
 use Rattle.std.specs.Prelude.{ℕ, Bool, ◌≡◌, true, false, List}
 use Rattle.cp_model.specs.History.{Entry, IsLegal}
 use Rattle.cp_journal.specs.Frames.{Frame}
 use Rattle.cp_frame.specs.Items.{Tell}
 use Rattle.cp_frame.specs.Stands.{IsStore, IsTold, Opens, Replays}
+use Rattle.cp_frame.specs.Stops.{StopsAt}
 
 -- a file tells one history at most, whether its records are right or not
 abbrev pub FilesTellOneHistory : Type 0
@@ -24,6 +25,14 @@ StoresOpen = (c : List ℕ) (h : List Entry) → IsStore h c → Opens c
 -- as long as no slot is open, what opens tells a history
 abbrev pub OpenFilesReplay : Type 0
 OpenFilesReplay = (c : List ℕ) → Opens c → Replays c
+
+-- a file that stops somewhere doesn't open
+abbrev pub StoppedFilesDontOpen : Type 0
+StoppedFilesDontOpen = (c : List ℕ) (at : ℕ) → StopsAt c at → Opens c → ⊥
+
+-- it stops at one offset alone
+abbrev pub FilesStopOnce : Type 0
+FilesStopOnce = (c : List ℕ) (at other : ℕ) → StopsAt c at → StopsAt c other → at ≡ other
 
 -- frames tell in version 2 what they tell in version 1
 abbrev pub OldEntriesStandInNewFiles : Type 0

@@ -10,5 +10,6 @@ pub mod Faults
 pub mod Laws
 pub mod Items
 pub mod Stands
+pub mod Stops
 pub mod Sizes
 pub mod FileLaws

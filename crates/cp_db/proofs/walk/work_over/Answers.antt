@@ -4,7 +4,7 @@ use Rattle.cp_disk.proofs.Composing.{rests_then}
 use Rattle.cp_journal.specs.Frames.{frames_of}
 use Rattle.cp_journal.specs.declared.limits.TheConstants.{HEADER_SIZE}
 use Rattle.cp_db.specs.Walk.{FindsAs, TellsPassedAs}
-use Rattle.cp_db.proofs.WalkingFrames.{finds, finds_not}
+use Rattle.cp_db.proofs.WalkingFrames.{finds, finds_broken, finds_not}
 use Rattle.cp_db.proofs.OpeningItems.{passed}
 use Rattle.cp_db.proofs.OpeningStores.{lists_after, version_kept, walked_first}
 use Rattle.cp_db.proofs.walk.work_over.Goals as goal
@@ -21,9 +21,30 @@ returns-in_err-walk-clause-found g c = λ known.
     let frames = (frames_of (drop HEADER_SIZE u.content)).frames in
     let fault = c.in_err-walk.field-0.0 in
     passed (FindsAs g.W.Work.done u.content) c.from_residual-in_err-walk.result fault (err_from_is_err_and c.from_residual-in_err-walk.result c.from_residual-in_err-walk.ensures.1)
-    (finds_not view source_view g.W.Work.fits g.W.Work.done u.content c.in_ok-header.header header.0 header.1 fault
-    (subst (λ (n : ℕ). TellsPassedAs view source_view g.W.Work.fits g.W.Work.done HEADER_SIZE n frames (Err fault)) (version_kept (take HEADER_SIZE u.content) c.in_ok-header.header _ header.1 c.version_of-version.ensures.said)
-    (c.in_err-walk.ensures.passed known HEADER_SIZE frames lists)))
+    (finds_not view source_view g.W.Work.fits g.W.Work.done u.content c.in_ok-header.header header.0 header.1 (sym c.open_slot.ensures ∙ c.in_default.is) fault
+    (subst (λ (n : ℕ). TellsPassedAs view source_view g.W.Work.fits g.W.Work.done n HEADER_SIZE frames (Err fault)) (version_kept (take HEADER_SIZE u.content) c.in_ok-header.header _ header.1 c.version_of-version.ensures.said)
+    (c.in_err-walk.ensures.passed known frames lists)))
+
+pub returns-in-Some-broken-clause-found : goal.returns-in-Some-broken-clause-found
+returns-in-Some-broken-clause-found g c = λ known.
+    let view = g.R.TreeRep.contents in
+    let source_view = g.S.TreeRep.contents in
+    let u = g.D.Disk.view c.args.disk.now in
+    let v = g.D.Disk.view c.header.new.disk in
+    let w = g.D.Disk.view c.open_on.new.disk in
+    let x = g.D.Disk.view c.over_all.new.disk in
+    let uv = c.in_ok-header.ensures.rests known in
+    let vw = c.in_ok-journal.ensures.rests known in
+    let wx = c.in_ok-walk.ensures.rests known in
+    let header = c.in_ok-header.ensures.header known in
+    let j = c.in_ok-journal.journal in
+    let walked = c.in_ok-journal.ensures.walked known in
+    let frames = (frames_of (drop HEADER_SIZE u.content)).frames in
+    let same = version_kept (take HEADER_SIZE u.content) c.in_ok-header.header _ header.1 c.version_of-version.ensures.said in
+    let tells = subst (λ (n : ℕ). TellsPassedAs view source_view g.W.Work.fits g.W.Work.done n HEADER_SIZE frames (Ok c.in_ok-walk.walk)) same
+    (c.in_ok-walk.ensures.passed known frames (lists_after u v w x uv vw wx j walked)) in
+    finds_broken view source_view g.W.Work.fits g.W.Work.done u.content c.in_ok-header.header header.0 header.1 (sym c.open_slot.ensures ∙ c.in_default.is) j c.in_ok-walk.walk (walked_first u v w x uv vw wx j walked) tells
+    c.in-Some-broken.at (sym c.broken.ensures ∙ c.in-Some-broken.is)
 
 pub returns-in-Some-broken-clause-rests : goal.returns-in-Some-broken-clause-rests
 returns-in-Some-broken-clause-rests g c = λ known.
@@ -46,10 +67,10 @@ returns-clause-found g c = λ known.
     let frames = (frames_of (drop HEADER_SIZE u.content)).frames in
     let same = version_kept (take HEADER_SIZE u.content) c.in_ok-header.header _ header.1 c.version_of-version.ensures.said in
     let whole : j.broken ≡ None = sym c.broken.ensures ∙ c.in_default-broken.is in
-    let tells = subst (λ (n : ℕ). TellsPassedAs view source_view g.W.Work.fits g.W.Work.done HEADER_SIZE n frames (Ok c.in_ok-walk.walk)) same
-    (c.in_ok-walk.ensures.passed known HEADER_SIZE frames (lists_after u v w x uv vw wx j walked)) in
+    let tells = subst (λ (n : ℕ). TellsPassedAs view source_view g.W.Work.fits g.W.Work.done n HEADER_SIZE frames (Ok c.in_ok-walk.walk)) same
+    (c.in_ok-walk.ensures.passed known frames (lists_after u v w x uv vw wx j walked)) in
     subst (λ found. FindsAs g.W.Work.done u.content (Ok found)) (sym c.into_work.ensures)
-    (finds view source_view g.W.Work.fits g.W.Work.done u.content c.in_ok-header.header header.0 header.1 j c.in_ok-walk.walk (sym c.open_slot.ensures ∙ c.in_default.is) whole (walked_first u v w x uv vw wx j walked) tells)
+    (finds view source_view g.W.Work.fits g.W.Work.done u.content c.in_ok-header.header header.0 header.1 (sym c.open_slot.ensures ∙ c.in_default.is) j c.in_ok-walk.walk (walked_first u v w x uv vw wx j walked) tells whole)
 
 pub returns-clause-rests : goal.returns-clause-rests
 returns-clause-rests g c = λ known.

@@ -3,10 +3,12 @@ use Rattle.std.proofs.lemmas.Result.{err_from_is_err_and}
 use Rattle.cp_disk.proofs.Composing.{rests_then}
 use Rattle.cp_journal.specs.Frames.{frames_of}
 use Rattle.cp_journal.specs.declared.limits.TheConstants.{HEADER_SIZE}
-use Rattle.cp_db.specs.Opening.{OpensAs, TellsAs}
-use Rattle.cp_db.specs.Walk.{frame_place}
+use Rattle.cp_db.specs.Opening.{OpensAs}
+use Rattle.cp_db.specs.Walk.{TellsPassedAs, frame_place}
 use Rattle.cp_db.proofs.OpeningItems.{passed}
-use Rattle.cp_db.proofs.OpeningStores.{described_last, has_opened, is_ready, lists_after, opens_not, version_kept, walked_first}
+use Rattle.cp_db.proofs.OpeningStores.{described_last, has_opened, is_ready, lists_after, version_kept, walked_first}
+use Rattle.cp_db.proofs.Walking.{RowsDone, RowsFit}
+use Rattle.cp_db.proofs.WalkingFrames.{held_all, opens_broken, opens_stopped}
 use Rattle.cp_db.proofs.database.Db.open_on.Goals as goal
 
 pub returns-in_err-walk-clause-opened : goal.returns-in_err-walk-clause-opened
@@ -21,9 +23,30 @@ returns-in_err-walk-clause-opened g c = λ known.
     let frames = (frames_of (drop HEADER_SIZE u.content)).frames in
     let fault = c.in_err-walk.field-0.0 in
     passed (OpensAs view source_view u.content x) c.from_residual-in_err-walk.result fault (err_from_is_err_and c.from_residual-in_err-walk.result c.from_residual-in_err-walk.ensures.1)
-    (opens_not view source_view u.content c.in_ok-header.header header.0 header.1 x fault
-    (subst (λ (n : ℕ). TellsAs view source_view n frames (Err fault)) (version_kept (take HEADER_SIZE u.content) c.in_ok-header.header _ header.1 c.version_of-version.ensures.said)
-    (c.in_err-walk.ensures.passed known HEADER_SIZE frames lists)))
+    (opens_stopped view source_view RowsFit RowsDone u.content c.in_ok-header.header header.0 header.1 (sym c.open_slot.ensures ∙ c.in_default.is) x fault
+    (subst (λ (n : ℕ). TellsPassedAs view source_view RowsFit RowsDone n HEADER_SIZE frames (Err fault)) (version_kept (take HEADER_SIZE u.content) c.in_ok-header.header _ header.1 c.version_of-version.ensures.said)
+    (c.in_err-walk.ensures.passed known frames lists)))
+
+pub returns-in-Some-broken-clause-opened : goal.returns-in-Some-broken-clause-opened
+returns-in-Some-broken-clause-opened g c = λ known.
+    let view = g.R.TreeRep.contents in
+    let source_view = g.S.TreeRep.contents in
+    let u = g.D.Disk.view c.args.disk.now in
+    let v = g.D.Disk.view c.header.new.disk in
+    let w = g.D.Disk.view c.open_on.new.disk in
+    let x = g.D.Disk.view c.over_all.new.disk in
+    let uv = c.in_ok-header.ensures.rests known in
+    let vw = c.in_ok-journal.ensures.rests known in
+    let wx = c.in_ok-walk.ensures.rests known in
+    let header = c.in_ok-header.ensures.header known in
+    let j = c.in_ok-journal.journal in
+    let walked = c.in_ok-journal.ensures.walked known in
+    let frames = (frames_of (drop HEADER_SIZE u.content)).frames in
+    let same = version_kept (take HEADER_SIZE u.content) c.in_ok-header.header _ header.1 c.version_of-version.ensures.said in
+    let tells = subst (λ (n : ℕ). TellsPassedAs view source_view RowsFit RowsDone n HEADER_SIZE frames (Ok c.in_ok-walk.walk)) same
+    (c.in_ok-walk.ensures.passed known frames (lists_after u v w x uv vw wx j walked)) in
+    opens_broken view source_view RowsFit RowsDone u.content c.in_ok-header.header header.0 header.1 (sym c.open_slot.ensures ∙ c.in_default.is) j c.in_ok-walk.walk (walked_first u v w x uv vw wx j walked) tells
+    c.in-Some-broken.at (sym c.broken.ensures ∙ c.in-Some-broken.is)
 
 pub returns-in-Some-broken-clause-rests : goal.returns-in-Some-broken-clause-rests
 returns-in-Some-broken-clause-rests g c = λ known.
@@ -47,11 +70,12 @@ returns-clause-opened g c = λ known.
     let same = version_kept (take HEADER_SIZE u.content) c.in_ok-header.header _ header.1 c.version_of-version.ensures.said in
     let whole : j.broken ≡ None = sym c.broken.ensures ∙ c.in_default-broken.is in
     let described = described_last u v w x uv vw wx j walked (c.in_ok-journal.ensures.described known (c.in_ok-header.ensures.durable known) whole) in
-    let passed = c.in_ok-walk.ensures.passed known HEADER_SIZE frames (lists_after u v w x uv vw wx j walked) in
-    let tells = subst (λ (n : ℕ). TellsAs view source_view n frames (Ok c.into_committed.result)) same
-    (passed.0, passed.1, passed.2, c.into_committed.ensures.taken (frame_place HEADER_SIZE frames) passed.1 passed.3) in
+    let tells = subst (λ (n : ℕ). TellsPassedAs view source_view RowsFit RowsDone n HEADER_SIZE frames (Ok c.in_ok-walk.walk)) same
+    (c.in_ok-walk.ensures.passed known frames (lists_after u v w x uv vw wx j walked)) in
+    let come = tells.1 in
+    let held = held_all view source_view RowsFit RowsDone u.content c.in_ok-header.header c.in_ok-walk.walk tells in
     has_opened view source_view u.content c.in_ok-header.header header.0 header.1 _ x same (sym c.open_slot.ensures ∙ c.in_default.is) whole c.in_ok-journal.ensures.usable
-    (walked_first u v w x uv vw wx j walked) described tells
+    (walked_first u v w x uv vw wx j walked) described tells.0 come.items held (c.into_committed.ensures.taken _ (frame_place HEADER_SIZE frames) come.items come.passed)
 
 pub returns-clause-ready : goal.returns-clause-ready
 returns-clause-ready g c = λ known.
@@ -69,4 +93,4 @@ returns-clause-rests g c = λ known.
 pub returns-clause-stands : goal.returns-clause-stands
 returns-clause-stands g c =
     let t = c.in_ok-walk.ensures.reached in
-    (t.1.taken.state, record { committed = c.into_committed.ensures.keeps t.0 t.1; whole = sym c.broken.ensures ∙ c.in_default-broken.is; usable = c.in_ok-journal.ensures.usable })
+    (t.1.taken.state, record { committed = c.into_committed.ensures.keeps _ t.0 t.1; whole = sym c.broken.ensures ∙ c.in_default-broken.is; usable = c.in_ok-journal.ensures.usable })

@@ -23,6 +23,6 @@ absorb-requires-clause-next g c =
     subst (AreNext upto (upto + tids)) (sym (c.deref.ensures.value ∙ ap (λ (k : CommitAt). k.records) c.commit.view_is)) (records-next c.requires.sound.0 c.args.commit.ops upto (upto + tids) c.args.commit.records c.requires.sound.1 is.between)
 
 pub returns-in-Ok-clause-done : goal.returns-in-Ok-clause-done
-returns-in-Ok-clause-done g c = λ place items s x done at.
-    rows-commit c.args.self.now.rows.list c.absorb.new.self.rows.list place items s x c.args.commit c.args.kind c.args.last (sources_in g.S.TreeRep.contents c.args.sources.now) (g.R.TreeRep.contents c.args.tree.now) done at
+returns-in-Ok-clause-done g c = λ first place items s x done at.
+    rows-commit c.args.self.now.rows.list c.absorb.new.self.rows.list first place items s x c.args.commit c.args.kind c.args.last (sources_in g.S.TreeRep.contents c.args.sources.now) (g.R.TreeRep.contents c.args.tree.now) done at
     (c.in-Ok.ensures.rows ∙ ap (λ (rs : List Record). c.args.self.now.rows.list ++ rs) (c.deref.ensures.value ∙ ap (λ (k : CommitAt). k.records) c.commit.view_is))
