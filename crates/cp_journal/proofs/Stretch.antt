@@ -1,5 +1,5 @@
 -- One more frame of a walk.
-use Rattle.std.proofs.Common.{◌≡◌, ◌≤◌, ◌<◌, ◌+◌, ◌&&◌, inl, inr, ℕ, Bool, true, false, if◌then◌else◌, IsTrue, None, Some, Option, get_or, take-append-drop, List, [], ◌∷◌, ◌++◌, length, take, drop, refl, sym, ◌∙◌, ap, subst, arith, append_assoc, append-nil, length-append, length-take, length-drop}
+use Rattle.std.proofs.Common.{◌≡◌, ◌≤◌, ◌<◌, ◌+◌, ◌*◌, ◌&&◌, inl, inr, ℕ, suc, Bool, true, false, if◌then◌else◌, IsTrue, None, Some, Option, get_or, take-append-drop, List, [], ◌∷◌, ◌++◌, length, take, drop, refl, sym, ◌∙◌, ap, subst, arith, append_assoc, append-nil, length-append, length-take, length-drop}
 use Rattle.std.specs.Int.{w64, from_be_bytes}
 use Rattle.std.proofs.lemmas.List.Concat.{flat_map-append}
 use Rattle.std.proofs.lemmas.List.{take_at, get_or-drop}
@@ -14,7 +14,7 @@ use Rattle.cp_journal.specs.declared.frame.FrameAt.{FrameAt}
 use Rattle.cp_journal.proofs.Places.{place, length-spelled, places-push}
 use Rattle.cp_journal.proofs.Looks.{at_end}
 use Rattle.cp_journal.proofs.Standing.{lawful-push, describes}
-use Rattle.cp_journal.proofs.Walks.{frames_of-all, frames_of-ends, onto_all}
+use Rattle.cp_journal.proofs.Walks.{frames_of-all, frames_of-ends, onto_all, frames-onto_all}
 
 -- a frame more
 pub stretch_more : (from : ℕ) (at : ℕ) (content : List ℕ) (tag len : ℕ) (old new : List FrameAt) → ((fs : List Frame) × Stretches from fs at content × (old ≡ places from fs)) → IsWholeAt at content tag len → new ≡ old ++ place at tag len ∷ []
@@ -133,3 +133,21 @@ opened_past at j c past none stops =
 pub clean_is : (clean : Bool) (n : ℕ) (kept : Option ℕ) → kept ≡ (if clean then None else Some n) → kept ≡ None → clean ≡ true
 clean_is true n kept is none = refl
 clean_is false n kept is none = let no : Some n ≡ None = sym is ∙ none in absurd (cc no)
+
+-- the walk finds the frames that stand there, and others perhaps
+stretch_few : (from : ℕ) (fs : List Frame) (to : ℕ) (c : List ℕ) (places_are : List FrameAt) → Stretches from fs to c → places_are ≡ places from fs → length places_are ≤ length (frames_of (drop from c)).frames
+stretch_few from fs to c listed s is =
+    let walk : (frames_of (drop from c)).frames ≡ fs ++ (frames_of (drop to c)).frames =
+    ap (λ (l : List ℕ). (frames_of l).frames) s.bytes ∙ ap (λ (w : Walk). w.frames) (frames_of-all fs (drop to c) s.lawful) ∙ frames-onto_all fs (frames_of (drop to c)) in
+    omega (arith, ap length walk, length-append fs (frames_of (drop to c)).frames, ap length is, length-places from fs)
+  where
+    length-places : (from : ℕ) (fs : List Frame) → length (places from fs) ≡ length fs
+    length-places from [] = refl
+    length-places from (f ∷ fs) = ap (λ (n : ℕ). suc n) (length-places (from + 10 + length f.body) fs)
+
+-- the reads of a walk that stops after these frames are few beside the frames that are there
+pub reads_few : (from : ℕ) (to : ℕ) (c : List ℕ) (listed : List FrameAt) (first now last : ℕ) → ((fs : List Frame) × Stretches from fs to c × (listed ≡ places from fs)) → now ≤ first + 2 * length listed → last ≤ now + 2
+    → last ≤ first + 2 * length (frames_of (drop from c)).frames + 2
+reads_few from to c listed first now last found so_far more =
+    let few = stretch_few from found.0 to c listed found.1 found.2 in
+    omega (arith, few, so_far, more)

@@ -17,6 +17,8 @@ pub record JournalState : Type 0 where
   pub frames : List FrameAt
   -- The offset of the gate after them.
   pub next : ℕ
+  -- The bytes so far of the body of the frame of a checkpoint that is begun there, if one is.
+  pub begun : Option ℕ
   -- That offset, where no frame stands whole at an open gate there.
   pub broken : Option ℕ
   -- A call that writes has failed, or ran out of memory.
@@ -30,6 +32,16 @@ end_of f = f.at + FRAME_HEAD + f.len
 abbrev pub AreInRange : List FrameAt → Type 0
 AreInRange [] = Unit {0}
 AreInRange (f ∷ fs) = (end_of f ≤ DISK_MAX) × AreInRange fs
+
+-- A frame that is begun at this offset, if one is, ends within the most bytes of a file.
+abbrev pub HasRoomFor : ℕ → Option ℕ → Type 0
+HasRoomFor at None = Unit {0}
+HasRoomFor at (Some len) = at + FRAME_HEAD + len ≤ DISK_MAX
+
+-- Where the next piece of the frame that is begun at this offset goes; where none is, that offset.
+abbrev pub next_byte : ℕ → Option ℕ → ℕ
+next_byte at None = at
+next_byte at (Some len) = at + FRAME_HEAD + len
 
 -- The places of frames that follow each other from an offset on.
 abbrev pub places : ℕ → List Frame → List FrameAt

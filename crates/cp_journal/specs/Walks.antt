@@ -1,8 +1,7 @@
 -- What a walk over the frames of a file finds, gate by gate.
-use Rattle.std.specs.Prelude.{ℕ, ◌+◌, ◌≡◌, ◌≤◌, Bool, true, false, ◌&&◌, List, ◌++◌, length, take, drop, get_or, if◌then◌else◌}
+use Rattle.std.specs.Prelude.{ℕ, ◌+◌, ◌≡◌, ◌≤◌, Bool, List, ◌++◌, length, take, drop, if◌then◌else◌}
 use Rattle.std.specs.Int.{w64, from_be_bytes}
-use lib.Dec.{leb}
-use Rattle.cp_journal.specs.Frames.{Frame, fits, spelled, spelled_all, Gate, closed, broken, gate_at}
+use Rattle.cp_journal.specs.Frames.{Frame, spelled, spelled_all, Gate, closed, broken, gate_at}
 use Rattle.cp_journal.specs.Holding.{IsLawful, AreLawful}
 use Rattle.cp_journal.specs.Journals.{places}
 use Rattle.cp_journal.specs.declared.limits.TheConstants.{FRAME_HEAD}
@@ -13,12 +12,6 @@ use Rattle.cp_journal.specs.declared.walk.Walked.{Walked}
 -- The length in the nine bytes after a gate.
 abbrev pub length_in : List ℕ → ℕ
 length_in head = from_be_bytes w64 (take 8 (drop 1 head))
-
--- This is what the nine bytes after an open gate say, where so many bytes come after them.
-abbrev pub IsDecided : List ℕ → ℕ → Seen → Type 0
-IsDecided head room Closed = ⊥
-IsDecided head room Broken = (fits (get_or head 0 0) (length_in head) && leb (length_in head) room) ≡ false
-IsDecided head room (Whole tag len) = (tag ≡ get_or head 0 0) × (len ≡ length_in head) × (fits tag len ≡ true) × (len ≤ room)
 
 -- The frame of this tag whose body is so many bytes of the file, where its gate stands at this offset.
 abbrev pub frame_in : ℕ → List ℕ → ℕ → ℕ → Frame

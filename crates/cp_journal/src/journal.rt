@@ -5,7 +5,7 @@ ghost use Rattle.cp_outside.specs.Causes.{Accounts, Rose};
 ghost use Rattle.cp_disk.specs.Views.{Only, IsDurable, Rests, Steps, Keeps};
 ghost use Rattle.cp_journal.specs.Frames.{Frame, entry, frames_of, after_gate};
 ghost use Rattle.cp_journal.specs.Holding.{HasFrames, IsAtRest, IsAdded, IsBeforeOrAfter, IsLawful, Holds, StandsWithOrWithout};
-ghost use Rattle.cp_journal.specs.Journals.{Lists, entry_body, HasWalked, Describes, IsDiskFault};
+ghost use Rattle.cp_journal.specs.Journals.{next_byte, Lists, entry_body, HasWalked, Describes, IsDiskFault};
 ghost use Rattle.cp_journal.specs.Headers.{HasHeader, header_in};
 ghost use Rattle.cp_journal.specs.NewStores.{IsVacant, header, new_file, IsOldOrVacantOrNew};
 ghost use Rattle.cp_journal.specs.Upgrading.{upgraded, HasOtherVersion, SaysHeader, with_version, SaysInAVersion, StandsInAVersion};
@@ -39,6 +39,7 @@ fn given_len(tag: u8, len: u64) -> u64
 pub struct Journal {
     frames: Vec<FrameAt>,
     next: u64,
+    begun: Option<u64>,
     broken: Option<u64>,
     spent: bool,
 }
@@ -46,13 +47,13 @@ pub struct Journal {
 impl Model for Journal {
     ghost use Rattle.std.specs.Prelude.{◌≤◌};
     ghost use Rattle.cp_disk.specs.declared.limits.TheConstants.{DISK_MAX};
-    ghost use Rattle.cp_journal.specs.Journals.{JournalState, AreInRange};
+    ghost use Rattle.cp_journal.specs.Journals.{JournalState, AreInRange, HasRoomFor};
 
     ghost Value = { JournalState };
 
-    ghost view = { λ s. record { frames = s.frames.items; next = s.next; broken = s.broken; spent = s.spent } };
+    ghost view = { λ s. record { frames = s.frames.items; next = s.next; begun = s.begun; broken = s.broken; spent = s.spent } };
 
-    ghost invariant = { λ s. (s.next ≤ DISK_MAX) × AreInRange s.frames.items };
+    ghost invariant = { λ s. (s.next ≤ DISK_MAX) × AreInRange s.frames.items × HasRoomFor s.next s.begun };
 }
 
 impl Journal {
@@ -86,6 +87,7 @@ impl Journal {
             → Keeps (IsOldOrVacantOrNew (D.view disk.old) (entry body.now)) (D.view disk.old) (D.view disk.new) }
         ensures next { IfOk result (λ j. j.next ≡ HEADER_SIZE + FRAME_HEAD + length body.now) }
         ensures usable { IfOk result (λ j. (j.broken ≡ None) × (j.spent ≡ false)) }
+        ensures idle { IfOk result (λ j. j.begun ≡ None) }
         ensures kinds { OnErr result (IsErrOf result JournalFault.Disk ⊎ IsErrOf result JournalFault.Memory) }
         ensures cause { Accounts IsDiskFault (D.counts disk.old).faults (D.counts disk.new).faults result }
         ensures memory { IsErrOf result JournalFault.Memory
@@ -103,6 +105,7 @@ impl Journal {
         ensures { IfOk result (λ j. j ≡ record {
           frames = record { at = HEADER_SIZE; tag = ENTRY; len = len } ∷ [];
           next = HEADER_SIZE + FRAME_HEAD + len;
+          begun = None;
           broken = None;
           spent = false;
         }) }
@@ -116,6 +119,7 @@ impl Journal {
         Ok(Journal {
             frames,
             next: HEADER_SIZE as u64 + FRAME_HEAD + len,
+            begun: None,
             broken: None,
             spent: false,
         })
@@ -153,15 +157,19 @@ impl Journal {
             → IfOk result (λ j. j.broken ≡ None → Describes (take at (D.view disk.old).content)
             (frames_of (drop at (D.view disk.old).content)).frames j (D.view disk.new)) }
         ensures usable { IfOk result (λ j. j.spent ≡ false) }
+        ensures idle { IfOk result (λ j. j.begun ≡ None) }
         ensures kinds { OnErr result (IsErrOf result JournalFault.Disk ⊎ IsErrOf result JournalFault.Memory) }
         ensures cause { Accounts IsDiskFault (D.counts disk.old).faults (D.counts disk.new).faults result }
         ensures reads { IfOk result (λ j. (D.counts disk.new).reads ≤ (D.counts disk.old).reads + 2 * length j.frames + 2) }
+        ensures most_reads { IsTrue D.is_known → (D.counts disk.new).reads
+            ≤ (D.counts disk.old).reads + 2 * length (frames_of (drop at (D.view disk.old).content)).frames + 2 }
     {
         let size = disk.size()?;
         if at > size {
             return Ok(Journal {
                 frames: Vec::new(alloc),
                 next: size,
+                begun: None,
                 broken: Some(at),
                 spent: false,
             });
@@ -170,6 +178,7 @@ impl Journal {
         Ok(Journal {
             frames: walked.frames,
             next: walked.next,
+            begun: None,
             broken: kept_gate(walked.clean, walked.next),
             spent: false,
         })
@@ -214,11 +223,16 @@ impl Journal {
         self.frames.len()
     }
 
-    /// The offset of the closed gate after the frames. Where no frame stands whole at an open gate there, it is not said.
+    /// Where the frame of a checkpoint is begun, the offset of its next piece; else that of the closed gate after the frames.
+    /// Where no frame stands whole at an open gate there, it is not said.
     pub fn next(&self) -> u64
-        ensures { result ≡ self.now.next }
+        ensures is { result ≡ next_byte self.now.next self.now.begun }
+        ensures most { result ≤ DISK_MAX }
     {
-        self.next
+        match self.begun {
+            Some(len) => self.next + FRAME_HEAD + len,
+            None => self.next,
+        }
     }
 
     /// The offset of the gate at which the walk of [`Journal::open_on`] ended, if that wasn't closed.
@@ -246,6 +260,7 @@ impl Journal {
     ) -> Result<u64, JournalFault>
         requires whole { self.old.broken ≡ None }
         requires usable { self.old.spent ≡ false }
+        requires idle { self.old.begun ≡ None }
         requires rest { IsTrue D.is_known → IsAtRest self.old.next (D.view disk.old) }
         ensures at { IfOk result (λ at. at ≡ self.old.next) }
         ensures added { IsTrue D.is_known
@@ -268,6 +283,7 @@ impl Journal {
             (IsErrOf result JournalFault.Disk ⊎ (IsErrOf result JournalFault.Memory ⊎ IsErrOf result JournalFault.TooLarge)) }
         ensures spent { IsTrue self.new.spent ↔ (IsErrOf result JournalFault.Disk ⊎ IsErrOf result JournalFault.Memory) }
         ensures broken { self.new.broken ≡ self.old.broken }
+        ensures idle { self.new.begun ≡ self.old.begun }
         ensures cause { Accounts IsDiskFault (D.counts disk.old).faults (D.counts disk.new).faults result }
         ensures memory { IsErrOf result JournalFault.Memory
             → (disk.new ≡ disk.old) ⊎ Rose (D.counts disk.old).wants (D.counts disk.new).wants }
@@ -288,6 +304,7 @@ impl Journal {
     pub fn upgrade<D: Disk>(&mut self, disk: &mut D) -> Result<(), JournalFault>
         requires whole { self.old.broken ≡ None }
         requires usable { self.old.spent ≡ false }
+        requires idle { self.old.begun ≡ None }
         requires rest { IsTrue D.is_known → IsAtRest self.old.next (D.view disk.old) }
         requires header { IsTrue D.is_known → HEADER_SIZE ≤ self.old.next }
         ensures content { IsTrue D.is_known
@@ -318,6 +335,7 @@ impl Journal {
         ensures spent { IsTrue self.new.spent ↔ (IsErrOf result JournalFault.Disk ⊎ IsErrOf result JournalFault.Memory) }
         ensures same { (self.new.frames ≡ self.old.frames) × (self.new.next ≡ self.old.next)
             × (self.new.broken ≡ self.old.broken) }
+        ensures idle { self.new.begun ≡ self.old.begun }
         ensures cause { Accounts IsDiskFault (D.counts disk.old).faults (D.counts disk.new).faults result }
         ensures memory { IsErrOf result JournalFault.Memory → Rose (D.counts disk.old).wants (D.counts disk.new).wants }
         ensures reads { (D.counts disk.new).reads ≡ (D.counts disk.old).reads }
@@ -338,7 +356,7 @@ impl Journal {
         ensures frames { OnOk result (self.new.frames ≡
             self.old.frames ++ record { at = self.old.next; tag = tag; len = length body.now } ∷ []) }
         ensures same { (self.new.next ≡ self.old.next) × (self.new.broken ≡ self.old.broken)
-            × (self.new.spent ≡ self.old.spent) }
+            × (self.new.begun ≡ self.old.begun) × (self.new.spent ≡ self.old.spent) }
     {
         let bytes = bytes_after_gate(alloc, tag, body)?;
         self.frames.push(FrameAt {
@@ -359,6 +377,7 @@ impl Journal {
     ) -> Result<u64, JournalFault>
         requires lawful { IsLawful (record { tag = tag; body = body.now }) }
         requires room { self.old.next + length body.now + FRAME_HEAD + 1 ≤ DISK_MAX }
+        requires idle { self.old.begun ≡ None }
         requires rest { IsTrue D.is_known → IsAtRest self.old.next (D.view disk.old) }
         ensures at { IfOk result (λ at. at ≡ self.old.next) }
         ensures added { IsTrue D.is_known → OnOk result (IsAdded self.old.next (record { tag = tag; body = body.now })
@@ -371,6 +390,7 @@ impl Journal {
         ensures kinds { OnErr result (IsErrOf result JournalFault.Disk ⊎ IsErrOf result JournalFault.Memory) }
         ensures spent { self.new.spent ≡ self.old.spent }
         ensures broken { self.new.broken ≡ self.old.broken }
+        ensures idle { self.new.begun ≡ self.old.begun }
         ensures cause { Accounts IsDiskFault (D.counts disk.old).faults (D.counts disk.new).faults result }
         ensures memory { IsErrOf result JournalFault.Memory
             → (disk.new ≡ disk.old) ⊎ Rose (D.counts disk.old).wants (D.counts disk.new).wants }

@@ -1,11 +1,11 @@
 //! The walk over frames from gate to gate.
-ghost use Rattle.std.specs.Prelude.{◌≡◌, ◌≤◌, ◌<◌, ◌⊎◌, ◌+◌, ◌*◌, IsTrue, IsErrOf, ℕ, length, get_or, if◌then◌else◌, None, Some, IfOk, OnErr};
+ghost use Rattle.std.specs.Prelude.{◌≡◌, ◌≤◌, ◌<◌, ◌⊎◌, ◌↔◌, ◌+◌, ◌*◌, IsTrue, IsErrOf, ℕ, length, drop, get_or, if◌then◌else◌, None, Some, IfOk, OnErr};
 ghost use Rattle.cp_outside.specs.Causes.{Accounts};
 ghost use Rattle.cp_disk.specs.Counts.{Counted};
 ghost use Rattle.cp_disk.specs.Views.{Rests};
-ghost use Rattle.cp_journal.specs.Frames.{fits as may_be_frame};
+ghost use Rattle.cp_journal.specs.Frames.{fits as may_be_frame, frames_of};
 ghost use Rattle.cp_journal.specs.Journals.{AreInRange, IsDiskFault};
-ghost use Rattle.cp_journal.specs.Walks.{IsDecided, IsSeen, HasRoom, IsWalked};
+ghost use Rattle.cp_journal.specs.Walks.{length_in, IsSeen, HasRoom, IsWalked};
 
 use crate::fault::JournalFault;
 use crate::frame::{CHECKPOINT, ENTRY, FrameAt};
@@ -29,34 +29,86 @@ fn fits(tag: u8, len: u64) -> bool
     entry || tag == CHECKPOINT
 }
 
-// What the nine bytes after an open gate say, where so many bytes come after them.
-fn decide(head: &[u8; 9], room: u64) -> Seen
-    ensures decided { IsDecided head.now room result }
+// The length in the nine bytes after an open gate.
+fn len_in(head: &[u8; 9]) -> u64
+    ensures len { result ≡ length_in head.now }
     ensures bytes { (i : ℕ) → get_or head.now i 0 < 256 }
 {
-    let tag = head[0];
-    let len = u64::from_be_bytes([
+    u64::from_be_bytes([
         head[1], head[2], head[3], head[4], head[5], head[6], head[7], head[8],
-    ]);
-    let good = fits(tag, len);
-    if good && len <= room {
-        return Seen::Whole { tag, len };
+    ])
+}
+
+// Whether so many bytes come after this offset in a file of this size.
+fn is_inside(size: u64, at: u64, len: u64) -> bool
+    ensures { IsTrue result ↔ (at + len ≤ size) }
+{
+    at <= size && len <= size - at
+}
+
+// Whether so many bytes come after this offset in the file. Where it was too short when its size was asked for last, the size
+// is asked for again: a writer may have added frames meanwhile. Once is enough, since a writer opens a gate only after the
+// whole frame and the closed gate of the next one are in the file.
+fn has_bytes<D: Disk>(disk: &mut D, size: &mut u64, at: u64, len: u64) -> Result<bool, DiskFault>
+    requires size { IsTrue D.is_known → size.old ≡ length (D.view disk.old).content }
+    requires most { size.old ≤ DISK_MAX }
+    ensures bytes { IfOk result (λ b. IsTrue b ↔ (at + len ≤ size.new)) }
+    ensures size { IsTrue D.is_known → size.new ≡ length (D.view disk.old).content }
+    ensures most { size.new ≤ DISK_MAX }
+    ensures rests { IsTrue D.is_known → Rests (D.view disk.old) (D.view disk.new) }
+    ensures cause { Counted (D.counts disk.old) (D.counts disk.new) result }
+    ensures reads { (D.counts disk.new).reads ≡ (D.counts disk.old).reads }
+{
+    if is_inside(*size, at, len) {
+        return Ok(true);
     }
-    Seen::Broken
+    *size = disk.size()?;
+    Ok(is_inside(*size, at, len))
+}
+
+// Looks at what comes after an open gate, with one read at most.
+fn look_after<D: Disk>(disk: &mut D, size: &mut u64, at: u64) -> Result<Seen, DiskFault>
+    requires size { IsTrue D.is_known → size.old ≡ length (D.view disk.old).content }
+    requires most { size.old ≤ DISK_MAX }
+    requires inside { IsTrue D.is_known → at < length (D.view disk.old).content }
+    requires gate { IsTrue D.is_known → get_or (D.view disk.old).content at 0 ≡ 1 }
+    ensures seen { IsTrue D.is_known → IfOk result (λ s. IsSeen at (D.view disk.old).content s) }
+    ensures room { IfOk result (λ s. HasRoom at size.new s) }
+    ensures size { IsTrue D.is_known → size.new ≡ length (D.view disk.old).content }
+    ensures most { size.new ≤ DISK_MAX }
+    ensures rests { IsTrue D.is_known → Rests (D.view disk.old) (D.view disk.new) }
+    ensures cause { Counted (D.counts disk.old) (D.counts disk.new) result }
+    ensures reads { (D.counts disk.new).reads ≤ (D.counts disk.old).reads + 1 }
+{
+    if !has_bytes(disk, size, at, FRAME_HEAD)? {
+        return Ok(Seen::Broken);
+    }
+    let mut head = [0u8; 9];
+    disk.read(at + 1, &mut head)?;
+    let tag = head[0];
+    let len = len_in(&head);
+    if !fits(tag, len) {
+        return Ok(Seen::Broken);
+    }
+    if !has_bytes(disk, size, at + FRAME_HEAD, len)? {
+        return Ok(Seen::Broken);
+    }
+    Ok(Seen::Whole { tag, len })
 }
 
 // Looks at a gate, with two reads at most.
-fn look<D: Disk>(disk: &mut D, size: u64, at: u64) -> Result<Seen, DiskFault>
-    requires size { IsTrue D.is_known → size ≡ length (D.view disk.old).content }
-    requires within { at ≤ size }
-    requires most { size ≤ DISK_MAX }
+fn look<D: Disk>(disk: &mut D, size: &mut u64, at: u64) -> Result<Seen, DiskFault>
+    requires size { IsTrue D.is_known → size.old ≡ length (D.view disk.old).content }
+    requires most { size.old ≤ DISK_MAX }
     ensures seen { IsTrue D.is_known → IfOk result (λ s. IsSeen at (D.view disk.old).content s) }
-    ensures room { IfOk result (λ s. HasRoom at size s) }
+    ensures room { IfOk result (λ s. HasRoom at size.new s) }
+    ensures size { IsTrue D.is_known → size.new ≡ length (D.view disk.old).content }
+    ensures most { size.new ≤ DISK_MAX }
     ensures rests { IsTrue D.is_known → Rests (D.view disk.old) (D.view disk.new) }
     ensures cause { Counted (D.counts disk.old) (D.counts disk.new) result }
     ensures reads { (D.counts disk.new).reads ≤ (D.counts disk.old).reads + 2 }
 {
-    if at == size {
+    if !has_bytes(disk, size, at, 1)? {
         return Ok(Seen::Broken);
     }
     let mut gate = [0u8; 1];
@@ -64,12 +116,7 @@ fn look<D: Disk>(disk: &mut D, size: u64, at: u64) -> Result<Seen, DiskFault>
     if gate[0] != 1 {
         return Ok(Seen::Closed);
     }
-    if size - at < FRAME_HEAD {
-        return Ok(Seen::Broken);
-    }
-    let mut head = [0u8; 9];
-    disk.read(at + 1, &mut head)?;
-    Ok(decide(&head, size - at - FRAME_HEAD))
+    look_after(disk, size, at)
 }
 
 // The frames from an offset on, the gate after them, and whether that is closed.
@@ -103,11 +150,14 @@ pub(crate) fn walk_frames<D: Disk>(
     ensures rests { IsTrue D.is_known → Rests (D.view disk.old) (D.view disk.new) }
     ensures cause { Accounts IsDiskFault (D.counts disk.old).faults (D.counts disk.new).faults result }
     ensures reads { IfOk result (λ w. (D.counts disk.new).reads ≤ (D.counts disk.old).reads + 2 * length w.frames.items + 2) }
+    ensures most_reads { IsTrue D.is_known → (D.counts disk.new).reads
+        ≤ (D.counts disk.old).reads + 2 * length (frames_of (drop from (D.view disk.old).content)).frames + 2 }
 {
     let mut frames = Vec::new(alloc);
+    let mut size = size;
     let mut next = from;
     loop {
-        match look(disk, size, next)? {
+        match look(disk, &mut size, next)? {
             Seen::Closed => {
                 return Ok(Walked {
                     frames,

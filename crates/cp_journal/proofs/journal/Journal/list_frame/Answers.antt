@@ -6,4 +6,4 @@ use Rattle.cp_journal.proofs.journal.Journal.list_frame.Goals as goal
 pub invariant_of-self-2 : goal.invariant_of-self-2
 invariant_of-self-2 c =
     let same = ap (λ (s : JournalState). s.next) c.self.view_is in
-    (c.self.invariant.0, in_range-pushed _ _ _ _ _ c.in_ok-push.ensures.items c.self.invariant.1 (omega (arith, same, c.requires.room)))
+    (c.self.invariant.0, in_range-pushed _ _ _ _ _ c.in_ok-push.ensures.items c.self.invariant.1 (omega (arith, same, c.requires.room)), c.self.invariant.2)
