@@ -172,15 +172,9 @@ module _ (c : List ℕ) (at : ℕ) (stops : StopsAt c at) where
   pub whole_not : IsNot OpensAndReplays c at
   whole_not = ((λ both. stopped-not c at stops both.0), stops)
 
--- where a call of the disk fails, or memory is out, an opening says nothing
-pub opens_says_not : {R S : Type 0} (view : R → Tree) (source_view : S → Tree) (c : List ℕ) (v : View) (e : OpenFault) → ((at : ℕ) → e ≡ NoStore at → IsNot Opens c at) → OpensAs view source_view c v (Err e)
-opens_says_not view source_view c v (NoStore at) is = is at refl
-opens_says_not view source_view c v Disk is = tt
-opens_says_not view source_view c v Memory is = tt
-
 module _ {R S : Type 0} (view : R → Tree) (source_view : S → Tree) where
   module _ (c : List ℕ) (hd : Header) (has : HasHeader c) (said : hd ≡ header_in (take HEADER_SIZE c)) where
-    module _ (d : Db R S) (v : View) (version : d.version ≡ hd.version) (closed : open_slot hd ≡ None) (whole : d.journal.broken ≡ None) (usable : d.journal.spent ≡ false)
+    module _ (d : Db R S) (v : View) (version : d.version ≡ hd.version) (closed : open_slot hd ≡ None) (whole : d.journal.broken ≡ None) (usable : d.journal.spent ≡ false) (idle : d.journal.begun ≡ None)
         (walked : HasWalked HEADER_SIZE (frames_of (drop HEADER_SIZE c)) d.journal c)
         (described : Describes (take HEADER_SIZE c) (frames_of (drop HEADER_SIZE c)).frames d.journal v)
         (some : 1 ≤ length (frames_of (drop HEADER_SIZE c)).frames) (items : List Item) (held_all : AreHeld hd.version (frames_of (drop HEADER_SIZE c)).frames items) (taken : HasTaken view source_view None d.committed items) where
@@ -193,7 +187,7 @@ module _ {R S : Type 0} (view : R → Tree) (source_view : S → Tree) where
 
       -- the state to which the items lead is held
       holds_taken : HoldsState view source_view d taken.state
-      holds_taken = record { committed = taken.keeps; whole = whole; usable = usable }
+      holds_taken = record { committed = taken.keeps; whole = whole; usable = usable; idle = idle }
 
       opened_holds : (s : State) → fold after_item None items ≡ Some s → HoldsState view source_view d s
       opened_holds s is = subst (HoldsState view source_view d) (one_state (fold after_item None items) taken.state s leads is) holds_taken

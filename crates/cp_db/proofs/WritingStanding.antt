@@ -22,11 +22,12 @@ unspent false h = refl
 
 module _ {R S : Type 0} (view : R → Tree) (source_view : S → Tree) where
   -- a database holds what it keeps in memory, where its journal may be written
-  pub holds-appended : (m : Db R S) (c : Committed R S) (s : State) → m.committed ≡ c → m.journal.broken ≡ None → m.journal.spent ≡ false → KeepsState view source_view c s → HoldsState view source_view m s
-  holds-appended m c s same whole usable z = record {
+  pub holds-appended : (m : Db R S) (c : Committed R S) (s : State) → m.committed ≡ c → m.journal.broken ≡ None → m.journal.spent ≡ false → m.journal.begun ≡ None → KeepsState view source_view c s → HoldsState view source_view m s
+  holds-appended m c s same whole usable idle z = record {
     committed = subst (λ (x : Committed R S). KeepsState view source_view x s) (sym same) z;
     whole = whole;
     usable = usable;
+    idle = idle;
   }
 
   -- and has its rows
@@ -34,11 +35,11 @@ module _ {R S : Type 0} (view : R → Tree) (source_view : S → Tree) where
   rows-appended m c s same has = ap (λ (x : Committed R S). x.store.rows.list) same ∙ has
 
   -- a database whose journal alone has changed holds the same states, where it may be written still
-  pub holds-rejournaled : (d m : Db R S) (s : State) → m.committed ≡ d.committed → m.journal.broken ≡ None → m.journal.spent ≡ false → HoldsState view source_view d s → HoldsSame view source_view d m
-  holds-rejournaled d m s same whole usable z = record {
+  pub holds-rejournaled : (d m : Db R S) (s : State) → m.committed ≡ d.committed → m.journal.broken ≡ None → m.journal.spent ≡ false → m.journal.begun ≡ None → HoldsState view source_view d s → HoldsSame view source_view d m
+  holds-rejournaled d m s same whole usable idle z = record {
     states = λ t. (
-      λ y. holds-appended m d.committed t same whole usable y.committed,
-      λ y. record { committed = subst (λ (x : Committed R S). KeepsState view source_view x t) same y.committed; whole = z.whole; usable = z.usable },
+      λ y. holds-appended m d.committed t same whole usable idle y.committed,
+      λ y. record { committed = subst (λ (x : Committed R S). KeepsState view source_view x t) same y.committed; whole = z.whole; usable = z.usable; idle = z.idle },
     );
     rows = λ t has. rows-appended m d.committed t same has;
   }
@@ -60,8 +61,8 @@ module _ {R S : Type 0} (view : R → Tree) (source_view : S → Tree) where
   pub holds-read : (d : Db R S) (r : KindRows) → r.kind ≡ d.committed.store.kind → r.rows.upto ≡ d.committed.store.rows.upto → r.rows.list ≡ d.committed.store.rows.list → HoldsSame view source_view d (record d { committed = record d.committed { store = r } })
   holds-read d r kind upto list = record {
     states = λ s. (
-      λ z. record { committed = keeps_read d.committed r s kind upto z.committed; whole = z.whole; usable = z.usable },
-      λ z. record { committed = keeps_read (record d.committed { store = r }) d.committed.store s (sym kind) (sym upto) z.committed; whole = z.whole; usable = z.usable },
+      λ z. record { committed = keeps_read d.committed r s kind upto z.committed; whole = z.whole; usable = z.usable; idle = z.idle },
+      λ z. record { committed = keeps_read (record d.committed { store = r }) d.committed.store s (sym kind) (sym upto) z.committed; whole = z.whole; usable = z.usable; idle = z.idle },
     );
     rows = λ s has. list ∙ has;
   }

@@ -21,6 +21,7 @@ pub record HoldsState {R S : Type 0} (view : R → Tree) (source_view : S → Tr
   pub committed : KeepsState view source_view d.committed s
   pub whole : d.journal.broken ≡ None
   pub usable : d.journal.spent ≡ false
+  pub idle : d.journal.begun ≡ None
 
 -- it holds some state; that any history leads there isn't asked
 abbrev pub IsDatabase : {R S : Type 0} → (R → Tree) → (S → Tree) → Db R S → Type 0

@@ -119,6 +119,7 @@ impl<R: TreeRep, S: TreeRep> Db<R, S> {
 
     /// Whether there is room for an entry of so many bytes.
     fn has_room(&self, size: usize) -> bool
+        requires { self.now.journal.begun ≡ None }
         ensures { result ≡ has_room (end_in self.now) size }
     {
         size <= BODY_MAX && self.journal.next() <= DISK_MAX - FRAME_HEAD - 1 - size as u64
@@ -270,10 +271,12 @@ impl<R: TreeRep, S: TreeRep> Db<R, S> {
     ) -> Result<(), WriteFault>
         requires whole { self.old.journal.broken ≡ None }
         requires usable { self.old.journal.spent ≡ false }
+        requires idle { self.old.journal.begun ≡ None }
         requires ready { IsTrue D.is_known → IsReady self.old (D.view disk.old) }
         requires room { has_room (end_in self.old) (length body.now) ≡ true }
         ensures same { self.new ≡ record self.old { journal = self.new.journal } }
         ensures whole { self.new.journal.broken ≡ None }
+        ensures idle { self.new.journal.begun ≡ None }
         ensures usable { OnOk result (self.new.journal.spent ≡ false) }
         ensures end { OnOk result (end_in self.new ≡ end_in self.old + FRAME_HEAD + length body.now) }
         ensures described { IsTrue D.is_known → (head : List ℕ) (fs : List Frame)

@@ -59,7 +59,7 @@ returns-clause-loaded g c = λ s z.
     let counted : c.len.result ≡ load_size c.args.name (g.S.TreeRep.contents c.args.tree) = omega (arith, c.len.ensures, c.in_ok-body.body.ok, size) in (
       ap (has_room (end_in c.args.self.now)) (sym counted) ∙ sym c.has_room.ensures ∙ c.if-not-has_room.false,
       record {
-        holds = holds-appended view source_view c.append.new.self _ (after_load s c.args.name (source_view c.args.tree)) same c.append.ensures.whole c.in_ok-append.ensures.usable
+        holds = holds-appended view source_view c.append.new.self _ (after_load s c.args.name (source_view c.args.tree)) same c.append.ensures.whole c.in_ok-append.ensures.usable c.append.ensures.idle
             (keeps-loaded view source_view c.args.self.now.committed _ c.args.name (source_view c.args.tree) s z.committed can refl refl refl c.in_ok-add.ensures.added);
         rows = λ has. rows-appended view source_view c.append.new.self _ (after_load s c.args.name (source_view c.args.tree)) same has;
         leads = load-leads s c.args.name (source_view c.args.tree) can;

@@ -74,7 +74,7 @@ returns-clause-committed g c = λ ops made s z.
         c.upto.ensures ∙ kept-tids view s c.args.stamp ops c.args.step is.0 is.1 source_view c.args.self.now.committed z.committed c.keep_records-kept.new.self c.append.new.self.committed kept (ap (λ d. d.store) same),
       ),
       record {
-        holds = holds-appended view source_view c.append.new.self _ (after_commit s ops) same c.append.ensures.whole c.in_ok-append.ensures.usable
+        holds = holds-appended view source_view c.append.new.self _ (after_commit s ops) same c.append.ensures.whole c.in_ok-append.ensures.usable c.append.ensures.idle
             (keeps-stepped view s c.args.stamp ops c.args.step is.0 is.1 source_view c.args.self.now.committed z.committed c.keep_records-kept.new.self _ kept refl refl refl refl);
         rows = λ has. rows-appended view source_view c.append.new.self _ (after_commit s ops) same
             (rows-stepped view s c.args.stamp ops c.args.step is.0 is.1 source_view c.args.self.now.committed z.committed c.keep_records-kept.new.self (record c.keep_records-kept.new.self { tree = c.args.step.tree }) kept refl has);

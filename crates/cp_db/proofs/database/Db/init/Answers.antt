@@ -27,7 +27,7 @@ returns-in_err-journal-clause-memory g c = λ known memory.
 pub returns-clause-stands : goal.returns-clause-stands
 returns-clause-stands g c = λ right.
     stands-started g.R.TreeRep.contents g.S.TreeRep.contents right c.args.kind (g.R.TreeRep.contents c.args.tree) (g.met.R.TreeRep.is_tree c.args.tree) _
-    (record { committed = c.in_ok-committed.ensures.keeps; whole = c.in_ok-journal.ensures.usable.0; usable = c.in_ok-journal.ensures.usable.1 }) c.in_ok-committed.ensures.none
+    (record { committed = c.in_ok-committed.ensures.keeps; whole = c.in_ok-journal.ensures.usable.0; usable = c.in_ok-journal.ensures.usable.1; idle = c.in_ok-journal.ensures.idle }) c.in_ok-committed.ensures.none
 
 pub returns-clause-kept : goal.returns-clause-kept
 returns-clause-kept g c = λ known.

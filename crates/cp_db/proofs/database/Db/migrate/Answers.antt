@@ -22,4 +22,4 @@ pub returns-in-Ok-clause-same : goal.returns-in-Ok-clause-same
 returns-in-Ok-clause-same g c =
     let here = c.requires.stands.1 in
     holds-rejournaled g.R.TreeRep.contents g.S.TreeRep.contents c.args.self.now _ c.requires.stands.0 refl (c.upgrade.ensures.same.2 ∙ here.whole)
-    (unspent c.upgrade.new.self.spent (λ t. elim (c.in-Ok.ensures.spent.0 t) [ inl e ↦ absurd (cc) | inr e ↦ absurd (cc) ])) here
+    (unspent c.upgrade.new.self.spent (λ t. elim (c.in-Ok.ensures.spent.0 t) [ inl e ↦ absurd (cc) | inr e ↦ absurd (cc) ])) (c.upgrade.ensures.idle ∙ here.idle) here

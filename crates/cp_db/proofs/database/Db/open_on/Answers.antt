@@ -74,7 +74,7 @@ returns-clause-opened g c = λ known.
     (c.in_ok-walk.ensures.passed known frames (lists_after u v w x uv vw wx j walked)) in
     let come = tells.1 in
     let held = held_all view source_view RowsFit RowsDone u.content c.in_ok-header.header c.in_ok-walk.walk tells in
-    has_opened view source_view u.content c.in_ok-header.header header.0 header.1 _ x same (sym c.open_slot.ensures ∙ c.in_default.is) whole c.in_ok-journal.ensures.usable
+    has_opened view source_view u.content c.in_ok-header.header header.0 header.1 _ x same (sym c.open_slot.ensures ∙ c.in_default.is) whole c.in_ok-journal.ensures.usable c.in_ok-journal.ensures.idle
     (walked_first u v w x uv vw wx j walked) described tells.0 come.items held (c.into_committed.ensures.taken _ (frame_place HEADER_SIZE frames) come.items come.passed)
 
 pub returns-clause-ready : goal.returns-clause-ready
@@ -93,4 +93,4 @@ returns-clause-rests g c = λ known.
 pub returns-clause-stands : goal.returns-clause-stands
 returns-clause-stands g c =
     let t = c.in_ok-walk.ensures.reached in
-    (t.1.taken.state, record { committed = c.into_committed.ensures.keeps _ t.0 t.1; whole = sym c.broken.ensures ∙ c.in_default-broken.is; usable = c.in_ok-journal.ensures.usable })
+    (t.1.taken.state, record { committed = c.into_committed.ensures.keeps _ t.0 t.1; whole = sym c.broken.ensures ∙ c.in_default-broken.is; usable = c.in_ok-journal.ensures.usable; idle = c.in_ok-journal.ensures.idle })
