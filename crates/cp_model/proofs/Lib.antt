@@ -3,6 +3,7 @@ pub mod Alone
 pub mod AskLemmas
 pub mod Contents
 pub mod Effects
+pub mod FirstOperations
 pub mod Folds
 pub mod Grouping
 pub mod Histories
@@ -20,9 +21,12 @@ pub mod Pasts
 pub mod Reading
 pub mod RecordsLemmas
 pub mod Rooted
+pub mod RowsUpto
 pub mod Sorted
 pub mod Strips
 pub mod SumsLemmas
+pub mod VersionLemmas
+pub mod VersionStates
 pub mod Walk
 pub mod Walked
 pub mod Weights

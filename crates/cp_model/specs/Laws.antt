@@ -1,6 +1,6 @@
 -- The laws of trees, steps and histories that the crates above rest on, as statements.
 use Rattle.cp_model.specs.declared.limits.TheConstants.{SOURCES_MAX}
-use Rattle.std.specs.Prelude.{ℕ, suc, ◌+◌, ◌≡◌, ◌&&◌, true, List, ◌++◌, length, sum_by, ◌≤◌, false, map, ⊤}
+use Rattle.std.specs.Prelude.{ℕ, suc, ◌+◌, ◌≡◌, ◌&&◌, Bool, true, List, ◌++◌, length, sum_by, ◌≤◌, false, map, filter, nat_lt, ⊤}
 use Rattle.std.specs.List.{list_any, IsDistinct}
 use Rattle.std.specs.declared.option.Option.TheVariants.{None, Some}
 use Rattle.std.proofs.Common.{T}
@@ -17,9 +17,11 @@ use Rattle.cp_model.specs.Rows.{Effect, same, left, effect_at}
 use Rattle.cp_model.specs.History.{Entry, State, replay, IsLegal, IsWritten, AreWritten, read_rows, rows_of, IsSource}
 use Rattle.cp_model.specs.Records.{is_D, reads, loses}
 use Rattle.cp_model.specs.Leaps.{leap_back}
+use Rattle.cp_model.specs.Versions.{history_upto, version}
 use Rattle.cp_model.specs.declared.kind.Kind.{Kind}
 use Rattle.cp_model.specs.declared.row.Content.{Content}
 use Rattle.cp_model.specs.declared.op.Op.{Op}
+use Rattle.cp_model.specs.declared.record.Record.{Record}
 use Rattle.std.specs.declared.option.Option.{Option}
 use Rattle.cp_path.specs.declared.loc.Loc.{Loc}
 
@@ -96,3 +98,26 @@ pub record RowsReadAsEffects : Type 0 where
 abbrev pub RecordsWalkBack : Type 0
 RecordsWalkBack = (h : List Entry) (s : State) → IsLegal h → replay h ≡ Some s → (p : Path) → is_there s.tree p ≡ true
     → leap_back (reads s.kind s.rows) (loses s.rows) (suc s.now) s.now p ≡ past_at s.tree p
+
+-- a legal history is legal up to each of its steps
+abbrev pub VersionsAreLegal : Type 0
+VersionsAreLegal = (h : List Entry) (t : ℕ) → IsLegal h → IsLegal (history_upto h t)
+
+-- the last version is the state that the history leads to
+abbrev pub LastVersionIsAll : Type 0
+LastVersionIsAll = (h : List Entry) (s : State) (t : ℕ) → IsLegal h → replay h ≡ Some s → s.now ≤ t → version h t ≡ Some s
+
+-- a row of a step up to t
+abbrev pub is_upto : ℕ → Record → Bool
+is_upto t r = nat_lt r.tid (t + 1)
+
+-- the state z, after step t, has the kind and the sources of the last state s, and of its rows those of the steps up to t
+pub record IsAfterStep (s z : State) (t : ℕ) : Type 0 where
+  pub kind : z.kind ≡ s.kind
+  pub now : z.now ≡ t
+  pub rows : z.rows ≡ filter (is_upto t) s.rows
+  pub sources : z.sources ≡ s.sources
+
+-- each version up to the last is such a state
+abbrev pub VersionsAreStates : Type 0
+VersionsAreStates = (h : List Entry) (s : State) (t : ℕ) → IsLegal h → replay h ≡ Some s → t ≤ s.now → (z : State) × (version h t ≡ Some z) × IsAfterStep s z t

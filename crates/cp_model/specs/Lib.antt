@@ -16,6 +16,7 @@ pub mod Answers
 pub mod Sums
 pub mod Leaps
 pub mod Records
+pub mod Versions
 pub mod Laws
 pub mod Below
 pub mod Calls

@@ -7,6 +7,8 @@ use Rattle.cp_model.proofs.Origins.{sound-step}
 use Rattle.cp_model.proofs.Histories.{legal-tree}
 use Rattle.cp_model.proofs.Effects.{working-step, read-rows_of, losses-rows_of}
 use Rattle.cp_model.proofs.Pasts.{legal-pasts}
+use Rattle.cp_model.proofs.VersionLemmas.{versions-are-legal, last-version-is-all}
+use Rattle.cp_model.proofs.VersionStates.{versions-are-states}
 use Rattle.cp_model.proofs.stated.laws.Goals as goal
 
 pub returns-clause-lookups : goal.returns-clause-lookups
@@ -32,3 +34,12 @@ returns-clause-reading c = record {
 
 pub returns-clause-pasts : goal.returns-clause-pasts
 returns-clause-pasts c = legal-pasts
+
+pub returns-clause-legal_versions : goal.returns-clause-legal_versions
+returns-clause-legal_versions c = versions-are-legal
+
+pub returns-clause-last_version : goal.returns-clause-last_version
+returns-clause-last_version c = last-version-is-all
+
+pub returns-clause-versions : goal.returns-clause-versions
+returns-clause-versions c = versions-are-states
