@@ -1,6 +1,5 @@
 pub mod Accepted
 pub mod Alone
-pub mod AskLemmas
 pub mod Contents
 pub mod Effects
 pub mod FirstOperations

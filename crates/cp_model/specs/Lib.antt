@@ -19,6 +19,4 @@ pub mod Records
 pub mod Versions
 pub mod Laws
 pub mod Below
-pub mod Calls
 pub mod Changes
-pub mod Steps
