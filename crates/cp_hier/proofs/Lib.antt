@@ -1,6 +1,0 @@
-mod Above
-mod Found
-mod Keys
-mod Nearest
-mod NearestRows
-mod Newest

@@ -1,2 +1,0 @@
-mod Changes
-mod Found

@@ -1,7 +1,0 @@
-use Rattle.std.proofs.Common.{◌≡◌, take}
-use Rattle.std.specs.List.{flat_map}
-use Rattle.cp_path.specs.Encoding.{counted_bytes}
-use Rattle.cp_rows.proofs.key.write_key.Given as goal
-
-abbrev pub invariant-loop-label : goal.invariant-loop-label
-invariant-loop-label l = l.key.items ≡ flat_map counted_bytes (take l.label-index l.labels)

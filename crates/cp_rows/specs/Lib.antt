@@ -1,6 +1,0 @@
-pub mod Steps
-pub mod Index
-pub mod Blocks
-pub mod Rows
-pub mod Told
-pub mod Lost
