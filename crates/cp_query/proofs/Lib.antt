@@ -12,5 +12,13 @@ mod Gathering
 mod Nearby
 mod Visiting
 mod Passing
+mod Adding
+mod Parts
+mod Going
+mod Spending
+mod Summing
+mod Visits
+mod Bounding
+mod Bounded
 pub mod Followed
 pub mod Telling

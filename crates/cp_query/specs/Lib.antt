@@ -5,3 +5,5 @@ pub mod Following
 pub mod Laws
 pub mod Legs
 pub mod Kept
+pub mod Hops
+pub mod Bounds

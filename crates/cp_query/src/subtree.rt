@@ -1,20 +1,22 @@
 //! The steps that changed a place or one below it.
-ghost use Rattle.std.specs.Prelude.{◌≡◌, ◌<◌, ◌&&◌, true, length, not, IfOk, OnOk};
+ghost use Rattle.std.specs.Prelude.{◌≡◌, ◌<◌, ◌≤◌, ◌+◌, ◌&&◌, true, List, length, not, IfOk, OnOk};
 ghost use Rattle.std.specs.List.{list_all};
 ghost use Rattle.std.specs.Option.{option_map};
 ghost use Rattle.cp_path.specs.declared.limits.TheConstants.{LABELS_MAX};
 ghost use Rattle.cp_model.specs.Place.{in_target, child_place};
 ghost use Rattle.cp_model.specs.Subtrees.{is_there};
 ghost use Rattle.cp_model.specs.Below.{tells_below};
-ghost use Rattle.cp_model.specs.Calls.{Asks};
-ghost use Rattle.cp_model.specs.Steps.{BlamesDisk};
-ghost use Rattle.cp_query.specs.Events.{has_room, losses_in, HasEvent, Gathers};
-ghost use Rattle.cp_query.specs.Legs.{readings_in};
+ghost use Rattle.cp_store.specs.Calls.{Asks, ReadsAtMost};
+ghost use Rattle.cp_store.specs.Questions.{BlamesDisk};
+ghost use Rattle.cp_query.specs.Events.{has_room, HasEvent, Gathers};
+ghost use Rattle.cp_query.specs.Bounds.{past_cost, paths_in, sum_below};
+ghost use Rattle.cp_model.specs.Records.{reads, loses};
+ghost use Rattle.cp_model.specs.declared.record.Record.{Record};
 
 use crate::tids::Tids;
 use crate::walk::Walk;
-use cp_model::{ProvStore, StoreFault};
 use cp_path::{LABELS_MAX, LOC_MAX, Label, Loc};
+use cp_store::{ProvStore, StoreFault};
 use cp_tree::{Reach, TreeRep};
 use std::alloc::{AllocError, Global};
 
@@ -49,16 +51,17 @@ fn have_room(places: &[Loc], reach: Reach) -> bool
     true
 }
 
-/// Whether no row is of a place below one of these; where a label is given, of the place at it, or of one below that. Costs a
-/// look-up for each place.
+/// Whether no row is of a place below one of these; where a label is given, of the place at it, or of one below that. `true` is
+/// answered only where that is so. Costs a look-up for each place.
 fn is_quiet<P: ProvStore>(
     alloc: Global,
     store: &mut P,
     places: &[Loc],
     label: Option<&Label>,
 ) -> Result<bool, StoreFault>
-    ensures quiet { IfOk result (λ b.
-        b ≡ list_all (λ q. not (tells_below (P.kept_rows store.old) (option_map (λ a. a.now) label.entry) q)) places.now) }
+    ensures quiet { (rs : List Record) → P.keeps store.old rs → IfOk result (λ b. b ≡ true
+        → list_all (λ q. not (tells_below rs (option_map (λ a. a.now) label.entry) q)) places.now ≡ true) }
+    ensures reads { P.reads store.new ≡ P.reads store.old }
     ensures asks { Asks P.ProvStore BlamesDisk store.old store.new result }
 {
     for place in places {
@@ -70,7 +73,8 @@ fn is_quiet<P: ProvStore>(
 }
 
 /// Whether the data below these places came along with theirs: they are `together`, as it has room below each of them, and no
-/// row is of a place below one, by the label where one is given. Costs a look-up for each place, and none where they are not.
+/// row is of a place below one, by the label where one is given. `true` is answered only where that is so. Costs a look-up for
+/// each place, and none where they are not.
 fn came_along<P: ProvStore>(
     alloc: Global,
     store: &mut P,
@@ -78,8 +82,9 @@ fn came_along<P: ProvStore>(
     places: &[Loc],
     label: Option<&Label>,
 ) -> Result<bool, StoreFault>
-    ensures along { IfOk result (λ b. b ≡ (together
-        && list_all (λ q. not (tells_below (P.kept_rows store.old) (option_map (λ a. a.now) label.entry) q)) places.now)) }
+    ensures along { (rs : List Record) → P.keeps store.old rs → IfOk result (λ b. b ≡ true → (together
+        && list_all (λ q. not (tells_below rs (option_map (λ a. a.now) label.entry) q)) places.now) ≡ true) }
+    ensures reads { P.reads store.new ≡ P.reads store.old }
     ensures asks { Asks P.ProvStore BlamesDisk store.old store.new result }
 {
     if !together {
@@ -103,9 +108,11 @@ pub(crate) fn visit<P: ProvStore, R: TreeRep>(
 ) -> Result<(), StoreFault>
     requires target { in_target walk.at ≡ true }
     requires there { is_there (R.contents tree.now) walk.at.path ≡ true }
-    ensures found { OnOk result (Gathers
-        (HasEvent (readings_in P.ProvStore store.old) (losses_in P.ProvStore store.old) walk.high (R.contents tree.now) walk.at.path)
+    ensures found { (rs : List Record) → P.keeps store.old rs → OnOk result (Gathers
+        (HasEvent (reads (P.kept_kind store.old) rs) (loses rs) walk.high (R.contents tree.now) walk.at.path)
         found.old.keys found.new.keys) }
+    ensures reads { ReadsAtMost P.ProvStore
+        (λ k rs c. sum_below (past_cost k rs c walk.high) walk.at.path (paths_in (R.contents tree.now))) store.old store.new }
     ensures asks { Asks P.ProvStore BlamesDisk store.old store.new result }
 {
     let is_node = tree.is_node(&walk.at.path);
