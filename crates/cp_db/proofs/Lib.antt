@@ -6,8 +6,9 @@ pub mod TakingCommits
 pub mod OpeningFrames
 pub mod OpeningItems
 pub mod OpeningStores
-mod Walking
+pub mod Walking
 mod WalkingFrames
+mod Logging
 mod WritingStanding
 mod WritingFrames
 mod WritingLoads

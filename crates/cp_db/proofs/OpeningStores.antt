@@ -166,11 +166,11 @@ module _ (c : List ℕ) (hd : Header) (has : HasHeader c) (said : hd ≡ header_
 module _ (c : List ℕ) (at : ℕ) (stops : StopsAt c at) where
   -- a file that stops doesn't open
   pub opens_not : IsNot Opens c at
-  opens_not = (stopped-not c at stops, stops)
+  opens_not = record { never = stopped-not c at stops; stops = stops }
 
   -- nor does it open and tell a history
   pub whole_not : IsNot OpensAndReplays c at
-  whole_not = ((λ both. stopped-not c at stops both.0), stops)
+  whole_not = record { never = λ both. stopped-not c at stops both.0; stops = stops }
 
 module _ {R S : Type 0} (view : R → Tree) (source_view : S → Tree) where
   module _ (c : List ℕ) (hd : Header) (has : HasHeader c) (said : hd ≡ header_in (take HEADER_SIZE c)) where

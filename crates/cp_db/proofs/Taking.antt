@@ -29,7 +29,7 @@ use Rattle.cp_frame.specs.Entries.{WrittenEntry, IsEntry}
 use Rattle.cp_frame.specs.Sound.{IsSoundSource}
 use Rattle.cp_frame.specs.declared.entry.Entry.TheVariants as entry
 use Rattle.cp_operation.specs.Loaded.{sources_in}
-use Rattle.cp_frame.specs.Items.{Item, an_entry, CanStand, after_item, entry_meant, entries_in, records_in, records_with}
+use Rattle.cp_frame.specs.Items.{Item, AllStand, an_entry, CanStand, after_item, entry_meant, entries_in, records_in, records_with}
 use Rattle.cp_frame.proofs.Standing.{legal-items, replayed-items, stand-append}
 use Rattle.cp_db.specs.Committed.{HasRows, HasTaken, IsLoaded, KeepsState, LeadsTo, LoadsSource}
 use Rattle.cp_db.specs.declared.committed.Committed.{Committed}
@@ -41,6 +41,13 @@ none-found f o p b e is none = ap is_some (sym e) ∙ mapped o ∙ sym is ∙ no
     mapped : (o : _) → is_some (option_map f o) ≡ is_some o
     mapped None = refl
     mapped (Some x) = refl
+
+-- items that stand from the beginning on have a history that leads where they lead
+pub led-from : (first : Option State) (items : List Item) (s : State) → first ≡ None → AllStand false first items → fold after_item first items ≡ Some s → LeadsTo (flat_map entries_in items) s
+led-from first items s none stand leads = record {
+  legal = legal-items false items (subst (λ (o : Option State). AllStand false o items) none stand);
+  replayed = replayed-items items ∙ ap (λ (o : Option State). fold after_item o items) (sym none) ∙ leads;
+}
 
 module _ {R S : Type 0} (view : R → Tree) (source_view : S → Tree) where
   -- a tree without sources is the state of its start
@@ -70,7 +77,7 @@ module _ {R S : Type 0} (view : R → Tree) (source_view : S → Tree) where
 
   -- the state of items that have been taken is that of their history
   pub taken-leads : (c : Committed R S) (items : List Item) (t : HasTaken view source_view None c items) → LeadsTo (flat_map entries_in items) t.state
-  taken-leads c items t = record { legal = legal-items false items t.stand; replayed = replayed-items items ∙ t.replayed }
+  taken-leads c items t = led-from None items t.state refl t.stand t.replayed
 
   module _ (c m : Committed R S) where
     -- a source that may be loaded has been

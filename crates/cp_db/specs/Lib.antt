@@ -4,3 +4,4 @@ pub mod Opening
 pub mod Writing
 pub mod Work
 pub mod Walk
+pub mod Log

@@ -62,6 +62,7 @@ pub data StopsAt (c : List ℕ) (at : ℕ) : Type 0 where
   at_slot : HasHeader c → open_slot (header_of c) ≡ Some at → StopsAt c at
   at_gate : HasHeader c → open_slot (header_of c) ≡ None → StopsWalk HEADER_SIZE (header_of c).version None (frames_of (drop HEADER_SIZE c)) at → StopsAt c at
 
--- the file is none of these, and stops being one at this offset
-abbrev pub IsNot : (List ℕ → Type 0) → List ℕ → ℕ → Type 0
-IsNot Is c at = (Is c → ⊥) × StopsAt c at
+-- the file is none of these, and stops being a store at this offset
+pub record IsNot (Is : List ℕ → Type 0) (c : List ℕ) (at : ℕ) : Type 0 where
+  pub never : Is c → ⊥
+  pub stops : StopsAt c at

@@ -8,6 +8,7 @@ use Rattle.cp_model.specs.Tree.{Tree}
 use Rattle.cp_model.specs.History.{Entry}
 use Rattle.cp_disk.specs.Views.{Rests}
 use Rattle.cp_frame.specs.Stands.{IsStore, Opens}
+use Rattle.cp_frame.specs.Stops.{IsNot}
 use Rattle.cp_db.specs.Databases as database
 use Rattle.cp_db.specs.Databases.{IsKept}
 use Rattle.cp_db.specs.Opening.{HasOpened, OpensAs}
@@ -91,12 +92,12 @@ workspace-is P fails.Clock stop becomes clock f d m = absurd (clock refl)
 workspace-is P fails.Memory stop becomes clock f d m = subst P (sym (becomes.3 refl)) m
 
 -- the store is none, where that is why it wasn't opened
-not-store : {R S : Type 0} (T : Type 0) (view : R → Tree) (source_view : S → Tree) (v w : KnownDisk) (stop : Stop) (at : ℕ) → stopped-by T stop ≡ Err (NoStore at) → OpenedAlone {R = R} {S = S} view source_view v w (Err stop) → Opens v.view.content → ⊥
+not-store : {R S : Type 0} (T : Type 0) (view : R → Tree) (source_view : S → Tree) (v w : KnownDisk) (stop : Stop) (at : ℕ) → stopped-by T stop ≡ Err (NoStore at) → OpenedAlone {R = R} {S = S} view source_view v w (Err stop) → IsNot Opens v.view.content at
 not-store T view source_view v w Output at h o = absurd (cc)
 not-store T view source_view v w Full at h o = absurd (cc)
 not-store T view source_view v w File at h o = absurd (cc)
 not-store T view source_view v w Disk at h o = absurd (cc)
-not-store T view source_view v w (NoStore n) at h o = o
+not-store T view source_view v w (NoStore n) at h o = let same : n ≡ at = cc h in subst (IsNot Opens v.view.content) same o
 not-store T view source_view v w Clock at h o = absurd (cc)
 not-store T view source_view v w Memory at h o = absurd (cc)
 

@@ -14,6 +14,7 @@ use Rattle.cp_journal.specs.Frames.{frames_of, spelled_all}
 use Rattle.cp_journal.specs.declared.limits.TheConstants.{HEADER_SIZE}
 use Rattle.cp_journal.proofs.Standing.{holds_images}
 use Rattle.cp_frame.specs.Stands.{IsStore, Opens, StandsFor}
+use Rattle.cp_frame.specs.Stops.{IsNot}
 use Rattle.cp_db.specs.Databases as database
 use Rattle.cp_db.specs.Databases.{IsKept, end_in}
 use Rattle.cp_db.specs.Opening.{HasOpened, OpensAs}
@@ -230,7 +231,7 @@ causes-early-end i f k o p e early later = record {
 
 -- a call that ran no session on its store
 pub ran-early-on : (curator : List ℕ) (i : KnownInput) (f : KnownFiles) (k : KnownClock) (o p : KnownOutput) (v w : KnownDisk) (e : End) → IsEarly e → WritesLast o p [] (early_line e)
-    → (IsTrue v.known → (at : ℕ) → e ≡ how.NoStore at → (Opens v.view.content → ⊥) × Rests v.view w.view) → (IsTrue v.known → (Opens v.view.content → ⊥) → Rests v.view w.view) → LeavesStore v w
+    → (IsTrue v.known → (at : ℕ) → e ≡ how.NoStore at → IsNot Opens v.view.content at × Rests v.view w.view) → (IsTrue v.known → (Opens v.view.content → ⊥) → Rests v.view w.view) → LeavesStore v w
     → RanOn curator (record { input = i; files = f; clock = k; output = o }) (record { input = i; files = f; clock = k; output = p }) v w e
 ran-early-on curator i f k o p v w e early wrote none never leaves = record {
   taken = [];
@@ -323,12 +324,12 @@ stop-disk v w stop k later rose = elim k [
 
 -- what isn't opened is no store
 pub none-stopped : {R S : Type 0} (view : R → Tree) (source_view : S → Tree) (curator : List ℕ) (v w : KnownDisk) (stop : Stop) → IsOpeningStop stop → (at : ℕ) → end_of_stop stop ≡ how.NoStore at → BegunOn {R = R} {S = S} view source_view curator v w (Err stop)
-    → (Opens v.view.content → ⊥) × Rests v.view w.view
+    → IsNot Opens v.view.content at × Rests v.view w.view
 none-stopped view source_view curator v w Output k at h b = absurd (cc)
 none-stopped view source_view curator v w Full k at h b = absurd (cc)
 none-stopped view source_view curator v w File k at h b = absurd (cc)
 none-stopped view source_view curator v w Disk k at h b = absurd (cc)
-none-stopped view source_view curator v w (NoStore n) k at h b = b
+none-stopped view source_view curator v w (NoStore n) k at h b = let same : n ≡ at = cc h in subst (λ m. IsNot Opens v.view.content m × Rests v.view w.view) same b
 none-stopped view source_view curator v w Clock k at h b = absurd (cc)
 none-stopped view source_view curator v w Memory k at h b = absurd (cc)
 

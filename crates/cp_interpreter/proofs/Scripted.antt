@@ -13,6 +13,7 @@ use Rattle.cp_outside.specs.declared.files.FilesFault.TheVariants as fails
 use Rattle.cp_outside.proofs.Telling.{told-none}
 use Rattle.cp_disk.specs.Views.{Rests}
 use Rattle.cp_frame.specs.Stands.{IsStore, Opens, StandsFor}
+use Rattle.cp_frame.specs.Stops.{IsNot}
 use Rattle.cp_model.specs.Tree.{Tree}
 use Rattle.cp_model.specs.History.{Entry}
 use Rattle.cp_reply.specs.declared.reply.Why.{Why}
@@ -219,7 +220,7 @@ early-not-input e k h = elim k [
 
 -- a call that ran no session on its store
 pub committed-early : (file curator : List ℕ) (i : KnownInput) (f : KnownFiles) (k : KnownClock) (o p : KnownOutput) (v w : KnownDisk) (e : End) → IsEarly e → WritesLast o p [] (early_line e)
-    → (IsTrue v.known → (at : ℕ) → e ≡ how.NoStore at → (Opens v.view.content → ⊥) × Rests v.view w.view) → (IsTrue v.known → (Opens v.view.content → ⊥) → Rests v.view w.view) → LeavesStore v w
+    → (IsTrue v.known → (at : ℕ) → e ≡ how.NoStore at → IsNot Opens v.view.content at × Rests v.view w.view) → (IsTrue v.known → (Opens v.view.content → ⊥) → Rests v.view w.view) → LeavesStore v w
     → Committed file curator (parts i f k o) (parts i f k p) v w e
 committed-early file curator i f k o p v w e early wrote none never leaves = record {
   input = refl;

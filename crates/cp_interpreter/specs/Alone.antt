@@ -5,6 +5,7 @@ use Rattle.cp_outside.specs.FileReads.{FileTable}
 use Rattle.cp_model.specs.History.{Entry}
 use Rattle.cp_disk.specs.Views.{View, Rests}
 use Rattle.cp_frame.specs.Stands.{IsStore, Opens, StandsFor}
+use Rattle.cp_frame.specs.Stops.{IsNot}
 use Rattle.cp_lang.specs.declared.syntax_tree.Load.{Load}
 use Rattle.cp_lang.specs.declared.syntax_tree.Stmt.{Stmt}
 use Rattle.cp_lang.specs.declared.syntax_tree.Stmt.TheVariants as stmt
@@ -66,7 +67,7 @@ pub record Loaded (l : Load) (before now : Outside) (v w : KnownDisk) (end : End
   pub clock : now.clock ≡ before.clock
   pub fitting : end ≡ how.Usage → ⊥
   pub short : end ≡ how.TooLong → ⊥
-  pub no_store : IsTrue v.known → (at : ℕ) → end ≡ how.NoStore at → HasNotBegun [] [] before now end × Rests v.view w.view × (Opens v.view.content → ⊥)
+  pub no_store : IsTrue v.known → (at : ℕ) → end ≡ how.NoStore at → HasNotBegun [] [] before now end × Rests v.view w.view × IsNot Opens v.view.content at
   pub unopened : IsTrue v.known → (Opens v.view.content → ⊥) → HasNotBegun [] [] before now end × Rests v.view w.view
   pub did : IsTrue v.known → (files : FileTable) → IsTable files before.files now.files → (h : List Entry) → IsStore h v.view.content
       → DidLoad (report_on files h v.view.content (stmt.Load l)) h before now v w end

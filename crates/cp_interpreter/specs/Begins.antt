@@ -8,6 +8,7 @@ use Rattle.cp_outside.specs.FileReads.{FileTable}
 use Rattle.cp_disk.specs.Views.{Rests, Keeps}
 use Rattle.cp_journal.specs.NewStores.{IsVacant}
 use Rattle.cp_frame.specs.Stands.{IsStore, Opens, StandsFor}
+use Rattle.cp_frame.specs.Stops.{IsNot}
 use Rattle.cp_db.specs.Databases as database
 use Rattle.cp_db.specs.Databases.{IsKept, end_in}
 use Rattle.cp_db.specs.declared.database.Db.{Db}
@@ -65,17 +66,17 @@ abbrev pub Migrated : {R S : Type 0} → (R → Tree) → (S → Tree) → Db R 
 Migrated view source_view old v w result = (h : List Entry) → database.Stands view source_view true old h → IsTrue v.known → IsKept true old h v.view
     → Keeps (StandsFor h) v.view w.view × IsMigrated view source_view old h w result
 
--- a content that opens gives its database; what isn't opened is no store; where it doesn't open, a crash leaves what it could leave
+-- a content that opens gives its database; of one that doesn't the offset is told at which it stops, and a crash leaves what it could leave
 abbrev pub OpenedAs : {R S : Type 0} → (R → Tree) → (S → Tree) → KnownDisk → KnownDisk → Result (Db R S) Stop → Type 0
 OpenedAs view source_view v w (Ok d) = Opens v.view.content × ((h : List Entry) → IsStore h v.view.content → IsOpenedOn view source_view d h v.view.content w)
-OpenedAs view source_view v w (Err (NoStore at)) = (Opens v.view.content → ⊥) × Rests v.view w.view
+OpenedAs view source_view v w (Err (NoStore at)) = IsNot Opens v.view.content at × Rests v.view w.view
 OpenedAs view source_view v w (Err stop) = (Opens v.view.content → ⊥) → Rests v.view w.view
 
 -- the same of its session
 abbrev pub BegunOn : {R S : Type 0} → (R → Tree) → (S → Tree) → List ℕ → KnownDisk → KnownDisk → Result (Interpreter R S) Stop → Type 0
 BegunOn view source_view curator v w (Ok x) = Opens v.view.content
     × ((h : List Entry) (moments : List ℕ) → IsStore h v.view.content → Follows view source_view w x (begun (store_terms h v.view.content curator) (opened_session h moments)))
-BegunOn view source_view curator v w (Err (NoStore at)) = (Opens v.view.content → ⊥) × Rests v.view w.view
+BegunOn view source_view curator v w (Err (NoStore at)) = IsNot Opens v.view.content at × Rests v.view w.view
 BegunOn view source_view curator v w (Err stop) = (Opens v.view.content → ⊥) → Rests v.view w.view
 
 -- a store isn't opened for one of these
@@ -122,11 +123,11 @@ GivesScript (Err w) (Err y) = y ≡ w
 
 -- ---- calls that hand over one statement
 
--- a content that opens gives its workspace, which commits nothing; what isn't opened is no store
+-- a content that opens gives its workspace, which commits nothing; of one that doesn't the offset is told at which it stops
 abbrev pub OpenedAlone : {R S : Type 0} → (R → Tree) → (S → Tree) → KnownDisk → KnownDisk → Result (Workspace R S) Stop → Type 0
 OpenedAlone view source_view v w (Ok d) = Opens v.view.content
     × ((h : List Entry) (moments : List ℕ) → IsStore h v.view.content → workspace.Stands view source_view (store_terms h v.view.content []) d (opened_session h moments) × HoldsFile d h w)
-OpenedAlone view source_view v w (Err (NoStore at)) = Opens v.view.content → ⊥
+OpenedAlone view source_view v w (Err (NoStore at)) = IsNot Opens v.view.content at
 OpenedAlone view source_view v w (Err stop) = ⊤
 
 -- the store wasn't opened, and nothing was read or written
@@ -150,7 +151,7 @@ LoadGives r h before now w (Err Memory) = left_on w h r.history
 
 -- what a load did to files and disk, whose report is expected on each history
 pub record LoadedAs (l : Load) (before now : KnownFiles) (v w : KnownDisk) (result : Result Reply Stop) : Type 0 where
-  pub no_store : IsTrue v.known → (at : ℕ) → result ≡ Err (NoStore at) → NotOpened before now v w result × (Opens v.view.content → ⊥)
+  pub no_store : IsTrue v.known → (at : ℕ) → result ≡ Err (NoStore at) → NotOpened before now v w result × IsNot Opens v.view.content at
   pub unopened : IsTrue v.known → (Opens v.view.content → ⊥) → NotOpened before now v w result
   pub did : IsTrue v.known → (files : FileTable) → IsTable files before now → (h : List Entry) → IsStore h v.view.content
       → NotOpened before now v w result ⊎ LoadGives (report_on files h v.view.content (stmt.Load l)) h before now w result
@@ -159,10 +160,10 @@ pub record LoadedAs (l : Load) (before now : KnownFiles) (v w : KnownDisk) (resu
       → LeavesOneOf h (report_on files h v.view.content (stmt.Load l)).history v.view w.view
   pub kinds : IfErr result (λ e. (e ≡ Output → ⊥) × (e ≡ Full → ⊥) × (e ≡ Clock → ⊥))
 
--- a content from which the call answers has a reply of which this is so; what is no store is no such content
+-- a content from which the call answers has a reply of which this is so; of any other the offset is told at which it stops
 abbrev pub AnsweredAs : (List ℕ → Type 0) → (List ℕ → Reply → Type 0) → KnownDisk → Result Reply Stop → Type 0
 AnsweredAs Answers IsReply v (Ok y) = Answers v.view.content × IsReply v.view.content y
-AnsweredAs Answers IsReply v (Err (NoStore at)) = Answers v.view.content → ⊥
+AnsweredAs Answers IsReply v (Err (NoStore at)) = IsNot Answers v.view.content at
 AnsweredAs Answers IsReply v (Err stop) = ⊤
 
 -- the answer was written, or the last line of what stopped the call

@@ -7,6 +7,7 @@ use Rattle.cp_outside.specs.Moments.{HasTold}
 use Rattle.cp_model.specs.History.{Entry}
 use Rattle.cp_disk.specs.Views.{Rests}
 use Rattle.cp_frame.specs.Stands.{IsStore, Opens, StandsFor}
+use Rattle.cp_frame.specs.Stops.{IsNot}
 use Rattle.cp_reply.specs.Lines.{lines}
 use Rattle.cp_reply.specs.declared.reply.Of.TheVariants as of
 use Rattle.cp_reply.specs.declared.reply.Why.{Why}
@@ -90,7 +91,7 @@ pub record Committed (file curator : List ℕ) (before now : Outside) (v w : Kno
   pub fitting : end ≡ how.Usage → ⊥
   pub fed : end ≡ how.Input → ⊥
   pub short : end ≡ how.TooLong → ⊥
-  pub no_store : IsTrue v.known → (at : ℕ) → end ≡ how.NoStore at → HasNotBegun taken moments before now end × Rests v.view w.view × (Opens v.view.content → ⊥)
+  pub no_store : IsTrue v.known → (at : ℕ) → end ≡ how.NoStore at → HasNotBegun taken moments before now end × Rests v.view w.view × IsNot Opens v.view.content at
   pub unopened : IsTrue v.known → (Opens v.view.content → ⊥) → HasNotBegun taken moments before now end × Rests v.view w.view
   pub did : IsTrue v.known → (files : FileTable) → IsTable files before.files now.files → (h : List Entry) → IsStore h v.view.content
       → DidCommit files h file curator taken moments before now v w end

@@ -15,6 +15,7 @@ use Rattle.cp_journal.specs.Journals.{walk_end}
 use Rattle.cp_journal.specs.NewStores.{IsVacant}
 use Rattle.cp_journal.specs.declared.limits.TheConstants.{HEADER_SIZE}
 use Rattle.cp_frame.specs.Stands.{IsStore, Opens, StandsFor}
+use Rattle.cp_frame.specs.Stops.{IsNot}
 use Rattle.cp_db.specs.Writing.{IsOldOrVacantOrStart}
 use Rattle.cp_reply.specs.Lines.{lines}
 use Rattle.cp_reply.specs.declared.reply.Of.TheVariants as of
@@ -255,7 +256,7 @@ pub record RanOn (curator : List ℕ) (before now : Outside) (v w : KnownDisk) (
   pub told : HasTold before.clock.left now.clock.left moments
   pub fitting : end ≡ how.Usage → ⊥
   pub ended : OnOk (result_of end) (IsAtEnd now.input.left)
-  pub no_store : IsTrue v.known → (at : ℕ) → end ≡ how.NoStore at → HasNotBegun taken moments before now end × Rests v.view w.view × (Opens v.view.content → ⊥)
+  pub no_store : IsTrue v.known → (at : ℕ) → end ≡ how.NoStore at → HasNotBegun taken moments before now end × Rests v.view w.view × IsNot Opens v.view.content at
   pub unopened : IsTrue v.known → (Opens v.view.content → ⊥) → HasNotBegun taken moments before now end × Rests v.view w.view
   pub did : IsTrue v.known → (files : FileTable) → IsTable files before.files now.files → (h : List Entry) → IsStore h v.view.content
       → DidOn files h curator taken moments before now v w end

@@ -7,10 +7,11 @@ use Rattle.cp_outside.specs.FileReads.{FileTable}
 use Rattle.cp_model.specs.Tree.{Tree}
 use Rattle.cp_disk.specs.Views.{Rests}
 use Rattle.cp_frame.specs.Stands.{Opens, OpensAndReplays}
+use Rattle.cp_frame.specs.Stops.{IsNot}
 use Rattle.cp_model.specs.declared.answer.LogLine.{LogLine}
 use Rattle.cp_model.specs.declared.record.Verdict.{Verdict}
-use Rattle.cp_history.specs.Log.{LogsAs}
-use Rattle.cp_history.specs.Verify.{VerifiesAs}
+use Rattle.cp_db.specs.Log.{LogsAs}
+use Rattle.cp_verify.specs.Verify.{VerifiesAs}
 use Rattle.cp_lang.specs.declared.syntax_tree.Stmt.{Stmt}
 use Rattle.cp_reply.specs.Lines.{lines}
 use Rattle.cp_reply.specs.declared.reply.Reply.{Reply}
@@ -65,12 +66,12 @@ module _ (Answers : List ℕ → Type 0) (IsReply : List ℕ → Reply → Type 
   a = record { input = i; files = f; clock = k; output = p }
 
   -- what isn't opened is no store
-  none-at : (stop : Stop) (at : ℕ) → end_of_stop stop ≡ how.NoStore at → AnsweredAs Answers IsReply v (Err stop) → Answers v.view.content → ⊥
+  none-at : (stop : Stop) (at : ℕ) → end_of_stop stop ≡ how.NoStore at → AnsweredAs Answers IsReply v (Err stop) → IsNot Answers v.view.content at
   none-at Output at h n = absurd (cc)
   none-at Full at h n = absurd (cc)
   none-at File at h n = absurd (cc)
   none-at Disk at h n = absurd (cc)
-  none-at (NoStore m) at h n = n
+  none-at (NoStore m) at h n = let same : m ≡ at = cc h in subst (IsNot Answers v.view.content) same n
   none-at Clock at h n = absurd (cc)
   none-at Memory at h n = absurd (cc)
 

@@ -73,14 +73,14 @@ fits words.Verify before now v w e r = answered-fits OpensAndReplays IsVerdictOn
 opens : (x : Command) (before now : Outside) (v w : KnownDisk) (e : End) → DidCommand x before now v w e → HasItsStore x v → (at : ℕ) → e ≡ how.NoStore at → ⊥
 opens (words.Scratch k s) before now v w e r has at h = r.running.opened at h
 opens (words.Init k s) before now v w e r has at h = r.running.opened at h
-opens (words.Run curator) before now v w e r has at h = (r.no_store has.0 at h).2 has.1
-opens (words.Commit file curator) before now v w e r has at h = (r.no_store has.0 at h).2 has.1
-opens (words.Load l) before now v w e r has at h = (r.no_store has.0 at h).2 has.1
-opens (words.Ask q) before now v w e r has at h = (r.no_store has.0 at h).1 has.1
-opens (words.Show p) before now v w e r has at h = (r.no_store has.0 at h).1 has.1
+opens (words.Run curator) before now v w e r has at h = (r.no_store has.0 at h).2.never has.1
+opens (words.Commit file curator) before now v w e r has at h = (r.no_store has.0 at h).2.never has.1
+opens (words.Load l) before now v w e r has at h = (r.no_store has.0 at h).2.never has.1
+opens (words.Ask q) before now v w e r has at h = (r.no_store has.0 at h).1.never has.1
+opens (words.Show p) before now v w e r has at h = (r.no_store has.0 at h).1.never has.1
 opens (words.Generate seed count k) before now v w e r has at h = generated-not k seed count before now e (how.NoStore at) r (λ g. absurd (cc)) (λ line said g. said-not-none line false before.output now.output e said at g) h
-opens words.Log before now v w e r has at h = (r.no_store has.0 at h).1 has.1
-opens words.Verify before now v w e r has at h = (r.no_store has.0 at h).1 has.1
+opens words.Log before now v w e r has at h = (r.no_store has.0 at h).1.never has.1
+opens words.Verify before now v w e r has at h = (r.no_store has.0 at h).1.never has.1
 
 -- where nothing failed and little came, the call ends with an answer
 complete : (x : Command) (before now : Outside) (v w : KnownDisk) (e : End) → DidCommand x before now v w e → HasCauses before now e → DiskCauses v w e → (e ≡ how.TooLong → IsShort before.input.left → ⊥)

@@ -5,7 +5,8 @@ use Rattle.cp_model.specs.declared.kind.Kind.{Kind}
 use Rattle.cp_model.specs.declared.record.Verdict.{Verdict}
 use Rattle.cp_disk.specs.Views.{Rests}
 use Rattle.cp_frame.specs.Stands.{IsStore, IsTold}
-use Rattle.cp_history.specs.Verify.{VerifiesAs}
+use Rattle.cp_frame.specs.Stops.{IsNot}
+use Rattle.cp_verify.specs.Verify.{VerifiesAs}
 use Rattle.cp_lang.specs.declared.syntax_tree.Stmt.{Stmt}
 use Rattle.cp_reply.specs.Lines.{lines}
 use Rattle.cp_reply.specs.declared.reply.Reply.{Reply}
@@ -38,13 +39,13 @@ abbrev pub SaidReply : Reply → Outside → Outside → End → Type 0
 SaidReply y before now end = SaidLine (lines y) (is_refusal y) before.output now.output end
 
 -- A call that was to answer from a store took no input, read no file, asked no clock, and left the disk as it was.
--- Of the contents from which it answers each has a reply, of which this is so; any other is no store, and has none.
+-- Of the contents from which it answers each has a reply, of which this is so; of any other the offset is told at which it stops.
 pub record Answered (Answers : List ℕ → Type 0) (IsReply : List ℕ → Reply → Type 0) (before now : Outside) (v w : KnownDisk) (end : End) : Type 0 where
   pub input : now.input ≡ before.input
   pub files : now.files ≡ before.files
   pub clock : now.clock ≡ before.clock
   pub rests : IsTrue v.known → Rests v.view w.view
-  pub no_store : IsTrue v.known → (at : ℕ) → end ≡ how.NoStore at → EndedEarly before now end × (Answers v.view.content → ⊥)
+  pub no_store : IsTrue v.known → (at : ℕ) → end ≡ how.NoStore at → EndedEarly before now end × IsNot Answers v.view.content at
   pub ended : EndedEarly before now end
       ⊎ ((y : Reply) × SaidReply y before now end × (IsTrue v.known → Answers v.view.content × IsReply v.view.content y))
 

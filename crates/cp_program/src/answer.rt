@@ -13,14 +13,15 @@ ghost use Rattle.cp_interpreter.specs.Story.{HasCauses, DiskCauses, result_of};
 ghost use Rattle.cp_interpreter.specs.Turns.{IsDiskStop};
 
 use crate::load::open_workspace;
+use cp_db::log_of;
 use cp_disk::Disk;
-use cp_history::{log_of, verify};
 use cp_interpreter::{End, Stop, end_with, stopped};
 use cp_model::Query;
 use cp_outside::Sink;
 use cp_path::Loc;
 use cp_reply::Reply;
 use cp_tree::TreeRep;
+use cp_verify::verify;
 use std::alloc::Global;
 
 /// What a store replies to a query.

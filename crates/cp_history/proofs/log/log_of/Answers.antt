@@ -1,5 +1,0 @@
-use Rattle.cp_history.proofs.Found.{lines_found}
-use Rattle.cp_history.proofs.log.log_of.Goals as goal
-
-pub returns-clause-logged : goal.returns-clause-logged
-returns-clause-logged g c = λ known. lines_found (g.D.Disk.view c.args.disk.now).content c.in_ok-work.work (c.in_ok-work.ensures.found known)

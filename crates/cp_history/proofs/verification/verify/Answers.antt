@@ -1,5 +1,0 @@
-use Rattle.cp_history.proofs.Found.{verdict_found}
-use Rattle.cp_history.proofs.verification.verify.Goals as goal
-
-pub returns-clause-verified : goal.returns-clause-verified
-returns-clause-verified g c = λ known. verdict_found (g.D.Disk.view c.args.disk.now).content c.in_ok-work.work (c.in_ok-work.ensures.found known)
