@@ -6,8 +6,14 @@ use Rattle.cp_journal.specs.declared.limits.TheConstants.{HEADER_SIZE}
 use Rattle.cp_db.specs.Walk.{FindsAs, TellsPassedAs}
 use Rattle.cp_db.proofs.WalkingFrames.{finds, finds_broken, finds_not}
 use Rattle.cp_db.proofs.OpeningItems.{passed}
-use Rattle.cp_db.proofs.OpeningStores.{lists_after, version_kept, walked_first}
+use Rattle.cp_db.proofs.OpeningStores.{lists_after, stops_at_slot, version_kept, walked_first, whole_not}
 use Rattle.cp_db.proofs.walk.work_over.Goals as goal
+
+pub returns-in-Some-clause-found : goal.returns-in-Some-clause-found
+returns-in-Some-clause-found g c = λ known.
+    let u = g.D.Disk.view c.args.disk.now in
+    let header = c.in_ok-header.ensures.header known in
+    whole_not u.content c.in-Some.at (stops_at_slot u.content c.in_ok-header.header header.0 header.1 c.in-Some.at (sym c.open_slot.ensures ∙ c.in-Some.is))
 
 pub returns-in_err-walk-clause-found : goal.returns-in_err-walk-clause-found
 returns-in_err-walk-clause-found g c = λ known.

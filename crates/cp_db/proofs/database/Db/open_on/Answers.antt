@@ -6,10 +6,16 @@ use Rattle.cp_journal.specs.declared.limits.TheConstants.{HEADER_SIZE}
 use Rattle.cp_db.specs.Opening.{OpensAs}
 use Rattle.cp_db.specs.Walk.{TellsPassedAs, frame_place}
 use Rattle.cp_db.proofs.OpeningItems.{passed}
-use Rattle.cp_db.proofs.OpeningStores.{described_last, has_opened, is_ready, lists_after, version_kept, walked_first}
+use Rattle.cp_db.proofs.OpeningStores.{described_last, has_opened, is_ready, lists_after, opens_not, stops_at_slot, version_kept, walked_first}
 use Rattle.cp_db.proofs.Walking.{RowsDone, RowsFit}
 use Rattle.cp_db.proofs.WalkingFrames.{held_all, opens_broken, opens_stopped}
 use Rattle.cp_db.proofs.database.Db.open_on.Goals as goal
+
+pub returns-in-Some-clause-opened : goal.returns-in-Some-clause-opened
+returns-in-Some-clause-opened g c = λ known.
+    let u = g.D.Disk.view c.args.disk.now in
+    let header = c.in_ok-header.ensures.header known in
+    opens_not u.content c.in-Some.at (stops_at_slot u.content c.in_ok-header.header header.0 header.1 c.in-Some.at (sym c.open_slot.ensures ∙ c.in-Some.is))
 
 pub returns-in_err-walk-clause-opened : goal.returns-in_err-walk-clause-opened
 returns-in_err-walk-clause-opened g c = λ known.
