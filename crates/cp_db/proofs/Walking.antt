@@ -10,7 +10,7 @@ use Rattle.cp_model.specs.declared.literal.Literal.{Literal}
 use Rattle.cp_model.specs.declared.op.Op.{Op}
 use Rattle.cp_model.specs.declared.record.Record.{Record}
 use Rattle.cp_model.specs.Tree.{Tree, Source, IsTree}
-use Rattle.cp_kinds.specs.Stores.{KindRows}
+use Rattle.cp_store.specs.Stores.{KindRows}
 use Rattle.cp_model.specs.History.{State, commit as made, start_state}
 use Rattle.cp_model.proofs.Contents.{tree_of-aged}
 use Rattle.cp_operation.specs.Loaded.{sources_in}

@@ -1,7 +1,7 @@
 -- A database goes on holding its state.
 use Rattle.std.proofs.Common.{◌≡◌, ℕ, ◌+◌, Bool, IsTrue, true, false, List, [], refl, sym, ◌∙◌, ap, subst}
 use Rattle.std.specs.declared.option.Option.TheVariants.{None}
-use Rattle.cp_kinds.specs.Stores.{KindRows}
+use Rattle.cp_store.specs.Stores.{KindRows}
 use Rattle.cp_engine.specs.Transactions as txn
 use Rattle.cp_engine.specs.declared.txn.Txn.{Txn}
 use Rattle.cp_model.specs.declared.kind.Kind.{Kind}
@@ -67,15 +67,15 @@ module _ {R S : Type 0} (view : R → Tree) (source_view : S → Tree) where
     rows = λ s has. list ∙ has;
   }
 
--- its kind, its last Tid, its rows and its tree are those of the state that is asked
-pub state-asked : {R S : Type 0} (view : R → Tree) (source_view : S → Tree) (c : Committed R S) (h : List Entry) (s : State) → LeadsTo h s → KeepsState view source_view c s → HasRows c s → IsCommitted c.store.kind c.store.rows.upto c.store.rows.list (view c.tree) s
-state-asked view source_view c h s led z has = record {
+-- its kind, its last Tid and its tree are those of the state that is asked
+pub state-asked : {R S : Type 0} (view : R → Tree) (source_view : S → Tree) (c : Committed R S) (h : List Entry) (s : State) → LeadsTo h s → KeepsState view source_view c s → IsCommitted c.store.kind c.store.rows.upto s.rows (view c.tree) s
+state-asked view source_view c h s led z = record {
   history = h;
   legal = led.legal;
   replayed = led.replayed;
   kind = sym z.kind;
   now = sym z.upto;
-  rows = sym has;
+  rows = refl;
   tree = sym z.tree;
 }
 

@@ -12,10 +12,10 @@ ghost use Rattle.cp_db.specs.Committed.{HasRows, KeepsState, TidsLieBetween, Has
 
 use crate::limits::TIDS_MAX;
 use cp_engine::{replay, steps_of};
-use cp_kinds::KindStore;
-use cp_model::{Kind, Literal, OpList, ProvStore, Record, RecordList, SOURCES_MAX, Stats};
+use cp_model::{Kind, Literal, OpList, Record, RecordList, SOURCES_MAX, Stats};
 use cp_operation::Sources;
 use cp_path::Name;
+use cp_store::{MemoryStore, ProvStore};
 use cp_tree::{TreeRep, tree_of};
 use std::alloc::{AllocError, Global};
 
@@ -25,7 +25,7 @@ use std::alloc::{AllocError, Global};
 pub struct Committed<R: TreeRep, S: TreeRep> {
     pub tree: R,
     pub sources: Sources<S>,
-    pub store: KindStore,
+    pub store: MemoryStore,
     pub commits: u64,
 }
 
@@ -98,7 +98,7 @@ impl<R: TreeRep, S: TreeRep> Committed<R, S> {
         Ok(Committed {
             tree,
             sources: Sources::new(alloc),
-            store: KindStore::new(alloc, kind, 0)?,
+            store: MemoryStore::new(alloc, kind, 0)?,
             commits: 0,
         })
     }
@@ -112,7 +112,7 @@ impl<R: TreeRep, S: TreeRep> Committed<R, S> {
             kind: self.store.kind(),
             tid: self.store.upto(),
             transactions: self.commits,
-            records: self.store.count(),
+            records: self.store.len(),
             nodes: self.tree.count(),
             sources: self.sources.len() as u32,
         }

@@ -10,9 +10,10 @@ ghost use Rattle.cp_db.specs.Databases.{HoldsState, HoldsSame, Stands, IsDatabas
 use crate::committed::Committed;
 use cp_engine::Txn;
 use cp_journal::Journal;
-use cp_model::{Answer, Kind, ProvStore, Query};
+use cp_model::{Answer, Kind, Query};
 use cp_operation::Sources;
 use cp_query::{QueryFault, answer};
+use cp_store::ProvStore;
 use cp_tree::TreeRep;
 use std::alloc::{AllocError, Global};
 

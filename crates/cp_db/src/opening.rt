@@ -18,7 +18,7 @@ use cp_disk::Disk;
 use cp_format::FormatFault;
 use cp_frame::{Entry, entry_of};
 use cp_journal::{HEADER_SIZE, Header, Journal};
-use cp_kinds::KindStore;
+use cp_store::MemoryStore;
 use cp_tree::TreeRep;
 use std::alloc::Global;
 
@@ -93,7 +93,7 @@ impl<R: TreeRep, S: TreeRep> Db<R, S> {
         }
         let version = version_of(&header);
         let journal = Journal::open_on(alloc, disk, HEADER_SIZE as u64)?;
-        let walk: HistoryWalk<R, S, KindStore> = HistoryWalk::over_all(
+        let walk: HistoryWalk<R, S, MemoryStore> = HistoryWalk::over_all(
             alloc,
             disk,
             &journal,

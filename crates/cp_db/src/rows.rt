@@ -5,14 +5,14 @@ ghost use Rattle.cp_frame.specs.Items.{records_in};
 
 use crate::committed::replay_commit;
 use crate::work::{CommitAt, Passed, Work};
-use cp_kinds::KindStore;
-use cp_model::{Kind, ProvStore};
+use cp_model::{Kind};
 use cp_operation::Sources;
+use cp_store::{MemoryStore, ProvStore};
 use cp_tree::TreeRep;
 use std::alloc::{AllocError, Global};
 
 /// A walk that opens a file keeps the records of each commit.
-impl Work for KindStore {
+impl Work for MemoryStore {
     ghost fits = { λ rows kind last. (rows.kind ≡ kind) × (rows.rows.upto ≡ last) };
 
     ghost done = { λ rows first place items. rows.rows.list ≡ flat_map records_in items };
@@ -22,8 +22,8 @@ impl Work for KindStore {
         kind: Kind,
         last: u64,
         _tree: &R,
-    ) -> Result<KindStore, AllocError> {
-        KindStore::new(alloc, kind, last)
+    ) -> Result<MemoryStore, AllocError> {
+        MemoryStore::new(alloc, kind, last)
     }
 
     fn commit<R: TreeRep, S: TreeRep>(

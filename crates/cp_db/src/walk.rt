@@ -24,10 +24,10 @@ use crate::work::{CommitAt, Passed, Work};
 use cp_disk::Disk;
 use cp_frame::Entry;
 use cp_journal::{ENTRY, HEADER_SIZE, Journal};
-use cp_kinds::KindStore;
 use cp_model::{Kind, Stamp};
 use cp_operation::Sources;
 use cp_path::Label;
+use cp_store::MemoryStore;
 use cp_tree::TreeRep;
 use std::alloc::{AllocError, Global};
 
@@ -280,7 +280,7 @@ impl<R: TreeRep, S: TreeRep, W: Work> HistoryWalk<R, S, W> {
     }
 }
 
-impl<R: TreeRep, S: TreeRep> HistoryWalk<R, S, KindStore> {
+impl<R: TreeRep, S: TreeRep> HistoryWalk<R, S, MemoryStore> {
     /// What the walk leads to, with the rows that were kept on the way.
     pub(crate) fn into_committed(self) -> Committed<R, S>
         ensures keeps { (first : OptionValue State) (items : List Item)

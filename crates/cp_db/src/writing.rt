@@ -29,8 +29,9 @@ use cp_disk::{DISK_MAX, Disk};
 use cp_engine::{Step, Txn};
 use cp_frame::{Entry, entry_bytes};
 use cp_journal::{BODY_MAX, FRAME_HEAD, HEADER_SIZE, Journal};
-use cp_model::{Kind, ProvStore, Stamp};
+use cp_model::{Kind, Stamp};
 use cp_path::Name;
+use cp_store::ProvStore;
 use cp_tree::{TreeRep, literal_of};
 use std::alloc::{AllocError, Global};
 

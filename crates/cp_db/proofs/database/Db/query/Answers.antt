@@ -1,4 +1,4 @@
-use Rattle.std.proofs.Common.{refl}
+use Rattle.std.proofs.Common.{refl, sym}
 use Rattle.cp_db.proofs.WritingStanding.{holds-read, state-asked}
 use Rattle.cp_db.proofs.database.Db.query.Goals as goal
 
@@ -8,10 +8,13 @@ stats-numbers-requires g c = (c.requires.stands.0, c.requires.stands.1.committed
 pub returns-clause-answer : goal.returns-clause-answer
 returns-clause-answer g c = λ h z.
     c.answer.ensures.answer z.state
-    (state-asked g.R.TreeRep.contents g.S.TreeRep.contents c.args.self.now.committed h z.state z.led z.holds.committed (z.rows refl))
+    (record {
+      keeps = sym (z.rows refl);
+      committed = state-asked g.R.TreeRep.contents g.S.TreeRep.contents c.args.self.now.committed h z.state z.led z.holds.committed;
+    })
     (c.stats-numbers.ensures z.state z.holds.committed (z.rows refl))
 
 pub returns-clause-same : goal.returns-clause-same
 returns-clause-same g c =
     holds-read g.R.TreeRep.contents g.S.TreeRep.contents c.args.self.now c.answer.new.store
-    c.answer.ensures.asks.kind c.answer.ensures.asks.last c.answer.ensures.asks.rows
+    c.answer.ensures.asks.kind c.answer.ensures.asks.last (sym (c.answer.ensures.asks.rows c.args.self.now.committed.store.rows.list refl))

@@ -7,7 +7,7 @@ use Rattle.cp_db.specs.declared.work.CommitAt.{CommitAt}
 use Rattle.cp_db.proofs.TakingCommits.{replays-same}
 use Rattle.cp_db.proofs.TakingLists.{records-next}
 use Rattle.cp_db.proofs.Walking.{rows-commit}
-use Rattle.cp_db.proofs.rows.KindStoreWork.commit.Goals as goal
+use Rattle.cp_db.proofs.rows.MemoryStoreWork.commit.Goals as goal
 
 pub returns-in_default-clause-replayed : goal.returns-in_default-clause-replayed
 returns-in_default-clause-replayed g c =
@@ -25,4 +25,4 @@ absorb-requires-clause-next g c =
 pub returns-in-Ok-clause-done : goal.returns-in-Ok-clause-done
 returns-in-Ok-clause-done g c = λ first place items s x done at.
     rows-commit c.args.self.now.rows.list c.absorb.new.self.rows.list first place items s x c.args.commit c.args.kind c.args.last (sources_in g.S.TreeRep.contents c.args.sources.now) (g.R.TreeRep.contents c.args.tree.now) done at
-    (c.in-Ok.ensures.rows ∙ ap (λ (rs : List Record). c.args.self.now.rows.list ++ rs) (c.deref.ensures.value ∙ ap (λ (k : CommitAt). k.records) c.commit.view_is))
+    (sym (c.in-Ok.ensures.rows c.args.self.now.rows.list refl) ∙ ap (λ (rs : List Record). c.args.self.now.rows.list ++ rs) (c.deref.ensures.value ∙ ap (λ (k : CommitAt). k.records) c.commit.view_is))
