@@ -69,12 +69,12 @@ passed P r e p h = subst P (sym p.1) (subst (λ y. P (Err y)) (sym p.2) h)
 
 -- ---- a frame that holds nothing that may follow
 
-module _ (v : ℕ) (f : Frame) (o : Option State) (place : ℕ) (tag : f.tag ≡ ENTRY) where
+module _ (v : ℕ) (f : Frame) (o : Option State) (tag : f.tag ≡ ENTRY) where
   -- where the frame spells no entry, nothing may follow
-  pub unspelled_here : (e : OpenFault) → SpellsAs f (Err e) → ((n : ℕ) → e ≡ NoStore n → n ≡ place) → RefusesAs v f o place e
-  unspelled_here (NoStore at) none here = (λ i held can. holds_none v f i tag none held, here at refl)
-  unspelled_here Disk none here = tt
-  unspelled_here Memory none here = tt
+  pub unspelled_here : (place : ℕ) (e : OpenFault) → SpellsAs f (Err e) → ((n : ℕ) → e ≡ NoStore n → n ≡ place) → RefusesAs v f o place e
+  unspelled_here place (NoStore at) none here = (λ i held can. holds_none v f i tag none held, here at refl)
+  unspelled_here place Disk none here = tt
+  unspelled_here place Memory none here = tt
 
   module _ (w : WrittenEntry) (reads : Reads entry_format f.body w []) where
     -- nor where it is of another version

@@ -178,7 +178,6 @@ module _ {R S : Type 0} (view : R → Tree) (source_view : S → Tree) where
         (walked : HasWalked HEADER_SIZE (frames_of (drop HEADER_SIZE c)) d.journal c)
         (described : Describes (take HEADER_SIZE c) (frames_of (drop HEADER_SIZE c)).frames d.journal v)
         (some : 1 ≤ length (frames_of (drop HEADER_SIZE c)).frames) (items : List Item) (held_all : AreHeld hd.version (frames_of (drop HEADER_SIZE c)).frames items) (taken : HasTaken view source_view None d.committed items) where
-
       clean : (frames_of (drop HEADER_SIZE c)).clean ≡ true
       clean = clean_of (frames_of (drop HEADER_SIZE c)).clean _ d.journal.broken walked.broken whole
 

@@ -5,7 +5,7 @@ ghost use Rattle.cp_frame.specs.Items.{records_in};
 
 use crate::committed::replay_commit;
 use crate::work::{CommitAt, Passed, Work};
-use cp_model::{Kind};
+use cp_model::Kind;
 use cp_operation::Sources;
 use cp_store::{MemoryStore, ProvStore};
 use cp_tree::TreeRep;

@@ -11,9 +11,11 @@ returns-then-len-eq0-clause-started g c = λ known v fs lists.
     (refl, λ f rest is. absurd (omega (arith, listed_length c.args.from fs c.args.journal.now _ lists, c.len.ensures, c.if-len-eq0.true, ap length is)))
 
 pub returns-then-frame-ne-ENTRY-clause-started : goal.returns-then-frame-ne-ENTRY-clause-started
-returns-then-frame-ne-ENTRY-clause-started g c = λ known v fs lists.
-    (refl, λ f rest is. other_tag_first v f (λ tag.
-    c.if-frame-ne-ENTRY.true (listed_tag c.args.from fs c.args.journal.now _ lists 0 c.in_ok-frame.frame f c.in_ok-frame.ensures.at (ap (λ (l : List Frame). slice_get l 0) is) ∙ tag)))
+returns-then-frame-ne-ENTRY-clause-started g c = λ known v fs lists. (
+  refl,
+  λ f rest is. other_tag_first v f (λ tag.
+      c.if-frame-ne-ENTRY.true (listed_tag c.args.from fs c.args.journal.now _ lists 0 c.in_ok-frame.frame f c.in_ok-frame.ensures.at (ap (λ (l : List Frame). slice_get l 0) is) ∙ tag)),
+)
 
 pub returns-clause-started : goal.returns-clause-started
 returns-clause-started g c = λ known v fs lists.

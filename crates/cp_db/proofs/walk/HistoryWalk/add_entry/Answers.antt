@@ -12,22 +12,20 @@ pub returns-in_err-entry-clause-added : goal.returns-in_err-entry-clause-added
 returns-in_err-entry-clause-added g c = λ f first place items tag same t at.
     passed (PassesFrameAs g.R.TreeRep.contents g.S.TreeRep.contents g.W.Work.fits g.W.Work.done first place c.args.version f items c.args.self.now) c.from_residual.result c.in_err-entry.field-0.0
     (err_from_is_err_and c.from_residual.result c.from_residual.ensures.1)
-    (unspelled_here c.args.version f (fold after_item first items) (place (length items)) tag c.in_err-entry.field-0.0 (c.in_err-entry.ensures.spells f same) (λ n is. c.in_err-entry.ensures.at n is ∙ at))
+    (unspelled_here c.args.version f (fold after_item first items) tag (place (length items)) c.in_err-entry.field-0.0 (c.in_err-entry.ensures.spells f same) (λ n is. c.in_err-entry.ensures.at n is ∙ at))
 
 pub returns-then-not-is_of_version-clause-added : goal.returns-then-not-is_of_version-clause-added
 returns-then-not-is_of_version-clause-added g c = λ f first place items tag same t at.
-    let s = c.in_ok-entry.ensures.spells f same in
-    (
-      other_version_here c.args.version f (fold after_item first items) c.args.at tag s.0 s.2 (λ allowed. let no : false ≡ true = (c.if-not-is_of_version.ensures s.0 s.1).1 allowed in absurd (cc no)),
+    let s = c.in_ok-entry.ensures.spells f same in (
+      other_version_here c.args.version f (fold after_item first items) tag s.0 s.2 (λ allowed. let no : false ≡ true = (c.if-not-is_of_version.ensures s.0 s.1).1 allowed in absurd (cc no)),
       at,
     )
 
 pub returns-then-not-branch-clause-added : goal.returns-then-not-branch-clause-added
 returns-then-not-branch-clause-added g c = λ f first place items tag same t at.
-    let s = c.in_ok-entry.ensures.spells f same in
-    (
-      refused_here c.args.version f (fold after_item first items) c.args.at tag s.0 s.2
-      (subst (CanReach g.R.TreeRep.contents g.S.TreeRep.contents g.W.Work.fits first items s.0 c.add.new.self) c.if-not-branch.true (c.in_ok-add.ensures.reached first items s.0 t.reached s.1)),
+    let s = c.in_ok-entry.ensures.spells f same in (
+      refused_here c.args.version f (fold after_item first items) tag s.0 s.2
+          (subst (CanReach g.R.TreeRep.contents g.S.TreeRep.contents g.W.Work.fits first items s.0 c.add.new.self) c.if-not-branch.true (c.in_ok-add.ensures.reached first items s.0 t.reached s.1)),
       at,
     )
 
