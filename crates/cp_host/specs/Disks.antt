@@ -5,7 +5,12 @@ use Rattle.cp_disk.specs.Counts.{Counts}
 use Rattle.cp_disk.specs.Views.{View}
 use Rattle.cp_disk.specs.declared.disk.DiskFault.{DiskFault}
 use Rattle.cp_disk.specs.declared.disk.DiskFault.TheVariants.{Failed, Memory}
+use Rattle.cp_host.specs.declared.access.Access.{Access}
 use Rattle.cp_host.specs.declared.disk.FileDisk.{FileDisk}
+
+-- What a disk of a real file may do with it.
+abbrev pub disk_access : {R : Type 0} → FileDisk R → Access
+disk_access d = d.file.access
 
 -- What a disk of a real file counts.
 abbrev pub disk_counts : {R : Type 0} → FileDisk R → Counts

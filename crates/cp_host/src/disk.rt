@@ -1,9 +1,10 @@
 //! A real file as a disk.
-ghost use Rattle.std.specs.Prelude.{◌≡◌, ◌≤◌, ◌<◌, ◌+◌, length, IfOk};
+ghost use Rattle.std.specs.Prelude.{◌≡◌, ◌≤◌, ◌<◌, ◌+◌, length, IfOk, IsErrOf};
 ghost use Rattle.cp_outside.specs.Causes.{one_more};
 ghost use Rattle.cp_disk.specs.Counts.{Counted};
-ghost use Rattle.cp_host.specs.Disks.{disk_counts, no_counts, after_read, after_answer};
+ghost use Rattle.cp_host.specs.Disks.{disk_access, disk_counts, no_counts, after_read, after_answer};
 
+use crate::access::Access;
 use crate::named_file::NamedFile;
 use cp_disk::{DISK_MAX, Disk, DiskFault, READ_MAX};
 use std::fs::File;
@@ -11,11 +12,16 @@ use std::rt;
 
 /// A file of the operating system, by its name. It tells nothing of what the file holds.
 ///
-/// The first call opens the file, to be read and written, or to be read alone where it may not be
+/// The first call opens the file, to be read alone, or, of a disk that may write, to be read and
 /// written. It stays open until the disk is dropped. A file that isn't there is an empty one, which
 /// the first write makes; if the name names something by then, even a link that leads nowhere, that
 /// write fails. The name of anything but a file, as of a folder, fails, and so does a file that may
 /// not be read.
+///
+/// A disk that may write takes the lock on its file as it opens or makes it (`flock`, exclusive),
+/// and keeps it until it is dropped. Where someone else has it, that call fails. A file system that
+/// knows no locks is no failure, and a file that may not be written is opened to be read alone,
+/// without a lock. A disk that only reads takes none, and each of its writes and cuts fails.
 ///
 /// A call that a signal interrupts is tried again. Running out of memory is `Memory` where nothing
 /// has changed; of a write, a cut or a sync that has begun it is a failure, as is every other error.
@@ -29,11 +35,12 @@ pub struct FileDisk<R> {
 
 impl<R> FileDisk<R> {
     /// The file that this runtime, as `&rt` in `main`, knows by this name. Nothing is opened yet.
-    pub fn new(runtime: R, name: String) -> FileDisk<R>
-        ensures { disk_counts result ≡ no_counts }
+    pub fn new(runtime: R, name: String, access: Access) -> FileDisk<R>
+        ensures counts { disk_counts result ≡ no_counts }
+        ensures access { disk_access result ≡ access }
     {
         FileDisk {
-            file: NamedFile::new(runtime, name),
+            file: NamedFile::new(runtime, name, access),
             faults: 0,
             reads: 0,
             wants: 0,
@@ -45,6 +52,7 @@ impl<R> FileDisk<R> {
         ensures same { result ≡ answer }
         ensures counts { disk_counts self.new ≡ after_answer answer (disk_counts self.old) }
         ensures cause { Counted (disk_counts self.old) (disk_counts self.new) result }
+        ensures access { disk_access self.new ≡ disk_access self.old }
     {
         match &answer {
             Ok(_) => {}
@@ -79,6 +87,7 @@ impl<R: rt::Files<File = File>> Disk for FileDisk<R> {
 
         // Each fault is counted once.
         ensures counted { disk_counts self.new ≡ after_answer result (disk_counts self.old) }
+        ensures access { disk_access self.new ≡ disk_access self.old }
     {
         let answer = self.file.size();
         self.count(answer)
@@ -94,6 +103,7 @@ impl<R: rt::Files<File = File>> Disk for FileDisk<R> {
         // Each read and each fault is counted once.
         ensures counted { disk_counts self.new
             ≡ after_answer result (after_read (disk_counts self.old)) }
+        ensures access { disk_access self.new ≡ disk_access self.old }
     {
         self.reads = self.reads.saturating_add(1);
         let answer = self.file.read(at, into);
@@ -109,6 +119,10 @@ impl<R: rt::Files<File = File>> Disk for FileDisk<R> {
 
         // Each fault is counted once.
         ensures counted { disk_counts self.new ≡ after_answer result (disk_counts self.old) }
+        ensures access { disk_access self.new ≡ disk_access self.old }
+
+        // A disk that only reads changes nothing.
+        ensures only_reads { disk_access self.old ≡ Access.Reads → IsErrOf result DiskFault.Failed }
     {
         let answer = self.file.write_at(at, bytes);
         self.count(answer)
@@ -122,6 +136,10 @@ impl<R: rt::Files<File = File>> Disk for FileDisk<R> {
 
         // Each fault is counted once.
         ensures counted { disk_counts self.new ≡ after_answer result (disk_counts self.old) }
+        ensures access { disk_access self.new ≡ disk_access self.old }
+
+        // A disk that only reads changes nothing.
+        ensures only_reads { disk_access self.old ≡ Access.Reads → IsErrOf result DiskFault.Failed }
     {
         let answer = self.file.cut(size);
         self.count(answer)
@@ -137,6 +155,7 @@ impl<R: rt::Files<File = File>> Disk for FileDisk<R> {
 
         // Each fault is counted once.
         ensures counted { disk_counts self.new ≡ after_answer result (disk_counts self.old) }
+        ensures access { disk_access self.new ≡ disk_access self.old }
     {
         let answer = self.file.sync();
         self.count(answer)

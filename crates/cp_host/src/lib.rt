@@ -6,13 +6,16 @@
 //! trusted.
 #![tactic(auto)]
 
+mod access;
 mod clock;
 mod disk;
 mod files;
 mod input;
 mod named_file;
+mod opening;
 mod output;
 
+pub use access::Access;
 pub use clock::HostClock;
 pub use disk::FileDisk;
 pub use files::HostFiles;

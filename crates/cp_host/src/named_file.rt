@@ -1,13 +1,13 @@
 //! A real file that is opened by its name when it is first used.
-ghost use Rattle.std.specs.Prelude.{◌≤◌, IfOk};
+ghost use Rattle.std.specs.Prelude.{◌≡◌, ◌≤◌, IfOk, IsErrOf};
 
+use crate::access::Access;
+use crate::opening::{fault_of, find, make, size_of};
 use cp_disk::{DISK_MAX, DiskFault};
-use std::fs::{File, OpenOptions};
-use std::io::ErrorKind;
-use std::os::fd::AsRawFd;
+use std::fs::File;
 use std::os::unix::fs::FileExt;
 use std::path::Path;
-use std::{fs, io, rt};
+use std::{io, rt};
 
 // What was found under the name.
 #[derive(Drop)]
@@ -36,22 +36,38 @@ enum Naming {
 pub(crate) struct NamedFile<R> {
     runtime: R,
     name: String,
+    access: Access,
     found: Found,
     naming: Naming,
 }
 
 impl<R> NamedFile<R> {
-    pub(crate) fn new(runtime: R, name: String) -> NamedFile<R> {
+    pub(crate) fn new(runtime: R, name: String, access: Access) -> NamedFile<R>
+        ensures { result.access ≡ access }
+    {
         NamedFile {
             runtime,
             name,
+            access,
             found: Found::NotYet,
             naming: Naming::Unused,
         }
     }
 
+    // Says whether the file may be changed: one that is only read may not.
+    fn allow_change(&self) -> Result<(), DiskFault>
+        ensures { self.now.access ≡ Access.Reads → IsErrOf result DiskFault.Failed }
+    {
+        match self.access {
+            Access::Reads => Err(DiskFault::Failed),
+            Access::Writes => Ok(()),
+        }
+    }
+
     // Notes that the next sync has to make the name durable, unless one has done so already.
-    fn note_change(&mut self) {
+    fn note_change(&mut self)
+        ensures { self.new.access ≡ self.old.access }
+    {
         if let Naming::Unused = self.naming {
             self.naming = Naming::Pending;
         }
@@ -60,10 +76,15 @@ impl<R> NamedFile<R> {
 
 impl<R: rt::Files<File = File>> NamedFile<R> {
     // Looks for the file, unless that was done.
-    fn open(&mut self) -> Result<(), DiskFault> {
+    fn open(&mut self) -> Result<(), DiskFault>
+        ensures { self.new.access ≡ self.old.access }
+    {
         match &self.found {
             Found::NotYet => {
-                self.found = find(&self.runtime, self.name.as_str())?;
+                self.found = match find(&self.runtime, self.name.as_str(), self.access)? {
+                    Some(file) => Found::Open(file),
+                    None => Found::Missing,
+                };
                 Ok(())
             }
             Found::Lost => Err(DiskFault::Failed),
@@ -72,7 +93,9 @@ impl<R: rt::Files<File = File>> NamedFile<R> {
     }
 
     // The same; a missing file is made.
-    fn open_or_make(&mut self) -> Result<(), DiskFault> {
+    fn open_or_make(&mut self) -> Result<(), DiskFault>
+        ensures { self.new.access ≡ self.old.access }
+    {
         self.open()?;
         if let Found::Missing = &self.found {
             self.found = Found::Open(make(&self.runtime, self.name.as_str())?);
@@ -81,7 +104,8 @@ impl<R: rt::Files<File = File>> NamedFile<R> {
     }
 
     pub(crate) fn size(&mut self) -> Result<u64, DiskFault>
-        ensures { IfOk result (λ n. n ≤ DISK_MAX) }
+        ensures most { IfOk result (λ n. n ≤ DISK_MAX) }
+        ensures access { self.new.access ≡ self.old.access }
     {
         self.open()?;
         match &self.found {
@@ -90,7 +114,9 @@ impl<R: rt::Files<File = File>> NamedFile<R> {
         }
     }
 
-    pub(crate) fn read(&mut self, at: u64, into: &mut [u8]) -> Result<(), DiskFault> {
+    pub(crate) fn read(&mut self, at: u64, into: &mut [u8]) -> Result<(), DiskFault>
+        ensures { self.new.access ≡ self.old.access }
+    {
         self.open()?;
         match &self.found {
             Found::Open(file) => file
@@ -101,7 +127,11 @@ impl<R: rt::Files<File = File>> NamedFile<R> {
     }
 
     // From the first byte on any error is a failure, as some bytes may be written.
-    pub(crate) fn write_at(&mut self, at: u64, bytes: &[u8]) -> Result<(), DiskFault> {
+    pub(crate) fn write_at(&mut self, at: u64, bytes: &[u8]) -> Result<(), DiskFault>
+        ensures reads { self.old.access ≡ Access.Reads → IsErrOf result DiskFault.Failed }
+        ensures access { self.new.access ≡ self.old.access }
+    {
+        self.allow_change()?;
         self.open_or_make()?;
         self.note_change();
         match &self.found {
@@ -110,7 +140,11 @@ impl<R: rt::Files<File = File>> NamedFile<R> {
         }
     }
 
-    pub(crate) fn cut(&mut self, size: u64) -> Result<(), DiskFault> {
+    pub(crate) fn cut(&mut self, size: u64) -> Result<(), DiskFault>
+        ensures reads { self.old.access ≡ Access.Reads → IsErrOf result DiskFault.Failed }
+        ensures access { self.new.access ≡ self.old.access }
+    {
+        self.allow_change()?;
         self.open()?;
         self.note_change();
         match &self.found {
@@ -120,7 +154,9 @@ impl<R: rt::Files<File = File>> NamedFile<R> {
         }
     }
 
-    pub(crate) fn sync(&mut self) -> Result<(), DiskFault> {
+    pub(crate) fn sync(&mut self) -> Result<(), DiskFault>
+        ensures { self.new.access ≡ self.old.access }
+    {
         self.open()?;
         let Found::Open(file) = &self.found else {
             return Ok(());
@@ -141,58 +177,6 @@ impl<R: rt::Files<File = File>> NamedFile<R> {
     }
 }
 
-// The fault that this error is, of a call that has changed nothing.
-fn fault_of(error: &io::Error) -> DiskFault {
-    if error.kind() == ErrorKind::OutOfMemory {
-        DiskFault::Memory
-    } else {
-        DiskFault::Failed
-    }
-}
-
-// Looks for the file of this name. Only a file is opened: to open a pipe might wait.
-fn find<R: rt::Files<File = File>>(runtime: &R, name: &str) -> Result<Found, DiskFault> {
-    match fs::metadata(runtime, name) {
-        Ok(data) if data.is_file() => {}
-        Ok(_) => return Err(DiskFault::Failed),
-        Err(error) if error.kind() == ErrorKind::NotFound => return Ok(Found::Missing),
-        Err(error) => return Err(fault_of(&error)),
-    }
-    let file = open_file(runtime, name).map_err(|error| fault_of(&error))?;
-    Ok(Found::Open(past_streams(file)?))
-}
-
-// Opens a file to be read and written, or to be read alone where it may not be written.
-fn open_file<R: rt::Files<File = File>>(runtime: &R, name: &str) -> io::Result<File> {
-    let both = OpenOptions::new()
-        .read(true)
-        .write(true)
-        .open(runtime, name);
-    match both {
-        Err(error) if is_read_only(error.kind()) => File::open(runtime, name),
-        opened => opened,
-    }
-}
-
-fn is_read_only(kind: ErrorKind) -> bool {
-    kind == ErrorKind::PermissionDenied || kind == ErrorKind::ReadOnlyFilesystem
-}
-
-// Makes the file of this name, which must not be there: not even as a link that leads nowhere.
-fn make<R: rt::Files<File = File>>(runtime: &R, name: &str) -> Result<File, DiskFault> {
-    let made = File::create_new(runtime, name).map_err(|error| fault_of(&error))?;
-    past_streams(made)
-}
-
-// The file under a number above those of the standard streams, which may have been closed: what is
-// meant for one of them must not land in the file.
-fn past_streams(file: File) -> Result<File, DiskFault> {
-    if file.as_raw_fd() > 2 {
-        return Ok(file);
-    }
-    file.try_clone().map_err(|_| DiskFault::Failed)
-}
-
 // The folder in which this name stands.
 fn folder_of<R: rt::Files<File = File>>(runtime: &R, name: &str) -> Result<File, DiskFault> {
     let opened = match Path::new(name).parent() {
@@ -207,15 +191,5 @@ fn sync_both(file: &File, folder: Option<File>) -> io::Result<()> {
     match folder {
         Some(folder) => folder.sync_all(),
         None => Ok(()),
-    }
-}
-
-fn size_of(file: &File) -> Result<u64, DiskFault>
-    ensures { IfOk result (λ n. n ≤ DISK_MAX) }
-{
-    match file.metadata() {
-        Ok(data) if data.len() <= DISK_MAX => Ok(data.len()),
-        Ok(_) => Err(DiskFault::Failed),
-        Err(error) => Err(fault_of(&error)),
     }
 }
