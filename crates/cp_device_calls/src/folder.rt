@@ -8,7 +8,9 @@
 //! | `file holds BELOW` | what it holds |
 //! | `get READ` | what a read of files gives, as `files` says |
 //! | `nameless LIMIT over BYTES` | the same of the file of the empty name |
-//! | `open BELOW` | the disk of the calls that come is a new one over the file of this name |
+//! | `open BELOW` | the disk of the calls that come is a new one over the file of this name, which may write |
+//! | `look BELOW` | the same, of one that only reads |
+//! | `other` | the disk of the calls that come is the other one of two |
 //! | `may BELOW CALL` | makes this call of the disk, and says whether it is done if the file may be written, and fails if not |
 //! | any other | makes this call of the disk, as `disks` says |
 
@@ -16,10 +18,10 @@ use crate::lines::{add_bytes, add_line};
 use crate::outside::word_and_rest;
 use crate::{real_disks, source_files};
 use cp_disk::DiskFault;
-use cp_host::{FileDisk, HostFiles};
+use cp_host::{Access, FileDisk, HostFiles};
 use std::alloc::AllocError;
 use std::os::unix::fs::PermissionsExt;
-use std::{env, fs, io, process};
+use std::{env, fs, io, mem, process};
 
 /// A folder, and what is called in it.
 #[derive(Drop)]
@@ -28,6 +30,7 @@ struct Place<'a> {
     folder: &'a str,
     files: HostFiles<&'a HostRuntime>,
     disk: FileDisk<&'a HostRuntime>,
+    other: FileDisk<&'a HostRuntime>,
 }
 
 /// The name of what has this name below the folder.
@@ -73,9 +76,15 @@ impl Place<'_> {
     }
 
     /// Goes on with a new disk over the file of this name below the folder.
-    fn open(&mut self, below: &str) -> Result<(), AllocError> {
+    fn open(&mut self, below: &str, access: Access) -> Result<(), AllocError> {
         let name = name_in(self.rt, self.folder, below)?;
-        self.disk = FileDisk::new(self.rt, name);
+        self.disk = FileDisk::new(self.rt, name, access);
+        Ok(())
+    }
+
+    /// Goes on with the other disk.
+    fn exchange(&mut self) -> Result<(), AllocError> {
+        mem::swap(&mut self.disk, &mut self.other);
         Ok(())
     }
 
@@ -107,7 +116,9 @@ impl Place<'_> {
             "file" => return self.add_file(rest, lines),
             "get" => source_files::add_read(alloc, &mut self.files, self.folder, rest, lines),
             "nameless" => source_files::add_read(alloc, &mut self.files, "", rest, lines),
-            "open" => self.open(rest),
+            "open" => self.open(rest, Access::Writes),
+            "look" => self.open(rest, Access::Reads),
+            "other" => self.exchange(),
             "may" => self.add_allowed(rest, lines),
             _ => real_disks::add_called(alloc, &mut self.disk, call, lines),
         };
@@ -118,11 +129,13 @@ impl Place<'_> {
 /// Makes these calls in this folder.
 fn add_all(rt: &HostRuntime, folder: &str, calls: &str, lines: &mut Vec<u8>) -> io::Result<()> {
     let name = name_in(rt, folder, "")?;
+    let other = name_in(rt, folder, "")?;
     let mut place = Place {
         rt,
         folder,
         files: HostFiles::new(rt),
-        disk: FileDisk::new(rt, name),
+        disk: FileDisk::new(rt, name, Access::Reads),
+        other: FileDisk::new(rt, other, Access::Reads),
     };
     for call in calls.split_terminator('\n') {
         place.add(call, lines)?;
