@@ -1,13 +1,16 @@
 //! The program: the real disk, files, clock, input and output, and the one call that does everything.
 #![tactic(auto)]
 
-ghost use Rattle.std.specs.Prelude.{◌≡◌};
+ghost use Rattle.std.specs.Prelude.{◌≡◌, map, string_bytes, IfOk};
 ghost use Rattle.std.specs.Process.{exit_status};
+ghost use Rattle.cp_words.specs.Commands.{command_of as command_in};
+ghost use Rattle.cpdb.specs.Accesses as by_command;
 
-use cp_host::{FileDisk, HostClock, HostFiles, StdinSource, StdoutSink};
+use cp_host::{Access, FileDisk, HostClock, HostFiles, StdinSource, StdoutSink};
 use cp_program::{Status, run_cpdb};
 use cp_tree_arena::ArenaTree;
 use cp_tree_share::ShareTree;
+use cp_words::{Command, command_of};
 use std::alloc::{AllocError, Global};
 use std::io::ErrorKind;
 use std::process::ExitCode;
@@ -27,6 +30,33 @@ fn store_in(alloc: Global, words: &[String]) -> Result<String, AllocError> {
     }
 }
 
+/// What the command may do with its store.
+fn access_of(command: &Command) -> Access
+    ensures { result ≡ by_command.access_of command.now }
+{
+    match command {
+        Command::Init { .. } | Command::Run { .. } | Command::Commit { .. } | Command::Load(_) => {
+            Access::Writes
+        }
+        Command::Ask(_) | Command::Show(_) | Command::Log | Command::Verify => Access::Reads,
+        Command::Scratch { .. } | Command::Generate { .. } => Access::Reads,
+    }
+}
+
+/// What the words may do with a store.
+fn access_for(alloc: Global, words: &[String]) -> Result<Access, AllocError>
+    ensures { IfOk result (λ a. a ≡ by_command.access_for (command_in (map string_bytes words.now))) }
+{
+    match command_of(alloc, words)? {
+        Some(command) => {
+            let access = access_of(&command);
+            drop(command);
+            Ok(access)
+        }
+        None => Ok(Access::Reads),
+    }
+}
+
 fn main(rt: HostRuntime) -> ExitCode {
     let alloc = rt.alloc();
     let args = match std::env::args(&rt) {
@@ -40,7 +70,10 @@ fn main(rt: HostRuntime) -> ExitCode {
     let Ok(store) = store_in(alloc, words.as_slice()) else {
         return ExitCode::from(7);
     };
-    let mut disk = FileDisk::new(&rt, store);
+    let Ok(access) = access_for(alloc, words.as_slice()) else {
+        return ExitCode::from(7);
+    };
+    let mut disk = FileDisk::new(&rt, store, access);
     let mut files = HostFiles::new(&rt);
     let mut clock = HostClock::new(&rt);
     let mut input = StdinSource::new(rt.stdin());
