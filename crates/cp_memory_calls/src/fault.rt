@@ -1,7 +1,8 @@
 use cp_lang::StmtFault;
-use cp_model::StoreFault;
 use cp_path::PathFault;
+use cp_query::QueryFault;
 use cp_sources::JsonFault;
+use cp_store::StoreFault;
 use std::alloc::{AllocError, AllocFailed};
 use thiserror::Error;
 
@@ -17,6 +18,9 @@ pub(crate) enum Fault {
     Json(JsonFault),
     #[error("{0}")]
     Statement(StmtFault),
+    /// The place isn't in the tree.
+    #[error("no such place")]
+    NoPlace,
     /// There is no store of that name.
     #[error("no store")]
     Name,
@@ -79,6 +83,16 @@ impl From<StoreFault> for Fault {
         match fault {
             StoreFault::Disk => Fault::Disk,
             StoreFault::Memory => Fault::Memory,
+        }
+    }
+}
+
+impl From<QueryFault> for Fault {
+    fn from(fault: QueryFault) -> Fault {
+        match fault {
+            QueryFault::NoPlace => Fault::NoPlace,
+            QueryFault::Disk => Fault::Disk,
+            QueryFault::Memory => Fault::Memory,
         }
     }
 }

@@ -9,7 +9,8 @@
 //! | `offset` and a text | where the first token begins |
 //! | `cuts SIZE` and a text | the cuts of an input that comes in pieces of this size |
 //! | `reply WORDS` and a text | the lines of a reply, as `replies` says |
-//! | `store STORE UPTO TIDS`, rows and questions | what a store tells that keeps the rows, as `store` says |
+//! | `store KIND UPTO TIDS`, rows and questions | what a store tells that keeps the rows, as `store` says |
+//! | `modified KIND TIDS`, a line of JSON, rows and places | the steps that changed each place or one below it, and by how many calls of the store they are found, as `modified` says |
 //! | `reduce PLACE` and rows | the reduced rows of an operation that wrote the place |
 //! | `expand`, two lines of JSON and rows | the full rows of a step, from the trees before and after it |
 //! | `effects`, a line of JSON, rows and places | what the step has done to each place, where the tree is the one after it |
@@ -26,6 +27,7 @@
 mod copies;
 mod fault;
 mod length;
+mod modified;
 mod next;
 mod packed;
 mod question;

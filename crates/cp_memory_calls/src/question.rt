@@ -13,10 +13,11 @@
 use crate::fault::Fault;
 use crate::row::add_answer;
 use cp_cases::{number_of, numbers_of};
-use cp_model::{Change, ProvStore, Record, What};
+use cp_model::{Change, Record, What};
 use cp_path::{Label, Loc};
 use cp_reply::record_text;
 use cp_spelling::{place_text, read_label, read_place};
+use cp_store::{MemoryStore, ProvStore};
 use std::alloc::{AllocError, Global};
 
 /// The Tid of a change and what it did.
@@ -33,7 +34,7 @@ fn change_text(alloc: Global, change: &Change) -> Result<String, AllocError> {
 }
 
 /// The last change of a place, by `PLACE TID`.
-fn change<S: ProvStore>(alloc: Global, store: &mut S, words: &str) -> Result<String, Fault> {
+fn change(alloc: Global, store: &mut MemoryStore, words: &str) -> Result<String, Fault> {
     let (place, tid) = words.rsplit_once(' ').unwrap_or((words, ""));
     let place = read_place(alloc, place)?;
     let change = store.last_change(alloc, &place, number_of(tid));
@@ -74,7 +75,7 @@ fn rows_text(alloc: Global, rows: &[Record]) -> Result<String, AllocError> {
 }
 
 /// The rows of a step.
-fn step<S: ProvStore>(alloc: Global, store: &mut S, tid: u64) -> Result<String, Fault> {
+fn step(alloc: Global, store: &mut MemoryStore, tid: u64) -> Result<String, Fault> {
     let rows = store.rows_of(alloc, tid)?;
     let text = rows_text(alloc, rows.items.as_slice());
     drop(rows);
@@ -82,7 +83,7 @@ fn step<S: ProvStore>(alloc: Global, store: &mut S, tid: u64) -> Result<String, 
 }
 
 /// The Tids as parts of an answer.
-fn tids_text(alloc: Global, tids: &[u64]) -> Result<String, AllocError> {
+pub(crate) fn tids_text(alloc: Global, tids: &[u64]) -> Result<String, AllocError> {
     let mut text = String::new(alloc);
     for tid in tids {
         let tid = tid.to_string(alloc)?;
@@ -102,9 +103,9 @@ fn bounds_of(alloc: Global, words: &str) -> Result<(u64, u64), Fault> {
 }
 
 /// The steps that took a child of this place away, by the numbers of `PLACE LOW HIGH`.
-fn losses_at<S: ProvStore>(
+fn losses_at(
     alloc: Global,
-    store: &mut S,
+    store: &mut MemoryStore,
     place: &Loc,
     words: &str,
 ) -> Result<String, Fault> {
@@ -116,7 +117,7 @@ fn losses_at<S: ProvStore>(
 }
 
 /// The steps that took a child of a place away, by `PLACE LOW HIGH`.
-fn losses<S: ProvStore>(alloc: Global, store: &mut S, words: &str) -> Result<String, Fault> {
+fn losses(alloc: Global, store: &mut MemoryStore, words: &str) -> Result<String, Fault> {
     let (place, _) = words.split_once(' ').unwrap_or((words, ""));
     let place = read_place(alloc, place)?;
     let text = losses_at(alloc, store, &place, words);
@@ -125,9 +126,9 @@ fn losses<S: ProvStore>(alloc: Global, store: &mut S, words: &str) -> Result<Str
 }
 
 /// Whether a row is of the place at a label below this one, or of one below that.
-fn below_label<S: ProvStore>(
+fn below_label(
     alloc: Global,
-    store: &mut S,
+    store: &mut MemoryStore,
     place: &Loc,
     label: &str,
 ) -> Result<bool, Fault> {
@@ -138,7 +139,7 @@ fn below_label<S: ProvStore>(
 }
 
 /// Whether a row is of a place below one, by `PLACE`, or by `PLACE LABEL`.
-fn below<S: ProvStore>(alloc: Global, store: &mut S, words: &str) -> Result<bool, Fault> {
+fn below(alloc: Global, store: &mut MemoryStore, words: &str) -> Result<bool, Fault> {
     match words.split_once(' ') {
         None => {
             let place = read_place(alloc, words)?;
@@ -162,7 +163,7 @@ fn word_of(alloc: Global, answer: bool) -> Result<String, AllocError> {
 }
 
 /// The answer to a question.
-fn answer<S: ProvStore>(alloc: Global, store: &mut S, question: &str) -> Result<String, Fault> {
+fn answer(alloc: Global, store: &mut MemoryStore, question: &str) -> Result<String, Fault> {
     let (word, rest) = question.split_once(' ').unwrap_or((question, ""));
     match word {
         "step" => step(alloc, store, number_of(rest)),
@@ -173,9 +174,9 @@ fn answer<S: ProvStore>(alloc: Global, store: &mut S, question: &str) -> Result<
 }
 
 /// Adds a question and what the store tells.
-pub(crate) fn add_told<S: ProvStore>(
+pub(crate) fn add_told(
     alloc: Global,
-    store: &mut S,
+    store: &mut MemoryStore,
     question: &str,
     lines: &mut String,
 ) -> Result<(), Fault> {

@@ -2,18 +2,18 @@
 
 use crate::fault::Fault;
 use crate::row::{add_answer, add_rows, first_line, question_of, rows_of};
-use cp_hier::inferred;
 use cp_model::{Effect, Record};
 use cp_path::{Loc, Name, Path};
 use cp_reduce::{expand, reduce};
 use cp_sources::tree_of_json;
 use cp_spelling::{place_text, read_place};
+use cp_store::inferred;
 use cp_tree::TreeRep;
 use cp_tree_box::BoxTree;
 use std::alloc::{AllocError, Global};
 
 /// The tree of a JSON text.
-fn tree_of(alloc: Global, text: &str) -> Result<BoxTree, Fault> {
+pub(crate) fn tree_of(alloc: Global, text: &str) -> Result<BoxTree, Fault> {
     let name = Name::target(alloc)?;
     Ok(tree_of_json(alloc, &name, text.as_bytes())?)
 }

@@ -1,18 +1,16 @@
 //! What a store tells that keeps the rows of a part.
 //!
-//! The store is `naive`, `transactional`, `hierarchical` or `hierarchical-transactional`, or, by a kind alone, `n`, `t`, `h` or
-//! `ht`, the one that is chosen when it begins. `UPTO` is its last Tid before it gets the rows, which are those of the next
-//! `TIDS` steps. The first line says its kind, its last Tid and how many rows it has before, the second the same after; then
-//! comes a line for each question, as `question` says.
+//! `KIND` is `n` or `naive`, `t` or `transactional`, `h` or `hierarchical`, `ht` or `hierarchical-transactional`. `UPTO` is the
+//! store's last Tid before it gets the rows, which are those of the next `TIDS` steps. The first line says its kind, its last Tid
+//! and how many rows it has before, the second the same after; then comes a line for each question, as `question` says.
 
 use crate::fault::Fault;
 use crate::next::are_next;
 use crate::question::add_told;
 use crate::row::{add_line, question_of, rows_of};
 use cp_cases::numbers_of;
-use cp_hier::{HierStore, HierTransStore};
-use cp_kinds::{KindStore, NaiveStore, TransStore};
-use cp_model::{Kind, ProvStore};
+use cp_model::Kind;
+use cp_store::{MemoryStore, ProvStore};
 use std::alloc::{AllocError, Global};
 
 /// The numbers of the part, and its text.
@@ -32,44 +30,49 @@ fn letters_of(kind: Kind) -> &'static str {
     }
 }
 
-/// The kind of store of these letters.
-pub(crate) fn kind_called(letters: &str) -> Option<Kind> {
-    match letters {
-        "n" => Some(Kind::N),
-        "t" => Some(Kind::T),
-        "h" => Some(Kind::H),
-        "ht" => Some(Kind::HT),
+/// The kind of this name, or of these letters.
+pub(crate) fn kind_called(name: &str) -> Option<Kind> {
+    match name {
+        "n" | "naive" => Some(Kind::N),
+        "t" | "transactional" => Some(Kind::T),
+        "h" | "hierarchical" => Some(Kind::H),
+        "ht" | "hierarchical-transactional" => Some(Kind::HT),
         _ => None,
     }
 }
 
 /// Adds the store's kind, its last Tid and how many rows it has.
-fn add_state<S: ProvStore>(alloc: Global, store: &S, lines: &mut String) -> Result<(), AllocError> {
+fn add_state(alloc: Global, store: &MemoryStore, lines: &mut String) -> Result<(), AllocError> {
     let kind = letters_of(store.kind());
     let upto = store.upto();
-    let count = store.count();
+    let count = store.len();
     let line = format!(in alloc; "{kind} up to {upto}, {count} rows")?;
     add_line(lines, line.as_str())
 }
 
-/// Keeps the rows in the store, where they are those of the next steps.
-fn keep<S: ProvStore>(alloc: Global, store: &mut S, part: Part<'_>) -> Result<(), Fault> {
-    let rows = rows_of(alloc, part.text)?;
+/// Keeps the rows of a text in the store, where they are those of the next `tids` steps.
+pub(crate) fn keep(
+    alloc: Global,
+    store: &mut MemoryStore,
+    tids: u64,
+    text: &str,
+) -> Result<(), Fault> {
+    let rows = rows_of(alloc, text)?;
     let upto = store.upto();
-    let Some(high) = upto.checked_add(part.tids) else {
+    let Some(high) = upto.checked_add(tids) else {
         return Err(Fault::Order);
     };
     if !are_next(rows.as_slice(), upto, high) {
         return Err(Fault::Order);
     }
-    store.absorb(alloc, part.tids, rows.as_slice())?;
+    store.absorb(alloc, tids, rows.as_slice())?;
     Ok(())
 }
 
 /// Adds the answers to the questions of a text.
-fn add_all_told<S: ProvStore>(
+fn add_all_told(
     alloc: Global,
-    store: &mut S,
+    store: &mut MemoryStore,
     text: &str,
     lines: &mut String,
 ) -> Result<(), Fault> {
@@ -82,59 +85,27 @@ fn add_all_told<S: ProvStore>(
 }
 
 /// Adds what the store tells before and after it gets the rows.
-fn add_to<S: ProvStore>(
+fn add_to(
     alloc: Global,
-    store: &mut S,
+    store: &mut MemoryStore,
     part: Part<'_>,
     lines: &mut String,
 ) -> Result<(), Fault> {
     add_state(alloc, store, lines)?;
-    keep(alloc, store, part)?;
+    keep(alloc, store, part.tids, part.text)?;
     add_state(alloc, store, lines)?;
     add_all_told(alloc, store, part.text, lines)
 }
 
-/// Adds what a new store tells before and after it gets the rows.
-fn add_all<S: ProvStore>(
-    alloc: Global,
-    store: Result<S, AllocError>,
-    part: Part<'_>,
-    lines: &mut String,
-) -> Result<(), Fault> {
-    let mut store = store?;
+/// Adds what a new store of this kind tells before and after it gets the rows.
+fn add_all(alloc: Global, kind: Kind, part: Part<'_>, lines: &mut String) -> Result<(), Fault> {
+    let mut store = MemoryStore::new(alloc, kind, part.upto)?;
     let added = add_to(alloc, &mut store, part, lines);
     drop(store);
     added
 }
 
-/// Adds what a store tells of the kind that is chosen when it begins.
-fn add_chosen(
-    alloc: Global,
-    letters: &str,
-    part: Part<'_>,
-    lines: &mut String,
-) -> Result<(), Fault> {
-    let Some(kind) = kind_called(letters) else {
-        return Err(Fault::Name);
-    };
-    add_all(alloc, KindStore::new(alloc, kind, part.upto), part, lines)
-}
-
-/// Adds what the store of this name tells.
-fn add_named(alloc: Global, name: &str, part: Part<'_>, lines: &mut String) -> Result<(), Fault> {
-    let upto = part.upto;
-    match name {
-        "naive" => add_all(alloc, NaiveStore::new(alloc, upto), part, lines),
-        "transactional" => add_all(alloc, TransStore::new(alloc, upto), part, lines),
-        "hierarchical" => add_all(alloc, HierStore::new(alloc, upto), part, lines),
-        "hierarchical-transactional" => {
-            add_all(alloc, HierTransStore::new(alloc, upto), part, lines)
-        }
-        letters => add_chosen(alloc, letters, part, lines),
-    }
-}
-
-/// Adds what the store of these words tells, `STORE UPTO TIDS`.
+/// Adds what a store of these words tells, `KIND UPTO TIDS`.
 pub(crate) fn add_answers(
     alloc: Global,
     words: &str,
@@ -143,7 +114,7 @@ pub(crate) fn add_answers(
 ) -> Result<(), Fault> {
     let (name, rest) = words.split_once(' ').unwrap_or((words, ""));
     let numbers = numbers_of(alloc, rest)?;
-    let [upto, tids] = numbers.as_slice() else {
+    let (Some(kind), [upto, tids]) = (kind_called(name), numbers.as_slice()) else {
         return Err(Fault::Name);
     };
     let part = Part {
@@ -151,5 +122,5 @@ pub(crate) fn add_answers(
         tids: *tids,
         text,
     };
-    add_named(alloc, name, part, lines)
+    add_all(alloc, kind, part, lines)
 }
