@@ -2,3 +2,4 @@ mod Growing
 mod Kept
 mod Lengths
 mod Decoded
+mod Iterating

@@ -9,7 +9,7 @@ use Rattle.cp_model.specs.Place.{Path, at_target}
 use Rattle.cp_model.specs.declared.record.Record.{Record}
 use Rattle.cp_model.specs.declared.record.RecOp.{RecOp}
 use Rattle.cp_model.specs.declared.record.RecOp.TheVariants as op
-use Rattle.cp_record.specs.Bytes.{records_bytes}
+use Rattle.cp_record.specs.Bytes.{record_bytes, records_bytes}
 use Rattle.cp_record.specs.Kept.{IsPackable}
 
 -- the text behind its length, and what follows it
@@ -72,3 +72,8 @@ records_in bytes = records_within (length bytes) bytes
 pub record IsPacked (bytes : List ℕ) : Type 0 where
   pub is : bytes ≡ records_bytes (records_in bytes)
   pub kept : AllByRecursion IsPackable (records_in bytes)
+
+-- the bytes are those of the one record in them, which can be kept
+pub record IsPackedOne (bytes : List ℕ) : Type 0 where
+  pub is : bytes ≡ record_bytes (record_in bytes).0
+  pub kept : IsPackable (record_in bytes).0

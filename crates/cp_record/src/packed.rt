@@ -9,6 +9,8 @@ ghost use Rattle.cp_record.specs.Kept.{is_copy, IsPackable};
 ghost use Rattle.cp_record.specs.Packed.{EndsAt};
 
 use crate::pack::push_record;
+use crate::packed_iter::PackedIter;
+use crate::packed_record::PackedRecord;
 use crate::unpack::{behind_record, mark_at, record_at, tid_at};
 use cp_model::{RecOp, Record, RecordList, RowMark};
 use cp_path::{LABELS_MAX, Loc, Path};
@@ -66,6 +68,24 @@ impl PackedRecords {
                 self.bytes.truncate(len);
                 Err(e)
             }
+        }
+    }
+
+    /// Appends a record that is packed already. Costs its bytes. After an error the records are as they were.
+    pub fn push_packed(&mut self, row: &PackedRecord<'_>) -> Result<(), AllocError>
+        ensures ok { OnOk result (self.new ≡ self.old ++ row.now ∷ []) }
+        ensures err { OnErr result (self.new ≡ self.old) }
+    {
+        self.bytes.extend_from_slice(row.bytes)?;
+        Ok(())
+    }
+
+    /// The records in order, as they are packed.
+    pub fn iter(&self) -> PackedIter<'_>
+        ensures { result ≡ self.now }
+    {
+        PackedIter {
+            rest: self.bytes.as_slice(),
         }
     }
 

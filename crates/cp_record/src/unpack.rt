@@ -6,6 +6,8 @@ ghost use Rattle.std.specs.declared.option.Option.{Option};
 ghost use Rattle.std.specs.Int.{to_be_bytes, w64};
 ghost use Rattle.cp_path.specs.Encoding.{counted_bytes, path_bytes, place_bytes};
 ghost use Rattle.cp_path.specs.Place.{Path};
+ghost use Rattle.cp_model.specs.Place.{parent};
+ghost use Rattle.std.specs.Option.{option_map};
 ghost use Rattle.cp_path.specs.declared.loc.Loc.{Loc};
 ghost use Rattle.cp_model.specs.Records.{mark_by};
 ghost use Rattle.cp_model.specs.declared.record.Record.{Record};
@@ -209,6 +211,62 @@ pub(crate) fn behind_record(bytes: &[u8]) -> &[u8]
     let (_, rest) = tid_at(bytes);
     let (op, rest) = op_at(rest);
     behind_source(op, behind_path(rest))
+}
+
+/// The operation of the first record.
+pub(crate) fn first_op(bytes: &[u8]) -> RecOp
+    requires { BeginsWith record_bytes IsPackable bytes.now }
+    ensures { (r : Record) → (rest : List ℕ) → IsPackable r → bytes.now ≡ record_bytes r ++ rest → result ≡ r.op }
+{
+    let (_, rest) = tid_at(bytes);
+    let (op, _) = op_at(rest);
+    op
+}
+
+/// The labels of the path behind the number of its labels, each behind its length.
+fn labels_of(path: &[u8]) -> &[u8]
+    requires { BeginsWith path_bytes IsPath path.now }
+    ensures { (p : Path) → (rest : List ℕ) → path.now ≡ path_bytes p ++ rest → result.now ≡ flat_map counted_bytes p }
+{
+    let behind = behind_path(path);
+    let labels = &path[1..];
+    let (front, _) = labels.split_at(labels.len() - behind.len());
+    front
+}
+
+/// The same without the last of these labels; none where there is none.
+fn labels_above(path: &[u8]) -> Option<&[u8]>
+    requires { BeginsWith path_bytes IsPath path.now }
+    ensures { (p : Path) → (rest : List ℕ) → path.now ≡ path_bytes p ++ rest → option_map (λ k. k.now) result ≡ option_map (flat_map counted_bytes) (parent p) }
+{
+    let count = path[0];
+    if count == 0 {
+        return None;
+    }
+    let labels = &path[1..];
+    let last = behind_labels(count - 1, labels);
+    let (front, _) = labels.split_at(labels.len() - last.len());
+    Some(front)
+}
+
+/// The labels of the place of the first record, each behind its length.
+pub(crate) fn first_labels(bytes: &[u8]) -> &[u8]
+    requires { BeginsWith record_bytes IsPackable bytes.now }
+    ensures { (r : Record) → (rest : List ℕ) → IsPackable r → bytes.now ≡ record_bytes r ++ rest → result.now ≡ flat_map counted_bytes r.loc.path }
+{
+    let (_, rest) = tid_at(bytes);
+    let (_, path) = op_at(rest);
+    labels_of(path)
+}
+
+/// The labels of the place above that of the first record, each behind its length; none where its place is a root.
+pub(crate) fn first_above(bytes: &[u8]) -> Option<&[u8]>
+    requires { BeginsWith record_bytes IsPackable bytes.now }
+    ensures { (r : Record) → (rest : List ℕ) → IsPackable r → bytes.now ≡ record_bytes r ++ rest → option_map (λ k. k.now) result ≡ option_map (flat_map counted_bytes) (parent r.loc.path) }
+{
+    let (_, rest) = tid_at(bytes);
+    let (_, path) = op_at(rest);
+    labels_above(path)
 }
 
 /// What the first record says of its place. Its place isn't read.

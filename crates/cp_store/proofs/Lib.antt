@@ -14,6 +14,7 @@ mod Nearest
 mod NearestRows
 mod NewestAbove
 mod Noted
+mod PackedRows
 mod Within
 mod OwnChanges
 pub mod RowsTold
