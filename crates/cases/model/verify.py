@@ -3,6 +3,7 @@
 
     verify.py FILE ..     plays files of cases and documents as calls.py does, on the bytes of stores, and prints what differs
     verify.py --changed   writes the cases of data/changed.txt: each byte of a store with another value
+    verify.py --cut       writes those of data/cut.txt: stores cut to each shorter length
     verify.py --spoiled   writes those of data/spoiled.txt: drawn stores whose records aren't those of their operations
     verify.py --drawn N T H HT
                           writes those of data/verified.txt: so many of the drawn sessions of each kind, on stores
@@ -339,11 +340,14 @@ def text(lines):
     return "\n".join("| " + line for line in lines)
 
 
+HEADERS = {storage.store(1, [])[:-1]: "01 4350444201 01 00*185", storage.store(0, [])[:-1]: "01 4350444201 00*186"}
+
+
 def spelled(data):
     """The bytes as words of a store, each frame on a line of its own."""
     ends = [at for at, _, _ in storage.frames_in(data)[0]] + [storage.frames_in(data)[1], len(data)]
-    rows = ["01 4350444201 01 00*185"] if data[:FIRST_FRAME] == storage.HEADER else [data[:FIRST_FRAME].hex(" ")]
-    return rows + [data[low:high].hex() for low, high in zip(ends, ends[1:]) if low < high]
+    header = HEADERS.get(data[:FIRST_FRAME]) or data[:FIRST_FRAME].hex(" ")
+    return [header] + [data[low:high].hex() for low, high in zip(ends, ends[1:]) if low < high]
 
 
 def session_bytes(kind, source, script, *curator):
@@ -380,12 +384,34 @@ def changed():
     print("# Each byte of a store with another value, as `model/verify.py --changed` prints them.")
     name = "each byte of a store with two commits in the kind n, with its complement in its place"
     changed_table(name, session_bytes("n", b'{"x":5}', SMALL), 0, ["complement"])
+    name = "each byte of the same store in version 1, with its complement in its place"
+    changed_table(name, dict(storage.FILES)["a store of version 1 with a source and two commits"], 0, ["complement"])
     six = {kind: session_bytes(kind, b'{"x":5,"y":{"z":"w"}}', SIX, "ann") for kind in KINDS}
     name = "each byte of a store with six commits in the kind n, with its complement, 00 and 01 in its place"
     changed_table(name, six["n"], 0, ["complement", "00", "01"])
     for kind in KINDS:
         name = "each byte from the first frame on of a store with six commits in the kind %s, with its lowest bit turned" % kind
         changed_table(name, six[kind], FIRST_FRAME, ["lowest bit"])
+
+
+CALLS = ["run s", "query s stats", "log s", "verify s"]
+
+
+def cut_table(name, data):
+    print("\ntable %s, cut to each shorter length\nsince 10\nstore\n%s\ncut @1" % (name, text(spelled(data))))
+    for words in CALLS:
+        print("words %s\nout\n| @2\nstatus 6\nsize @1" % words)
+    for length in range(len(data)):
+        line, status = verdict(data[:length])
+        assert status == 6
+        print("- %d -> %s" % (length, line))
+
+
+def cut():
+    print("# Stores cut to each shorter length, as `model/verify.py --cut` prints them.")
+    files = dict(storage.FILES)
+    cut_table("a store with one commit", files["the same after a commit"])
+    cut_table("a store of version 1 with one commit", files["the store after a commit in version 1"])
 
 
 # What is done to the records of a commit. Each gives other records, or None where nothing can be done.
@@ -573,6 +599,8 @@ def main():
     word = sys.argv[1] if len(sys.argv) > 1 else ""
     if word == "--changed":
         changed()
+    elif word == "--cut":
+        cut()
     elif word == "--spoiled":
         spoiled()
     elif word == "--drawn":
