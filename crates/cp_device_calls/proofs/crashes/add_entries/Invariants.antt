@@ -7,5 +7,6 @@ abbrev pub invariant-loop : goal.invariant-loop
 invariant-loop l = record {
   whole : l.journal.broken ≡ None;
   usable : l.journal.spent ≡ false;
+  idle : l.journal.begun ≡ None;
   rest : IsAtRest l.journal.next (mem_view l.disk);
 }
