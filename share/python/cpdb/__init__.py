@@ -26,11 +26,11 @@ from .session import Session, statement_of
 from .spelling import (Place, SpellingError, Tree, label_text, quoted, read_label, read_tree, read_value, tree_text,
                        value_text)
 from .storefile import (CommitEntry, Copy, Delete, Entry, FormatError, Frame, Frames, Header, Insert, Load, Operation, Slot,
-                        Start, entry, frames, header, is_vacant)
+                        Start, entries_of, entry, frames, header, is_vacant)
 
 __all__ = ["Commit", "CommitEntry", "Committed", "Copy", "Delete", "End", "Ended", "Entry", "FormatError", "Frame", "Frames",
            "Header", "Insert", "Load", "Operation", "Origin", "Place", "Record", "Refused", "Segment", "Session", "Slot",
-           "SpellingError", "Start", "Stats", "Trace", "Tree", "copy_of", "entry", "frames", "header", "init", "is_vacant",
+           "SpellingError", "Start", "Stats", "Trace", "Tree", "copy_of", "entries_of", "entry", "frames", "header", "init", "is_vacant",
            "label_text", "log", "program", "query", "quoted", "read_commit", "read_committed", "read_label", "read_origin",
            "read_record", "read_records", "read_show", "read_src", "read_stats", "read_tids", "read_trace", "read_tree",
            "read_value", "statement_of", "tree_text", "value_text", "verify"]

@@ -74,8 +74,14 @@ def copy_of(store: Name) -> Iterator[str]:
     """A private copy of a store's file, for a session that only reads: `with copy_of(store) as copy, Session.run(copy) as s`.
 
     It has the history up to some commit, also where another call adds to the store meanwhile. It is removed at the end.
+    Ended, with the status that the program would have, where the store can't be read.
     """
     with tempfile.TemporaryDirectory(prefix="cpdb-") as folder:
         copy = os.path.join(folder, "store")
-        shutil.copyfile(store, copy)
+        try:
+            shutil.copyfile(store, copy)
+        except FileNotFoundError:
+            raise Ended(f"there is no file {os.fspath(store)}", 6) from None
+        except OSError as error:
+            raise Ended(f"{os.fspath(store)} can't be copied: {error.strerror}", 5) from None
         yield copy

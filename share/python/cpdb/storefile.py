@@ -1,11 +1,12 @@
 """The file of a store, read by docs/FORMAT.md alone: its header, its frames, and the entries that they hold."""
-from typing import Dict, List, NamedTuple, Tuple, Union
+import os
+from typing import Dict, Iterator, List, NamedTuple, Tuple, Union
 
 from .replies import Record
 from .spelling import Place, Tree
 
 __all__ = ["CommitEntry", "Copy", "Delete", "Entry", "FormatError", "Frame", "Frames", "Header", "Insert", "Load", "Operation",
-           "Slot", "Start", "entry", "frames"]
+           "Slot", "Start", "entry", "entries_of", "frames"]
 
 KINDS = ("n", "t", "h", "ht")
 FIRST_FRAME = 192
@@ -156,6 +157,18 @@ def entry(body: Buffer) -> Entry:
     if reader.offset != len(reader.data):
         raise FormatError(reader.offset, "more bytes stand than an entry has")
     return found
+
+
+def entries_of(path: Union[str, "os.PathLike[str]"]) -> Iterator[Entry]:
+    """The entries of a file, one after another; FormatError with the offset in the file."""
+    with open(path, "rb") as file:
+        data = file.read()
+    for frame in frames(data).frames:
+        if frame.tag == "E":
+            try:
+                yield entry(frame.body)
+            except FormatError as error:
+                raise FormatError(frame.offset + _FRAME_HEAD + error.offset, error.cause) from None
 
 
 class _Reader:
