@@ -23,14 +23,15 @@ from .replies import (Commit, Committed, End, Ended, Origin, Record, Refused, Se
                       read_committed, read_origin, read_record, read_records, read_show, read_src, read_stats, read_tids,
                       read_trace)
 from .session import Session, statement_of
-from .spelling import (Place, SpellingError, Tree, label_text, quoted, read_label, read_tree, read_value, tree_text,
-                       value_text)
+from .spelling import (Place, SpellingError, Tree, copy_text, delete_text, insert_text, label_text, quoted, read_label, read_tree, read_value, tree_text,
+                       value_text, walk)
 from .storefile import (CommitEntry, Copy, Delete, Entry, FormatError, Frame, Frames, Header, Insert, Load, Operation, Slot,
-                        Start, entries_of, entry, frames, header, is_vacant)
+                        Start, entries_of, entry, frame_at, frames, header, is_vacant, operation_text)
 
 __all__ = ["Commit", "CommitEntry", "Committed", "Copy", "Delete", "End", "Ended", "Entry", "FormatError", "Frame", "Frames",
            "Header", "Insert", "Load", "Operation", "Origin", "Place", "Record", "Refused", "Segment", "Session", "Slot",
-           "SpellingError", "Start", "Stats", "Trace", "Tree", "copy_of", "entries_of", "entry", "frames", "header", "init", "is_vacant",
-           "label_text", "log", "program", "query", "quoted", "read_commit", "read_committed", "read_label", "read_origin",
-           "read_record", "read_records", "read_show", "read_src", "read_stats", "read_tids", "read_trace", "read_tree",
-           "read_value", "statement_of", "tree_text", "value_text", "verify"]
+           "SpellingError", "Start", "Stats", "Trace", "Tree", "copy_of", "copy_text", "delete_text", "entries_of", "entry",
+           "frame_at", "frames", "header", "init", "insert_text", "is_vacant", "label_text", "log", "operation_text", "program",
+           "query", "quoted", "read_commit", "read_committed", "read_label", "read_origin", "read_record", "read_records",
+           "read_show", "read_src", "read_stats", "read_tids", "read_trace", "read_tree", "read_value", "statement_of",
+           "tree_text", "value_text", "verify", "walk"]

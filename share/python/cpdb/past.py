@@ -10,7 +10,7 @@ from .replies import Record
 from .spelling import Place, Tree
 from .storefile import CommitEntry, Copy, Delete, Insert, Load, Operation, Start
 
-__all__ = ["Content", "Event", "Past", "Trees", "content_of", "size_of", "tree_of"]
+__all__ = ["Content", "Event", "Past", "Trees", "content_of", "is_node", "size_of", "tree_of"]
 
 Labels = Tuple[str, ...]
 
@@ -47,6 +47,11 @@ Content = Union[_Node, None, bool, int, str]
 def size_of(content: Content) -> int:
     """How many places stand at a place and below it."""
     return content.size if isinstance(content, _Node) else 1
+
+
+def is_node(content: Content) -> bool:
+    """Whether a node stands at a place."""
+    return isinstance(content, _Node)
 
 
 def tree_of(content: Content) -> Tree:

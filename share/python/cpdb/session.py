@@ -9,17 +9,18 @@ Nothing can block for ever: while an answer is waited for, statements are writte
 and lines are read as soon as they come, whichever of the two is possible.
 """
 import collections
+import itertools
 import os
 import re
 import select
 import subprocess
 from types import TracebackType
-from typing import Deque, Iterable, Iterator, List, Optional, Set, Type, Union
+from typing import Deque, Iterable, Iterator, List, Optional, Set, Tuple, Type, Union
 
 from . import replies
 from .calls import Name, program
 from .replies import Committed, Ended, Origin, Record, Refused, Stats, Trace
-from .spelling import Place, SpellingError, Tree, label_text, quoted, tree_text
+from .spelling import Place, SpellingError, Tree, copy_text, delete_text, insert_text, label_text, quoted
 
 __all__ = ["Session"]
 
@@ -141,6 +142,13 @@ class Session:
         trace = replies.read_trace(self._ask("trace", place))
         return trace._replace(end=self._told_apart(trace.end, place, trace.segments[-1].low))
 
+    def traces(self, places: Iterable[Place]) -> Iterator[Tuple[Place, Trace]]:
+        """The traces of many places, asked in bulk."""
+        asked, told = itertools.tee(places)
+        for place, lines in zip(told, self.ask_all(f"trace {it}" for it in asked)):
+            trace = replies.read_trace(lines[0])
+            yield place, trace._replace(end=self._told_apart(trace.end, place, trace.segments[-1].low))
+
     def origin(self, place: Where) -> Origin:
         """Where the data of a place came from at last, the query `from`."""
         origin = replies.read_origin(self._ask("from", place))
@@ -166,15 +174,15 @@ class Session:
 
     def insert(self, place: Where, label: str, tree: Tree) -> None:
         """Adds a tree at a label below a place."""
-        self._operate(f"ins {{{label_text(label)} : {tree_text(tree)}}} into {place}")
+        self._operate(insert_text(place, label, tree))
 
     def delete(self, place: Where, label: str) -> None:
         """Removes what stands at a label below a place."""
-        self._operate(f"del {label_text(label)} from {place}")
+        self._operate(delete_text(place, label))
 
     def copy(self, source: Where, target: Where) -> None:
         """Replaces what stands at the target by a copy of what stands at the source."""
-        self._operate(f"copy {source} into {target}")
+        self._operate(copy_text(source, target))
 
     def commit(self) -> Committed:
         """Commits the open transaction, and answers its Tids."""

@@ -1,10 +1,10 @@
 """Spellings of places, labels, values and trees, both ways, as docs/STATEMENTS.md gives them under "Spellings"."""
 import json
 import re
-from typing import Dict, List, NamedTuple, Optional, Tuple, Union
+from typing import Dict, Iterator, List, NamedTuple, Optional, Tuple, Union
 
-__all__ = ["Place", "SpellingError", "Tree", "label_text", "quoted", "read_label", "read_place_at", "read_tree",
-           "read_value", "tree_text", "value_text"]
+__all__ = ["Place", "SpellingError", "Tree", "copy_text", "delete_text", "insert_text", "label_text", "quoted", "read_label", "read_place_at", "read_tree",
+           "read_value", "tree_text", "value_text", "walk"]
 
 #: What stands at a place: a value, or a node as a dict from its labels to what stands below them, in order of the labels.
 Tree = Union[None, bool, int, str, Dict[str, "Tree"]]  # type: ignore[misc]
@@ -190,12 +190,35 @@ def tree_text(tree: Tree) -> str:
     return f"{{{rows}}}"
 
 
+def insert_text(place: Union[Place, str], label: str, tree: Tree) -> str:
+    """The statement that adds a tree at a label below a place, without its end."""
+    return f"ins {{{label_text(label)} : {tree_text(tree)}}} into {place}"
+
+
+def delete_text(place: Union[Place, str], label: str) -> str:
+    """The statement that removes what stands at a label below a place, without its end."""
+    return f"del {label_text(label)} from {place}"
+
+
+def copy_text(source: Union[Place, str], target: Union[Place, str]) -> str:
+    """The statement that replaces what stands at the target by a copy of what stands at the source, without its end."""
+    return f"copy {source} into {target}"
+
+
 def read_tree(text: str) -> Tree:
     """The tree that is spelled so, as in a reply of `show` or in an `ins`."""
     tree, offset = _tree_at(text, 0)
     if text[offset:].strip(" \t\n\r"):
         raise SpellingError(f"the tree ends at {offset}, and more comes after it")
     return tree
+
+
+def walk(place: Place, tree: Tree) -> Iterator[Tuple[Place, Tree]]:
+    """All places of a tree that stands at a place, this one first, each with its subtree, in the order of places."""
+    yield place, tree
+    if isinstance(tree, dict):
+        for label, below in tree.items():
+            yield from walk(place / label, below)
 
 
 def _token(text: str, offset: int) -> "re.Match[str]":

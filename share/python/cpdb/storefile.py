@@ -3,10 +3,11 @@ import os
 from typing import Dict, Iterator, List, NamedTuple, Tuple, Union
 
 from .replies import Record
-from .spelling import Place, Tree
+from .spelling import Place, Tree, copy_text, delete_text, insert_text
 
 __all__ = ["CommitEntry", "Copy", "Delete", "Entry", "FormatError", "Frame", "Frames", "Header", "Insert", "Load", "Operation",
-           "Slot", "Start", "entry", "entries_of", "frames"]
+           "Slot", "Start", "entry", "entries_of", "frame_at",
+           "frames", "header", "is_vacant", "operation_text"]
 
 KINDS = ("n", "t", "h", "ht")
 FIRST_FRAME = 192
@@ -41,12 +42,21 @@ class Header(NamedTuple):
 
 
 class Frame(NamedTuple):
-    """A frame: the offset of its gate, its tag ("E" for an entry, "P" for a checkpoint), its body, and where it ends."""
+    """A frame: the offset of its gate, its tag ("E" for an entry, "P" for a checkpoint), and its body."""
 
     offset: int
     tag: str
     body: bytes
-    end: int
+
+    @property
+    def body_offset(self) -> int:
+        """Where the body begins."""
+        return self.offset + _FRAME_HEAD
+
+    @property
+    def end(self) -> int:
+        """Where the next frame begins."""
+        return self.body_offset + len(self.body)
 
 
 class Frames(NamedTuple):
@@ -79,6 +89,15 @@ class Copy(NamedTuple):
 
 
 Operation = Union[Insert, Delete, Copy]
+
+
+def operation_text(operation: Operation) -> str:
+    """An operation as the statement that does it, without its end."""
+    if isinstance(operation, Insert):
+        return insert_text(operation.place, operation.label, operation.tree)
+    if isinstance(operation, Delete):
+        return delete_text(operation.place, operation.label)
+    return copy_text(operation.source, operation.target)
 
 
 class Start(NamedTuple):
@@ -134,12 +153,13 @@ def frames(data: Buffer) -> Frames:
             raise FormatError(offset, "no gate stands")
         if data[offset] != 1:
             return found
-        frame = _frame(data, offset)
+        frame = frame_at(data, offset)
         found.frames.append(frame)
         offset = frame.end
 
 
-def _frame(data: Buffer, offset: int) -> Frame:
+def frame_at(data: Buffer, offset: int) -> Frame:
+    """The frame of which an open gate stands at the offset; FormatError where it is cut short or has no such tag."""
     start = offset + _FRAME_HEAD
     end = start + int.from_bytes(data[offset + 2: start], "big")
     if len(data) < start or len(data) < end:
@@ -147,7 +167,7 @@ def _frame(data: Buffer, offset: int) -> Frame:
     tag = chr(data[offset + 1])
     if tag not in ("E", "P"):
         raise FormatError(offset, f"a frame with the tag {data[offset + 1]:02x} stands")
-    return Frame(offset, tag, bytes(data[start:end]), end)
+    return Frame(offset, tag, bytes(data[start:end]))
 
 
 def entry(body: Buffer) -> Entry:
@@ -168,7 +188,7 @@ def entries_of(path: Union[str, "os.PathLike[str]"]) -> Iterator[Entry]:
             try:
                 yield entry(frame.body)
             except FormatError as error:
-                raise FormatError(frame.offset + _FRAME_HEAD + error.offset, error.cause) from None
+                raise FormatError(frame.body_offset + error.offset, error.cause) from None
 
 
 class _Reader:
