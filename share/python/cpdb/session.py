@@ -15,7 +15,7 @@ import re
 import select
 import subprocess
 from types import TracebackType
-from typing import Deque, Iterable, Iterator, List, Optional, Set, Tuple, Type, Union
+from typing import Deque, Iterable, Iterator, List, Optional, Set, Type, Union
 
 from . import replies
 from .calls import Name, program
@@ -139,15 +139,13 @@ class Session:
 
     def trace(self, place: Where) -> Trace:
         """Where the data of a place stood, newest first, and how its past begins."""
-        trace = replies.read_trace(self._ask("trace", place))
-        return trace._replace(end=self._told_apart(trace.end, place, trace.segments[-1].low))
+        return self._trace_of(place, self._ask("trace", place))
 
-    def traces(self, places: Iterable[Place]) -> Iterator[Tuple[Place, Trace]]:
-        """The traces of many places, asked in bulk."""
+    def traces(self, places: Iterable[Where]) -> Iterator[Trace]:
+        """The traces of many places, in their order, asked in bulk."""
         asked, told = itertools.tee(places)
         for place, lines in zip(told, self.ask_all(f"trace {it}" for it in asked)):
-            trace = replies.read_trace(lines[0])
-            yield place, trace._replace(end=self._told_apart(trace.end, place, trace.segments[-1].low))
+            yield self._trace_of(place, lines[0])
 
     def origin(self, place: Where) -> Origin:
         """Where the data of a place came from at last, the query `from`."""
@@ -228,6 +226,10 @@ class Session:
         line = self.send(f"load {name} {form} {quoted(os.fspath(file))}{by}")[0]
         return replies.number_behind(line, "loaded")
 
+    def _trace_of(self, place: Where, line: str) -> Trace:
+        trace = replies.read_trace(line)
+        return trace._replace(end=self._told_apart(trace.end, place, trace.segments[-1].low))
+
     def _told_apart(self, end: replies.End, place: Where, tid: int) -> replies.End:
         """An end that is written `new` or `start`, where a source may have that name: its root is written so too."""
         if end.kind == "copy" or end.kind not in self._sources_like_ends():
@@ -276,7 +278,7 @@ class Session:
 
     def _write(self) -> None:
         try:
-            del self._unsent[: os.write(self._input, memoryview(self._unsent)[:_AHEAD].tobytes())]
+            del self._unsent[: os.write(self._input, self._unsent[:_AHEAD])]
         except BlockingIOError:
             pass
         except BrokenPipeError:

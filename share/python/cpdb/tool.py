@@ -44,15 +44,21 @@ def run(name: str, tool: Callable[[List[str]], int]) -> NoReturn:
     try:
         status = tool(sys.argv[1:])
         sys.stdout.flush()
-    except BrokenPipeError:
-        status = 0
-        os.dup2(os.open(os.devnull, os.O_WRONLY), sys.stdout.fileno())
     except KeyboardInterrupt:
         status = 130
     except (Failure, Ended, Refused, SpellingError, OSError) as error:
-        print(f"cpdb {name}: {error}", file=sys.stderr)
         status = _status_of(error)
+        if _is_of_output(error):
+            # So that the end of Python, which writes what is left, says nothing more.
+            os.dup2(os.open(os.devnull, os.O_WRONLY), sys.stdout.fileno())
+        if status:
+            print(f"cpdb {name}: {error}", file=sys.stderr)
     sys.exit(status)
+
+
+def _is_of_output(error: Exception) -> bool:
+    """Whether writing standard output failed: an error of a file has the file's name."""
+    return isinstance(error, OSError) and error.filename is None
 
 
 def _status_of(error: Exception) -> int:
@@ -60,6 +66,10 @@ def _status_of(error: Exception) -> int:
         return error.status
     if isinstance(error, SpellingError):
         return 2
+    if isinstance(error, BrokenPipeError):
+        return 0
+    if _is_of_output(error):
+        return 4
     return 3 if isinstance(error, OSError) else 1
 
 
