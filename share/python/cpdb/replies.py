@@ -2,7 +2,7 @@
 import re
 from typing import Dict, List, NamedTuple, Optional, Sequence, Tuple
 
-from .spelling import Place, SpellingError, Tree, read_label, read_place_at, read_tree
+from .spelling import Place, SpellingError, Tree, read_label, read_place_at, read_written_place, read_written_tree
 
 __all__ = ["Commit", "Committed", "End", "Ended", "Origin", "Record", "Refused", "Segment", "Stats", "Trace",
            "read_commit", "read_committed", "read_origin", "read_record", "read_records", "read_show", "read_src",
@@ -96,6 +96,7 @@ _COMMITTED = re.compile(r"committed (\d+)(?:\.\.(\d+))?")
 _COMMIT = re.compile(r"commit (\d+)(?:\.\.(\d+))? by (.*) at (\d+), operations (\d+)", re.DOTALL)
 _AT = re.compile(r" at (\d+)$")
 _VERSIONS = re.compile(r"@(\d+)\.\.(\d+)$")
+_VERSIONS_HERE = re.compile(r"@\d+\.\.\d+")
 
 
 def _unread(line: str) -> SpellingError:
@@ -116,7 +117,7 @@ def answer_of(line: str, word: str) -> str:
 
 def read_show(line: str) -> Tree:
     """The tree of a reply of `show`."""
-    return read_tree(answer_of(line, "show"))
+    return read_written_tree(answer_of(line, "show"))
 
 
 def read_src(line: str) -> Optional[int]:
@@ -143,19 +144,19 @@ def read_trace(line: str) -> Trace:
     while True:
         text, offset = read_place_at(answer, offset)
         if text.startswith('"'):
-            versions = re.compile(r"@\d+\.\.\d+").match(answer, offset)
+            versions = _VERSIONS_HERE.match(answer, offset)
             text, offset = (text + versions.group(), versions.end()) if versions else (text, offset)
         if offset == len(answer):
             return Trace(segments, _end(text))
         found = _VERSIONS.search(text)
         if not found or answer[offset: offset + 3] != " < ":
             raise _unread(line)
-        segments.append(Segment(Place.read(text[: found.start()]), int(found.group(1)), int(found.group(2))))
+        segments.append(Segment(read_written_place(text[: found.start()]), int(found.group(1)), int(found.group(2))))
         offset += 3
 
 
 def _end(text: str) -> End:
-    return End(text) if text in ("new", "start") else End("copy", Place.read(text))
+    return End(text) if text in ("new", "start") else End("copy", read_written_place(text))
 
 
 def read_origin(line: str) -> Origin:
@@ -173,10 +174,10 @@ def read_record(line: str) -> Record:
     """One record, as `records` writes it."""
     tid, op, rest = line.split(" ", 2)
     place, end = read_place_at(rest, 0)
-    source = Place.read(rest[end + 1:]) if op == "C" else None
+    source = read_written_place(rest[end + 1:]) if op == "C" else None
     if (op not in ("I", "C", "D", "K")) or (op != "C" and end != len(rest)):
         raise _unread(line)
-    return Record(int(tid), op, Place.read(place), source)
+    return Record(int(tid), op, read_written_place(place), source)
 
 
 def read_records(lines: Sequence[str]) -> List[Record]:

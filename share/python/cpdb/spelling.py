@@ -3,8 +3,8 @@ import json
 import re
 from typing import Dict, Iterator, List, NamedTuple, Optional, Tuple, Union
 
-__all__ = ["Place", "SpellingError", "Tree", "copy_text", "delete_text", "insert_text", "label_text", "quoted", "read_label", "read_place_at", "read_tree",
-           "read_value", "tree_text", "value_text", "walk"]
+__all__ = ["Place", "SpellingError", "Tree", "copy_text", "delete_text", "insert_text", "label_text", "quoted", "read_label", "read_place_at", "read_tree", "read_value",
+           "read_written_place", "read_written_tree", "tree_text", "value_text", "walk"]
 
 #: What stands at a place: a value, or a node as a dict from its labels to what stands below them, in order of the labels.
 Tree = Union[None, bool, int, str, Dict[str, "Tree"]]  # type: ignore[misc]
@@ -22,6 +22,7 @@ _ESCAPES = {ord(it): _SHORT.get(it, f"\\u{ord(it):04x}") for it in [*map(chr, ra
 _QUOTED_TOKEN = r'"(?:[^"\\]|\\.)*"'
 _WORD = r'[^\x00-\x20";{}:,]+'
 _TOKEN = re.compile(rf"[ \t\n\r]*(?:(?P<mark>[{{}}:,])|(?P<quoted>{_QUOTED_TOKEN})|(?P<word>{_WORD}))", re.DOTALL)
+_LABEL_OR_TEXT = re.compile(rf"({_QUOTED_TOKEN})( : )?|({_WORD}) : ", re.DOTALL)
 _PLACE_TOKEN = re.compile(rf"{_QUOTED_TOKEN}|{_WORD}", re.DOTALL)
 
 
@@ -145,6 +146,14 @@ class Place(NamedTuple):
         return self
 
 
+def read_written_place(text: str) -> Place:
+    """As `Place.read`, of a text that the program has written: several times as fast, since nothing is tested."""
+    name, *labels = (json.loads(text) if text.startswith('"') else text).split("/")
+    if "~" in text:
+        labels = [it.replace("~1", "/").replace("~0", "~") for it in labels]
+    return Place(name, tuple(labels))
+
+
 def read_place_at(text: str, offset: int) -> Tuple[str, int]:
     """The spelling of a place that stands at an offset of a reply, with what may be joined to it, and where it ends."""
     found = _PLACE_TOKEN.match(text, offset)
@@ -211,6 +220,19 @@ def read_tree(text: str) -> Tree:
     if text[offset:].strip(" \t\n\r"):
         raise SpellingError(f"the tree ends at {offset}, and more comes after it")
     return tree
+
+
+def read_written_tree(text: str) -> Tree:
+    """As `read_tree`, of a text that the program has written: some ten times as fast, since nothing is tested."""
+    return json.loads(_LABEL_OR_TEXT.sub(_as_json, text))
+
+
+def _as_json(found: "re.Match[str]") -> str:
+    """A label as the JSON string of a name, or a text value as it is."""
+    text, colon, word = found.groups()
+    if word is not None:
+        text, colon = '"' + word.replace("\\", "\\\\") + '"', ":"
+    return text.replace("~1", "/").replace("~0", "~") + ":" if colon else text
 
 
 def walk(place: Place, tree: Tree) -> Iterator[Tuple[Place, Tree]]:

@@ -52,8 +52,14 @@ def run(name: str, tool: Callable[[List[str]], int]) -> NoReturn:
             # So that the end of Python, which writes what is left, says nothing more.
             os.dup2(os.open(os.devnull, os.O_WRONLY), sys.stdout.fileno())
         if status:
-            print(f"cpdb {name}: {error}", file=sys.stderr)
+            print(f"cpdb {name}: {_text_of(error)}", file=sys.stderr)
     sys.exit(status)
+
+
+def _text_of(error: Exception) -> str:
+    if isinstance(error, OSError):
+        return f"{'writing failed' if error.filename is None else error.filename}: {error.strerror}"
+    return str(error)
 
 
 def _is_of_output(error: Exception) -> bool:
