@@ -11,7 +11,8 @@ sys.path.insert(0, "share/python")
 import cpdb
 
 PROGRAM = os.environ.setdefault("CPDB", os.path.abspath("bin/cpdb"))
-FOLDER = tempfile.mkdtemp(prefix="cpdb-check-")
+# In memory where that can be, since each commit to a store waits for the disk.
+FOLDER = tempfile.mkdtemp(prefix="cpdb-check-", dir="/dev/shm" if os.access("/dev/shm", os.W_OK | os.X_OK) else None)
 failed = False
 
 # The tour of README in the kind n or h: three operations by Ada L, five by nobody, and two with a reason.
@@ -60,7 +61,7 @@ def raises(what, error, call):
 def tool(name, *words, stdin=""):
     """Runs bin/cpdb-NAME; answers its output, what it says on standard error, and its status."""
     ran = subprocess.run([sys.executable, f"bin/cpdb-{name}", *words], input=stdin.encode(), capture_output=True, check=False,
-                         timeout=120)
+                         timeout=900)
     return ran.stdout.decode(), ran.stderr.decode(), ran.returncode
 
 
