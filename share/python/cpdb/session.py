@@ -30,7 +30,7 @@ _OPERATIONS = ("ins", "del", "copy")
 _BLANK = " \t\n\r"
 _STATEMENT = re.compile(r'(?:[^";]+|"(?:[^"\\]|\\.)*")*', re.DOTALL)
 _FIRST_TOKEN = re.compile(r'[ \t\n\r]*([^\x00-\x20";{}:,]+|[^ \t\n\r])', re.DOTALL)
-_MARKER, _MARKER_ANSWER = "src T;\n", "src T: "
+_MARKER, _MARKER_ANSWER = "src T;", "src T: "
 # How many bytes, and how many statements, of a bulk are under way at once.
 _AHEAD, _MOST_AHEAD = 65_536, 4_096
 
@@ -261,7 +261,7 @@ class Session:
             raise Ended(self._last_line, self._call.returncode)
         text = statement_of(statement)
         word = _first_word(text)
-        self._unsent += f"{text};\n{_MARKER if word in _OPERATIONS else ''}".encode("utf-8")
+        self._unsent += f"{text};{_MARKER if word in _OPERATIONS else ''}".encode("utf-8")
         reply = _Reply(word)
         if word:
             self._waiting.append(reply)
