@@ -41,7 +41,7 @@ def lines_of(output: bytes) -> List[str]:
 
 def _call(*words: Name) -> _Done:
     """Runs a call without input; Ended where it isn't done."""
-    done = subprocess.run([program(), *map(os.fspath, words)], stdin=subprocess.DEVNULL, stdout=subprocess.PIPE, check=False)
+    done = subprocess.run([program(), *(os.fspath(it) for it in words)], stdin=subprocess.DEVNULL, stdout=subprocess.PIPE, check=False)
     lines = lines_of(done.stdout)
     if done.returncode not in (0, 1):
         raise Ended(lines[-1] if lines else "", done.returncode)

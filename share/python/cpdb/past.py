@@ -97,6 +97,11 @@ class Trees:
             at = at.children[label]
         return [at]
 
+    def labels(self, place: Place) -> List[str]:
+        """The labels right below a place, none where no node stands there."""
+        found = self.find(place)
+        return list(found[0].children) if found and isinstance(found[0], _Node) else []
+
     def do(self, operation: Operation) -> None:
         """Carries out an operation that the program has accepted."""
         if isinstance(operation, Insert):
@@ -197,7 +202,7 @@ class Past:
         for operation in operations:
             self.trees.do(operation)
         if self.kind == "t":
-            concerned += self._kept(tid, records, concerned, place)
+            concerned += self._kept(tid, records, place)
         if place.labels not in rows:
             is_same = self.kind in ("n", "t") and all(it.place != place for it in records) and self.stands(place)
             yield from [] if is_same else self._from_above(tid, rows, place, before[place])
@@ -205,20 +210,14 @@ class Past:
             after = None if row.op in "DK" else self._text(row.place)
             yield Event(tid, _WHAT[row.op], row.place, row.source, None, None if row.op == "K" else before[row.place], after)
 
-    def _kept(self, tid: int, records: Sequence[Record], concerned: Sequence[Record], place: Place) -> List[Record]:
-        """In the kind `t`, the records of kept places, which has none: those without a record below one that has changed."""
-        known = {it.place.labels for it in records}
-        changed = [it.place for it in records if it.op in "IC" and it.place.is_within(place)]
-        if place.labels and place.parent in {it.place for it in records if it.op in "IC"} and place.labels not in known:
-            changed.append(place.parent)
-        kept = []
-        for above in changed:
-            found = self.trees.find(above)
-            if found and isinstance(found[0], _Node):
-                labels = [place.last] if above == place.parent else found[0].children
-                kept += [Record(tid, "K", above / it) for it in labels
-                         if it in found[0].children and above.labels + (it,) not in known]
-        return kept
+    def _kept(self, tid: int, records: Sequence[Record], place: Place) -> List[Record]:
+        """In the kind `t`, which has no records of kept places: those without a record below one whose data has changed."""
+        known = {it.place for it in records}
+        changed = {it.place for it in records if it.op in "IC"}
+        kept = [above / label for above in changed if above.is_within(place) for label in self.trees.labels(above)]
+        if place.parent in changed and self.stands(place):
+            kept.append(place)
+        return [Record(tid, "K", it) for it in kept if it not in known]
 
     def _from_above(self, tid: int, rows: Dict[Labels, Record], place: Place, before: Optional[str]) -> Iterator[Event]:
         """What a step has done to a place by its record of a place above."""

@@ -116,8 +116,10 @@ class Session:
 
     def close(self) -> None:
         """Ends the call; an open transaction is given up. Ended where its status is neither 0 nor 1."""
-        if self._call.returncode is None and self._leave() not in (0, 1):
-            raise Ended(self._last_line, self._call.returncode)
+        if self._call.returncode is None:
+            status = self._leave()
+            if status not in (0, 1):
+                raise Ended(self._last_line, status)
 
     # Queries
 

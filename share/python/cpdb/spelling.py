@@ -7,7 +7,7 @@ __all__ = ["Place", "SpellingError", "Tree", "copy_text", "delete_text", "insert
            "read_written_place", "read_written_tree", "tree_text", "value_text", "walk"]
 
 #: What stands at a place: a value, or a node as a dict from its labels to what stands below them, in order of the labels.
-Tree = Union[None, bool, int, str, Dict[str, "Tree"]]  # type: ignore[misc]
+Tree = Union[None, bool, int, str, Dict[str, "Tree"]]
 
 LEAST_NUMBER, GREATEST_NUMBER = -(2**63), 2**64 - 1
 LONGEST_LABEL, LONGEST_TEXT = 255, 1_048_576
@@ -224,7 +224,8 @@ def read_tree(text: str) -> Tree:
 
 def read_written_tree(text: str) -> Tree:
     """As `read_tree`, of a text that the program has written: some ten times as fast, since nothing is tested."""
-    return json.loads(_LABEL_OR_TEXT.sub(_as_json, text))
+    tree: Tree = json.loads(_LABEL_OR_TEXT.sub(_as_json, text))
+    return tree
 
 
 def _as_json(found: "re.Match[str]") -> str:

@@ -238,7 +238,8 @@ class _Reader:
             return self.number(8) - 2**64
         if form == "text":
             return self.text(self.number(4))
-        return {"node": {}, "null": None, "false": False, "true": True}[form]
+        constants: Dict[str, Tree] = {"node": {}, "null": None, "false": False, "true": True}
+        return constants[form]
 
     def tree(self) -> Tree:
         root = self.content()

@@ -7,6 +7,7 @@ be read or isn't one. Other ends of the program are passed on.
 import bisect
 import contextlib
 import datetime
+import io
 import os
 import re
 import sys
@@ -40,7 +41,8 @@ class Failure(Exception):
 def run(name: str, tool: Callable[[List[str]], int]) -> NoReturn:
     """Runs `cpdb NAME` with the words of this process, and ends it with the tool's status."""
     for stream in (sys.stdout, sys.stderr):
-        stream.reconfigure(encoding="utf-8", errors="surrogateescape", newline="\n")  # type: ignore[union-attr]
+        if isinstance(stream, io.TextIOWrapper):
+            stream.reconfigure(encoding="utf-8", errors="surrogateescape", newline="\n")
     try:
         status = tool(sys.argv[1:])
         sys.stdout.flush()
