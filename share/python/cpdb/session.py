@@ -92,7 +92,7 @@ class Session:
         self._last_line = ""
         self._takes_input = True
         self._odd_sources: Optional[Set[str]] = None
-        self._open(words[0])
+        self._open()
 
     @classmethod
     def run(cls, store: Name, curator: Optional[str] = None) -> "Session":
@@ -244,19 +244,21 @@ class Session:
             self._odd_sources = {it for it in ("new", "start") if not self.send(f"show {it}")[0].startswith("refused")}
         return self._odd_sources
 
-    def _open(self, command: str) -> None:
+    def _open(self) -> None:
         """Waits until the call has opened its store or read its start tree."""
         reply = self._queue("src T")
         try:
             self._wait_for(reply)
         except Ended:
-            self._leave()
-            if reply.lines:
-                raise Refused(reply.lines[0]) from None
-            raise
-        if reply.lines[0].startswith(f"refused {command}:"):
-            self._leave()
-            raise Refused(reply.lines[0])
+            if not reply.lines:
+                raise
+        line = reply.lines[0]
+        if line.startswith(_MARKER_ANSWER):
+            return
+        status = self._leave()
+        if line.startswith("refused"):
+            raise Refused(line)
+        raise Ended("the words after cpdb aren't understood" if line.startswith("usage: ") else line, status)
 
     def _queue(self, statement: str) -> _Reply:
         if self._call.returncode is not None:
