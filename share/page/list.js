@@ -1,0 +1,77 @@
+'use strict';
+// A list of rows of one height, of which only those in sight are made.
+
+// The height that a browser still scrolls well. A longer list is scrolled in proportion.
+const MOST_HEIGHT = 10_000_000;
+
+class Rows {
+  // `render` makes the element of the row with a number.
+  constructor(box, render) {
+    this.box = box;
+    this.render = render;
+    this.count = 0;
+    this.space = element('div', { class: 'space', role: 'none' });
+    this.shown = element('div', { class: 'shown', role: 'none' });
+    box.replaceChildren(this.space, this.shown);
+    box.addEventListener('scroll', () => this.paint(false));
+    new ResizeObserver(() => this.paint(true)).observe(box);
+  }
+
+  get height() {
+    return matchMedia('(pointer: coarse)').matches ? 40 : 28;
+  }
+
+  get total() {
+    return this.count * this.height;
+  }
+
+  // How much longer the list is than what is scrolled.
+  get ratio() {
+    const seenHeight = this.box.clientHeight;
+    const scrolled = Math.min(this.total, MOST_HEIGHT) - seenHeight;
+    return scrolled > 0 ? Math.max(1, (this.total - seenHeight) / scrolled) : 1;
+  }
+
+  set(count) {
+    this.count = count;
+    this.space.style.height = `${Math.min(this.total, MOST_HEIGHT)}px`;
+    this.paint(true);
+  }
+
+  paint(isForced) {
+    const top = this.box.scrollTop * this.ratio;
+    const first = Math.max(0, Math.floor(top / this.height) - 4);
+    const last = Math.min(this.count, Math.ceil((top + this.box.clientHeight) / this.height) + 4);
+    if (isForced || first !== this.first || last !== this.last) {
+      this.first = first;
+      this.last = last;
+      const rows = [];
+      for (let at = first; at < last; at += 1) rows.push(this.render(at));
+      this.shown.replaceChildren(...rows);
+    }
+    this.shown.style.transform = `translateY(${this.box.scrollTop - (top - first * this.height)}px)`;
+  }
+
+  // All rows, for printing, up to so many.
+  paintAll(most) {
+    const rows = [];
+    for (let at = 0; at < Math.min(this.count, most); at += 1) rows.push(this.render(at));
+    this.shown.replaceChildren(...rows);
+    this.shown.style.transform = '';
+    this.first = -1;
+  }
+
+  get page() {
+    return Math.max(1, Math.floor(this.box.clientHeight / this.height) - 1);
+  }
+
+  // Scrolls so that a row is in sight.
+  reveal(at) {
+    const top = this.box.scrollTop * this.ratio;
+    const seenHeight = this.box.clientHeight;
+    const start = at * this.height;
+    if (start < top) this.box.scrollTop = start / this.ratio;
+    else if (start + this.height > top + seenHeight) this.box.scrollTop = (start + this.height - seenHeight) / this.ratio;
+    this.paint(false);
+  }
+}
