@@ -6,6 +6,8 @@ const byId = (id) => document.getElementById(id);
 const THEMES = { auto: 'As the system', light: 'Light', dark: 'Dark' };
 const DARK = matchMedia('(prefers-color-scheme: dark)');
 const NARROW = matchMedia('(max-width: 760px)');
+// How wide a sheet of A4 is between its margins, in the pixels of a page.
+const PAPER = 690;
 
 class Page {
   constructor(store) {
@@ -13,7 +15,7 @@ class Page {
     this.view = '';
     this.places = null;
     byId('name').textContent = seen(store.name);
-    byId('facts').textContent = `${count(store.roots[0].places, 'place')}, ${count(store.commits.first.length, 'commit')}, ${count(store.roots.length - 1, 'source')}, kind ${store.stats.kind}; this page is of ${momentText(String(store.made))}`;
+    byId('facts').textContent = `${count(store.roots[0].places, 'place')}, ${count(store.commits.first.length, 'commit')}, ${count(store.roots.length - 1, 'source')}, kind ${store.stats.kind}, as of ${momentText(String(store.made))}`;
     byId('search').oninput = () => this.filter();
     byId('search').onkeydown = (event) => this.searchKey(event);
     byId('fold').onclick = () => this.fold();
@@ -175,7 +177,7 @@ class Page {
     const figure = byId('detail').querySelector('.picture');
     document.documentElement.dataset.theme = isBefore ? 'light' : themeNow();
     byId('detail').classList.toggle('printing', isBefore);
-    if (figure) figure.redraw(isBefore ? 660 : figure.clientWidth);
+    if (figure) figure.redraw(isBefore ? PAPER : figure.clientWidth);
     if (this.view === 'commits' && document.body.dataset.pane === 'list') isBefore ? this.list.list.paintAll(5000) : this.list.list.paint(true);
   }
 }

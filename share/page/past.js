@@ -63,13 +63,14 @@ function pastPlace(store, it) {
   const root = isSource ? store.rootNames.get(it.path[0]) : 0;
   const caption = { here: 'stands here now', place: 'stood here', source: 'in the source' }[it.kind];
   const kind = `box ${it.kind} ${isSource ? colour(root) : ''}`;
+  const low = isSource ? 13 : 0;
   return drawn('a', { href: addressOf(it.path), class: kind },
     drawn('title', {}, seen(spelledPlace(it.path))),
     isSource ? sourceShape(it) : drawn('rect', { x: it.x, y: it.y, width: it.width, height: BOX.height, rx: 10 }),
-    line(it, 20, 'caption', caption),
-    line(it, 38, 'way', fitted(it.path.slice(0, -1), it.width - 24)),
-    line(it, 56, 'name', fittedEnd(labelText(it.path[it.path.length - 1]), it.width - 24)),
-    isSource ? line(it, 74, 'versions', 'never changes') : [line(it, 74, 'versions', versionsText(it)), versionsBar(store, it)]);
+    line(it, 20 + low, 'caption', caption),
+    it.path.length > 1 && line(it, 38 + low, 'way', fitted(it.path.slice(0, -1), it.width - 24)),
+    line(it, it.path.length > 1 ? 56 + low : 47 + low, 'name', fittedEnd(labelText(it.path[it.path.length - 1]), it.width - 24)),
+    !isSource && [line(it, 74, 'versions', versionsText(it)), versionsBar(store, it)]);
 }
 
 function line(it, y, kind, text) {
@@ -99,9 +100,9 @@ function pastGap(it) {
 }
 
 function pastEnd(it) {
-  const words = { new: ['inserted', `new in step ${it.step}`], start: ['the start', 'there from version 0'] }[it.kind];
+  const words = { new: ['inserted', `new in step ${it.step}`], start: ['the start', 'from version 0'] }[it.kind];
   const sign = it.kind === 'new' ? 'M-7 0H7M0-7V7' : 'M-5-8V8M-5-7H7L3-3 7 1H-5';
-  const content = [drawn('rect', { x: it.x, y: it.y, width: it.width, height: BOX.height, rx: 46 }),
+  const content = [drawn('rect', { x: it.x, y: it.y, width: it.width, height: BOX.height, rx: BOX.height / 2 }),
     drawn('circle', { cx: it.x + 36, cy: it.y + 46, r: 17 }), drawn('path', { class: 'sign', d: sign, transform: `translate(${it.x + 36} ${it.y + 46})` }),
     drawn('text', { class: 'name', x: it.x + 62, y: it.y + 43 }, words[0]), drawn('text', { class: 'versions', x: it.x + 62, y: it.y + 61 }, words[1])];
   return it.kind === 'new' ? drawn('a', { href: `#@step/${it.step}`, class: 'box end' }, content) : drawn('g', { class: 'box end' }, content);

@@ -3,7 +3,6 @@
 
 function folded(text) {
   const lower = text.toLowerCase();
-  // eslint-disable-next-line no-control-regex
   return /^[\u0000-\u007f]*$/.test(lower) ? lower : lower.normalize('NFD').replace(/\p{M}/gu, '');
 }
 

@@ -75,7 +75,7 @@ function spelledPlace(path) {
 // Addresses: the raw text of a place, with what an address can't hold in percent signs.
 
 function addressOf(path) {
-  return `#${encodeURIComponent(rawPlace(path)).replace(/%2F/g, '/').replace(/%3A/g, ':').replace(/%20/g, '%20')}`;
+  return `#${encodeURIComponent(rawPlace(path)).replace(/%2F/g, '/').replace(/%3A/g, ':')}`;
 }
 
 // The path of an address; null where it spells no place.
@@ -89,10 +89,6 @@ function pathOf(address) {
   const [name, ...labels] = raw.split('/');
   if (!/^[A-Za-z][A-Za-z0-9_]{0,31}$/.test(name) || labels.some((it) => /~(?![01])/.test(it))) return null;
   return [name, ...labels.map((it) => it.replace(/~1/g, '/').replace(/~0/g, '~'))];
-}
-
-function isLink(event) {
-  return event.button === 0 && !event.metaKey && !event.ctrlKey && !event.shiftKey && !event.altKey;
 }
 
 // A place as a link, its labels each kept to themselves.

@@ -218,10 +218,10 @@ function sourceParts(store, place) {
 }
 
 function copyRow(store, { place, end, places }) {
-  const tid = store.arrivals[place];
+  const tid = store.stepsOf(place).pop();
   return element('li', {}, element('div', { class: 'who' }, stepLink(tid), stamp(store, tid)),
     element('div', { class: 'record record-C' }, element('span', { class: 'sign', 'aria-hidden': 'true' }, SIGNS.C),
-      element('span', {}, placeLink(store.path(end)), ' stands at ', placeLink(store.path(place)), element('span', { class: 'rest' }, places > 1 ? `, with ${count(places - 1, 'place')} below` : ''))));
+      element('span', {}, placeLink(store.path(end)), ' stands now at ', placeLink(store.path(place)), element('span', { class: 'rest' }, places > 1 ? `, with ${count(places - 1, 'place')} below` : ''))));
 }
 
 function meter(part, whole, root) {

@@ -10,7 +10,7 @@ import re
 from typing import Dict, Iterable, Iterator, List, NamedTuple, Optional, Set, Tuple
 
 import cpdb
-from cpdb import Place, Segment, Trace
+from cpdb import Place, Segment, Trace, tool
 
 # How many places of sources, and how many characters of their replies, a page has in whole trees. Of a source beyond
 # that it has the places that were taken.
@@ -27,9 +27,12 @@ class Disagreement(Exception):
 class Row(NamedTuple):
     """A place with what stands there: a value, or `{}` for a node."""
 
-    depth: int
     place: Place
     content: cpdb.Tree
+
+    @property
+    def depth(self) -> int:
+        return len(self.place.labels)
 
 
 class Past(NamedTuple):
@@ -74,15 +77,14 @@ class Answers(NamedTuple):
 
 def collect(store: str) -> Answers:
     """Asks the program in one session over a copy of the store."""
-    with cpdb.copy_of(store) as copy:
+    with tool.reading(store) as (copy, session):
         commits, loads = cpdb.log(copy), loads_of(copy)
-        with cpdb.Session.run(copy) as session:
-            stats = session.stats()
-            rows = rows_of(Place("T"), session.show())
-            pasts = pasts_of(session, rows, stats.tid)
-            parts = parts_of(session, rows, pasts)
-            changes = changes_of(session.send("records")[:-1])
-            sources = sources_of(session, loads, rows, pasts, changes)
+        stats = session.stats()
+        rows = rows_of(Place("T"), session.show())
+        pasts = pasts_of(session, rows, stats.tid)
+        parts = parts_of(session, rows, pasts)
+        changes = changes_of(session.send("records")[:-1])
+        sources = sources_of(session, loads, rows, pasts, changes)
     return Answers(stats, commits, rows, pasts, parts, changes, sources)
 
 
@@ -101,15 +103,7 @@ def loads_of(store: str) -> List[Tuple[str, int]]:
 
 def rows_of(root: Place, tree: cpdb.Tree) -> List[Row]:
     """All places of a tree, each above those below it, siblings in the order of their labels."""
-    rows, waiting = [], [(0, root, tree)]
-    while waiting:
-        depth, place, here = waiting.pop()
-        if isinstance(here, dict):
-            rows.append(Row(depth, place, {}))
-            waiting += [(depth + 1, place / label, below) for label, below in reversed(list(here.items()))]
-        else:
-            rows.append(Row(depth, place, here))
-    return rows
+    return [Row(place, {} if isinstance(here, dict) else here) for place, here in cpdb.walk(root, tree)]
 
 
 # Pasts
@@ -327,7 +321,7 @@ def sources_of(session: cpdb.Session, loads: List[Tuple[str, int]], rows: List[R
             places_left, text_left = places_left - count, text_left - len(line)
             sources.append(Source(name, after, count, True, rows_of(Place(name), cpdb.read_show(line))))
         else:
-            sources.append(Source(name, after, count, False, taken.get(name, [Row(0, Place(name), {})])))
+            sources.append(Source(name, after, count, False, taken.get(name, [Row(Place(name), {})])))
     return sources
 
 
@@ -353,7 +347,7 @@ def taken_rows(rows: List[Row], pasts: List[Optional[Past]], changes: List[Chang
             contents[place] = {}
     taken: Dict[str, List[Row]] = {}
     for place in sorted(contents):
-        taken.setdefault(place.name, []).append(Row(len(place.labels), place, contents[place]))
+        taken.setdefault(place.name, []).append(Row(place, contents[place]))
     return taken
 
 
