@@ -8,6 +8,7 @@ class CommitList extends Walk {
     this.chosen = -1;
     this.wanted = '';
     this.filter('');
+    setTimeout(() => this.texts(), 100);
   }
 
   idOf(at) {

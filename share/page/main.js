@@ -3,7 +3,7 @@
 
 const byId = (id) => document.getElementById(id);
 
-const THEMES = { auto: 'As the system', light: 'Light', dark: 'Dark' };
+const THEMES = { auto: '\u25d0 Auto', light: '\u25cb Light', dark: '\u25cf Dark' };
 const DARK = matchMedia('(prefers-color-scheme: dark)');
 const NARROW = matchMedia('(max-width: 760px)');
 // How wide a sheet of A4 is between its margins, in the pixels of a page.
@@ -89,7 +89,7 @@ class Page {
 
   backButton() {
     const names = { tree: 'The tree', commits: 'All commits', sources: 'All sources' };
-    return element('button', { type: 'button', class: 'back', onclick: () => { document.body.dataset.pane = 'list'; this.list.list.paint(true); byId('rows').focus(); } }, `\u2039 ${names[this.view]}`);
+    return element('button', { type: 'button', class: 'back', onclick: () => { document.body.dataset.pane = 'list'; this.list.activate(this.list.active); byId('rows').focus(); } }, `\u2039 ${names[this.view]}`);
   }
 
   // The lists of the views; each is made when its view is shown, the tree once.
@@ -99,7 +99,6 @@ class Page {
     const box = element('div', { class: 'rows', id: 'rows', tabindex: 0 });
     byId('rows').replaceWith(box);
     byId('search').value = '';
-    byId('count').textContent = '';
     const words = {
       tree: ['Search labels and values', 'Fold all', 'tree', 'Places'],
       commits: ['Search curators, dates and places', 'Oldest first', 'listbox', 'Commits'],
@@ -112,6 +111,7 @@ class Page {
     box.setAttribute('role', words[2]);
     box.setAttribute('aria-label', words[3]);
     this.list = this.made(view, box);
+    this.tellCount(0);
     for (const it of ['tree', 'commits', 'sources']) {
       if (it === view) byId(`tab-${it}`).setAttribute('aria-current', 'page');
       else byId(`tab-${it}`).removeAttribute('aria-current');
@@ -132,10 +132,19 @@ class Page {
   // Search and keys
 
   filter() {
-    const text = byId('search').value;
-    const found = this.list.filter(text);
+    this.tellCount(this.list.filter(byId('search').value));
+  }
+
+  // How many were found; without a search how many there are.
+  tellCount(found) {
+    const { roots, commits } = this.store;
+    const inSources = roots.slice(1).reduce((sum, it) => sum + it.rows, 0);
+    const all = {
+      tree: () => `${count(roots[0].rows, 'place')} in T${inSources > 0 ? `, ${NUMBERS.format(inSources)} in sources` : ''}`,
+      commits: () => count(commits.first.length, 'commit'), sources: () => count(roots.length - 1, 'source'),
+    };
     const names = { tree: 'place', commits: 'commit', sources: 'source' };
-    byId('count').textContent = text ? `${count(found, names[this.view])} found` : '';
+    byId('count').textContent = byId('search').value ? `${count(found, names[this.view])} found` : all[this.view]();
   }
 
   fold() {
@@ -203,7 +212,7 @@ function setTheme(wanted) {
   theme = THEMES[wanted] ? wanted : 'auto';
   document.documentElement.dataset.theme = themeNow();
   byId('theme').textContent = THEMES[theme];
-  byId('theme').setAttribute('aria-label', `Colours: ${THEMES[theme]}`);
+  byId('theme').setAttribute('aria-label', `Colours: ${theme === 'auto' ? 'as the system has them' : theme}`);
 }
 
 function startTheme() {

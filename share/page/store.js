@@ -1,5 +1,5 @@
 'use strict';
-// The store: the columns of the page (share/python/cpdb_page/payload.py writes them), and what follows from them.
+// The store: the columns of the page (share/python/cpdb_page/columns.py writes them), and what follows from them.
 
 const NEW = -1;
 const START = -2;

@@ -67,14 +67,14 @@ class TreeView extends Walk {
 
   // Shows the places that have a text, with those above them; all places where it is empty. Answers how many have it.
   filter(text) {
-    const place = this.rows[this.active];
+    const before = this.rows[this.active];
     this.wanted = text;
     this.found = [];
     if (text) this.mark(this.search.find(text));
     this.active = 0;
     this.update();
-    if (text) this.activate(firstAtLeast(this.rows, this.found.length > 0 ? this.found[0] : 0));
-    else if (place !== undefined) this.reveal(this.chosen >= 0 ? this.chosen : place);
+    const next = text ? this.found[0] : this.chosen >= 0 ? this.chosen : before;
+    if (next !== undefined) this.show(next);
     return this.found.length;
   }
 
@@ -89,15 +89,19 @@ class TreeView extends Walk {
     }
   }
 
-  // Opens the way to a place, and makes it the chosen one.
+  // Makes a place the chosen one, and brings it in sight.
   reveal(place) {
     this.chosen = place;
-    if (place < 0) return this.list.paint(true);
+    if (place >= 0) this.show(place);
+    this.list.paint(true);
+  }
+
+  // Opens the way to a place, and makes its row the active one.
+  show(place) {
     if (!this.wanted) this.store.ancestors(place).forEach((it) => { this.open[it] = 1; });
     this.update();
     const at = firstAtLeast(this.rows, place);
     if (this.rows[at] === place) this.activate(at);
-    return this.list.paint(true);
   }
 
   // Rows
@@ -165,7 +169,7 @@ class TreeView extends Walk {
     this.open.fill(isOpen ? 1 : 0);
     if (!isOpen) this.open[0] = 1;
     this.update();
-    this.reveal(isOpen ? this.chosen : -1);
+    if (isOpen && this.chosen >= 0) this.show(this.chosen);
   }
 
   moves() {

@@ -15,7 +15,7 @@ SCRIPTS = ("text.js", "store.js", "search.js", "list.js", "walk.js", "tree.js", 
 MARK = '<meta name="generator" content="cpdb page">'
 
 
-def document(columns: Dict[str, Any]) -> str:
+def document_of(columns: Dict[str, Any]) -> str:
     """The text of the page. The columns stand in it compressed, in letters and digits, so that no text of a store is markup."""
     script = "\n".join(part(it) for it in SCRIPTS)
     style = part("page.css")

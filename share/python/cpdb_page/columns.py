@@ -42,7 +42,7 @@ class Numbers:
         return self.places[place]
 
 
-def payload(answers: Answers, name: str, moment: int) -> Dict[str, Any]:
+def columns_of(answers: Answers, name: str, moment: int) -> Dict[str, Any]:
     """The columns of a page of a store with this name, made at this moment."""
     numbers = Numbers()
     rows = list(answers.rows)
