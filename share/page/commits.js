@@ -32,7 +32,7 @@ class CommitList extends Walk {
     const wanted = folded(text);
     const all = this.store.commits.first.map((it, at) => at);
     this.found = text ? all.filter((it) => this.texts()[it].includes(wanted)) : all;
-    this.setRows(this.isNewestFirst ? [...this.found].reverse() : this.found);
+    this.setRows(this.isNewestFirst ? [...this.found].reverse() : this.found, 0);
     return this.found.length;
   }
 
@@ -80,7 +80,7 @@ class SourceList extends Walk {
   }
 
   filter(text) {
-    this.setRows(this.store.roots.map((it, at) => at).filter((at) => at > 0 && folded(this.store.roots[at].name).includes(folded(text))));
+    this.setRows(this.store.roots.map((it, at) => at).filter((at) => at > 0 && folded(this.store.roots[at].name).includes(folded(text))), 0);
     return this.rows.length;
   }
 

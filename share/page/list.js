@@ -35,7 +35,6 @@ class Rows {
   set(count) {
     this.count = count;
     this.space.style.height = `${Math.min(this.total, MOST_HEIGHT)}px`;
-    this.paint(true);
   }
 
   paint(isForced) {
@@ -72,6 +71,5 @@ class Rows {
     const start = at * this.height;
     if (start < top) this.box.scrollTop = start / this.ratio;
     else if (start + this.height > top + seenHeight) this.box.scrollTop = (start + this.height - seenHeight) / this.ratio;
-    this.paint(false);
   }
 }

@@ -15,7 +15,7 @@ class TreeView extends Walk {
     this.openFirst();
     this.wanted = '';
     this.chosen = -1;
-    this.update();
+    this.update(0);
   }
 
   idOf(place) {
@@ -52,35 +52,38 @@ class TreeView extends Walk {
     return !this.wanted || this.marks[place] !== 0 || this.toggled.get(this.store.parents[place]) === true;
   }
 
-  update() {
-    const { count, sizes } = this.store;
+  // Makes the rows anew, and that of a place the active one where it has one.
+  update(place) {
+    const { count: total, sizes } = this.store;
     const rows = [];
-    for (let place = 0; place < count;) {
-      if (!this.isShown(place)) place += sizes[place];
+    for (let at = 0; at < total;) {
+      if (!this.isShown(at)) at += sizes[at];
       else {
-        rows.push(place);
-        place += this.isOpen(place) ? 1 : sizes[place];
+        rows.push(at);
+        at += this.isOpen(at) ? 1 : sizes[at];
       }
     }
-    this.setRows(rows);
+    const active = firstAtLeast(rows, place);
+    this.setRows(rows, rows[active] === place ? active : this.active);
   }
 
   // Shows the places that have a text, with those above them; all places where it is empty. Answers how many have it.
   filter(text) {
-    const before = this.rows[this.active];
+    const before = this.chosen >= 0 ? this.chosen : this.rows[this.active];
     this.wanted = text;
-    this.found = [];
-    if (text) this.mark(this.search.find(text));
     this.active = 0;
-    this.update();
-    const next = text ? this.found[0] : this.chosen >= 0 ? this.chosen : before;
-    if (next !== undefined) this.show(next);
-    return this.found.length;
+    if (!text) {
+      this.show(before === undefined ? 0 : before);
+      return this.store.count;
+    }
+    const found = this.search.find(text);
+    this.mark(found);
+    this.update(found.length > 0 ? found[0] : 0);
+    return found.length;
   }
 
   mark(found) {
     const { parents } = this.store;
-    this.found = found;
     this.toggled = new Map();
     this.marks = new Uint8Array(this.store.count);
     for (const place of found) {
@@ -99,9 +102,7 @@ class TreeView extends Walk {
   // Opens the way to a place, and makes its row the active one.
   show(place) {
     if (!this.wanted) this.store.ancestors(place).forEach((it) => { this.open[it] = 1; });
-    this.update();
-    const at = firstAtLeast(this.rows, place);
-    if (this.rows[at] === place) this.activate(at);
+    this.update(place);
   }
 
   // Rows
@@ -160,16 +161,14 @@ class TreeView extends Walk {
   toggle(place, isOpen) {
     if (this.wanted) this.toggled.set(place, isOpen);
     else this.open[place] = isOpen ? 1 : 0;
-    this.update();
-    this.activate(firstAtLeast(this.rows, place));
+    this.update(place);
   }
 
   // Folds all below the roots, or unfolds everything.
   setAll(isOpen) {
     this.open.fill(isOpen ? 1 : 0);
     if (!isOpen) this.open[0] = 1;
-    this.update();
-    if (isOpen && this.chosen >= 0) this.show(this.chosen);
+    this.update(isOpen ? this.chosen : 0);
   }
 
   moves() {
@@ -194,8 +193,7 @@ class TreeView extends Walk {
     const above = this.store.parents[place];
     const siblings = above < 0 ? this.store.roots.map((it) => it.first) : this.store.children(above);
     siblings.forEach((it) => (this.wanted ? this.toggled.set(it, true) : this.open.fill(1, it, it + 1)));
-    this.update();
-    this.activate(firstAtLeast(this.rows, place));
+    this.update(place);
   }
 }
 

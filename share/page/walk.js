@@ -14,11 +14,10 @@ class Walk {
     box.onclick = (event) => this.click(event);
   }
 
-  setRows(rows) {
+  setRows(rows, active) {
     this.rows = rows;
-    this.active = Math.max(0, Math.min(this.active, rows.length - 1));
     this.list.set(rows.length);
-    this.tellActive();
+    this.activate(active);
   }
 
   activate(at) {
