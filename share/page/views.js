@@ -155,19 +155,30 @@ function stepRow(store, tid, isOwn) {
     shown, left > 0 && element('a', { class: 'rest', href: `#@step/${tid}` }, `and ${count(left, 'record')} more`));
 }
 
+// The places right below one, with where they came from, or in a source whether they were taken.
 function childrenTable(store, place) {
-  const head = element('tr', {}, ['What', 'Content', 'From', 'Came here'].map((it) => element('th', { scope: 'col' }, it)));
+  const isInT = store.isInT(place);
+  const head = isInT ? ['What', 'Content', 'From', 'Came here'] : ['What', 'Content', 'Taken'];
   const body = element('tbody');
-  const [, button] = someRows(body, store.children(place), (child) => childRow(store, child));
-  return section(`Below it (${NUMBERS.format(store.childCount[place])})`, element('div', { class: 'wide' }, element('table', {}, element('thead', {}, head), body)), button);
+  const [, button] = someRows(body, store.children(place), (child) => childRow(store, child, isInT ? arrivalCells(store, child) : [takenMark(store, child)]));
+  return section(`Below it (${NUMBERS.format(store.childCount[place])})`, tableOf(head, body), button);
 }
 
-function childRow(store, child) {
+function tableOf(head, body) {
+  return element('div', { class: 'wide' }, element('table', {}, element('thead', {}, element('tr', {}, head.map((it) => element('th', { scope: 'col' }, it)))), body));
+}
+
+function childRow(store, child, cells) {
   const below = store.sizes[child] - 1;
-  const content = store.isNode(child) ? element('span', { class: 'kind' }, below === 0 ? 'empty node' : count(below, 'place')) : element('bdi', { class: 'value' }, store.kinds[child] === 's' ? seen(store.values[child].slice(0, 120)) : store.valueText(child));
-  const isStart = store.arrivals[child] === 0;
-  return element('tr', {}, element('td', {}, element('a', { href: addressOf(store.path(child)) }, labelNode(store.label(child)))), element('td', {}, content), element('td', {}, originMark(store, child)),
-    element('td', {}, isStart ? 'from the start' : [stepLink(store.arrivals[child]), ' ', stamp(store, store.arrivals[child])]));
+  const content = store.isNode(child) ? element('span', { class: 'kind' }, below === 0 ? 'empty node' : count(below, 'place'))
+    : element('bdi', { class: 'value' }, store.kinds[child] === 's' ? seen(store.values[child].slice(0, 120)) : store.valueText(child));
+  const link = element('a', { href: addressOf(store.path(child)) }, labelNode(store.label(child)));
+  return element('tr', {}, [link, content, ...cells].map((it) => element('td', {}, it)));
+}
+
+function arrivalCells(store, child) {
+  const tid = store.arrivals[child];
+  return [originMark(store, child), tid === 0 ? 'from the start' : [stepLink(tid), ' ', stamp(store, tid)]];
 }
 
 function recordsSection(store, path, title) {
@@ -214,7 +225,8 @@ function sourceParts(store, place) {
     !root.whole && ' It is too big for this page, which has only those of its places that were taken.');
   const title = isRoot ? 'What was taken' : 'Where it went';
   const list = copies.length === 0 ? element('p', { class: 'none' }, 'Nothing of it stands in T now.') : someRows(element('ol', { class: 'steps' }), copies, (it) => copyRow(store, it));
-  return [facts, isRoot && meter(taken.places, root.places, store.rootOf(place)), section(copies.length > 0 ? `${title} (${NUMBERS.format(copies.length)})` : title, list)];
+  return [facts, isRoot && meter(taken.places, root.places, store.rootOf(place)), section(copies.length > 0 ? `${title} (${NUMBERS.format(copies.length)})` : title, list),
+    store.childCount[place] > 0 && childrenTable(store, place)];
 }
 
 function copyRow(store, { place, end, places }) {
@@ -236,9 +248,9 @@ function sourcesView(store) {
   const rows = store.roots.slice(1).map((root, at) => element('tr', {}, element('td', {}, element('a', { href: `#@source/${root.name}` }, root.name)),
     element('td', { class: 'figure' }, NUMBERS.format(root.places)), element('td', { class: 'figure' }, NUMBERS.format(taken[at + 1].places)), element('td', {}, meter(taken[at + 1].places, root.places, at + 1), ' ', share(taken[at + 1].places, root.places)),
     element('td', { class: 'figure' }, NUMBERS.format(taken[at + 1].targets))));
-  const head = ['Source', 'Its places', 'Taken', 'Share', 'Places of T'].map((it) => element('th', { scope: 'col' }, it));
+  const head = ['Source', 'Its places', 'Taken', 'Share', 'Places of T'];
   return [element('h2', {}, 'Sources'), element('p', { class: 'summary' }, `Where the ${count(total, 'place')} of T come from. Taken is what stands in T now.`),
-    originsBar(store), rows.length > 0 && element('div', { class: 'wide' }, element('table', {}, element('thead', {}, element('tr', {}, head)), element('tbody', {}, rows)))];
+    originsBar(store), rows.length > 0 && tableOf(head, element('tbody', {}, rows))];
 }
 
 // How much of T comes from where, as one bar.
@@ -293,8 +305,7 @@ function curatorsTable(store) {
   });
   const rows = sums.sort((one, other) => other.commits - one.commits).map((it) => element('tr', {}, element('td', {}, curatorNode(it.name)), element('td', { class: 'figure' }, NUMBERS.format(it.commits)),
     element('td', { class: 'figure' }, NUMBERS.format(it.steps)), element('td', {}, momentNode(it.newest))));
-  const head = ['Curator', 'Commits', 'Steps', 'Last commit'].map((it) => element('th', { scope: 'col' }, it));
-  return section('Who', element('div', { class: 'wide' }, element('table', {}, element('thead', {}, element('tr', {}, head)), element('tbody', {}, rows))));
+  return section('Who', tableOf(['Curator', 'Commits', 'Steps', 'Last commit'], element('tbody', {}, rows)));
 }
 
 // The commits over the time, in bars of equal spans.
