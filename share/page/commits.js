@@ -5,7 +5,6 @@ class CommitList extends Walk {
   constructor(store, box, choose) {
     super(store, box, choose);
     this.isNewestFirst = true;
-    this.chosen = -1;
     this.wanted = '';
     this.filter('');
     setTimeout(() => this.texts(), 100);
@@ -42,13 +41,6 @@ class CommitList extends Walk {
     this.reveal(this.chosen);
   }
 
-  reveal(commit) {
-    this.chosen = commit;
-    const at = this.rows.indexOf(commit);
-    if (at >= 0) this.activate(at);
-    else this.list.paint(true);
-  }
-
   row(at) {
     const commit = this.store.commit(this.rows[at]);
     const kinds = ['row', 'commit', at === this.active && 'active', commit.at === this.chosen && 'chosen'];
@@ -71,7 +63,6 @@ class CommitList extends Walk {
 class SourceList extends Walk {
   constructor(store, box, choose) {
     super(store, box, choose);
-    this.chosen = -1;
     this.filter('');
   }
 
@@ -82,13 +73,6 @@ class SourceList extends Walk {
   filter(text) {
     this.setRows(this.store.roots.map((it, at) => at).filter((at) => at > 0 && folded(this.store.roots[at].name).includes(folded(text))), 0);
     return this.rows.length;
-  }
-
-  reveal(root) {
-    this.chosen = root;
-    const at = this.rows.indexOf(root);
-    if (at >= 0) this.activate(at);
-    else this.list.paint(true);
   }
 
   row(at) {

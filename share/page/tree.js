@@ -14,7 +14,6 @@ class TreeView extends Walk {
     this.open = new Uint8Array(store.count);
     this.openFirst();
     this.wanted = '';
-    this.chosen = -1;
     this.update(0);
   }
 

@@ -3,7 +3,7 @@
 
 class Walk {
   constructor(store, box, choose) {
-    Object.assign(this, { store, choose, rows: [], active: 0 });
+    Object.assign(this, { store, choose, rows: [], active: 0, chosen: -1 });
     this.attach(box);
   }
 
@@ -25,6 +25,14 @@ class Walk {
     this.list.reveal(this.active);
     this.list.paint(true);
     this.tellActive();
+  }
+
+  // Makes a row the chosen one, and brings it in sight.
+  reveal(row) {
+    this.chosen = row;
+    const at = this.rows.indexOf(row);
+    if (at >= 0) this.activate(at);
+    else this.list.paint(true);
   }
 
   tellActive() {

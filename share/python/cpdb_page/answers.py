@@ -144,7 +144,8 @@ def past_of(place: Place, above: Optional[Trace], insertion: Optional[int], tid:
             line: str) -> Tuple[Optional[Past], Trace]:
     """The past of a place from the answer to `trace`: as the parent's, or as of an insertion where it stands, or any other."""
     inherited = below(above, place.last) if above else None
-    if inherited and line == trace_line(place, inherited):
+    # An end `new` is the root of a source with that name where nothing was inserted.
+    if inherited and line == trace_line(place, inherited) and (inherited.end.kind == "new") == (insertion is not None):
         return None, inherited
     if insertion is not None:
         new = Trace([Segment(place, insertion, tid)], cpdb.End("new"))
