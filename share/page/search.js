@@ -35,14 +35,15 @@ class Search {
     const { labelAt } = this.store;
     const inLabel = this.labels.map((it) => it.includes(wanted));
     const inName = this.names.map((it) => it.includes(wanted));
-    const found = [];
     const total = among ? among.length : this.store.count;
+    const found = new Int32Array(total);
+    let size = 0;
     for (let at = 0; at < total; at += 1) {
       const place = among ? among[at] : at;
       const label = labelAt[place];
-      if ((label < 0 ? inName[this.store.rootOf(place)] : inLabel[label]) || this.values[place].includes(wanted)) found.push(place);
+      if ((label < 0 ? inName[this.store.rootOf(place)] : inLabel[label]) || this.values[place].includes(wanted)) found[size++] = place;
     }
-    return found;
+    return found.subarray(0, size);
   }
 
   // With a slash: the text stands in the address, or still in a label or a value.

@@ -54,14 +54,16 @@ class TreeView extends Walk {
   // Makes the rows anew, and that of a place the active one where it has one.
   update(place) {
     const { count: total, sizes } = this.store;
-    const rows = [];
+    const room = new Int32Array(total);
+    let size = 0;
     for (let at = 0; at < total;) {
       if (!this.isShown(at)) at += sizes[at];
       else {
-        rows.push(at);
+        room[size++] = at;
         at += this.isOpen(at) ? 1 : sizes[at];
       }
     }
+    const rows = room.subarray(0, size);
     const active = firstAtLeast(rows, place);
     this.setRows(rows, rows[active] === place ? active : this.active);
   }
