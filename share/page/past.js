@@ -20,7 +20,7 @@ function pastItems({ segments, end }, isWhole) {
 // Where each item stands in a width.
 function pastLayout(items, width) {
   const columns = Math.max(1, Math.min(items.length, Math.floor((width - 4 + BOX.across) / (BOX.width + BOX.across))));
-  const boxWidth = columns === 1 ? Math.min(width - 4, 300) : BOX.width;
+  const boxWidth = columns === 1 ? Math.max(120, Math.min(width - 4, 300)) : BOX.width;
   items.forEach((it, at) => {
     it.column = at % columns;
     it.x = 2 + it.column * (boxWidth + BOX.across);

@@ -128,6 +128,7 @@ function pictureNode(store, trace) {
   let isWhole = false;
   let width = 0;
   const draw = (room) => {
+    if (room <= 0) return;
     width = room;
     const isLong = !isWhole && trace.segments.length >= MOST_BOXES;
     const button = isLong && element('button', { type: 'button', class: 'more', onclick: () => { isWhole = true; draw(width); } }, `Draw all ${NUMBERS.format(trace.segments.length)} places`);
