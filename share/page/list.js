@@ -3,6 +3,7 @@
 
 // The height that a browser still scrolls well. A longer list is scrolled in proportion.
 const MOST_HEIGHT = 10_000_000;
+const COARSE = matchMedia('(pointer: coarse)');
 
 class Rows {
   // `render` makes the element of the row with a number.
@@ -10,15 +11,12 @@ class Rows {
     this.box = box;
     this.render = render;
     this.count = 0;
+    this.height = COARSE.matches ? 40 : 28;
     this.space = element('div', { class: 'space', role: 'none' });
     this.shown = element('div', { class: 'shown', role: 'none' });
     box.replaceChildren(this.space, this.shown);
     box.addEventListener('scroll', () => this.paint(false));
     new ResizeObserver(() => this.paint(true)).observe(box);
-  }
-
-  get height() {
-    return matchMedia('(pointer: coarse)').matches ? 40 : 28;
   }
 
   get total() {

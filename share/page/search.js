@@ -7,41 +7,53 @@ function folded(text) {
 }
 
 class Search {
+  // Each text of the store stands once in `all`, behind a sign that no text has; `starts` tells where. A place has two of
+  // them: its label or root's name, and its value.
   constructor(store) {
     this.store = store;
-    this.labels = store.labels.map(folded);
-    this.values = store.values.map((it) => (it === null ? null : folded(it)));
+    const numbers = new Map([['', 0]]);
+    const number = (text) => numbers.get(text) ?? numbers.set(text, numbers.size).size - 1;
     const words = { 0: 'null', t: 'true', f: 'false' };
-    for (let place = 0; place < store.count; place += 1) this.values[place] = this.values[place] || words[store.kinds[place]] || '';
-    this.names = store.roots.map((it) => folded(it.name));
-    this.before = null;
+    this.labelTexts = new Int32Array(store.count);
+    this.valueTexts = new Int32Array(store.count);
+    for (let place = 0; place < store.count; place += 1) {
+      this.labelTexts[place] = number(store.label(place));
+      this.valueTexts[place] = number(store.values[place] ?? words[store.kinds[place]] ?? '');
+    }
+    this.texts = [...numbers.keys()].map(folded);
+    this.starts = new Int32Array(this.texts.length + 1);
+    this.texts.forEach((it, at) => { this.starts[at + 1] = this.starts[at] + it.length + 1; });
+    this.all = `${this.texts.join('\u0000')}\u0000`;
   }
 
   label(place) {
-    const label = this.store.labelAt[place];
-    return label < 0 ? this.names[this.store.rootOf(place)] : this.labels[label];
+    return this.texts[this.labelTexts[place]];
   }
 
-  // The places that match, in order. What a longer text finds is sought among what the shorter one found.
+  // The places that match, in order.
   find(text) {
     const wanted = folded(text);
-    const among = this.before && wanted.startsWith(this.before.wanted) && !wanted.includes('/') ? this.before.found : null;
-    const found = wanted.includes('/') ? this.findWay(wanted) : this.findText(wanted, among);
-    this.before = wanted.includes('/') ? null : { wanted, found };
+    return wanted.includes('/') ? this.findWay(wanted) : this.findText(wanted);
+  }
+
+  // Which of the texts have another one in them.
+  textsWith(wanted) {
+    const { all, starts } = this;
+    const found = new Uint8Array(this.texts.length);
+    for (let at = all.indexOf(wanted), text = 0; at >= 0; at = all.indexOf(wanted, starts[text + 1])) {
+      while (starts[text + 1] <= at) text += 1;
+      found[text] = 1;
+    }
     return found;
   }
 
-  findText(wanted, among) {
-    const { labelAt } = this.store;
-    const inLabel = this.labels.map((it) => it.includes(wanted));
-    const inName = this.names.map((it) => it.includes(wanted));
-    const total = among ? among.length : this.store.count;
-    const found = new Int32Array(total);
+  findText(wanted) {
+    const { labelTexts, valueTexts } = this;
+    const isFound = this.textsWith(wanted);
+    const found = new Int32Array(this.store.count);
     let size = 0;
-    for (let at = 0; at < total; at += 1) {
-      const place = among ? among[at] : at;
-      const label = labelAt[place];
-      if ((label < 0 ? inName[this.store.rootOf(place)] : inLabel[label]) || this.values[place].includes(wanted)) found[size++] = place;
+    for (let place = 0; place < found.length; place += 1) {
+      if (isFound[labelTexts[place]] || isFound[valueTexts[place]]) found[size++] = place;
     }
     return found.subarray(0, size);
   }
@@ -50,7 +62,7 @@ class Search {
   findWay(wanted) {
     const parts = wanted.split('/');
     const last = parts.length - 1;
-    const plain = new Set(this.findText(wanted, null));
+    const plain = new Set(this.findText(wanted));
     const found = [];
     for (let place = 0; place < this.store.count; place += 1) {
       if (plain.has(place) || this.endsWay(place, parts, last)) found.push(place);

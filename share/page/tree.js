@@ -48,7 +48,7 @@ class TreeView extends Walk {
   }
 
   isShown(place) {
-    return !this.wanted || this.marks[place] !== 0 || this.toggled.get(this.store.parents[place]) === true;
+    return !this.wanted || this.marks[place] !== 0 || (this.toggled.size > 0 && this.toggled.get(this.store.parents[place]) === true);
   }
 
   // Makes the rows anew, and that of a place the active one where it has one.
