@@ -15,8 +15,24 @@ class Rows {
     this.space = element('div', { class: 'space', role: 'none' });
     this.shown = element('div', { class: 'shown', role: 'none' });
     box.replaceChildren(this.space, this.shown);
-    box.addEventListener('scroll', () => this.paint(false));
-    new ResizeObserver(() => this.paint(true)).observe(box);
+    // What the box says of itself is kept, since asking it after a change lays the page out at once.
+    this.seenHeight = box.clientHeight;
+    this.scrolled = 0;
+    this.onShown = () => this.paint(true);
+    box.addEventListener('scroll', () => { this.scrolled = box.scrollTop; this.paint(false); });
+    new ResizeObserver(() => this.resize()).observe(box);
+  }
+
+  resize() {
+    const wasHidden = this.seenHeight === 0;
+    this.seenHeight = this.box.clientHeight;
+    if (wasHidden && this.seenHeight > 0) this.onShown();
+    else this.paint(true);
+  }
+
+  // How far the box can be scrolled.
+  get most() {
+    return Math.max(0, Math.min(this.total, MOST_HEIGHT) - this.seenHeight);
   }
 
   get total() {
@@ -25,20 +41,24 @@ class Rows {
 
   // How much longer the list is than what is scrolled.
   get ratio() {
-    const seenHeight = this.box.clientHeight;
-    const scrolled = Math.min(this.total, MOST_HEIGHT) - seenHeight;
-    return scrolled > 0 ? Math.max(1, (this.total - seenHeight) / scrolled) : 1;
+    return this.most > 0 ? Math.max(1, (this.total - this.seenHeight) / this.most) : 1;
   }
 
   set(count) {
     this.count = count;
     this.space.style.height = `${Math.min(this.total, MOST_HEIGHT)}px`;
+    this.scrolled = Math.min(this.scrolled, this.most);
+  }
+
+  scrollTo(top) {
+    this.scrolled = Math.max(0, Math.min(top, this.most));
+    this.box.scrollTop = this.scrolled;
   }
 
   paint(isForced) {
-    const top = this.box.scrollTop * this.ratio;
+    const top = this.scrolled * this.ratio;
     const first = Math.max(0, Math.floor(top / this.height) - 4);
-    const last = Math.min(this.count, Math.ceil((top + this.box.clientHeight) / this.height) + 4);
+    const last = Math.min(this.count, Math.ceil((top + this.seenHeight) / this.height) + 4);
     if (isForced || first !== this.first || last !== this.last) {
       this.first = first;
       this.last = last;
@@ -46,7 +66,7 @@ class Rows {
       for (let at = first; at < last; at += 1) rows.push(this.render(at));
       this.shown.replaceChildren(...rows);
     }
-    this.shown.style.transform = `translateY(${this.box.scrollTop - (top - first * this.height)}px)`;
+    this.shown.style.transform = `translateY(${this.scrolled - (top - first * this.height)}px)`;
   }
 
   // All rows, for printing, up to so many.
@@ -59,15 +79,14 @@ class Rows {
   }
 
   get page() {
-    return Math.max(1, Math.floor(this.box.clientHeight / this.height) - 1);
+    return Math.max(1, Math.floor(this.seenHeight / this.height) - 1);
   }
 
   // Scrolls so that a row is in sight.
   reveal(at) {
-    const top = this.box.scrollTop * this.ratio;
-    const seenHeight = this.box.clientHeight;
+    const top = this.scrolled * this.ratio;
     const start = at * this.height;
-    if (start < top) this.box.scrollTop = start / this.ratio;
-    else if (start + this.height > top + seenHeight) this.box.scrollTop = (start + this.height - seenHeight) / this.ratio;
+    if (start < top) this.scrollTo(start / this.ratio);
+    else if (start + this.height > top + this.seenHeight) this.scrollTo((start + this.height - this.seenHeight) / this.ratio);
   }
 }

@@ -89,7 +89,7 @@ class Page {
 
   backButton() {
     const names = { tree: 'The tree', commits: 'All commits', sources: 'All sources' };
-    return element('button', { type: 'button', class: 'back', onclick: () => { document.body.dataset.pane = 'list'; this.list.activate(this.list.active); byId('rows').focus(); } }, `\u2039 ${names[this.view]}`);
+    return element('button', { type: 'button', class: 'back', onclick: () => { document.body.dataset.pane = 'list'; byId('rows').focus(); } }, `\u2039 ${names[this.view]}`);
   }
 
   // The lists of the views; each is made when its view is shown, the tree once.

@@ -10,6 +10,7 @@ class Walk {
   attach(box) {
     this.box = box;
     this.list = new Rows(box, (at) => this.row(at));
+    this.list.onShown = () => this.activate(this.active);
     box.onkeydown = (event) => this.key(event);
     box.onclick = (event) => this.click(event);
   }
