@@ -5,12 +5,13 @@ from contextlib import ExitStack
 from typing import List, NamedTuple, Optional
 
 from cpdb import Ended, Refused, Session, copy_of
+from cpdb.tool import counted
 
 from .completion import Choices, choices
 from .reading import Reader
 from .shell import Shell
 from .talk import Sources, Talk
-from .terminal import Pipe, Terminal
+from .terminal import Pipe, Terminal, say
 
 USAGE = """usage: cpdb shell [--read] STORE [CURATOR]
        cpdb shell scratch KIND [JSON]
@@ -24,6 +25,8 @@ Exit status: 0 all was done; 1 something was refused, where the input is no term
 3 to 9 as of the program, which ended so; 70 the program isn't there. cpdb-shell(1) tells more.
 """
 _LONGEST_CURATOR = 255
+# The status where a signal has ended the program.
+KILLED = 128
 _KINDS = ("n", "t", "h", "ht")
 
 
@@ -80,11 +83,11 @@ def _session(words: Words, stack: ExitStack) -> Session:
 
 def _greet(words: Words, talk: Talk) -> None:
     stats = talk.stats()
-    print(f"{words.name}: kind {stats.kind}, {stats.nodes:,} places, {stats.transactions:,} commits, {stats.sources} sources"
-          f"{', for reading alone' if words.is_reading else ''}")
+    say(f"{words.name}: kind {stats.kind}, {counted(stats.nodes, 'place')}, {counted(stats.transactions, 'commit')}, "
+        f"{counted(stats.sources, 'source')}{', for reading alone' if words.is_reading else ''}")
     if words.store and not words.is_reading:
-        print(f"curator {words.curator}" if words.curator else "commits have no curator: CURATOR and CPDB_CURATOR are empty")
-    print("help tells what can be typed")
+        say(f"curator {words.curator}" if words.curator else "commits have no curator: CURATOR and CPDB_CURATOR are empty")
+    say("help tells what can be typed")
 
 
 def _run(words: Words, stack: ExitStack) -> int:
@@ -104,21 +107,6 @@ def _run(words: Words, stack: ExitStack) -> int:
     return 1 if shell.has_refused and not lines.is_terminal else 0
 
 
-def _start(words: Words) -> int:
-    """Runs a shell; a session that doesn't open, or ends by itself, says the status."""
-    try:
-        with ExitStack() as stack:
-            return _run(words, stack)
-    except Refused as refused:
-        print(refused.line)
-        return 1
-    except Ended as ended:
-        print(ended.line or f"the session has ended with status {ended.status}", flush=True)
-        if words.store and not os.path.exists(words.store):
-            print(f"cpdb shell: there is no file {words.store}; cpdb init makes a store", file=sys.stderr)
-        return ended.status if ended.status > 0 else 70
-
-
 def main(arguments: List[str]) -> int:
     """Runs `cpdb shell` with these words after it, and answers its exit status."""
     if arguments in (["--help"], ["-h"]):
@@ -127,21 +115,23 @@ def main(arguments: List[str]) -> int:
     try:
         words = words_of(arguments)
     except Wrong as wrong:
-        print(f"cpdb shell: {wrong}", file=sys.stderr)
-        print(USAGE, end="", file=sys.stderr)
+        print(f"cpdb shell: {wrong}\n{USAGE}", end="", file=sys.stderr)
         return 2
+    # What can't be decoded is kept as it is, to be marked as what can't be read.
+    sys.stdin.reconfigure(errors="surrogateescape")  # type: ignore[union-attr]
     return _start(words)
 
 
-def run() -> None:
-    """The command: its output is UTF-8, and it ends quietly where nobody reads that."""
-    for stream in (sys.stdout, sys.stderr):
-        stream.reconfigure(encoding="utf-8", errors="backslashreplace")  # type: ignore[union-attr]
-    sys.stdin.reconfigure(errors="surrogateescape")  # type: ignore[union-attr]
+def _start(words: Words) -> int:
+    """Runs a shell. A session that doesn't open, or that ends by itself, says how it ended, and gives the status."""
     try:
-        status = main(sys.argv[1:])
-        sys.stdout.flush()
-    except BrokenPipeError:
-        os.dup2(os.open(os.devnull, os.O_WRONLY), sys.stdout.fileno())
-        status = 4
-    sys.exit(status)
+        with ExitStack() as stack:
+            return _run(words, stack)
+    except Refused as refused:
+        say(refused.line)
+        return 1
+    except Ended as ended:
+        say(ended.line or f"the session has ended with status {ended.status}")
+        if words.store and not os.path.exists(words.store):
+            print(f"cpdb shell: there is no file {words.store}; cpdb init makes a store", file=sys.stderr)
+        return ended.status if ended.status > 0 else KILLED

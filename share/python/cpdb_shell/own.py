@@ -170,7 +170,7 @@ def statements_for(put: Put, talk: Talk) -> List[str]:
     if place.name != "T":
         raise Refusal(f"refused {word}: read only {place}")
     if place.parent is None:
-        raise Refusal(f"refused {word}: {place} is the root, and no label")
+        raise Refusal(f"refused {word}: T is the root")
     return _to_set(put, place.parent, talk) if word == "set" else _to_add(put, talk)
 
 

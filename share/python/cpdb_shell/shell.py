@@ -1,14 +1,16 @@
 """The shell itself: it reads lines, has them read by the reader, carries them out, and says what comes of it."""
 import shutil
 import sys
-from typing import List, Optional, Union
+from typing import List, Union
+
+from cpdb.tool import counted
 
 from .layout import answer, marked
 from .own import (FORMS, Command, Mistyped, Put, Reason, Refusal, Statement, Word, forms_of, read_command,
                   statement_for_reason, statements_for)
 from .reading import Reader
 from .talk import OPERATIONS, Talk
-from .terminal import Pipe, Terminal
+from .terminal import Pipe, Terminal, say
 from .text import BLANK, Cutter, Typed, tokens_of
 
 _LONGEST_NAME = 24
@@ -72,14 +74,14 @@ class Shell:
 
     def _give_up_typed(self) -> None:
         self._cutter.drop()
-        print()
+        say("")
 
     def _may_leave_at_end(self) -> bool:
         """Ends what was typed at the end of the input, and says whether the shell is left there."""
         if not self._lines.is_terminal:
             self._end_of_pipe()
             return True
-        print()
+        say("")
         if self._cutter.is_waiting:
             self._cutter.drop()
             return False
@@ -96,7 +98,7 @@ class Shell:
                 pass
         held = len(self._talk.transaction.held)
         if held:
-            print(f"cpdb shell: {_operations(held)} not committed, and given up", file=sys.stderr)
+            print(f"cpdb shell: {counted(held, 'operation')} given up, not committed", file=sys.stderr)
 
     def _may_leave(self) -> bool:
         """Asks where operations would be given up."""
@@ -104,12 +106,12 @@ class Shell:
         if not held or not self._lines.is_terminal:
             return True
         try:
-            said = self._lines.ask(f"{_operations(held)} not committed. Leave, and give up what is held? (y/n) ")
+            said = self._lines.ask(f"{counted(held, 'operation')} not committed. Leave, and give up what is held? (y/n) ")
         except EOFError:
-            print()
+            say("")
             return True
         except KeyboardInterrupt:
-            print()
+            say("")
             return False
         return said.strip().lower() in ("y", "yes")
 
@@ -135,18 +137,18 @@ class Shell:
         for number, command in enumerate(commands, 1):
             is_done = self._run(command)
             if not is_done and self._lines.is_terminal and number < len(commands):
-                print("what stands behind it on the line was not sent")
+                say("what stands behind it on the line was not sent")
                 return
 
     def _say_mistyped(self, typed: Typed, mistyped: Mistyped, is_one_of_many: bool) -> None:
         fault = mistyped.fault
         self._refused(fault.line(typed.text))
         if fault.at is not None:
-            print(*marked(typed, fault.at, self._width()), sep="\n")
+            say(*marked(typed, fault.at, self._width()))
         for form in forms_of(tokens_of(typed.text)[0].text) if fault.what == "syntax" else []:
-            print(f"  {form.words}")
+            say(f"  {form.words}")
         if is_one_of_many:
-            print("nothing of the line was sent")
+            say("nothing of the line was sent")
 
     def _run(self, command: Command) -> bool:
         """Carries out a command, and says whether nothing of it was refused."""
@@ -172,11 +174,13 @@ class Shell:
             return True
         if self._talk.transaction.held and self._talk.transaction.failed_at is None:
             raise Refusal("refused again: a transaction is open")
+        if not self._talk.transaction.held and not self._talk.given_up:
+            raise Refusal("refused again: nothing was given up")
         refused = self._talk.again()
         for line in refused:
             self._refused(line)
         if not refused:
-            print(f"{_operations(len(self._talk.transaction.held))} held")
+            say(f"{counted(len(self._talk.transaction.held), 'operation')} held")
         return not refused
 
     def _commit_with(self, reason: Reason) -> bool:
@@ -196,31 +200,30 @@ class Shell:
             if line.startswith("refused"):
                 self._refused(line)
             else:
-                print(*answer(line, self._width()), sep="\n")
+                say(*answer(line, self._width()))
         if self._talk.transaction.failed_at is not None and not has_failed:
             self._say_failed()
-        sys.stdout.flush()
         return not any(it.startswith("refused") for it in lines)
 
     # What is said
 
     def _refused(self, line: str) -> None:
         self.has_refused = True
-        print(line, flush=True)
+        say(line)
 
     def _say_failed(self) -> None:
         if self._lines.is_terminal:
             held = len(self._talk.transaction.held)
-            before = f"again begins it anew with the {_operations(held, '')} before this one, " if held else ""
-            print(f"the transaction has failed: {before}abort gives it up")
+            before = f"again begins it anew with the {counted(held, 'operation')} before this one, " if held else ""
+            say(f"the transaction has failed: {before}abort gives it up")
 
     def _help(self, word: str) -> None:
         forms = forms_of(word) if word else FORMS
         broad = max(len(it.words) for it in FORMS)
         for form in forms:
-            print(f"{form.words.ljust(broad)}  {form.about}")
+            say(f"{form.words.ljust(broad)}  {form.about}")
         if not word:
-            print(_WORDS_OF_KEYS)
+            say(_WORDS_OF_KEYS)
 
     def _width(self) -> int:
         if not sys.stdout.isatty():
@@ -231,9 +234,3 @@ class Shell:
 def _changes(command: Command) -> bool:
     """Whether a command would change the database."""
     return not isinstance(command, Statement) or tokens_of(command.text)[0].text in (*OPERATIONS, "load", "commit")
-
-
-def _operations(count: int, verb: Optional[str] = None) -> str:
-    """How many operations, with `is` or `are`, or with no verb."""
-    words = "1 operation is" if count == 1 else f"{count:,} operations are"
-    return words if verb is None else words.rsplit(" ", 1)[0]

@@ -17,6 +17,14 @@ except ImportError:  # pragma: no cover
 # Where readline begins the piece that is completed, as the tokens of statements do outside quotation marks.
 _DELIMITERS = " \t\n{}:,;"
 _LONGEST_HISTORY = 10_000
+_AT_ONCE = 8_192
+
+def say(*lines: str) -> None:
+    """Writes lines to standard output at once. Ctrl-C ends it, and nothing is left to be written later."""
+    left = memoryview("".join(f"{it}\n" for it in lines).encode("utf-8", "surrogateescape"))
+    while left:
+        left = left[os.write(sys.stdout.fileno(), left[:_AT_ONCE]):]
+
 
 #: What can stand at the end of the text before the cursor, when this text comes after it.
 Complete = Callable[[str, str], Choices]
@@ -126,9 +134,7 @@ class Terminal:
     def _show_choices(self, _piece: str, _found: List[str], _longest: int) -> None:
         """Writes the choices below the line, and the line again."""
         size = shutil.get_terminal_size()
-        print()
-        for line in columns(self._shown, size.columns, max(4, size.lines - 4)):
-            print(line)
+        say("", *columns(self._shown, size.columns, max(4, size.lines - 4)))
         print(self._prompt + readline.get_line_buffer(), end="", flush=True)
         readline.redisplay()
 
