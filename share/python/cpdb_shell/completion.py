@@ -139,14 +139,14 @@ def _below(talk: Talk, place: Place) -> List[str]:
 
 
 def _values(talk: Talk, tokens: List[Token], typed: str) -> List[Choice]:
-    """Words that are values, and of `set` what stands at the place now."""
+    """Words that are values, and of `set` what stands at the place now, alone where nothing is typed yet."""
     found = _beginning(["null", "true", "false"], typed)
     if len(tokens) == 2 and tokens[0].text == "set":
         place = _place_of(_raw_of(tokens[1].text) or "")
         tree = talk.mirror.at(place) if place else None
         now = tree_text(tree) if isinstance(tree, (int, str)) else ""
         if now and now.startswith(typed) and len(now) <= _LONGEST_VALUE:
-            found.insert(0, Choice(now, now))
+            found = [Choice(now, now), *(found if typed else [])]
     return found
 
 
