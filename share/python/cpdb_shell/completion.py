@@ -5,6 +5,7 @@ import os
 from typing import Callable, Dict, List, NamedTuple, Optional
 
 from cpdb import Place, SpellingError, label_text, quoted, tree_text
+from cpdb.spelling import LONGEST_LABEL
 
 from .own import ANY_PLACE, FORMS, TARGET
 from .talk import Talk
@@ -134,7 +135,7 @@ def _places(talk: Talk, names: List[str], typed: str) -> List[Choice]:
 def _below(talk: Talk, place: Place) -> List[str]:
     """The raw texts of the places right below one, in order."""
     tree = talk.mirror.within_whole(place)
-    labels = sorted(tree, key=lambda it: it.encode("utf-8")) if isinstance(tree, dict) else []
+    labels = sorted(tree, key=str.encode) if isinstance(tree, dict) else []
     return [_raw_place(place / it) for it in labels]
 
 
@@ -153,13 +154,20 @@ def _values(talk: Talk, tokens: List[Token], typed: str) -> List[Choice]:
 def _labels(talk: Talk, tokens: List[Token], typed: str, after: str) -> List[Choice]:
     """Labels for `del`, where its place stands after the cursor already, and headers of the file of a `load`."""
     if tokens[0].text == "load":
-        return _beginning([label_text(it) for it in _headers(tokens[3].text)], typed)
+        return _labels_beginning(_headers(tokens[3].text), typed)
     rest = tokens_of(after)
     if tokens[0].text != "del" or len(rest) < 2 or rest[0].text != "from":
         return []
     place = _place_of(_raw_of(rest[1].text) or "")
     tree: object = talk.mirror.within_whole(place) if place else None
-    return _beginning([label_text(it) for it in tree], typed) if isinstance(tree, dict) else []
+    return _labels_beginning(sorted(tree, key=str.encode), typed) if isinstance(tree, dict) else []
+
+
+def _labels_beginning(labels: List[str], typed: str) -> List[Choice]:
+    """The labels of which the spelling begins so, quotation marks apart."""
+    raw = _raw_of(typed)
+    texts = [label_text(it) for it in labels if len(it.encode("utf-8")) <= LONGEST_LABEL]
+    return [Choice(it, it) for it in texts if raw is not None and (_raw_of(it) or "").startswith(raw)]
 
 
 def _headers(file: str) -> List[str]:
