@@ -97,7 +97,7 @@ def _run(words: Words, stack: ExitStack) -> int:
     shell: Optional[Shell] = None
 
     def complete(before: str, after: str) -> Choices:
-        return choices(talk, shell.complete_from(before) if shell else before, after)
+        return choices(talk, shell.begun(before) if shell else before, after)
 
     lines = Terminal(complete) if sys.stdin.isatty() else Pipe(sys.stdin.buffer)
     shell = Shell(words.name, talk, reader, lines, words.is_reading)

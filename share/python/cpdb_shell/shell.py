@@ -51,14 +51,9 @@ class Shell:
                 if self._may_leave():
                     return
 
-    def complete_from(self, before: str) -> str:
-        """All that stands before the cursor of the statement that is typed."""
-        cutter = Cutter()
-        for line in f"{self._cutter.unfinished}{before}".split("\n"):
-            if not cutter.is_waiting:
-                rest = line
-            cutter.add(line)
-        return rest
+    def begun(self, before: str) -> str:
+        """The beginning of the statement that is typed, up to the cursor, where this stands before it on the line."""
+        return self._cutter.begun(before)
 
     # The prompt, and the ways out
 

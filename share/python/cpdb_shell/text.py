@@ -59,6 +59,13 @@ class Cutter:
         self._lines, self._start, self._depth, self._is_inside = "", 0, 0, False
         self._ended: List[Typed] = []
 
+    def begun(self, text: str) -> str:
+        """The beginning of the statement that is typed, where this text is typed of the next line."""
+        cutter = Cutter()
+        cutter._lines = self._lines + text
+        cutter._scan(0)
+        return cutter.unfinished
+
     @property
     def unfinished(self) -> str:
         """What was typed of a statement that goes on in the next line."""
