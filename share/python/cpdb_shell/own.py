@@ -19,28 +19,28 @@ class Form(NamedTuple):
 
 
 FORMS = [
-    Form("ins { LABEL : TREE } into PLACE", "adds a tree at a label below a place of T"),
-    Form("del LABEL from PLACE", "deletes what stands at a label below a place of T"),
-    Form("copy ORIGIN into PLACE", "replaces a place of T by a copy, from T or from a source"),
-    Form("set PLACE TREE", "replaces what stands at a place: a del and an ins"),
-    Form("add PLACE TREE", "inserts at a new place, and makes what lacks above it"),
-    Form("commit", "keeps the operations of the open transaction"),
-    Form("commit -m TEXT", "inserts the reason, a quoted text, under T/reasons, and commits"),
+    Form("ins { LABEL : TREE } into PLACE", "adds a tree at a label below a place"),
+    Form("del LABEL from PLACE", "deletes what stands at a label below a place"),
+    Form("copy ORIGIN into PLACE", "replaces a place by a copy, of T or a source"),
+    Form("set PLACE TREE", "replaces what stands there: a del and an ins"),
+    Form("add PLACE TREE", "inserts there, and makes what lacks above"),
+    Form("commit", "keeps what the open transaction holds"),
+    Form("commit -m TEXT", "the same, with a reason under T/reasons"),
     Form("abort", "gives the open transaction up"),
-    Form("again", "sends what a failed or given up transaction held once more"),
-    Form("show", "the tree T, with what the open transaction has changed"),
-    Form("show ORIGIN", "what stands at a place of T or of a source"),
+    Form("again", "holds once more what was given up or failed"),
+    Form("show", "the tree T, as the transaction has it"),
+    Form("show ORIGIN", "what stands at a place of T or a source"),
     Form("src PLACE", "the step that inserted the data of a place"),
     Form("hist PLACE", "the steps that copied it"),
-    Form("mod PLACE", "the steps that had a part in it and in what is below it"),
-    Form("trace PLACE", "where it stood, newest first, with the versions"),
+    Form("mod PLACE", "the steps with a part in it and in what is below"),
+    Form("trace PLACE", "where it stood, newest first, by versions"),
     Form("from PLACE", "where it came from at last"),
     Form("records", "what each step has done"),
     Form("records NUMBER", "what one step has done"),
-    Form("stats", "kind and sizes of the store"),
-    Form("load NAME json FILE", "loads a source; FILE is a quoted text"),
-    Form("load NAME csv FILE", "loads a table as a source, rows by their numbers"),
-    Form("load NAME csv FILE by LABEL", "loads a table as a source, rows by that column"),
+    Form("stats", "the kind of the store, and its sizes"),
+    Form("load NAME json FILE", "loads a source; FILE and TEXT are in quotes"),
+    Form("load NAME csv FILE", "loads a table, its rows by their numbers"),
+    Form("load NAME csv FILE by LABEL", "loads a table, its rows by that column"),
     Form("help", "this list"),
     Form("help WORD", "the forms that begin with a word"),
     Form("quit", "leaves the shell, as Ctrl-D does"),
@@ -200,13 +200,14 @@ def statement_for_reason(reason: Reason, talk: Talk) -> str:
     Its label is the Tid that it is about to get, so that no two reasons have the same. Who reads the reasons finds the
     commit by `src`, and the label tells nothing more.
     """
-    there = talk.mirror.at(REASONS)
-    if there is not MISSING and not isinstance(there, dict):
-        raise Refusal(f"refused commit: not a node {REASONS}")
-    label = _label_for_reason(there if isinstance(there, dict) else {}, talk)
+    there, place = talk.mirror.at(REASONS), REASONS
     if there is MISSING:
-        return _insertion(REASONS.last, tree_text({label: reason.text}), Place("T"))
-    return _insertion(label, quoted(reason.text), REASONS)
+        there, place = talk.mirror.at(Place("T")), Place("T")
+    if not isinstance(there, dict):
+        raise Refusal(f"refused commit: not a node {place}")
+    if place == REASONS:
+        return _insertion(_label_for_reason(there, talk), quoted(reason.text), REASONS)
+    return _insertion(REASONS.last, tree_text({_label_for_reason({}, talk): reason.text}), place)
 
 
 def _label_for_reason(there: Dict[str, Tree], talk: Talk) -> str:

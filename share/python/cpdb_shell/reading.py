@@ -4,6 +4,7 @@ from typing import NamedTuple, Optional
 
 from cpdb import Session
 
+from .interrupts import uninterrupted
 from .text import bytes_before, characters_before
 
 _FAULT = re.compile(r"refused: (syntax|bad escape|label too long|place too deep|place too long|bad value) at (\d+)")
@@ -38,9 +39,10 @@ class Reader:
             text.encode("utf-8")
         except UnicodeEncodeError as error:
             return Fault("syntax", error.start)
-        line = self._session.send(text)[0]
-        if line.startswith(("aborted", "refused commit")):
-            self._fail()
+        with uninterrupted():
+            line = self._session.send(text)[0]
+            if line.startswith(("aborted", "refused commit")):
+                self._fail()
         found = _FAULT.fullmatch(line)
         if found:
             return Fault(found[1], characters_before(text, int(found[2])))

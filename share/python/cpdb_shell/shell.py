@@ -16,10 +16,11 @@ from .text import BLANK, Cutter, Typed, tokens_of
 _LONGEST_NAME = 24
 _NARROWEST = 40
 _WIDTH_OF_FILES = 100
-_WORDS_OF_KEYS = """
-A ; may be left out at the end of a line. A statement goes on in the next line while quotation marks or braces are open.
-The prompt tells how many operations the open transaction holds. A refused one fails it: again, or abort.
-Tab completes. Ctrl-C gives up what is typed, and leaves the transaction. Ctrl-D leaves the shell."""
+_MORE_HELP = """
+A ; ends a statement, and so does the end of a line, unless quotation marks or
+braces are open: it goes on in the next line then. The prompt tells how many
+operations the open transaction holds. A refused one fails it: again, or abort.
+Tab completes. Ctrl-C gives up what is typed, and leaves the transaction."""
 
 
 class Quit(Exception):
@@ -218,7 +219,7 @@ class Shell:
         for form in forms:
             say(f"{form.words.ljust(broad)}  {form.about}")
         if not word:
-            say(_WORDS_OF_KEYS)
+            say(_MORE_HELP)
 
     def _width(self) -> int:
         if not sys.stdout.isatty():

@@ -1,12 +1,9 @@
 """The session to which statements go, with what is known of its open transaction and of its sources."""
-import signal
-import threading
-from contextlib import contextmanager
-from types import FrameType
-from typing import Iterator, List, Optional
+from typing import List, Optional
 
 from cpdb import Place, Session, Stats, Tree, frames, read_label
 
+from .interrupts import uninterrupted
 from .mirror import Mirror
 from .text import Token, tokens_of
 
@@ -62,7 +59,7 @@ class Talk:
     def send(self, text: str) -> List[str]:
         """Sends one statement, and answers its lines. Ctrl-C meanwhile is told afterwards, and only of a query."""
         tokens = tokens_of(text)
-        with _uninterrupted() as caught:
+        with uninterrupted() as caught:
             lines = self._session.send(text)
             self._note(text, tokens, lines)
         if caught and tokens[0].text not in _CHANGES:
@@ -70,7 +67,7 @@ class Talk:
         return lines
 
     def stats(self) -> Stats:
-        with _uninterrupted():
+        with uninterrupted():
             return self._session.stats()
 
     def again(self) -> List[str]:
@@ -82,7 +79,7 @@ class Talk:
         return [line for it in statements for line in self.send(it)]
 
     def _show(self, place: Place) -> Tree:
-        with _uninterrupted():
+        with uninterrupted():
             return self._session.show(place)
 
     def _note(self, text: str, tokens: List[Token], lines: List[str]) -> None:
@@ -121,21 +118,3 @@ class Talk:
             self.given_up = self.transaction.held or self.given_up
             self.mirror.given_up()
         self.transaction = Transaction()
-
-
-@contextmanager
-def _uninterrupted() -> Iterator[List[int]]:
-    """Lets Ctrl-C wait until an answer is read whole, so that the next one isn't taken for it."""
-    caught: List[int] = []
-
-    def note(number: int, _frame: Optional[FrameType]) -> None:
-        caught.append(number)
-
-    if threading.current_thread() is not threading.main_thread():
-        yield caught
-        return
-    before = signal.signal(signal.SIGINT, note)
-    try:
-        yield caught
-    finally:
-        signal.signal(signal.SIGINT, before)
