@@ -111,11 +111,6 @@ def _place_of(raw: str) -> Optional[Place]:
         return None
 
 
-def _raw_place(place: Place) -> str:
-    text = str(place)
-    return str(json.loads(text)) if text.startswith('"') else text
-
-
 def _places(talk: Talk, names: List[str], typed: str) -> List[Choice]:
     """The places with these names that begin so, as far as the next label; where only the one that is typed does, those below it."""
     raw = _raw_of(typed)
@@ -136,7 +131,12 @@ def _below(talk: Talk, place: Place) -> List[str]:
     """The raw texts of the places right below one, in order."""
     tree = talk.mirror.within_whole(place)
     labels = sorted(tree, key=str.encode) if isinstance(tree, dict) else []
-    return [_raw_place(place / it) for it in labels]
+    above = _raw_of(str(place))
+    return [f"{above}/{_escaped(it)}" for it in labels]
+
+
+def _escaped(label: str) -> str:
+    return _raw_of(label_text(label)) or "" if "~" in label or "/" in label else label
 
 
 def _values(talk: Talk, tokens: List[Token], typed: str) -> List[Choice]:

@@ -83,7 +83,8 @@ def _width_of_character(it: str) -> int:
     return 2 if unicodedata.east_asian_width(it) in "WF" else 1
 
 
-def _visible(text: str) -> str:
+def visible(text: str) -> str:
+    """A text on one line: a tab as a blank, and any other control character as a question mark."""
     return "".join(" " if it == "\t" else "?" if unicodedata.category(it) in ("Cc", "Cs") else it for it in text)
 
 
@@ -92,7 +93,7 @@ def marked(typed: Typed, offset: int, width: int) -> List[str]:
     at = typed.start + offset
     start = typed.lines.rfind("\n", 0, at) + 1
     end = typed.lines.find("\n", at)
-    line = _visible(typed.lines[start:] if end < 0 else typed.lines[start:end])
+    line = visible(typed.lines[start:] if end < 0 else typed.lines[start:end])
     before, line = _window(line, at - start, width - len(_STEP))
     return [_STEP + line, _STEP + " " * before + "^"]
 

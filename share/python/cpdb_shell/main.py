@@ -15,7 +15,8 @@ from .terminal import Pipe, Terminal, say
 
 USAGE = """usage: cpdb shell [--read] STORE [CURATOR]
        cpdb shell scratch KIND [JSON]
-
+"""
+HELP = f"""{USAGE}
 A session at the terminal, over a store or in memory. Type `help` in it.
 
 STORE is open for writing while the shell runs. With --read the shell looks at a copy of it, and changes nothing.
@@ -25,8 +26,8 @@ Exit status: 0 all was done; 1 something was refused, where the input is no term
 3 to 9 as of the program, which ended so; 70 the program isn't there. cpdb-shell(1) tells more.
 """
 _LONGEST_CURATOR = 255
-# The status where a signal has ended the program.
-KILLED = 128
+# What is added to the number of the signal that has ended the program.
+_KILLED = 128
 _KINDS = ("n", "t", "h", "ht")
 
 
@@ -110,12 +111,12 @@ def _run(words: Words, stack: ExitStack) -> int:
 def main(arguments: List[str]) -> int:
     """Runs `cpdb shell` with these words after it, and answers its exit status."""
     if arguments in (["--help"], ["-h"]):
-        print(USAGE, end="")
+        print(HELP, end="")
         return 0
     try:
         words = words_of(arguments)
     except Wrong as wrong:
-        print(f"cpdb shell: {wrong}\n{USAGE}", end="", file=sys.stderr)
+        print(f"{USAGE}cpdb shell: {wrong}", file=sys.stderr)
         return 2
     # What can't be decoded is kept as it is, to be marked as what can't be read.
     sys.stdin.reconfigure(errors="surrogateescape")  # type: ignore[union-attr]
@@ -131,7 +132,17 @@ def _start(words: Words) -> int:
         say(refused.line)
         return 1
     except Ended as ended:
-        say(ended.line or f"the session has ended with status {ended.status}")
-        if words.store and not os.path.exists(words.store):
-            print(f"cpdb shell: there is no file {words.store}; cpdb init makes a store", file=sys.stderr)
-        return ended.status if ended.status > 0 else KILLED
+        return _tell_end(ended, words)
+
+
+def _tell_end(ended: Ended, words: Words) -> int:
+    """Says how a session has ended by itself, and gives the exit status."""
+    if ended.status < 0:
+        print(f"cpdb shell: the program was ended by the signal {-ended.status}", file=sys.stderr)
+        return _KILLED - ended.status
+    if not ended.line.startswith("error: "):
+        raise ended
+    say(ended.line)
+    if words.store and not os.path.exists(words.store):
+        print(f"cpdb shell: there is no file {words.store}; cpdb init makes a store", file=sys.stderr)
+    return ended.status

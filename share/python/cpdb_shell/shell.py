@@ -5,7 +5,7 @@ from typing import List, Union
 
 from cpdb.tool import counted
 
-from .layout import answer, marked
+from .layout import answer, marked, visible
 from .own import (FORMS, Command, Mistyped, Put, Reason, Refusal, Statement, Word, forms_of, read_command,
                   statement_for_reason, statements_for)
 from .reading import Reader
@@ -31,7 +31,7 @@ class Shell:
     """A shell over a session."""
 
     def __init__(self, name: str, talk: Talk, reader: Reader, lines: Union[Pipe, Terminal], is_reading: bool) -> None:
-        self._name = name if len(name) <= _LONGEST_NAME else f"..{name[-_LONGEST_NAME + 2:]}"
+        self._name = visible(name if len(name) <= _LONGEST_NAME else f"..{name[-_LONGEST_NAME + 2:]}")
         self._talk, self._reader, self._lines = talk, reader, lines
         self._is_reading = is_reading
         self._cutter = Cutter()
@@ -47,10 +47,11 @@ class Shell:
                 self._give_up_typed()
             except EOFError:
                 if self._may_leave_at_end():
-                    return
+                    break
             except Quit:
                 if self._may_leave():
-                    return
+                    break
+        self._tell_given_up()
 
     def begun(self, before: str) -> str:
         """The beginning of the statement that is typed, up to the cursor, where this stands before it on the line."""
@@ -92,8 +93,10 @@ class Shell:
                 self._run_all(self._cutter.finish())
             except Quit:
                 pass
+
+    def _tell_given_up(self) -> None:
         held = len(self._talk.transaction.held)
-        if held:
+        if held and not self._lines.is_terminal:
             print(f"cpdb shell: {counted(held, 'operation')} given up, not committed", file=sys.stderr)
 
     def _may_leave(self) -> bool:

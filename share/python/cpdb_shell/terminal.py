@@ -94,7 +94,10 @@ class Terminal:
             return
         readline.add_history(line)
         try:
-            readline.append_history_file(1, self._history)
+            if hasattr(readline, "append_history_file"):
+                readline.append_history_file(1, self._history)
+            else:
+                readline.write_history_file(self._history)
         except OSError:
             pass
 
@@ -103,8 +106,12 @@ class Terminal:
         readline.set_completer_delims(_DELIMITERS)
         readline.set_completer(self._choice)
         readline.set_completion_display_matches_hook(self._show_choices)
-        readline.parse_and_bind("tab: complete")
+        # Some builds of Python have libedit in the place of readline.
+        readline.parse_and_bind("bind ^I rl_complete" if "libedit" in (readline.__doc__ or "") else "tab: complete")
         readline.set_history_length(_LONGEST_HISTORY)
+        self._read_history()
+
+    def _read_history(self) -> None:
         try:
             os.makedirs(os.path.dirname(self._history), mode=0o700, exist_ok=True)
             os.close(os.open(self._history, os.O_CREAT | os.O_RDWR, 0o600))
