@@ -149,4 +149,4 @@ class Terminal:
 def history_file() -> str:
     """Where the history is kept between sessions: the variable CPDB_HISTORY, else cpdb/history in the folder for states."""
     folder = os.environ.get("XDG_STATE_HOME") or os.path.join(os.path.expanduser("~"), ".local", "state")
-    return os.environ.get("CPDB_HISTORY") or os.path.join(folder, "cpdb", "history")
+    return os.path.abspath(os.environ.get("CPDB_HISTORY") or os.path.join(folder, "cpdb", "history"))
