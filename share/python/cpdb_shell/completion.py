@@ -189,11 +189,16 @@ def _files(typed: str) -> List[Choice]:
     except OSError:
         return []
     found = []
-    for name in names:
+    for name in filter(_is_text, names):
         path = os.path.join(folder, name)
         is_folder = os.path.isdir(path)
         found.append(Choice(quoted(f"{path}/")[:-1] if is_folder else quoted(path), f"{name}/" if is_folder else name))
     return found
+
+
+def _is_text(name: str) -> bool:
+    """Whether the bytes of a name are UTF-8, so that a statement can have it."""
+    return not any("\ud800" <= it <= "\udfff" for it in name)
 
 
 def _shortened(typed: str, found: List[Choice]) -> List[Choice]:

@@ -160,7 +160,7 @@ class Shell:
                 return self._send_all(statements_for(command, self._talk))
             if isinstance(command, Reason):
                 return self._commit_with(command)
-            return self._send(command.text)
+            return self._send_all([command.text])
         except Refusal as refusal:
             self._refused(str(refusal))
             return False
@@ -186,22 +186,27 @@ class Shell:
         """Commits with a reason. Where nothing is held, or the transaction has failed, the refusal of `commit` says so."""
         transaction = self._talk.transaction
         if not transaction.held or transaction.failed_at is not None:
-            return self._send("commit")
+            return self._send_all(["commit"])
         return self._send_all([statement_for_reason(reason, self._talk), "commit"])
 
     def _send_all(self, statements: List[str]) -> bool:
-        return all(self._send(it) for it in statements)
+        """Sends the statements of one command. Where one is refused, `again` doesn't take those before it up either."""
+        transaction = self._talk.transaction
+        held, had_failed = len(transaction.held), transaction.failed_at is not None
+        if all(self._send(it) for it in statements):
+            return True
+        del transaction.held[held:]
+        if transaction.failed_at is not None and not had_failed:
+            self._say_failed(held)
+        return False
 
     def _send(self, text: str) -> bool:
-        has_failed = self._talk.transaction.failed_at is not None
         lines = self._talk.send(text)
         for line in lines:
             if line.startswith("refused"):
                 self._refused(line)
             else:
                 say(*answer(line, self._width()))
-        if self._talk.transaction.failed_at is not None and not has_failed:
-            self._say_failed()
         return not any(it.startswith("refused") for it in lines)
 
     # What is said
@@ -210,9 +215,8 @@ class Shell:
         self.has_refused = True
         say(line)
 
-    def _say_failed(self) -> None:
+    def _say_failed(self, held: int) -> None:
         if self._lines.is_terminal:
-            held = len(self._talk.transaction.held)
             before = f"again begins it anew with the {counted(held, 'operation')} before this one, " if held else ""
             say(f"the transaction has failed: {before}abort gives it up")
 

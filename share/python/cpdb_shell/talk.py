@@ -18,10 +18,6 @@ class Transaction:
         self.held: List[str] = []
         self.failed_at: Optional[int] = None
 
-    @property
-    def is_open(self) -> bool:
-        return bool(self.held) or self.failed_at is not None
-
 
 class Sources:
     """The names of the loaded sources. Those of a store are read from its file when they are first asked for."""
