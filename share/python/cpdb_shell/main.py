@@ -11,7 +11,7 @@ from .completion import Choices, choices
 from .reading import Reader
 from .shell import Shell
 from .talk import Sources, Talk
-from .terminal import Pipe, Terminal, say
+from .terminal import Lines, Pipe, Terminal, say
 
 USAGE = """usage: cpdb shell [--read] STORE [CURATOR]
        cpdb shell scratch KIND [JSON]
@@ -100,7 +100,7 @@ def _run(words: Words, stack: ExitStack) -> int:
     def complete(before: str, after: str) -> Choices:
         return choices(talk, shell.begun(before) if shell else before, after)
 
-    lines = Terminal(complete) if sys.stdin.isatty() else Pipe(sys.stdin.buffer)
+    lines: Lines = Terminal(complete) if sys.stdin.isatty() else Pipe(sys.stdin.buffer)
     shell = Shell(words.name, talk, reader, lines, words.is_reading)
     if lines.is_terminal:
         _greet(words, talk)
@@ -119,20 +119,22 @@ def main(arguments: List[str]) -> int:
         print(f"{USAGE}cpdb shell: {wrong}", file=sys.stderr)
         return 2
     # What can't be decoded is kept as it is, to be marked as what can't be read.
-    sys.stdin.reconfigure(errors="surrogateescape")  # type: ignore[union-attr]
+    sys.stdin.reconfigure(errors="surrogateescape")  # type: ignore[attr-defined]
     return _start(words)
 
 
 def _start(words: Words) -> int:
     """Runs a shell. A session that doesn't open, or that ends by itself, says how it ended, and gives the status."""
+    stack = ExitStack()
     try:
-        with ExitStack() as stack:
-            return _run(words, stack)
+        with stack:
+            status = _run(words, stack)
     except Refused as refused:
         say(refused.line)
-        return 1
+        status = 1
     except Ended as ended:
-        return _tell_end(ended, words)
+        status = _tell_end(ended, words)
+    return status
 
 
 def _tell_end(ended: Ended, words: Words) -> int:

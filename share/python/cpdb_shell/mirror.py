@@ -3,7 +3,7 @@
 A whole tree is asked of the session by `show` when its labels are first wanted, and kept. An operation makes a copy of the
 nodes on its way, so that the committed tree stays as it was, and leaves what it writes to be asked for.
 """
-from typing import Callable, Dict, Tuple, Union
+from typing import Callable, Dict, Tuple, Union, cast
 
 from cpdb import Place, Refused, Tree
 
@@ -26,7 +26,7 @@ class Mirror:
         self._show = show
         self._committed: _Known = _UNASKED
         self._now: _Known = _UNASKED
-        self._sources: Dict[str, Tree] = {}
+        self._sources: Dict[str, _Known] = {}
 
     def at(self, place: Place) -> _Known:
         """The tree at a place, or MISSING. It is asked for alone where the whole of T isn't known, and isn't kept then."""
@@ -42,11 +42,12 @@ class Mirror:
             self._now = self._ask(Place("T"))
         tree = self._now
         for index, label in enumerate(place.labels):
-            if not isinstance(tree, dict) or label not in tree:
+            node = _node(tree)
+            if label not in node:
                 return MISSING
-            if tree[label] is _UNASKED:
-                tree[label] = self._ask(Place("T", place.labels[: index + 1]))
-            tree = tree[label]
+            if node[label] is _UNASKED:
+                node[label] = self._ask(Place("T", place.labels[: index + 1]))
+            tree = node[label]
         return tree
 
     def written(self, place: Place) -> None:
@@ -73,16 +74,19 @@ class Mirror:
 
     def _at_source(self, place: Place) -> _Known:
         if place.name not in self._sources:
-            tree = self._ask(Place(place.name))
-            if tree is MISSING:
+            found = self._ask(Place(place.name))
+            if found is MISSING:
                 return MISSING
-            self._sources[place.name] = tree  # type: ignore[assignment]
+            self._sources[place.name] = found
         tree = self._sources[place.name]
         for label in place.labels:
-            if not isinstance(tree, dict) or label not in tree:
-                return MISSING
-            tree = tree[label]
+            tree = _node(tree).get(label, MISSING)
         return tree
+
+
+def _node(tree: _Known) -> "Dict[str, _Known]":
+    """The children of a node, among which may be some to be asked for; of anything else none."""
+    return cast("Dict[str, _Known]", tree) if isinstance(tree, dict) else {}
 
 
 def _with(tree: _Known, labels: Tuple[str, ...], below: _Known) -> _Known:
@@ -91,12 +95,12 @@ def _with(tree: _Known, labels: Tuple[str, ...], below: _Known) -> _Known:
         return below
     if not isinstance(tree, dict):
         return tree
-    copy = dict(tree)
+    copy = dict(_node(tree))
     if labels[0] not in copy and len(labels) > 1:
-        return copy
+        return cast(Tree, copy)
     found = _with(copy.get(labels[0], MISSING), labels[1:], below)
     if found is MISSING:
         copy.pop(labels[0], None)
     else:
-        copy[labels[0]] = found  # type: ignore[assignment]
-    return copy
+        copy[labels[0]] = found
+    return cast(Tree, copy)

@@ -1,7 +1,7 @@
 """The shell itself: it reads lines, has them read by the reader, carries them out, and says what comes of it."""
 import shutil
 import sys
-from typing import List, Union
+from typing import List
 
 from cpdb.tool import counted
 
@@ -10,7 +10,7 @@ from .own import (FORMS, Command, Mistyped, Put, Reason, Refusal, Statement, Wor
                   statement_for_reason, statements_for)
 from .reading import Reader
 from .talk import OPERATIONS, Talk
-from .terminal import Pipe, Terminal, say
+from .terminal import Lines, say
 from .text import BLANK, Cutter, Typed, tokens_of
 
 _LONGEST_NAME = 24
@@ -30,7 +30,7 @@ class Quit(Exception):
 class Shell:
     """A shell over a session."""
 
-    def __init__(self, name: str, talk: Talk, reader: Reader, lines: Union[Pipe, Terminal], is_reading: bool) -> None:
+    def __init__(self, name: str, talk: Talk, reader: Reader, lines: Lines, is_reading: bool) -> None:
         self._name = visible(name if len(name) <= _LONGEST_NAME else f"..{name[-_LONGEST_NAME + 2:]}")
         self._talk, self._reader, self._lines = talk, reader, lines
         self._is_reading = is_reading

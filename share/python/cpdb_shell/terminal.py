@@ -2,7 +2,7 @@
 import os
 import shutil
 import sys
-from typing import BinaryIO, Callable, List, Optional, Tuple
+from typing import BinaryIO, Callable, List, Optional, Sequence, Tuple, Union
 
 from cpdb import Ended
 
@@ -138,7 +138,7 @@ class Terminal:
         fitting = [it for it in found.choices if not cut or it.text.startswith(token[:cut])]
         return [it.text[cut:] for it in fitting], [it.shown for it in fitting]
 
-    def _show_choices(self, _piece: str, _found: List[str], _longest: int) -> None:
+    def _show_choices(self, _piece: str, _found: Sequence[str], _longest: int) -> None:
         """Writes the choices below the line, and the line again."""
         size = shutil.get_terminal_size()
         say("", *columns(self._shown, size.columns, max(4, size.lines - 4)))
@@ -150,3 +150,6 @@ def history_file() -> str:
     """Where the history is kept between sessions: the variable CPDB_HISTORY, else cpdb/history in the folder for states."""
     folder = os.environ.get("XDG_STATE_HOME") or os.path.join(os.path.expanduser("~"), ".local", "state")
     return os.path.abspath(os.environ.get("CPDB_HISTORY") or os.path.join(folder, "cpdb", "history"))
+
+
+Lines = Union[Pipe, Terminal]
