@@ -53,6 +53,7 @@ function print_tree(base,   g, i, comma) {
 # The places below the groups stand in alive[0] to alive[live - 1], the number of each in at[]; those of one node are the labels
 # between the spaces of kids[]. A record's own number is that in its label.
 function make_tree(   i, record) {
+  live = 0
   for (i = 0; i < groups; i++) kids["g" i] = " "
   for (i = 0; i < all_records; i++) {
     record = group_of(i) "/r" i
