@@ -1,4 +1,4 @@
-# Turns the lines of drawn.awk into a script for the shell of SQLite: the same tree, and its provenance, kept by hand.
+# Turns the lines of drawn.awk into a script for the shell of SQLite, after texts.awk: the same tree, and its provenance, kept by hand.
 # A node's path is its place with `/` at its end, so that a subtree is one range of paths, from P/ up to P0. Each
 # operation takes the next Tid and writes a row for each place that it changes: I (inserted), D (dropped), or C with the
 # place that was copied. No drawn copy has one of its places inside the other, so that a copy needs no table in between.
@@ -24,7 +24,7 @@ $1 == "tree" {
   print "INSERT INTO prov SELECT " tid ", 'I', path, NULL FROM node WHERE " subtree($2) ";"
 }
 $1 == "ins" {
-  print "INSERT INTO node VALUES ('T/" $2 "/', NULL);"
+  print "INSERT INTO node VALUES ('T/" $2 "/', " (texts ? "'" text_of($2) "'" : "NULL") ");"
   print "INSERT INTO prov VALUES (" tid ", 'I', 'T/" $2 "/', NULL);"
 }
 $1 == "copy" {

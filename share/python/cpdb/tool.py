@@ -1,0 +1,193 @@
+"""What the tools of bin/ have in common: how they end, how they write, and how they tell dates and contents.
+
+Their exit statuses are those of the program where they mean the same: 0 done, 1 done with a no for an answer (each tool says
+which), 2 wrong words, 3 a file that can't be read or written, 4 an output that can't be written, 5 and 6 a store that can't
+be read or isn't one. Other ends of the program are passed on.
+"""
+import bisect
+import contextlib
+import datetime
+import io
+import os
+import re
+import sys
+from typing import Callable, Iterator, List, NamedTuple, NoReturn, Optional, Tuple
+
+from .calls import Name, copy_of, log
+from .past import Content, content_of, size_of, tree_of
+from .replies import Commit, Ended, Refused
+from .session import Session
+from .spelling import Place, SpellingError, Tree, tree_text
+from .storefile import Load, entries_of
+
+__all__ = ["Commits", "Failure", "Reading", "counted", "date_of", "moment_of", "place_of", "reading", "run", "sources_of",
+           "steps_text", "told", "tree_told"]
+
+# How many characters of a content stand in a line.
+SHORT = 60
+
+_DATE = re.compile(r"(\d{4})(?:-(\d\d)(?:-(\d\d))?)?")
+_TIME = re.compile(r"\d{4}-\d\d-\d\d[T ]\d\d:\d\d(?::\d\d)?(Z|[+-]\d\d:\d\d)?")
+
+
+class Failure(Exception):
+    """What a tool can't do, and the exit status with which it ends."""
+
+    def __init__(self, cause: str, status: int = 1) -> None:
+        super().__init__(cause)
+        self.status = status
+
+
+def run(name: str, tool: Callable[[List[str]], int]) -> NoReturn:
+    """Runs `cpdb NAME` with the words of this process, and ends it with the tool's status."""
+    for stream in (sys.stdout, sys.stderr):
+        if isinstance(stream, io.TextIOWrapper):
+            stream.reconfigure(encoding="utf-8", errors="surrogateescape", newline="\n")
+    try:
+        status = tool(sys.argv[1:])
+        sys.stdout.flush()
+    except KeyboardInterrupt:
+        status = 130
+    except (Failure, Ended, Refused, SpellingError, OSError) as error:
+        status = _status_of(error)
+        if _is_of_output(error):
+            # So that the end of Python, which writes what is left, says nothing more.
+            os.dup2(os.open(os.devnull, os.O_WRONLY), sys.stdout.fileno())
+        if status:
+            print(f"cpdb {name}: {_text_of(error)}", file=sys.stderr)
+    sys.exit(status)
+
+
+def _text_of(error: Exception) -> str:
+    if isinstance(error, OSError):
+        return f"{'writing failed' if error.filename is None else error.filename}: {error.strerror}"
+    return str(error)
+
+
+def _is_of_output(error: Exception) -> bool:
+    """Whether writing standard output failed: an error of a file has the file's name."""
+    return isinstance(error, OSError) and error.filename is None
+
+
+def _status_of(error: Exception) -> int:
+    if isinstance(error, (Failure, Ended)):
+        return error.status
+    if isinstance(error, SpellingError):
+        return 2
+    if isinstance(error, BrokenPipeError):
+        return 0
+    if _is_of_output(error):
+        return 4
+    return 3 if isinstance(error, OSError) else 1
+
+
+class Reading(NamedTuple):
+    """A store that is read: a private copy of its file, and a session on it."""
+
+    copy: str
+    session: Session
+
+
+@contextlib.contextmanager
+def reading(store: Name) -> Iterator[Reading]:
+    """A private copy of a store with a session on it, so that the store itself is neither changed nor kept from others."""
+    with copy_of(store) as copy:
+        try:
+            session = Session.run(copy)
+        except Ended as error:
+            raise Failure(f"{os.fspath(store)}: {error}", error.status) from None
+        with session:
+            yield Reading(copy, session)
+
+
+def place_of(text: str) -> Place:
+    """The place that a word spells; a name that isn't T alone is one too."""
+    try:
+        return Place.read(text)
+    except SpellingError as error:
+        raise Failure(str(error), 2) from None
+
+
+def sources_of(copy: str) -> List[str]:
+    """The names of a store's sources, in the order in which they were loaded."""
+    return [it.name for it in entries_of(copy) if isinstance(it, Load)]
+
+
+class Commits:
+    """The commits of a store, found by a step."""
+
+    def __init__(self, copy: str) -> None:
+        self.all = log(copy)
+        self._firsts = [it.first for it in self.all]
+
+    def of(self, tid: int) -> Commit:
+        """The commit of a step."""
+        return self.all[bisect.bisect_right(self._firsts, tid) - 1]
+
+
+def steps_text(commit: Commit) -> str:
+    """The Tids of a commit, as replies write them."""
+    return f"{commit.first}" if commit.first == commit.last else f"{commit.first}..{commit.last}"
+
+
+def date_of(moment: int) -> str:
+    """A moment as a date and time in UTC, as ISO 8601 writes it; the seconds since 1970 where no year of four digits has it."""
+    try:
+        return f"{datetime.datetime.fromtimestamp(moment, datetime.timezone.utc):%Y-%m-%dT%H:%M:%SZ}"
+    except (OverflowError, ValueError, OSError):
+        return f"{moment} s"
+
+
+def moment_of(date: str, is_end: bool = False) -> int:
+    """The first second of a date, or its last where it is the end of a span; a date without a zone is one in UTC.
+
+    It is a year, a month, a day, or a day with its time to the minute or the second: `2026`, `2026-12`, `2026-12-01`,
+    `2026-12-01T08:30`, `2026-12-01T08:30:15Z`, `2026-12-01T09:30:15+01:00`.
+    """
+    try:
+        first, after = _span_of(date)
+    except ValueError:
+        raise Failure(f"{date} is no date in ISO 8601, as 2026-12-01 or 2026-12-01T08:30:00Z is", 2) from None
+    return int(after.timestamp()) - 1 if is_end else int(first.timestamp())
+
+
+def _span_of(date: str) -> Tuple[datetime.datetime, datetime.datetime]:
+    """The first moment of a date, and the first after it."""
+    if _TIME.fullmatch(date):
+        first = datetime.datetime.fromisoformat(date.replace("Z", "+00:00"))
+        first = first if first.tzinfo else first.replace(tzinfo=datetime.timezone.utc)
+        has_seconds = len(re.sub(r"(Z|[+-]\d\d:\d\d)$", "", date)) > 16
+        return first, first + datetime.timedelta(seconds=1 if has_seconds else 60)
+    found = _DATE.fullmatch(date)
+    if not found:
+        raise ValueError(date)
+    year, month, day = (int(it) if it else None for it in found.groups())
+    first = datetime.datetime(year or 0, month or 1, day or 1, tzinfo=datetime.timezone.utc)
+    if day:
+        return first, first + datetime.timedelta(days=1)
+    months = 12 if month is None else 1
+    return first, datetime.datetime(first.year + (first.month - 1 + months) // 12, (first.month - 1 + months) % 12 + 1, 1,
+                                    tzinfo=datetime.timezone.utc)
+
+
+def tree_told(tree: Tree, longest: Optional[int] = SHORT) -> str:
+    """As `told`, of a tree."""
+    return told(content_of(tree), longest)
+
+
+def told(content: Content, longest: Optional[int] = SHORT) -> str:
+    """What stands at a place: its spelling where that is short or any length will do, else how it begins or how big it is."""
+    size = size_of(content)
+    if longest is None or size <= longest:
+        text = tree_text(tree_of(content))
+        if longest is None or len(text) <= longest:
+            return text
+        if size == 1:
+            return f"{text[:longest]}.."
+    return f"{{..}} with {counted(size - 1, 'place')}"
+
+
+def counted(number: int, word: str) -> str:
+    """A number with its noun."""
+    return f"{number} {word}" if number == 1 else f"{number} {word}s"
+
