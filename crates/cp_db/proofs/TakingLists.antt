@@ -5,18 +5,14 @@ use Rattle.std.specs.List.{AllByRecursion, list_all}
 use Rattle.std.proofs.lemmas.List.{take_more, take_all}
 use Rattle.std.specs.declared.option.Option.{Option}
 use Rattle.cp_path.specs.declared.loc.Loc.{Loc}
-use Rattle.cp_path.specs.declared.limits.TheConstants.{LABEL_MAX}
-use Rattle.cp_model.specs.Place.{Label, in_target}
-use Rattle.cp_model.specs.declared.literal.Literal.{Literal}
-use Rattle.cp_model.specs.History.{IsWritten, AreWritten}
+use Rattle.cp_model.specs.Place.{in_target}
 use Rattle.cp_model.specs.declared.op.Op.{Op}
-use Rattle.cp_model.specs.declared.op.Op.TheVariants.{Ins, Del, Copy}
 use Rattle.cp_model.specs.declared.record.Record.{Record}
 use Rattle.cp_model.specs.declared.record.RecOp.{RecOp}
 use Rattle.cp_model.specs.declared.record.RecOp.TheVariants as op
 use Rattle.cp_record.specs.Kept.{is_copy}
 use Rattle.cp_model.specs.Changes.{AreNext, is_source, is_between}
-use Rattle.cp_frame.specs.Sound.{AreWritable, IsSoundBatch, IsSoundOp}
+use Rattle.cp_frame.specs.Sound.{AreWritable, IsSoundBatch}
 use Rattle.cp_db.specs.Committed.{TidsLieBetween}
 
 -- ---- one after another
@@ -46,10 +42,6 @@ module _ (low high : ℕ) (rs : List Record) where
   -- all of them have
   pub tids-all : (i : ℕ) → length rs ≤ i → TidsLieBetween low high (take i rs) → TidsLieBetween low high rs
   tids-all i h all = subst (TidsLieBetween low high) (take_all i rs h) all
-
--- the Tids of the same records lie after the same one
-pub tids-same : (low from tids : ℕ) (rs qs : List Record) → low ≡ from → rs ≡ qs → TidsLieBetween low (low + tids) rs → TidsLieBetween from (from + tids) qs
-tids-same low from tids rs qs e f t = subst (TidsLieBetween from (from + tids)) f (subst (λ n. TidsLieBetween n (n + tids) rs) e t)
 
 -- ---- records that come next
 

@@ -43,7 +43,7 @@ pub fn tids_lie_between(records: &[Record], low: u64, high: u64) -> bool
 
 /// Keeps a tree as a source, if one may be loaded under the name; says whether it may. Where it may not, and after an
 /// error, the sources are as they were. Costs the tree.
-pub fn load_source<S: TreeRep>(
+pub(crate) fn load_source<S: TreeRep>(
     alloc: Global,
     sources: &mut Sources<S>,
     name: Name,
@@ -65,7 +65,7 @@ pub fn load_source<S: TreeRep>(
 /// Applies the operations of a commit after the Tid `last`, if each is accepted and each record has one of the commit's
 /// Tids; gives the number of these Tids, `None` where it isn't so. Of the records it looks at nothing else. After `None`,
 /// and after an error, what the tree holds isn't said. Costs the operations and a comparison for each record.
-pub fn replay_commit<R: TreeRep, S: TreeRep>(
+pub(crate) fn replay_commit<R: TreeRep, S: TreeRep>(
     alloc: Global,
     kind: Kind,
     last: u64,

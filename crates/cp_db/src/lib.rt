@@ -17,11 +17,10 @@ mod walk;
 mod work;
 mod writing;
 
-pub use committed::{replay_commit, tids_lie_between};
+pub use committed::tids_lie_between;
 pub use database::{Db, Tids};
 pub use fault::{CommitFault, InitFault, OpenFault, WriteFault};
 pub use limits::TIDS_MAX;
 pub use log::log_of;
-pub use opening::open_slot;
 pub use walk::work_over;
 pub use work::{CommitAt, Passed, Work};

@@ -23,7 +23,7 @@ use cp_tree::TreeRep;
 use std::alloc::Global;
 
 /// The offset in the file, in bytes, of the slot that names the newest checkpoint, if one is open.
-pub fn open_slot(header: &Header) -> Option<u64>
+pub(crate) fn open_slot(header: &Header) -> Option<u64>
     ensures { result ≡ open_slot header.now }
 {
     match (header.first, header.second) {
@@ -42,7 +42,7 @@ pub fn open_slot(header: &Header) -> Option<u64>
 
 /// The entry that the bytes of the frame at this offset spell; `NoStore` with the offset where they spell none. Costs the
 /// bytes.
-pub fn entry_in(alloc: Global, body: &[u8], at: u64) -> Result<Entry, OpenFault>
+pub(crate) fn entry_in(alloc: Global, body: &[u8], at: u64) -> Result<Entry, OpenFault>
     ensures spells { (f : Frame) → f.body ≡ body.now → SpellsAs f result }
     ensures sound { IfOk result IsSoundEntry }
     ensures at { IfErr result (λ e. (n : ℕ) → e ≡ OpenFault.NoStore n → n ≡ at) }
@@ -56,7 +56,7 @@ pub fn entry_in(alloc: Global, body: &[u8], at: u64) -> Result<Entry, OpenFault>
 }
 
 /// Whether the entry may stand in a file of this version: a commit with a stamp stands in one of version 2 alone.
-pub fn is_of_version(entry: &Entry, version: u8) -> bool
+pub(crate) fn is_of_version(entry: &Entry, version: u8) -> bool
     ensures { (w : WrittenEntry) → IsEntry entry.now w → IsTrue result ↔ IsOfVersion version w }
 {
     match entry {
@@ -66,7 +66,7 @@ pub fn is_of_version(entry: &Entry, version: u8) -> bool
 }
 
 /// The version that a header says, which is 1 or 2.
-pub fn version_of(header: &Header) -> u8
+pub(crate) fn version_of(header: &Header) -> u8
     ensures either { (result ≡ 1) ⊎ (result ≡ 2) }
     ensures said { (header.now.version ≡ 1) ⊎ (header.now.version ≡ 2) → result ≡ header.now.version }
 {

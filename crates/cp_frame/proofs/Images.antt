@@ -1,7 +1,7 @@
 -- Files: what stands in one that is a store, which ones are none, and headers of either version.
 use Rattle.std.proofs.Common.{◌≡◌, ◌≤◌, ◌<◌, ◌==◌, ◌⊎◌, inl, inr, ℕ, suc, Bool, true, false, if◌then◌else◌, List, [], ◌∷◌, length, take, drop, get_or, refl, sym, ap, ◌∙◌, subst, arith, length-take}
 use Rattle.std.specs.List.{flat_map}
-use Rattle.std.specs.declared.option.Option.TheVariants.{None, Some}
+use Rattle.std.specs.declared.option.Option.TheVariants.{None}
 use Rattle.std.proofs.lemmas.Bool.{cases_Bool}
 use Rattle.cp_model.specs.History.{Entry, IsLegal}
 use Rattle.cp_journal.specs.Frames.{Frame, frames_of}
@@ -10,11 +10,10 @@ use Rattle.cp_journal.specs.Holding.{HasFrames, Stands}
 use Rattle.cp_journal.specs.NewStores.{header}
 use Rattle.cp_journal.specs.Upgrading.{upgraded, HasOtherVersion, StandsInAVersion, with_version}
 use Rattle.cp_journal.specs.declared.header.Header.{Header}
-use Rattle.cp_journal.specs.declared.header.Slot.{Slot}
 use Rattle.cp_journal.specs.declared.limits.TheConstants.{HEADER_SIZE, VERSION_AT}
 use Rattle.cp_journal.proofs.Upgrading.{other_is_header, other_header, upgraded_other, upgraded_gate}
 use Rattle.cp_frame.specs.Items.{Item, AllStand, AreHeld, Tell, entries_in}
-use Rattle.cp_frame.specs.Stands.{HoldsFrom, IsClosed, IsHead, IsStore, IsTold, Opens, OpensFirst, Replays, StandsFor, header_of}
+use Rattle.cp_frame.specs.Stands.{IsClosed, IsHead, IsStore, IsTold, Opens, OpensFirst, Replays, StandsFor, header_of}
 use Rattle.cp_frame.proofs.Standing.{legal-items, stand-weaker, tell-newer, tell-one}
 
 -- what a header of this version says whose slots are closed
@@ -67,10 +66,6 @@ module _ (right : Bool) (h : List Entry) (c : List ℕ) where
         some = subst (λ (fs : List Frame). 1 ≤ length fs) (sym frames) some;
       }
 
-  -- and what they tell is told
-  pub parts-told : ToldParts right h c → IsTold right h c
-  parts-told p = told-frames right h c (frames_of (drop HEADER_SIZE c)).frames p.header (record { frames = refl; clean = p.clean }) p.some p.tell
-
 -- items that stand from the first frame on tell a history
 pub first-told : (right : Bool) (c : List ℕ) (has : HasHeader c) (o : OpensFirst (header_of c).version c) → AllStand right None o.items → IsTold right (flat_map entries_in o.items) c
 first-told right c has o stand = record {
@@ -116,27 +111,6 @@ pub store-stands : (v : ℕ) (head : List ℕ) (fs : List Frame) (h : List Entry
 store-stands v head fs h c is_head some tell stands =
     let s = stands-told true v head fs h c is_head some tell stands in
     inr (record { told = s.0; closed = s.1 })
-
--- ---- files that don't open
-
--- a file without a header doesn't
-pub no-store-header : (c : List ℕ) → (HasHeader c → ⊥) → Opens c → ⊥
-no-store-header c none opens = none opens.header
-
--- nor does one with an open slot
-pub no-store-first : (c : List ℕ) (s : Slot) → (header_in (take HEADER_SIZE c)).first ≡ Some s → Opens c → ⊥
-no-store-first c s open_slot opens = let no : None ≡ Some s = sym opens.closed.first ∙ open_slot in absurd (cc no)
-
-pub no-store-second : (c : List ℕ) (s : Slot) → (header_in (take HEADER_SIZE c)).second ≡ Some s → Opens c → ⊥
-no-store-second c s open_slot opens = let no : None ≡ Some s = sym opens.closed.second ∙ open_slot in absurd (cc no)
-
-pub no-store-slot : (c : List ℕ) (s : Slot) → ((header_in (take HEADER_SIZE c)).first ≡ Some s) ⊎ ((header_in (take HEADER_SIZE c)).second ≡ Some s) → Opens c → ⊥
-no-store-slot c s (inl first) opens = no-store-first c s first opens
-no-store-slot c s (inr second) opens = no-store-second c s second opens
-
--- nor one whose frames don't end at a closed gate
-pub no-store-broken : (c : List ℕ) → (frames_of (drop HEADER_SIZE c)).clean ≡ false → Opens c → ⊥
-no-store-broken c broken opens = let no : true ≡ false = sym opens.first.holds.stand.clean ∙ broken in absurd (cc no)
 
 -- ---- headers
 

@@ -220,14 +220,6 @@ all_newer (f ∷ fs) (i ∷ is) held = (held_newer f i held.0, all_newer fs is h
 pub tell-newer : (right : Bool) (fs : List Frame) (h : List Entry) → Tell right 1 fs h → Tell right 2 fs h
 tell-newer right fs h t = record { items = t.items; held = all_newer fs t.items t.held; stand = t.stand; are = t.are }
 
--- frames with the right records tell the same history where these aren't asked
-pub tell-weaker : (right : Bool) (v : ℕ) (fs : List Frame) (h : List Entry) → Tell right v fs h → Tell false v fs h
-tell-weaker right v fs h t = record { items = t.items; held = t.held; stand = stand-weaker right None t.items t.stand; are = t.are }
-
 -- frames tell one history at most
 pub tell-one : (p q : Bool) (v : ℕ) (fs : List Frame) (h i : List Entry) → Tell p v fs h → Tell q v fs i → h ≡ i
 tell-one p q v fs h i t u = t.are ∙ ap (flat_map entries_in) (held-one v fs t.items u.items t.held u.held) ∙ sym u.are
-
--- which is a legal one
-pub tell-legal : (right : Bool) (v : ℕ) (fs : List Frame) (h : List Entry) → Tell right v fs h → IsLegal h
-tell-legal right v fs h t = subst IsLegal (sym t.are) (legal-items right t.items t.stand)
