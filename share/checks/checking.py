@@ -1,5 +1,7 @@
 """What the tests of the tools have in common; it is no test itself."""
 import atexit
+import importlib.machinery
+import importlib.util
 import os
 import re
 import shutil
@@ -63,6 +65,14 @@ def tool(name, *words, stdin=""):
     ran = subprocess.run([sys.executable, f"bin/cpdb-{name}", *words], input=stdin.encode(), capture_output=True, check=False,
                          timeout=900)
     return ran.stdout.decode(), ran.stderr.decode(), ran.returncode
+
+
+def program_of(name):
+    """The program of bin/cpdb-NAME as a module, which isn't run."""
+    loader = importlib.machinery.SourceFileLoader(f"cpdb_{name}", f"bin/cpdb-{name}")
+    module = importlib.util.module_from_spec(importlib.util.spec_from_loader(loader.name, loader))
+    loader.exec_module(module)
+    return module
 
 
 def told(what, ran, lines, status=0):

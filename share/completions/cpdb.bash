@@ -3,14 +3,20 @@
 # The options of a tool; one with a word after it ends in `=`.
 _cpdb_options() {
     case $1 in
+    backup) echo --against= ;;
+    diff) echo --below= --by= --full --json ;;
     find) echo --all --below= --exact --ignore-case --labels --places --values ;;
-    history) echo --by= --full --reverse --since= --until= ;;
+    history) echo --by= --full --reverse --since= --until= --values ;;
     json) echo --arrays --base= --csv --key= --prov --provenance ;;
     ls) echo --full --long --places --recursive ;;
     outdated) echo --all --by= --format= --new ;;
     prepare) echo --at= --encoding= --escape= --from= --header= --ins= --key= --quote= --ragged= --repeated= --separator= --verbose ;;
     rescue) echo --statements= ;;
+    revert) echo --anyway ;;
     shell) echo --read ;;
+    stats) echo --commits ;;
+    try) echo --full --refusals --skip ;;
+    update) echo --below= --only= ;;
     esac
 }
 
@@ -44,7 +50,8 @@ _cpdb_tool() {
         --format | --from) words='json csv' ;;
         --repeated) words='first last number' ;;
         --ragged) words=fill ;;
-        --statements) files=-o ;;
+        --only) words='changed gone new' ;;
+        --against | --statements) files=-o ;;
         esac
     elif [[ $word == -* ]]; then
         words=${options//= / }
@@ -52,14 +59,14 @@ _cpdb_tool() {
         case $at:$tool:${COMP_WORDS[2]-} in
         1:shell:scratch) words='n t h ht' ;;
         0:shell:*) words=scratch files=-o ;;
-        0:* | 1:page:* | 1:rescue:* | 2:outdated:* | 2:shell:scratch) files=-o ;;
+        0:* | 1:backup:* | 1:page:* | 1:rescue:* | 1:try:* | 2:outdated:* | 2:shell:scratch) files=-o ;;
         esac
     fi
 }
 
 _cpdb() {
     local word=${COMP_WORDS[COMP_CWORD]} words= files=+o
-    local tools='find history json ls outdated page prepare rescue shell sources'
+    local tools='backup diff find history json ls outdated page prepare rescue revert shell sources stats try update'
     if ((COMP_CWORD > 1)) && [[ " $tools " == *" ${COMP_WORDS[1]-} "* ]]; then
         _cpdb_tool
     else

@@ -9,7 +9,7 @@ function __cpdb_at
         if test $skip = 1
             set skip 0
         else if string match -q -- '-*' $word
-            contains -- $word --at --base --below --by --encoding --escape --format --from --header --ins --key --quote --ragged --repeated --separator --since --statements --until
+            contains -- $word --against --at --base --below --by --encoding --escape --format --from --header --ins --key --only --quote --ragged --repeated --separator --since --statements --until
             and set skip 1
         else
             set at (math $at + 1)
@@ -47,6 +47,8 @@ complete -c cpdb -n __fish_is_first_token -l version -d 'Tell the commit and the
 complete -c cpdb -n __fish_is_first_token -l help -d 'Tell the commands and tools'
 
 set -l at_tool '__fish_is_first_token; or __cpdb_at 2 help'
+complete -c cpdb -n $at_tool -a backup -d 'Copy a store, and test it against the copy before'
+complete -c cpdb -n $at_tool -a diff -d 'Tell what differs between two versions'
 complete -c cpdb -n $at_tool -a find -d 'Search the labels and values of a store'
 complete -c cpdb -n $at_tool -a history -d 'Tell the commits, or what happened at a place'
 complete -c cpdb -n $at_tool -a json -d 'Write a place as JSON, CSV or PROV-JSON'
@@ -55,8 +57,12 @@ complete -c cpdb -n $at_tool -a outdated -d 'Tell what a newer file of a source 
 complete -c cpdb -n $at_tool -a page -d 'Write a page to look at a store with'
 complete -c cpdb -n $at_tool -a prepare -d 'Make of a file what load takes'
 complete -c cpdb -n $at_tool -a rescue -d 'Copy what opens of a broken store'
+complete -c cpdb -n $at_tool -a revert -d 'Write the statements that undo a commit'
 complete -c cpdb -n $at_tool -a shell -d 'A session at the terminal'
 complete -c cpdb -n $at_tool -a sources -d 'Tell the sources of a store'
+complete -c cpdb -n $at_tool -a stats -d 'Tell what the file of a store consists of'
+complete -c cpdb -n $at_tool -a try -d 'Tell what a script would change'
+complete -c cpdb -n $at_tool -a update -d 'Write the statements that take a newer source over'
 
 set -l at_kind '__cpdb_at 2 scratch; or __cpdb_at 3 init; or __cpdb_at 4 gen; or begin; __cpdb_at 3 shell; and __cpdb_in_memory; end'
 complete -c cpdb -n $at_kind -a n -d Naive
@@ -76,13 +82,20 @@ complete -c cpdb -n '__cpdb_at 2 shell' -a scratch -d 'A session in memory'
 complete -c cpdb -n '__cpdb_at 2 init run commit load query log verify' -F
 complete -c cpdb -n '__cpdb_at 3 scratch commit' -F
 complete -c cpdb -n '__cpdb_at 4 init; or __cpdb_at 5 load' -F
-complete -c cpdb -n '__cpdb_at 2 find history json ls outdated page prepare rescue shell sources' -F
-complete -c cpdb -n '__cpdb_at 3 page rescue; or __cpdb_at 4 outdated' -F
+complete -c cpdb -n '__cpdb_at 2 backup diff find history json ls outdated page prepare rescue revert shell sources stats try update' -F
+complete -c cpdb -n '__cpdb_at 3 backup page rescue try; or __cpdb_at 4 outdated' -F
 complete -c cpdb -n '__cpdb_at 4 shell; and __cpdb_in_memory' -F
 
-for tool in find history json ls outdated page prepare rescue shell sources
+for tool in backup diff find history json ls outdated page prepare rescue revert shell sources stats try update
     complete -c cpdb -n "__cpdb_is $tool" -l help -d 'Tell how the tool is used'
 end
+
+complete -c cpdb -n '__cpdb_is backup' -l against -r -F -d 'The earlier backup to test against'
+
+complete -c cpdb -n '__cpdb_is diff' -l below -x -d 'Only what differs at a place and below it'
+complete -c cpdb -n '__cpdb_is diff' -l by -x -d 'Only what one curator was the last to change'
+complete -c cpdb -n '__cpdb_is diff' -l full -d 'Write what stood there whole'
+complete -c cpdb -n '__cpdb_is diff' -l json -d 'Write one JSON value'
 
 complete -c cpdb -n '__cpdb_is find' -l all -d 'Search in all sources too'
 complete -c cpdb -n '__cpdb_is find' -l below -x -d 'Search at a place and below it'
@@ -97,6 +110,7 @@ complete -c cpdb -n '__cpdb_is history' -l full -d 'Write what stood there whole
 complete -c cpdb -n '__cpdb_is history' -l reverse -d 'The newest commit first'
 complete -c cpdb -n '__cpdb_is history' -l since -x -d 'The commits from a date on'
 complete -c cpdb -n '__cpdb_is history' -l until -x -d 'The commits up to a date'
+complete -c cpdb -n '__cpdb_is history' -l values -d 'Tell the values before and after'
 
 complete -c cpdb -n '__cpdb_is json' -l arrays -d 'Write nodes with the labels 0 to n as arrays'
 complete -c cpdb -n '__cpdb_is json' -l base -x -d 'How the identifiers of PROV-JSON begin'
@@ -129,4 +143,11 @@ complete -c cpdb -n '__cpdb_is prepare' -l separator -x -d 'What stands between 
 complete -c cpdb -n '__cpdb_is prepare' -l verbose -d 'Name every change'
 
 complete -c cpdb -n '__cpdb_is rescue' -l statements -r -F -d 'Write the operations that were left'
+complete -c cpdb -n '__cpdb_is revert' -l anyway -d 'Undo also what later commits have changed'
 complete -c cpdb -n '__cpdb_is shell' -l read -d 'Look at a copy of the store'
+complete -c cpdb -n '__cpdb_is stats' -l commits -d 'Tell each commit too'
+complete -c cpdb -n '__cpdb_is try' -l full -d 'Write statements, and what stands there, whole'
+complete -c cpdb -n '__cpdb_is try' -l refusals -d 'Tell refusals alone'
+complete -c cpdb -n '__cpdb_is try' -l skip -d 'Leave out what is refused, and go on'
+complete -c cpdb -n '__cpdb_is update' -l below -x -d 'Only what stands at a place and below it'
+complete -c cpdb -n '__cpdb_is update' -l only -x -a 'changed gone new' -d 'Only changes of one sort'

@@ -97,6 +97,15 @@ class Trees:
             at = at.children[label]
         return [at]
 
+    def kept(self, place: Place) -> Content:
+        """What stands at a place, where something does; it stays as it is, whatever is done to the trees later."""
+        found = self.find(place)
+        if found is None:
+            raise KeyError(str(place))
+        if isinstance(found[0], _Node):
+            found[0].is_shared = True
+        return found[0]
+
     def labels(self, place: Place) -> List[str]:
         """The labels right below a place, none where no node stands there."""
         found = self.find(place)
@@ -113,12 +122,7 @@ class Trees:
             self._copy(operation)
 
     def _copy(self, operation: Copy) -> None:
-        found = self.find(operation.source)
-        if found is None:
-            raise KeyError(str(operation.source))
-        if isinstance(found[0], _Node):
-            found[0].is_shared = True
-        self._put(operation.target, found[0])
+        self._put(operation.target, self.kept(operation.source))
 
     def _put(self, place: Place, content: Content) -> None:
         if not place.labels:

@@ -26,7 +26,7 @@ __all__ = ["Session"]
 
 Where = Union[Place, str]
 
-_OPERATIONS = ("ins", "del", "copy")
+OPERATIONS = ("ins", "del", "copy")
 _BLANK = " \t\n\r"
 _STATEMENT = re.compile(r'(?:[^";]+|"(?:[^"\\]|\\.)*")*', re.DOTALL)
 _FIRST_TOKEN = re.compile(r'[ \t\n\r]*([^\x00-\x20";{}:,]+|[^ \t\n\r])', re.DOTALL)
@@ -44,14 +44,14 @@ class _Reply:
         self.is_done = not word
 
     def take(self, line: str) -> None:
-        if self.word in _OPERATIONS and line.startswith(_MARKER_ANSWER):
+        if self.word in OPERATIONS and line.startswith(_MARKER_ANSWER):
             self.is_done = True
             return
         self.lines.append(line)
         if self.word == "records":
             self.is_done = line.startswith(("records: ", "refused"))
         else:
-            self.is_done = self.word not in _OPERATIONS
+            self.is_done = self.word not in OPERATIONS
 
 
 def statement_of(text: str) -> str:
@@ -66,7 +66,7 @@ def statement_of(text: str) -> str:
     raise SpellingError(f"the quotation mark at {end} isn't closed")
 
 
-def _first_word(text: str) -> str:
+def first_word(text: str) -> str:
     """The first token of a statement, "" where it is blank."""
     found = _FIRST_TOKEN.match(text)
     return found.group(1) if found else ""
@@ -264,8 +264,8 @@ class Session:
         if self._call.returncode is not None:
             raise Ended(self._last_line, self._call.returncode)
         text = statement_of(statement)
-        word = _first_word(text)
-        self._unsent += f"{text};{_MARKER if word in _OPERATIONS else ''}".encode("utf-8")
+        word = first_word(text)
+        self._unsent += f"{text};{_MARKER if word in OPERATIONS else ''}".encode("utf-8")
         reply = _Reply(word)
         if word:
             self._waiting.append(reply)

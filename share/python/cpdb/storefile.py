@@ -1,13 +1,13 @@
 """The file of a store, read by docs/FORMAT.md alone: its header, its frames, and the entries that they hold."""
 import os
-from typing import Dict, Iterator, List, NamedTuple, Tuple, Union
+from typing import Dict, Iterator, List, NamedTuple, Optional, Tuple, Union
 
 from .replies import Record
 from .spelling import Place, Tree, copy_text, delete_text, insert_text
 
 __all__ = ["CommitEntry", "Copy", "Delete", "Entry", "FormatError", "Frame", "Frames", "Header", "Insert", "Load", "Operation",
-           "Slot", "Start", "entry", "entries_of", "frame_at",
-           "frames", "header", "is_vacant", "operation_text"]
+           "Sizes", "Slot", "Start", "entry", "entries_of", "frame_at",
+           "frames", "header", "is_vacant", "operation_text", "sizes"]
 
 KINDS = ("n", "t", "h", "ht")
 FIRST_FRAME = 192
@@ -126,6 +126,14 @@ class CommitEntry(NamedTuple):
 Entry = Union[Start, Load, CommitEntry]
 
 
+class Sizes(NamedTuple):
+    """An entry, and how many bytes its operations and its records take, their numbers taken in; 0 where it is no commit."""
+
+    entry: Entry
+    operations: int
+    records: int
+
+
 def is_vacant(data: Buffer) -> bool:
     """Whether no store stands in a file yet."""
     return len(data) < 2 or data[0] == 0 or (data[0] != 1 and bytes(data[1:6]) == b"CPDB\x01")
@@ -172,11 +180,21 @@ def frame_at(data: Buffer, offset: int) -> Frame:
 
 def entry(body: Buffer) -> Entry:
     """The entry that a frame with the tag "E" holds; FormatError with the offset in the body."""
+    return _read(body).entry
+
+
+def sizes(body: Buffer) -> Sizes:
+    """The entry of a frame, and how many bytes of its body operations and records have; FormatError as of `entry`."""
+    return _read(body)
+
+
+def _read(body: Buffer) -> Sizes:
     reader = _Reader(bytes(body))
     found = reader.entry()
     if reader.offset != len(reader.data):
         raise FormatError(reader.offset, "more bytes stand than an entry has")
-    return found
+    first, second = reader.parts or (len(reader.data), len(reader.data))
+    return Sizes(found, second - first, len(reader.data) - second)
 
 
 def entries_of(path: Union[str, "os.PathLike[str]"]) -> Iterator[Entry]:
@@ -196,6 +214,8 @@ class _Reader:
 
     def __init__(self, data: bytes) -> None:
         self.data, self.offset = data, 0
+        # Where the operations and the records of a commit begin.
+        self.parts: Optional[Tuple[int, int]] = None
 
     def take(self, size: int) -> bytes:
         end = self.offset + size
@@ -274,5 +294,7 @@ class _Reader:
             name = self.label()
             return Load(name, self.tree())
         curator, moment = (self.label(), self.number(8)) if form == "stamped" else ("", 0)
+        first = self.offset
         operations = [self.operation() for _ in range(self.number(4))]
+        self.parts = first, self.offset
         return CommitEntry(curator, moment, operations, [self.record() for _ in range(self.number(4))])

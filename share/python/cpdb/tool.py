@@ -15,13 +15,13 @@ from typing import Callable, Iterator, List, NamedTuple, NoReturn, Optional, Tup
 
 from .calls import Name, copy_of, log
 from .past import Content, content_of, size_of, tree_of
-from .replies import Commit, Ended, Refused
+from .replies import Commit, Ended, Refused, read_show
 from .session import Session
-from .spelling import Place, SpellingError, Tree, tree_text
+from .spelling import Place, SpellingError, Tree, tree_text, walk
 from .storefile import Load, entries_of
 
-__all__ = ["Commits", "Failure", "Reading", "counted", "date_of", "moment_of", "place_of", "reading", "run", "sources_of",
-           "steps_text", "told", "tree_told"]
+__all__ = ["Commits", "Failure", "Reading", "counted", "date_of", "file_told", "moment_of", "opening", "place_in_t", "place_of",
+           "reading", "run", "source_in", "sources_of", "steps_text", "taken_of", "told", "tree_told"]
 
 # How many characters of a content stand in a line.
 SHORT = 60
@@ -100,12 +100,47 @@ def reading(store: Name) -> Iterator[Reading]:
             yield Reading(copy, session)
 
 
+@contextlib.contextmanager
+def opening(store: Name) -> "Iterator[Tuple[str, Commits]]":
+    """A private copy of a store with its commits."""
+    with copy_of(store) as copy:
+        try:
+            commits = Commits(copy)
+        except Ended as error:
+            raise Failure(f"{os.fspath(store)}: {error}", error.status) from None
+        yield copy, commits
+
+
 def place_of(text: str) -> Place:
     """The place that a word spells; a name that isn't T alone is one too."""
     try:
         return Place.read(text)
     except SpellingError as error:
         raise Failure(str(error), 2) from None
+
+
+def place_in_t(text: str) -> Place:
+    """The place of T that a word spells."""
+    place = place_of(text)
+    if place.name != "T":
+        raise Failure(f"{place} isn't a place of T; sources never change, and `cpdb sources` tells when they were loaded", 2)
+    return place
+
+
+def source_in(session: Session, name: str) -> Tree:
+    """The tree of a source."""
+    shown = session.send(f"show {place_of(name)}")[0]
+    if shown.startswith("refused") or name == "T" or "/" in name:
+        raise Failure(f"no source {name}")
+    return read_show(shown)
+
+
+def taken_of(session: Session, source: str, below: Place = Place("T")) -> Iterator[Tuple[Place, Place]]:
+    """The places at and below a place of T whose past ends in a source, each with its place there, in the order of places."""
+    places = [it for it, _ in walk(below, session.show(below))]
+    for place, trace in zip(places, session.traces(places)):
+        if trace.end.place and trace.end.place.name == source:
+            yield place, trace.end.place
 
 
 def sources_of(copy: str) -> List[str]:
@@ -119,6 +154,11 @@ class Commits:
     def __init__(self, copy: str) -> None:
         self.all = log(copy)
         self._firsts = [it.first for it in self.all]
+
+    @property
+    def last(self) -> int:
+        """The last step, 0 where there is none: the last version."""
+        return self.all[-1].last if self.all else 0
 
     def of(self, tid: int) -> Commit:
         """The commit of a step."""
@@ -185,6 +225,12 @@ def told(content: Content, longest: Optional[int] = SHORT) -> str:
         if size == 1:
             return f"{text[:longest]}.."
     return f"{{..}} with {counted(size - 1, 'place')}"
+
+
+def file_told(name: Name) -> str:
+    """The name of a file in a line; as Python writes it where it has what isn't printed."""
+    text = os.fspath(name)
+    return text if text.isprintable() else repr(text)
 
 
 def counted(number: int, word: str) -> str:
