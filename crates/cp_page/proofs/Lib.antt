@@ -1,0 +1,14 @@
+pub mod Cases
+pub mod Firsts
+pub mod Growing
+pub mod KeyBytes
+pub mod KeyOrder
+pub mod Listed
+pub mod Making
+pub mod OrderRows
+pub mod PathBytes
+pub mod Reading
+pub mod Respelling
+pub mod Rising
+pub mod Sizes
+pub mod Spelling

@@ -1,0 +1,13 @@
+use Rattle.std.proofs.Common.{◌≡◌, ◌≤◌, ◌-◌, ◌++◌, map}
+use Rattle.std.specs.Option.{option_map}
+use Rattle.cp_page.specs.Rows.{rows_from, rows_of}
+use Rattle.cp_page.proofs.listing.rows_among.Given as goal
+
+abbrev pub decreases-loop-read : goal.decreases-loop-read
+decreases-loop-read l = l.count - l.read
+
+abbrev pub invariant-loop-read : goal.invariant-loop-read
+invariant-loop-read l = record {
+  within : l.read ≤ l.count;
+  rows : option_map (λ more. l.rows.items ++ more) (rows_from (l.count - l.read) (option_map (λ k. k.now) l.before) l.rest) ≡ rows_of l.bytes;
+}
