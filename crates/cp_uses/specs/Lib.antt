@@ -1,0 +1,12 @@
+pub mod Reach
+pub mod Sources
+pub mod Carrying
+pub mod Index
+pub mod Front
+pub mod Onward
+pub mod Current
+pub mod Closing
+pub mod Renewals
+pub mod Users
+pub mod Laws
+pub mod Stays

@@ -1,0 +1,24 @@
+//! Who uses a place: the places whose data came by it, found by following copies forward.
+#![tactic(auto)]
+
+mod closing;
+mod current;
+mod front;
+mod index;
+mod landing;
+mod noting;
+mod onward;
+mod places;
+mod reached;
+mod renewals;
+mod source;
+mod spreading;
+mod stated;
+mod stay;
+mod users;
+
+pub use index::UseIndex;
+pub use places::PlaceList;
+pub use reached::Reached;
+pub use stated::laws;
+pub use users::uses;
