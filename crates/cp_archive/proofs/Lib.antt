@@ -1,0 +1,12 @@
+mod Adding
+mod Contents
+mod Counting
+pub mod Covering
+mod Differing
+mod Finding
+mod Following
+mod Forgetting
+mod Listing
+mod Noted
+mod PhaseLemmas
+mod VersionTrees
