@@ -6,7 +6,7 @@ use Rattle.std.specs.declared.option.Option.TheVariants.{None, Some}
 use Rattle.std.proofs.lemmas.Bool.{cases_Bool}
 use Rattle.cp_model.specs.Tree.{Tree}
 use Rattle.cp_model.specs.History.{Entry as History, State}
-use Rattle.cp_disk.specs.Views.{View, Rests}
+use Rattle.cp_disk.specs.Views.{View, ViewRests}
 use Rattle.cp_journal.specs.Frames.{Frame, Walk, frames_of, spelled_all}
 use Rattle.cp_journal.specs.Headers.{HasHeader, header_in}
 use Rattle.cp_journal.specs.Holding.{IsAtRest}
@@ -64,7 +64,7 @@ clean_of true n broken is none = refl
 clean_of false n broken is none = let no : Some n ≡ None = sym is ∙ none in absurd (cc no)
 
 -- what a journal describes it describes after calls that leave the content
-rests_describes : (head : List ℕ) (fs : List Frame) (j : JournalState) (v w : View) → Rests v w → Describes head fs j v → Describes head fs j w
+rests_describes : (head : List ℕ) (fs : List Frame) (j : JournalState) (v w : View) → ViewRests v w → Describes head fs j v → Describes head fs j w
 rests_describes head fs j v w rests d =
     let same = rests.content in
     let holds = d.holds in
@@ -85,7 +85,7 @@ rests_describes head fs j v w rests d =
       settled = λ c im. d.holds.at_rest.settled c (rests.images c im) ∙ ap (take (j.next + 1)) (sym rests.content);
     }
 
-module _ (u v w x : View) (uv : Rests u v) (vw : Rests v w) (wx : Rests w x) (j : JournalState) (walked : HasWalked HEADER_SIZE (frames_of (drop HEADER_SIZE v.content)) j v.content) where
+module _ (u v w x : View) (uv : ViewRests u v) (vw : ViewRests v w) (wx : ViewRests w x) (j : JournalState) (walked : HasWalked HEADER_SIZE (frames_of (drop HEADER_SIZE v.content)) j v.content) where
   -- the walk was over what was there at first
   pub walked_first : HasWalked HEADER_SIZE (frames_of (drop HEADER_SIZE u.content)) j u.content
   walked_first = subst (λ (b : List ℕ). HasWalked HEADER_SIZE (frames_of (drop HEADER_SIZE b)) j b) uv.content walked

@@ -1,8 +1,7 @@
 -- Records and operations, one after another: the Tids that they have to have, and what makes them next.
-use Rattle.std.specs.Prelude.{ℕ, zero, suc, ◌≡◌, ◌<◌, ◌≤◌, ◌+◌, Bool, true, ◌&&◌, not, List, [], ◌∷◌, ◌++◌, take, length, get_or, nat_lt, is_some, refl}
+use Rattle.std.specs.Prelude.{ℕ, ◌≡◌, ◌<◌, ◌≤◌, ◌+◌, Bool, true, ◌&&◌, not, List, [], ◌∷◌, length, nat_lt, is_some, refl}
 use Rattle.std.proofs.Common.{sym, ap, subst, ◌∙◌, arith, lt-ltb}
 use Rattle.std.specs.List.{AllByRecursion, list_all}
-use Rattle.std.proofs.lemmas.List.{take_more, take_all}
 use Rattle.std.specs.declared.option.Option.{Option}
 use Rattle.cp_path.specs.declared.loc.Loc.{Loc}
 use Rattle.cp_model.specs.Place.{in_target}
@@ -15,33 +14,33 @@ use Rattle.cp_model.specs.Changes.{AreNext, is_source, is_between}
 use Rattle.cp_frame.specs.Sound.{AreWritable, IsSoundBatch}
 use Rattle.cp_db.specs.Committed.{TidsLieBetween}
 
--- ---- one after another
-
-module _ {X : Type 0} (P : X → Type 0) where
-  all_snoc : (xs : List X) (x : X) → AllByRecursion P xs → P x → AllByRecursion P (xs ++ x ∷ [])
-  all_snoc [] x h p = (p, tt)
-  all_snoc (y ∷ ys) x h p = (h.0, all_snoc ys x h.1 p)
-
-  all_at : (xs : List X) (i : ℕ) (x : X) → i < length xs → x ≡ get_or xs i x → AllByRecursion P xs → P x
-  all_at [] i x h e all = absurd (omega (arith, h))
-  all_at (y ∷ ys) zero x h e all = subst P (sym e) all.0
-  all_at (y ∷ ys) (suc i) x h e all = all_at ys i x (omega (arith, h)) e all.1
-
-  next_front : (xs : List X) (i : ℕ) (x : X) → i < length xs → x ≡ get_or xs i x → take (i + 1) xs ≡ take i xs ++ x ∷ []
-  next_front xs i x h e = take_more xs i x h ∙ ap (λ y. take i xs ++ y ∷ []) (sym e)
-
 -- ---- Tids
 
-module _ (low high : ℕ) (rs : List Record) where
-  -- one record more has one of the Tids
-  pub tids-more : (i : ℕ) (r : Record) → i < length rs → r ≡ get_or rs i r → low < r.tid → r.tid ≤ high → TidsLieBetween low high (take i rs) → TidsLieBetween low high (take (i + 1) rs)
-  tids-more i r h e l m all =
-      let P : Record → Type 0 = λ s. (low < s.tid) × (s.tid ≤ high) in
-      subst (TidsLieBetween low high) (sym (next_front P rs i r h e)) (all_snoc P (take i rs) r all (l, m))
+-- all records have one of the Tids exactly where those have that are still to come
+pub record TidsSoFar (low high : ℕ) (rs rest : List Record) : Type 0 where
+  pub to : TidsLieBetween low high rs → TidsLieBetween low high rest
+  pub back : TidsLieBetween low high rest → TidsLieBetween low high rs
 
-  -- all of them have
-  pub tids-all : (i : ℕ) → length rs ≤ i → TidsLieBetween low high (take i rs) → TidsLieBetween low high rs
-  tids-all i h all = subst (TidsLieBetween low high) (take_all i rs h) all
+module _ (low high : ℕ) (rs : List Record) where
+  pub tids-begun : (rest : List Record) → rest ≡ rs → TidsSoFar low high rs rest
+  tids-begun rest e = record { to = subst (TidsLieBetween low high) (sym e); back = subst (TidsLieBetween low high) e }
+
+  module _ (here : List Record) (s : TidsSoFar low high rs here) where
+    -- none are left
+    pub tids-ended : here ≡ [] → TidsLieBetween low high rs
+    tids-ended e = s.back (subst (TidsLieBetween low high) (sym e) tt)
+
+    module _ (r : Record) (rest : List Record) (next : here ≡ r ∷ rest) where
+      -- the next one has one of them
+      pub tids-next : low < r.tid → r.tid ≤ high → TidsSoFar low high rs rest
+      tids-next l m = record {
+        to = λ all. (subst (TidsLieBetween low high) next (s.to all)).1;
+        back = λ more. s.back (subst (TidsLieBetween low high) (sym next) ((l, m), more));
+      }
+
+      -- it has to have one
+      pub tids-first : TidsLieBetween low high rs → (low < r.tid) × (r.tid ≤ high)
+      tids-first all = (subst (TidsLieBetween low high) next (s.to all)).0
 
 -- ---- records that come next
 

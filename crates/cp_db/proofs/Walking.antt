@@ -1,5 +1,5 @@
 -- What a walk keeps that passes one item more.
-use Rattle.std.specs.Prelude.{ℕ, ◌≡◌, ◌≤◌, ◌+◌, ◌++◌, Bool, true, false, List, [], ◌∷◌, length, fold, refl, Result, Ok, Err, IfOk}
+use Rattle.std.specs.Prelude.{ℕ, ◌≡◌, ◌≤◌, ◌+◌, ◌++◌, Bool, true, false, List, [], ◌∷◌, length, fold, refl}
 use Rattle.std.proofs.Common.{sym, ap, subst, ◌∙◌, append-nil}
 use Rattle.std.proofs.lemmas.List.Concat.{flat_map-append}
 use Rattle.std.specs.List.{flat_map}
@@ -48,10 +48,9 @@ rows-begun (Some z) [] s is = refl
 rows-begun (Some z) (i ∷ items) s is = absurd is
 
 -- so that a store without rows is begun with it
-pub rows-none : {E : Type 0} (r : Result KindRows E) (kind : Kind) (last : ℕ) (t : Tree) → IfOk r (λ x. x.rows.list ≡ [])
-    → IfOk r (λ x. (first : Option State) (place : ℕ → ℕ) (items : List Item) (s : State) → IsBegun first items s kind last t → x.rows.list ≡ flat_map records_in items)
-rows-none (Ok x) kind last t none = λ first place items s is. none ∙ rows-begun first items s is.begins
-rows-none (Err e) kind last t none = tt
+pub rows-none : (x : KindRows) (kind : Kind) (last : ℕ) (t : Tree) → x.rows.list ≡ []
+    → (first : Option State) (place : ℕ → ℕ) (items : List Item) (s : State) → IsBegun first items s kind last t → x.rows.list ≡ flat_map records_in items
+rows-none x kind last t none = λ first place items s is. none ∙ rows-begun first items s is.begins
 
 -- nor has what it passes
 pub no-record : (p : Passed) (place : ℕ) (i : Item) → IsPassed p place i → records_in i ≡ []

@@ -1,7 +1,7 @@
 -- One entry more: what the disk holds then, and what a crash leaves.
 use Rattle.std.proofs.Common.{◌≡◌, inl, inr, ℕ, ◌≤◌, ◌<◌, Bool, true, List, [], ◌∷◌, ◌++◌, length, refl, subst, arith, length-append}
 use Rattle.cp_model.specs.History.{Entry, replay}
-use Rattle.cp_disk.specs.Views.{View, Keeps}
+use Rattle.cp_disk.specs.Views.{View, ViewKeeps}
 use Rattle.cp_disk.proofs.Composing.{keeps_none, keeps_wider}
 use Rattle.cp_format.specs.Formats.{Reads}
 use Rattle.cp_frame.specs.Entries.{WrittenEntry, entry_format}
@@ -26,10 +26,10 @@ module _ {R S : Type 0} (d : Db R S) (h : List Entry) (v : View) (k : IsKept tru
   kept-stands c i = store-stands d.version k.head k.frames h c k.is_head k.some k.tell (holds_images k.head k.frames d.journal.next v k.described.holds c i)
 
   -- where the disk is as it was, a crash leaves the history before
-  pub crash-none : (e : Entry) → Keeps (StandsWithOrWithout h e) v v
+  pub crash-none : (e : Entry) → ViewKeeps (StandsWithOrWithout h e) v v
   crash-none e = keeps_none (StandsWithOrWithout h e) v (λ c i. inl (kept-stands c i))
 
-  pub crash-failed : Keeps (StandsFor h) v v
+  pub crash-failed : ViewKeeps (StandsFor h) v v
   crash-failed = keeps_none (StandsFor h) v kept-stands
 
 -- ---- a frame is written
@@ -73,7 +73,7 @@ module _ (version : ℕ) (h : List Entry) (e : Entry) (body : List ℕ) (n : IsN
     either c (inr after) = inr (store-stands d.version k.head (k.frames ++ entry body ∷ []) (h ++ e ∷ []) c k.is_head (some_more k.frames) (rw is (tell-next k.frames told)) after)
 
     -- a crash leaves the history before, or that with the entry
-    pub crash-added : ((head : List ℕ) (fs : List Frame) → Holds head fs d.journal.next v → Keeps (HasFrameOrNot head fs (entry body)) v u) → Keeps (StandsWithOrWithout h e) v u
+    pub crash-added : ((head : List ℕ) (fs : List Frame) → Holds head fs d.journal.next v → ViewKeeps (HasFrameOrNot head fs (entry body)) v u) → ViewKeeps (StandsWithOrWithout h e) v u
     crash-added keeps = keeps_wider (HasFrameOrNot k.head k.frames (entry body)) (StandsWithOrWithout h e) v u (keeps k.head k.frames k.described.holds) either
 
 -- ---- the version is written
@@ -100,7 +100,7 @@ module _ {R S : Type 0} (right : Bool) (d : Db R S) (h : List Entry) (v u : View
   }
 
   -- a crash leaves the same history
-  pub crash-upgraded : right ≡ true → ((head : List ℕ) (fs : List Frame) → VERSION_AT < length head → Holds head fs d.journal.next v → Keeps (StandsInAVersion head fs) v u) → Keeps (StandsFor h) v u
+  pub crash-upgraded : right ≡ true → ((head : List ℕ) (fs : List Frame) → VERSION_AT < length head → Holds head fs d.journal.next v → ViewKeeps (StandsInAVersion head fs) v u) → ViewKeeps (StandsFor h) v u
   crash-upgraded asked keeps =
       let told : Tell true 1 k.frames h = subst (λ (b : Bool). Tell b 1 k.frames h) asked old_tell in
       keeps_wider (StandsInAVersion k.head k.frames) (StandsFor h) v u (keeps k.head k.frames version_inside k.described.holds) (λ c s. in-a-version k.head k.frames h c old_head k.some told s)

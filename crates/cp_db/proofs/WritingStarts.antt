@@ -12,7 +12,7 @@ use Rattle.cp_model.specs.Place.{Path, path_cmp}
 use Rattle.cp_model.specs.Tree.{Tree, IsTree}
 use Rattle.cp_model.specs.History.{Entry, CanFollow, IsLiteral, replay, start_state}
 use Rattle.cp_model.specs.History as history
-use Rattle.cp_disk.specs.Views.{View, Keeps, Rests}
+use Rattle.cp_disk.specs.Views.{View, ViewKeeps, ViewRests}
 use Rattle.cp_disk.proofs.Composing.{keeps_none, keeps_rests, keeps_then}
 use Rattle.cp_format.specs.Formats.{Reads}
 use Rattle.cp_frame.specs.Entries.{IsEntry, WrittenEntry, start, load, commit, stamped, entry_format, written_entry}
@@ -117,7 +117,7 @@ module _ (k : Kind) (t : Tree) (body : List ℕ) (told : Tell true 2 (entry body
   }
 
   -- a crash leaves what it could leave before, a vacant file or the new store
-  pub crash-started : (v w x : View) → Rests v w → Keeps (IsOldOrVacantOrNew w (entry body)) w x → Keeps (IsOldOrVacantOrStart v k t) v x
+  pub crash-started : (v w x : View) → ViewRests v w → ViewKeeps (IsOldOrVacantOrNew w (entry body)) w x → ViewKeeps (IsOldOrVacantOrStart v k t) v x
   crash-started v w x rests made =
       keeps_then (IsOldOrVacantOrStart v k t) (IsOldOrVacantOrNew w (entry body)) v w x
       (keeps_rests (IsOldOrVacantOrStart v k t) v v w (keeps_none (IsOldOrVacantOrStart v k t) v (λ c i. inl i)) rests)
@@ -136,10 +136,10 @@ TellsJournal f e = (f ≡ journal.Disk → e ≡ init.Disk) × (f ≡ journal.Me
 
 -- where a new store wants memory, nothing was written or the wants have risen
 pub memory-started : {J D : Type 0} (r : Result J JournalFault) (f : JournalFault) (e : InitFault) → r ≡ Err f → TellsJournal f e → e ≡ init.Memory → IsErrOf r journal.Disk ⊎ IsErrOf r journal.Memory
-    → (view : D → View) (v : View) (y z : D) (a b n : ℕ) → Rests v (view y) → a ≤ b → (IsErrOf r journal.Memory → (z ≡ y) ⊎ Rose b n) → Rests v (view z) ⊎ Rose a n
+    → (view : D → View) (v : View) (y z : D) (a b n : ℕ) → ViewRests v (view y) → a ≤ b → (IsErrOf r journal.Memory → (z ≡ y) ⊎ Rose b n) → ViewRests v (view z) ⊎ Rose a n
 memory-started {D = D} r f e failed tells memory (inl disk) view v y z a b n rests less why =
     let same : f ≡ journal.Disk = cc in
     let other : init.Disk ≡ init.Memory = sym (tells.0 same) ∙ memory in
     absurd (cc)
 memory-started {D = D} r f e failed tells memory (inr want) view v y z a b n rests less why =
-    ⊎_elim (λ same. inl (subst (λ (d : D). Rests v (view d)) (sym same) rests)) (λ rose. inr (rose_since a b n less rose)) (why want)
+    ⊎_elim (λ same. inl (subst (λ (d : D). ViewRests v (view d)) (sym same) rests)) (λ rose. inr (rose_since a b n less rose)) (why want)

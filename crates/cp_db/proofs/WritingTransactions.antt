@@ -8,7 +8,7 @@ use Rattle.cp_model.specs.declared.stamp.Stamp.{Stamp}
 use Rattle.cp_model.specs.Past.{tree_of}
 use Rattle.cp_model.specs.Tree.{Tree, Source}
 use Rattle.cp_model.specs.History.{Entry, State}
-use Rattle.cp_disk.specs.Views.{View, Keeps}
+use Rattle.cp_disk.specs.Views.{View, ViewKeeps}
 use Rattle.cp_journal.specs.declared.limits.TheConstants.{BODY_MAX}
 use Rattle.cp_engine.specs.Transactions as txn
 use Rattle.cp_engine.specs.declared.fault.FinishFault.{FinishFault}
@@ -88,6 +88,6 @@ module _ {R S : Type 0} (view : R → Tree) (source_view : S → Tree) (d : Db R
   told-unwritten m ops write.Memory e some tells k = subst (Committed (txn.going ops) m) (sym (tells.1 refl)) tt
 
 -- where nothing was written, a crash leaves the history before
-pub crash-unwritten : {R S : Type 0} (d : Db R S) (h : List Entry) (v : View) (r : Stamp) (p : txn.Progress) → IsKept true d h v → Keeps (IsBeforeOrCommitted h r p) v v
+pub crash-unwritten : {R S : Type 0} (d : Db R S) (h : List Entry) (v : View) (r : Stamp) (p : txn.Progress) → IsKept true d h v → ViewKeeps (IsBeforeOrCommitted h r p) v v
 crash-unwritten d h v r (txn.going ops) k = crash-none d h v k _
 crash-unwritten d h v r (txn.failed j b) k = crash-failed d h v k

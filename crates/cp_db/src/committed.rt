@@ -12,9 +12,10 @@ ghost use Rattle.cp_db.specs.Committed.{HasRows, KeepsState, TidsLieBetween, Has
 
 use crate::limits::TIDS_MAX;
 use cp_engine::{replay, steps_of};
-use cp_model::{Kind, Literal, OpList, Record, RecordList, SOURCES_MAX, Stats};
+use cp_model::{Kind, Literal, OpList, SOURCES_MAX, Stats};
 use cp_operation::Sources;
 use cp_path::Name;
+use cp_record::PackedRecords;
 use cp_store::{MemoryStore, ProvStore};
 use cp_tree::{TreeRep, tree_of};
 use std::alloc::{AllocError, Global};
@@ -29,16 +30,21 @@ pub struct Committed<R: TreeRep, S: TreeRep> {
     pub commits: u64,
 }
 
-/// Whether each record has a Tid after `low` and up to `high`. Costs the records up to the first that has none.
-pub fn tids_lie_between(records: &[Record], low: u64, high: u64) -> bool
+/// Whether each record has a Tid after `low` and up to `high`. Costs the labels of the records up to the first that
+/// has none.
+pub fn tids_lie_between(records: &PackedRecords, low: u64, high: u64) -> bool
     ensures { IsTrue result ↔ TidsLieBetween low high records.now }
 {
-    for record in records {
-        if record.tid <= low || record.tid > high {
+    let mut rest = records.iter();
+    loop {
+        let Some(record) = rest.next() else {
+            return true;
+        };
+        let tid = record.tid();
+        if tid <= low || tid > high {
             return false;
         }
     }
-    true
 }
 
 /// Keeps a tree as a source, if one may be loaded under the name; says whether it may. Where it may not, and after an
@@ -72,7 +78,7 @@ pub(crate) fn replay_commit<R: TreeRep, S: TreeRep>(
     tree: &mut R,
     sources: &Sources<S>,
     ops: &OpList,
-    records: &RecordList,
+    records: &PackedRecords,
 ) -> Result<Option<u64>, AllocError>
     requires few { last ≤ TIDS_MAX }
     requires sound { (trees : Bool) × IsSoundBatch trees ops.now records.now }
@@ -80,7 +86,7 @@ pub(crate) fn replay_commit<R: TreeRep, S: TreeRep>(
         (R.contents tree.old) (R.contents tree.new) kind last ops.now records.now) }
 {
     let tids = steps_of(kind, ops.items.len() as u32);
-    if !tids_lie_between(&records.items, last, last + tids) {
+    if !tids_lie_between(records, last, last + tids) {
         return Ok(None);
     }
     if !replay(alloc, tree, sources, &ops.items)? {
@@ -91,16 +97,16 @@ pub(crate) fn replay_commit<R: TreeRep, S: TreeRep>(
 
 impl<R: TreeRep, S: TreeRep> Committed<R, S> {
     /// A tree without sources and without rows.
-    pub(crate) fn start(alloc: Global, kind: Kind, tree: R) -> Result<Committed<R, S>, AllocError>
-        ensures keeps { IfOk result (λ c. KeepsState R.contents S.contents c (start_state kind (R.contents tree))) }
-        ensures none { IfOk result (λ c. c.store.rows.list ≡ []) }
+    pub(crate) fn start(alloc: Global, kind: Kind, tree: R) -> Committed<R, S>
+        ensures keeps { KeepsState R.contents S.contents result (start_state kind (R.contents tree)) }
+        ensures none { result.store.rows.list ≡ [] }
     {
-        Ok(Committed {
+        Committed {
             tree,
             sources: Sources::new(alloc),
-            store: MemoryStore::new(alloc, kind, 0)?,
+            store: MemoryStore::new(alloc, kind, 0),
             commits: 0,
-        })
+        }
     }
 
     /// The numbers of the committed state.
@@ -123,7 +129,7 @@ impl<R: TreeRep, S: TreeRep> Committed<R, S> {
         &mut self,
         alloc: Global,
         tids: u64,
-        records: &[Record],
+        records: &PackedRecords,
     ) -> Result<(), AllocError>
         requires few { (self.old.store.rows.upto ≤ TIDS_MAX) × (tids ≤ OPS_MAX) }
         requires counted { self.old.commits ≤ self.old.store.rows.upto }
@@ -133,7 +139,7 @@ impl<R: TreeRep, S: TreeRep> Committed<R, S> {
         if self.store.upto() + tids > TIDS_MAX {
             return Err(AllocError);
         }
-        match self.store.absorb(alloc, tids, records) {
+        match self.store.absorb_packed(alloc, tids, records) {
             Ok(()) => {
                 self.commits += 1;
                 Ok(())

@@ -1,11 +1,11 @@
 //! The log of a file: a line for each commit of its history.
-ghost use Rattle.std.specs.Prelude.{◌≡◌, ◌≤◌, IsTrue, length, ⊤};
+ghost use Rattle.std.specs.Prelude.{◌≡◌, ◌≤◌, length, ⊤};
 ghost use Rattle.std.specs.List.{flat_map};
 ghost use Rattle.std.specs.declared.option.Option.TheVariants.{None};
-ghost use Rattle.cp_outside.specs.Causes.{Accounts};
 ghost use Rattle.cp_model.specs.History.{log_line, log_of};
 ghost use Rattle.cp_model.specs.declared.limits.TheConstants.{OPS_MAX};
-ghost use Rattle.cp_disk.specs.Views.{Rests};
+ghost use Rattle.cp_disk.specs.Counts.{UsesDisk};
+ghost use Rattle.cp_disk.specs.Views.{IfKnown, Rests};
 ghost use Rattle.cp_frame.specs.Items.{entries_in};
 ghost use Rattle.cp_db.specs.Opening.{IsOpenDisk};
 ghost use Rattle.cp_db.specs.Log.{LogsAs};
@@ -96,9 +96,9 @@ pub fn log_of<R: TreeRep, S: TreeRep, D: Disk>(
     alloc: Global,
     disk: &mut D,
 ) -> Result<LogList, OpenFault>
-    ensures logged { IsTrue D.is_known → LogsAs (D.view disk.old).content result }
-    ensures rests { IsTrue D.is_known → Rests (D.view disk.old) (D.view disk.new) }
-    ensures cause { Accounts IsOpenDisk (D.counts disk.old).faults (D.counts disk.new).faults result }
+    ensures logged { IfKnown (D.known disk.old) (λ v. LogsAs v.content result) }
+    ensures rests { Rests (D.known disk.old) (D.known disk.new) }
+    ensures cause { UsesDisk IsOpenDisk (D.known disk.old) (D.known disk.new) result }
 {
     let work = work_over::<R, S, Logging, D>(alloc, disk)?;
     Ok(work.lines)

@@ -1,11 +1,10 @@
 //! A file that is opened: its header, and its entries, which a walk replays one after another.
-ghost use Rattle.std.specs.Prelude.{◌≡◌, ◌≤◌, ◌<◌, ◌∷◌, ◌⊎◌, ◌↔◌, [], true, false, IsTrue, List, ℕ, length, take, IfOk, IfErr, OnOk, None, Some};
-ghost use Rattle.cp_outside.specs.Causes.{Accounts};
-ghost use Rattle.cp_disk.specs.Views.{Only, Rests};
+ghost use Rattle.std.specs.Prelude.{◌≡◌, ◌<◌, ◌⊎◌, ◌↔◌, [], true, false, IsTrue, ℕ, IfOk, IfErr, OnOk, None, Some};
+ghost use Rattle.cp_disk.specs.Counts.{UsesDisk};
+ghost use Rattle.cp_disk.specs.Views.{IfKnown, IsSettled, Rests};
 ghost use Rattle.cp_journal.specs.Frames.{Frame};
 ghost use Rattle.cp_frame.specs.Items.{IsOfVersion};
-ghost use Rattle.cp_frame.specs.Entries.{WrittenEntry, IsEntry, entry_format};
-ghost use Rattle.cp_format.specs.Formats.{Reads};
+ghost use Rattle.cp_frame.specs.Entries.{WrittenEntry, IsEntry};
 ghost use Rattle.cp_frame.specs.Sound.{IsSoundEntry};
 ghost use Rattle.cp_frame.specs.Stops.{open_slot};
 ghost use Rattle.cp_db.specs.Databases.{IsDatabase, IsReady, is_spent, version_in};
@@ -77,15 +76,15 @@ impl<R: TreeRep, S: TreeRep> Db<R, S> {
     /// Opens a file: replays its entries over the tree, in one pass, and keeps their records. Begins with a sync, writes
     /// nothing, and reads each frame once.
     pub fn open_on<D: Disk>(alloc: Global, disk: &mut D) -> Result<Db<R, S>, OpenFault>
-        ensures opened { IsTrue D.is_known
-            → OpensAs R.contents S.contents (D.view disk.old).content (D.view disk.new) result }
+        ensures opened { IfKnown (D.known disk.old) (λ v.
+            OpensAs R.contents S.contents v.content (D.known disk.new).view result) }
         ensures stands { IfOk result (λ d. IsDatabase R.contents S.contents d) }
-        ensures ready { IsTrue D.is_known → IfOk result (λ d. IsReady d (D.view disk.new)) }
+        ensures ready { IfKnown (D.known disk.new) (λ v. IfOk result (λ d. IsReady d v)) }
         ensures usable { IfOk result (λ d. is_spent d ≡ false) }
         ensures version { IfOk result (λ d. (version_in d ≡ 1) ⊎ (version_in d ≡ 2)) }
-        ensures durable { IsTrue D.is_known → OnOk result (Only (D.view disk.new).content (D.view disk.new).images) }
-        ensures rests { IsTrue D.is_known → Rests (D.view disk.old) (D.view disk.new) }
-        ensures cause { Accounts IsOpenDisk (D.counts disk.old).faults (D.counts disk.new).faults result }
+        ensures durable { OnOk result (IsSettled (D.known disk.new)) }
+        ensures rests { Rests (D.known disk.old) (D.known disk.new) }
+        ensures cause { UsesDisk IsOpenDisk (D.known disk.old) (D.known disk.new) result }
     {
         let header = Journal::header(disk)?;
         if let Some(at) = open_slot(&header) {

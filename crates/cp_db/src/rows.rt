@@ -11,7 +11,7 @@ use cp_store::{MemoryStore, ProvStore};
 use cp_tree::TreeRep;
 use std::alloc::{AllocError, Global};
 
-/// A walk that opens a file keeps the records of each commit.
+/// A walk that opens a file keeps the records of each commit, as they are packed in its entry.
 impl Work for MemoryStore {
     ghost fits = { λ rows kind last. (rows.kind ≡ kind) × (rows.rows.upto ≡ last) };
 
@@ -23,7 +23,7 @@ impl Work for MemoryStore {
         last: u64,
         _tree: &R,
     ) -> Result<MemoryStore, AllocError> {
-        MemoryStore::new(alloc, kind, last)
+        Ok(MemoryStore::new(alloc, kind, last))
     }
 
     fn commit<R: TreeRep, S: TreeRep>(
@@ -47,7 +47,7 @@ impl Work for MemoryStore {
         let Some(tids) = replayed else {
             return Ok(None);
         };
-        match self.absorb(alloc, tids, &commit.records.items) {
+        match self.absorb_packed(alloc, tids, &commit.records) {
             Ok(()) => Ok(Some(tids)),
             Err(_) => Err(AllocError),
         }

@@ -1,7 +1,7 @@
 //! What the history in a file starts from: the kind and the tree of its first frame.
-ghost use Rattle.std.specs.Prelude.{◌≡◌, ◌≤◌, ◌∷◌, [], IsTrue, List, ℕ, length, IfOk, IfErr, OnOk};
-ghost use Rattle.cp_outside.specs.Causes.{Accounts};
-ghost use Rattle.cp_disk.specs.Views.{Rests};
+ghost use Rattle.std.specs.Prelude.{◌≡◌, ◌≤◌, ◌∷◌, [], List, ℕ, length, IfOk, IfErr, OnOk};
+ghost use Rattle.cp_disk.specs.Counts.{UsesDisk};
+ghost use Rattle.cp_disk.specs.Views.{IfKnown, Rests};
 ghost use Rattle.cp_journal.specs.Frames.{Frame};
 ghost use Rattle.cp_journal.specs.Journals.{Lists};
 ghost use Rattle.cp_journal.specs.declared.frame.TheConstants.{ENTRY};
@@ -37,13 +37,13 @@ impl<R: TreeRep> Start<R> {
         from: u64,
         body: &mut Vec<u8>,
     ) -> Result<Start<R>, OpenFault>
-        requires listed { IsTrue D.is_known → (fs : List Frame) × Lists from fs journal.now (D.view disk.old).content }
-        ensures started { IsTrue D.is_known → (version : ℕ) (fs : List Frame)
-            → Lists from fs journal.now (D.view disk.old).content → StartsAs R.contents from version fs result }
+        requires listed { IfKnown (D.known disk.old) (λ v. (fs : List Frame) × Lists from fs journal.now v.content) }
+        ensures started { IfKnown (D.known disk.old) (λ v. (version : ℕ) (fs : List Frame)
+            → Lists from fs journal.now v.content → StartsAs R.contents from version fs result) }
         ensures some { OnOk result (1 ≤ length journal.now.frames) }
         ensures tree { IfOk result (λ x. (i : Item) × IsStartOf i x.kind (R.contents x.tree)) }
-        ensures rests { IsTrue D.is_known → Rests (D.view disk.old) (D.view disk.new) }
-        ensures cause { Accounts IsOpenDisk (D.counts disk.old).faults (D.counts disk.new).faults result }
+        ensures rests { Rests (D.known disk.old) (D.known disk.new) }
+        ensures cause { UsesDisk IsOpenDisk (D.known disk.old) (D.known disk.new) result }
     {
         if journal.len() == 0 {
             return Err(OpenFault::NoStore(from));

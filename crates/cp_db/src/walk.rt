@@ -1,8 +1,8 @@
 //! A walk over the history in a file: what its entries lead to, without their records, and what is found on the way.
 ghost use Rattle.std.specs.Prelude.{◌≡◌, ◌≤◌, ◌<◌, ◌∷◌, ◌++◌, [], false, Bool, IsTrue, List, ℕ, length, IfOk, IfErr, OnOk, None, Some};
-ghost use Rattle.cp_outside.specs.Causes.{Accounts};
 ghost use Rattle.cp_model.specs.History.{State, commit as commit_entry};
-ghost use Rattle.cp_disk.specs.Views.{Rests};
+ghost use Rattle.cp_disk.specs.Counts.{UsesDisk};
+ghost use Rattle.cp_disk.specs.Views.{IfKnown, Rests};
 ghost use Rattle.cp_journal.specs.Frames.{Frame};
 ghost use Rattle.cp_journal.specs.Journals.{Lists};
 ghost use Rattle.cp_journal.specs.declared.frame.TheConstants.{ENTRY};
@@ -192,18 +192,18 @@ impl<R: TreeRep, S: TreeRep, W: Work> HistoryWalk<R, S, W> {
         body: &mut Vec<u8>,
     ) -> Result<(), OpenFault>
         requires within { n < length journal.now.frames }
-        requires listed { IsTrue D.is_known
-            → (from : ℕ) × (fs : List Frame) × Lists from fs journal.now (D.view disk.old).content }
+        requires listed { IfKnown (D.known disk.old) (λ v. (from : ℕ) × (fs : List Frame)
+            × Lists from fs journal.now v.content) }
         requires reached { (first : OptionValue State) × (items : List Item) × HasReached R.contents S.contents W.fits first self.old items }
-        ensures added { IsTrue D.is_known → (from : ℕ) (fs : List Frame) (f : Frame)
-            (first : OptionValue State) (items : List Item) → Lists from fs journal.now (D.view disk.old).content
-            → slice_get fs n ≡ Some f → length items ≡ n
+        ensures added { IfKnown (D.known disk.old) (λ v.
+            (from : ℕ) (fs : List Frame) (f : Frame) (first : OptionValue State) (items : List Item)
+            → Lists from fs journal.now v.content → slice_get fs n ≡ Some f → length items ≡ n
             → HasPassed R.contents S.contents W.fits W.done first (frame_place from fs) self.old items
-            → PassesFrameAs R.contents S.contents W.fits W.done first (frame_place from fs) version f items self.new result }
+            → PassesFrameAs R.contents S.contents W.fits W.done first (frame_place from fs) version f items self.new result) }
         ensures reached { (first : OptionValue State) (items : List Item) → HasReached R.contents S.contents W.fits first self.old items
             → OnOk result ((more : List Item) × HasReached R.contents S.contents W.fits first self.new more) }
-        ensures rests { IsTrue D.is_known → Rests (D.view disk.old) (D.view disk.new) }
-        ensures cause { Accounts IsOpenDisk (D.counts disk.old).faults (D.counts disk.new).faults result }
+        ensures rests { Rests (D.known disk.old) (D.known disk.new) }
+        ensures cause { UsesDisk IsOpenDisk (D.known disk.old) (D.known disk.new) result }
     {
         let frame = journal.read(disk, n, body)?;
         if frame.tag != ENTRY {
@@ -239,17 +239,17 @@ impl<R: TreeRep, S: TreeRep, W: Work> HistoryWalk<R, S, W> {
         body: &mut Vec<u8>,
     ) -> Result<(), OpenFault>
         requires within { number ≤ length journal.now.frames }
-        requires listed { IsTrue D.is_known
-            → (from : ℕ) × (fs : List Frame) × Lists from fs journal.now (D.view disk.old).content }
+        requires listed { IfKnown (D.known disk.old) (λ v. (from : ℕ) × (fs : List Frame)
+            × Lists from fs journal.now v.content) }
         requires reached { (first : OptionValue State) × (items : List Item) × HasReached R.contents S.contents W.fits first self.old items }
-        ensures passed { IsTrue D.is_known → (first : OptionValue State) (from : ℕ) (fs : List Frame)
-            → Lists from fs journal.now (D.view disk.old).content
+        ensures passed { IfKnown (D.known disk.old) (λ v.
+            (first : OptionValue State) (from : ℕ) (fs : List Frame) → Lists from fs journal.now v.content
             → HasCome R.contents S.contents W.fits W.done first version from fs number self.old
-            → GoesOnAs R.contents S.contents W.fits W.done first version from fs self.new result }
+            → GoesOnAs R.contents S.contents W.fits W.done first version from fs self.new result) }
         ensures reached { (first : OptionValue State) (items : List Item) → HasReached R.contents S.contents W.fits first self.old items
             → OnOk result ((more : List Item) × HasReached R.contents S.contents W.fits first self.new more) }
-        ensures rests { IsTrue D.is_known → Rests (D.view disk.old) (D.view disk.new) }
-        ensures cause { Accounts IsOpenDisk (D.counts disk.old).faults (D.counts disk.new).faults result }
+        ensures rests { Rests (D.known disk.old) (D.known disk.new) }
+        ensures cause { UsesDisk IsOpenDisk (D.known disk.old) (D.known disk.new) result }
     {
         for n in number..journal.len() {
             self.add_frame(alloc, disk, journal, n, version, body)?;
@@ -265,12 +265,13 @@ impl<R: TreeRep, S: TreeRep, W: Work> HistoryWalk<R, S, W> {
         from: u64,
         version: u8,
     ) -> Result<HistoryWalk<R, S, W>, OpenFault>
-        requires listed { IsTrue D.is_known → (fs : List Frame) × Lists from fs journal.now (D.view disk.old).content }
-        ensures passed { IsTrue D.is_known → (fs : List Frame) → Lists from fs journal.now (D.view disk.old).content
-            → TellsPassedAs R.contents S.contents W.fits W.done version from fs result }
+        requires listed { IfKnown (D.known disk.old) (λ v. (fs : List Frame) × Lists from fs journal.now v.content) }
+        ensures passed { IfKnown (D.known disk.old) (λ v. (fs : List Frame)
+            → Lists from fs journal.now v.content
+            → TellsPassedAs R.contents S.contents W.fits W.done version from fs result) }
         ensures reached { IfOk result (λ w. (items : List Item) × HasReached R.contents S.contents W.fits None w items) }
-        ensures rests { IsTrue D.is_known → Rests (D.view disk.old) (D.view disk.new) }
-        ensures cause { Accounts IsOpenDisk (D.counts disk.old).faults (D.counts disk.new).faults result }
+        ensures rests { Rests (D.known disk.old) (D.known disk.new) }
+        ensures cause { UsesDisk IsOpenDisk (D.known disk.old) (D.known disk.new) result }
     {
         let mut body = Vec::new(alloc);
         let start = Start::read(alloc, disk, journal, from, &mut body)?;
@@ -312,9 +313,9 @@ pub fn work_over<R: TreeRep, S: TreeRep, W: Work, D: Disk>(
     alloc: Global,
     disk: &mut D,
 ) -> Result<W, OpenFault>
-    ensures found { IsTrue D.is_known → FindsAs W.done (D.view disk.old).content result }
-    ensures rests { IsTrue D.is_known → Rests (D.view disk.old) (D.view disk.new) }
-    ensures cause { Accounts IsOpenDisk (D.counts disk.old).faults (D.counts disk.new).faults result }
+    ensures found { IfKnown (D.known disk.old) (λ v. FindsAs W.done v.content result) }
+    ensures rests { Rests (D.known disk.old) (D.known disk.new) }
+    ensures cause { UsesDisk IsOpenDisk (D.known disk.old) (D.known disk.new) result }
 {
     let header = Journal::header(disk)?;
     if let Some(at) = open_slot(&header) {

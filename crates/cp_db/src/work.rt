@@ -13,8 +13,9 @@ ghost use Rattle.cp_db.specs.Committed.{ReplaysCommit};
 ghost use Rattle.cp_db.specs.declared.limits.TheConstants.{TIDS_MAX};
 ghost use Rattle.cp_db.specs.Work.{IsAtCommit, IsBegun, IsPassed};
 
-use cp_model::{Kind, OpList, RecordList, Stamp};
+use cp_model::{Kind, OpList, Stamp};
 use cp_operation::Sources;
+use cp_record::PackedRecords;
 use cp_tree::TreeRep;
 use std::alloc::{AllocError, Global};
 
@@ -24,7 +25,7 @@ pub struct CommitAt {
     pub at: u64,
     pub stamp: Stamp,
     pub ops: OpList,
-    pub records: RecordList,
+    pub records: PackedRecords,
 }
 
 /// What a walk goes past that has no steps, with the offset of its frame.

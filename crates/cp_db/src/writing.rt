@@ -1,13 +1,16 @@
 //! The calls that write: a new store, one entry more, and the version of the file.
 ghost use Rattle.std.specs.Prelude.{◌≡◌, ◌≤◌, ◌+◌, ◌++◌, ◌∷◌, ◌⊎◌, ◌↔◌, [], true, false, Bool, IsTrue, IsErrOf, IsOk, List, ℕ, length, IfOk, OnOk};
 ghost use Rattle.std.specs.declared.option.Option.TheVariants.{None};
-ghost use Rattle.cp_outside.specs.Causes.{Accounts, Rose};
+ghost use Rattle.cp_outside.specs.Causes.{Rose};
 ghost use Rattle.cp_model.specs.History.{Entry as HistoryEntry, State, CanLoad, IsLiteral, start, load, commit};
 ghost use Rattle.cp_model.specs.Keyed.{from_entries};
 ghost use Rattle.cp_model.specs.Literals.{literal_rows};
 ghost use Rattle.cp_model.specs.declared.literal.Literal.{Literal as LiteralValue};
 ghost use Rattle.cp_model.specs.declared.op.Op.{Op as OpValue};
-ghost use Rattle.cp_disk.specs.Views.{Keeps, Only, Rests};
+ghost use Rattle.cp_model.specs.declared.record.Record.{Record as RecordValue};
+ghost use Rattle.cp_model.specs.declared.stamp.Stamp.{Stamp as StampValue};
+ghost use Rattle.cp_disk.specs.Counts.{UsesDisk};
+ghost use Rattle.cp_disk.specs.Views.{ViewRests, ViewKeeps, IfKnown, IsSettled, Keeps};
 ghost use Rattle.cp_journal.specs.Frames.{Frame, entry};
 ghost use Rattle.cp_journal.specs.Holding.{Holds, StandsWithOrWithout as HasFrameOrNot};
 ghost use Rattle.cp_journal.specs.Journals.{Describes};
@@ -15,7 +18,7 @@ ghost use Rattle.cp_journal.specs.NewStores.{IsVacant};
 ghost use Rattle.cp_engine.specs.Transactions.{Progress, going};
 ghost use Rattle.cp_format.specs.Formats.{Reads};
 ghost use Rattle.cp_frame.specs.Entries.{WrittenEntry, IsEntry, entry_format};
-ghost use Rattle.cp_frame.specs.declared.entry.Entry.TheVariants.{Load as LoadEntry};
+ghost use Rattle.cp_frame.specs.declared.entry.Entry.TheVariants.{Load as LoadEntry, Stamped as StampedEntry};
 ghost use Rattle.cp_frame.specs.Items.{Tell};
 ghost use Rattle.cp_frame.specs.Stands.{StandsFor, StandsWithOrWithout};
 ghost use Rattle.cp_frame.specs.Sizes.{has_room, load_size, start_size};
@@ -31,6 +34,7 @@ use cp_frame::{Entry, entry_bytes};
 use cp_journal::{BODY_MAX, FRAME_HEAD, HEADER_SIZE, Journal};
 use cp_model::{Kind, Stamp};
 use cp_path::Name;
+use cp_record::PackedRecords;
 use cp_store::ProvStore;
 use cp_tree::{TreeRep, literal_of};
 use std::alloc::{AllocError, Global};
@@ -76,6 +80,17 @@ fn load_bytes<S: TreeRep>(alloc: Global, name: &Name, tree: &S) -> Result<Vec<u8
     body
 }
 
+/// The records of the entry of a commit with a stamp.
+fn stamped_records(entry: &Entry) -> &PackedRecords
+    requires { (s : StampValue) × (os : List OpValue) × (rs : List RecordValue) × (entry.now ≡ StampedEntry s os rs) }
+    ensures { (s : StampValue) (os : List OpValue) (rs : List RecordValue) → entry.now ≡ StampedEntry s os rs → result.now ≡ rs }
+{
+    match entry {
+        Entry::Stamped { records, .. } => records,
+        _ => unreachable!(),
+    }
+}
+
 impl<R: TreeRep, S: TreeRep> Db<R, S> {
     /// Makes a store of a kind in a vacant file, which starts from this tree. Takes its memory before the first write.
     ///
@@ -89,26 +104,26 @@ impl<R: TreeRep, S: TreeRep> Db<R, S> {
     ) -> Result<Db<R, S>, InitFault>
         ensures stands { IfOk result (λ d. (right : Bool)
             → Stands R.contents S.contents right d (start kind (R.contents tree) ∷ [])) }
-        ensures kept { IsTrue D.is_known → IfOk result (λ d.
-            IsKept true d (start kind (R.contents tree) ∷ []) (D.view disk.new)) }
+        ensures kept { IfKnown (D.known disk.new) (λ v.
+            IfOk result (λ d. IsKept true d (start kind (R.contents tree) ∷ []) v)) }
         ensures made { IfOk result (λ d. (version_in d ≡ 2) × (is_spent d ≡ false)
             × (end_in d ≡ HEADER_SIZE + FRAME_HEAD + start_size (R.contents tree))) }
-        ensures ready { IsTrue D.is_known → IfOk result (λ d. IsReady d (D.view disk.new)) }
-        ensures vacant { IsTrue D.is_known → OnOk result (IsVacant (D.view disk.old).content) }
-        ensures exists { IsTrue D.is_known → IsErrOf result InitFault.Exists
-            → (IsVacant (D.view disk.old).content → ⊥) × Rests (D.view disk.old) (D.view disk.new) }
-        ensures durable { IsTrue D.is_known → OnOk result (Only (D.view disk.new).content (D.view disk.new).images) }
-        ensures crash { IsTrue D.is_known
-            → Keeps (IsOldOrVacantOrStart (D.view disk.old) kind (R.contents tree)) (D.view disk.old) (D.view disk.new) }
-        ensures cause { Accounts IsInitDisk (D.counts disk.old).faults (D.counts disk.new).faults result }
-        ensures memory { IsTrue D.is_known → IsErrOf result InitFault.Memory
-            → Rests (D.view disk.old) (D.view disk.new) ⊎ Rose (D.counts disk.old).wants (D.counts disk.new).wants }
+        ensures ready { IfKnown (D.known disk.new) (λ v. IfOk result (λ d. IsReady d v)) }
+        ensures vacant { IfKnown (D.known disk.old) (λ v. OnOk result (IsVacant v.content)) }
+        ensures exists { IfKnown (D.known disk.old) (λ v. IsErrOf result InitFault.Exists
+            → (IsVacant v.content → ⊥) × ViewRests v (D.known disk.new).view) }
+        ensures durable { OnOk result (IsSettled (D.known disk.new)) }
+        ensures crash { Keeps (IsOldOrVacantOrStart (D.known disk.old).view kind (R.contents tree)) (D.known disk.old) (D.known disk.new) }
+        ensures cause { UsesDisk IsInitDisk (D.known disk.old) (D.known disk.new) result }
+        ensures memory { IfKnown (D.known disk.old) (λ v. IsErrOf result InitFault.Memory
+            → ViewRests v (D.known disk.new).view
+            ⊎ Rose (D.known disk.old).counts.wants (D.known disk.new).counts.wants) }
     {
         if !Journal::vacant(disk)? {
             return Err(InitFault::Exists);
         }
         let body = start_bytes(alloc, kind, &tree)?;
-        let committed = Committed::start(alloc, kind, tree)?;
+        let committed = Committed::start(alloc, kind, tree);
         let journal = Journal::create(alloc, disk, &body)?;
         Ok(Db {
             committed,
@@ -140,26 +155,26 @@ impl<R: TreeRep, S: TreeRep> Db<R, S> {
     ) -> Result<(), WriteFault>
         requires usable { is_spent self.old ≡ false }
         requires stands { IsDatabase R.contents S.contents self.old }
-        requires ready { IsTrue D.is_known → IsReady self.old (D.view disk.old) }
+        requires ready { IfKnown (D.known disk.old) (λ v. IsReady self.old v) }
         requires can { (s : State) → HoldsState R.contents S.contents self.old s → CanLoad s name (S.contents tree) }
         ensures loaded { (s : State) → HoldsState R.contents S.contents self.old s
             → HasLoaded R.contents S.contents self.old s name (S.contents tree) self.new result }
-        ensures kept { IsTrue D.is_known → (h : List HistoryEntry) → Stands R.contents S.contents true self.old h
-            → IsKept true self.old h (D.view disk.old)
-            → OnOk result (IsKept true self.new (h ++ load name (S.contents tree) ∷ []) (D.view disk.new)) }
-        ensures crash { IsTrue D.is_known → (h : List HistoryEntry) → Stands R.contents S.contents true self.old h
-            → IsKept true self.old h (D.view disk.old)
-            → Keeps (StandsWithOrWithout h (load name (S.contents tree))) (D.view disk.old) (D.view disk.new) }
+        ensures kept { IfKnown (D.known disk.old) (λ v. (h : List HistoryEntry)
+            → Stands R.contents S.contents true self.old h → IsKept true self.old h v
+            → OnOk result (IsKept true self.new (h ++ load name (S.contents tree) ∷ []) (D.known disk.new).view)) }
+        ensures crash { IfKnown (D.known disk.old) (λ v. (h : List HistoryEntry)
+            → Stands R.contents S.contents true self.old h → IsKept true self.old h v
+            → ViewKeeps (StandsWithOrWithout h (load name (S.contents tree))) v (D.known disk.new).view) }
         ensures room { has_room (end_in self.old) (load_size name (S.contents tree)) ≡ false → disk.new ≡ disk.old }
-        ensures ready { IsTrue D.is_known → OnOk result (IsReady self.new (D.view disk.new)) }
-        ensures durable { IsTrue D.is_known → OnOk result (Only (D.view disk.new).content (D.view disk.new).images) }
+        ensures ready { OnOk result (IfKnown (D.known disk.new) (λ v. IsReady self.new v)) }
+        ensures durable { OnOk result (IsSettled (D.known disk.new)) }
         ensures version { version_in self.new ≡ version_in self.old }
         ensures unchanged { IsErrOf result WriteFault.TooLarge → disk.new ≡ disk.old }
         ensures spent { IsTrue (is_spent self.new) ↔ (IsErrOf result WriteFault.Disk ⊎ IsErrOf result WriteFault.Memory) }
-        ensures cause { Accounts IsWriteDisk (D.counts disk.old).faults (D.counts disk.new).faults result }
-        ensures memory { IsErrOf result WriteFault.Memory
-            → (disk.new ≡ disk.old) ⊎ Rose (D.counts disk.old).wants (D.counts disk.new).wants }
-        ensures reads { (D.counts disk.new).reads ≡ (D.counts disk.old).reads }
+        ensures cause { UsesDisk IsWriteDisk (D.known disk.old) (D.known disk.new) result }
+        ensures memory { IsErrOf result WriteFault.Memory → (disk.new ≡ disk.old)
+            ⊎ Rose (D.known disk.old).counts.wants (D.known disk.new).counts.wants }
+        ensures reads { (D.known disk.new).counts.reads ≡ (D.known disk.old).counts.reads }
     {
         match self.add_source(alloc, disk, name, tree) {
             Ok(()) => Ok(()),
@@ -186,36 +201,34 @@ impl<R: TreeRep, S: TreeRep> Db<R, S> {
         requires usable { is_spent self.old ≡ false }
         requires version { version_in self.old ≡ 2 }
         requires stands { IsDatabase R.contents S.contents self.old }
-        requires ready { IsTrue D.is_known → IsReady self.old (D.view disk.old) }
+        requires ready { IfKnown (D.known disk.old) (λ v. IsReady self.old v) }
         requires come { (p : Progress) × HasCome R.contents S.contents self.old transaction p }
         ensures committed { (p : Progress) → HasCome R.contents S.contents self.old transaction p
             → (s : State) → HoldsState R.contents S.contents self.old s
             → HasCommitted R.contents S.contents self.old s stamp p self.new result }
-        ensures kept { IsTrue D.is_known → (ops : List OpValue)
-            → HasCome R.contents S.contents self.old transaction (going ops)
-            → (h : List HistoryEntry) → Stands R.contents S.contents true self.old h
-            → IsKept true self.old h (D.view disk.old)
-            → OnOk result (IsKept true self.new (h ++ commit stamp ops ∷ []) (D.view disk.new)) }
-        ensures crash { IsTrue D.is_known → (p : Progress)
-            → HasCome R.contents S.contents self.old transaction p
-            → (h : List HistoryEntry) → Stands R.contents S.contents true self.old h
-            → IsKept true self.old h (D.view disk.old)
-            → Keeps (IsBeforeOrCommitted h stamp p) (D.view disk.old) (D.view disk.new) }
+        ensures kept { IfKnown (D.known disk.old) (λ v. (ops : List OpValue)
+            → HasCome R.contents S.contents self.old transaction (going ops) → (h : List HistoryEntry)
+            → Stands R.contents S.contents true self.old h → IsKept true self.old h v
+            → OnOk result (IsKept true self.new (h ++ commit stamp ops ∷ []) (D.known disk.new).view)) }
+        ensures crash { IfKnown (D.known disk.old) (λ v. (p : Progress)
+            → HasCome R.contents S.contents self.old transaction p → (h : List HistoryEntry)
+            → Stands R.contents S.contents true self.old h → IsKept true self.old h v
+            → ViewKeeps (IsBeforeOrCommitted h stamp p) v (D.known disk.new).view) }
         ensures room { (ops : List OpValue)
             → HasCome R.contents S.contents self.old transaction (going ops)
             → (s : State) → HoldsState R.contents S.contents self.old s
             → has_room (end_in self.old) (commit_size s stamp ops) ≡ false → disk.new ≡ disk.old }
-        ensures ready { IsTrue D.is_known → OnOk result (IsReady self.new (D.view disk.new)) }
-        ensures durable { IsTrue D.is_known → OnOk result (Only (D.view disk.new).content (D.view disk.new).images) }
+        ensures ready { OnOk result (IfKnown (D.known disk.new) (λ v. IsReady self.new v)) }
+        ensures durable { OnOk result (IsSettled (D.known disk.new)) }
         ensures version { version_in self.new ≡ version_in self.old }
         ensures unchanged { ¬ (IsOk result) → ¬ (IsErrOf result CommitFault.Disk) → ¬ (IsErrOf result CommitFault.Memory)
             → disk.new ≡ disk.old }
         ensures spent { IsTrue (is_spent self.new)
             ↔ (IsErrOf result CommitFault.Disk ⊎ IsErrOf result CommitFault.Memory) }
-        ensures cause { Accounts IsCommitDisk (D.counts disk.old).faults (D.counts disk.new).faults result }
-        ensures memory { IsErrOf result CommitFault.Memory
-            → (disk.new ≡ disk.old) ⊎ Rose (D.counts disk.old).wants (D.counts disk.new).wants }
-        ensures reads { (D.counts disk.new).reads ≡ (D.counts disk.old).reads }
+        ensures cause { UsesDisk IsCommitDisk (D.known disk.old) (D.known disk.new) result }
+        ensures memory { IsErrOf result CommitFault.Memory → (disk.new ≡ disk.old)
+            ⊎ Rose (D.known disk.old).counts.wants (D.known disk.new).counts.wants }
+        ensures reads { (D.known disk.new).counts.reads ≡ (D.known disk.old).counts.reads }
     {
         match self.add_commit(alloc, disk, transaction, stamp) {
             Err(CommitFault::Disk) => {
@@ -237,19 +250,19 @@ impl<R: TreeRep, S: TreeRep> Db<R, S> {
         requires usable { is_spent self.old ≡ false }
         requires version { version_in self.old ≡ 1 }
         requires stands { IsDatabase R.contents S.contents self.old }
-        requires ready { IsTrue D.is_known → IsReady self.old (D.view disk.old) }
+        requires ready { IfKnown (D.known disk.old) (λ v. IsReady self.old v) }
         ensures same { OnOk result (HoldsSame R.contents S.contents self.old self.new) }
-        ensures kept { IsTrue D.is_known → (right : Bool) (h : List HistoryEntry)
-            → IsKept right self.old h (D.view disk.old) → OnOk result (IsKept right self.new h (D.view disk.new)) }
-        ensures crash { IsTrue D.is_known → (h : List HistoryEntry) → IsKept true self.old h (D.view disk.old)
-            → Keeps (StandsFor h) (D.view disk.old) (D.view disk.new) }
+        ensures kept { IfKnown (D.known disk.old) (λ v. (right : Bool) (h : List HistoryEntry)
+            → IsKept right self.old h v → OnOk result (IsKept right self.new h (D.known disk.new).view)) }
+        ensures crash { IfKnown (D.known disk.old) (λ v. (h : List HistoryEntry) → IsKept true self.old h v
+            → ViewKeeps (StandsFor h) v (D.known disk.new).view) }
         ensures version { OnOk result (version_in self.new ≡ 2) }
         ensures end { end_in self.new ≡ end_in self.old }
-        ensures ready { IsTrue D.is_known → OnOk result (IsReady self.new (D.view disk.new)) }
-        ensures durable { IsTrue D.is_known → OnOk result (Only (D.view disk.new).content (D.view disk.new).images) }
+        ensures ready { OnOk result (IfKnown (D.known disk.new) (λ v. IsReady self.new v)) }
+        ensures durable { OnOk result (IsSettled (D.known disk.new)) }
         ensures kinds { IsErrOf result WriteFault.TooLarge → ⊥ }
         ensures spent { IsTrue (is_spent self.new) ↔ (IsErrOf result WriteFault.Disk ⊎ IsErrOf result WriteFault.Memory) }
-        ensures cause { Accounts IsWriteDisk (D.counts disk.old).faults (D.counts disk.new).faults result }
+        ensures cause { UsesDisk IsWriteDisk (D.known disk.old) (D.known disk.new) result }
     {
         match self.journal.upgrade(disk) {
             Ok(()) => {
@@ -273,26 +286,26 @@ impl<R: TreeRep, S: TreeRep> Db<R, S> {
         requires whole { self.old.journal.broken ≡ None }
         requires usable { self.old.journal.spent ≡ false }
         requires idle { self.old.journal.begun ≡ None }
-        requires ready { IsTrue D.is_known → IsReady self.old (D.view disk.old) }
+        requires ready { IfKnown (D.known disk.old) (λ v. IsReady self.old v) }
         requires room { has_room (end_in self.old) (length body.now) ≡ true }
         ensures same { self.new ≡ record self.old { journal = self.new.journal } }
         ensures whole { self.new.journal.broken ≡ None }
         ensures idle { self.new.journal.begun ≡ None }
         ensures usable { OnOk result (self.new.journal.spent ≡ false) }
         ensures end { OnOk result (end_in self.new ≡ end_in self.old + FRAME_HEAD + length body.now) }
-        ensures described { IsTrue D.is_known → (head : List ℕ) (fs : List Frame)
-            → Describes head fs self.old.journal (D.view disk.old)
-            → OnOk result (Describes head (fs ++ entry body.now ∷ []) self.new.journal (D.view disk.new)) }
-        ensures crash { IsTrue D.is_known → (head : List ℕ) (fs : List Frame)
-            → Holds head fs (end_in self.old) (D.view disk.old)
-            → Keeps (HasFrameOrNot head fs (entry body.now)) (D.view disk.old) (D.view disk.new) }
-        ensures ready { IsTrue D.is_known → OnOk result (IsReady self.new (D.view disk.new)) }
-        ensures durable { IsTrue D.is_known → OnOk result (Only (D.view disk.new).content (D.view disk.new).images) }
+        ensures described { IfKnown (D.known disk.old) (λ v. (head : List ℕ) (fs : List Frame)
+            → Describes head fs self.old.journal v
+            → OnOk result (Describes head (fs ++ entry body.now ∷ []) self.new.journal (D.known disk.new).view)) }
+        ensures crash { IfKnown (D.known disk.old) (λ v. (head : List ℕ) (fs : List Frame)
+            → Holds head fs (end_in self.old) v
+            → ViewKeeps (HasFrameOrNot head fs (entry body.now)) v (D.known disk.new).view) }
+        ensures ready { OnOk result (IfKnown (D.known disk.new) (λ v. IsReady self.new v)) }
+        ensures durable { OnOk result (IsSettled (D.known disk.new)) }
         ensures kinds { IsErrOf result WriteFault.TooLarge → ⊥ }
-        ensures cause { Accounts IsWriteDisk (D.counts disk.old).faults (D.counts disk.new).faults result }
-        ensures memory { IsErrOf result WriteFault.Memory
-            → (disk.new ≡ disk.old) ⊎ Rose (D.counts disk.old).wants (D.counts disk.new).wants }
-        ensures reads { (D.counts disk.new).reads ≡ (D.counts disk.old).reads }
+        ensures cause { UsesDisk IsWriteDisk (D.known disk.old) (D.known disk.new) result }
+        ensures memory { IsErrOf result WriteFault.Memory → (disk.new ≡ disk.old)
+            ⊎ Rose (D.known disk.old).counts.wants (D.known disk.new).counts.wants }
+        ensures reads { (D.known disk.new).counts.reads ≡ (D.known disk.old).counts.reads }
     {
         self.journal.append(alloc, disk, body)?;
         Ok(())
@@ -307,26 +320,26 @@ impl<R: TreeRep, S: TreeRep> Db<R, S> {
         tree: S,
     ) -> Result<(), WriteFault>
         requires stands { IsDatabase R.contents S.contents self.old }
-        requires ready { IsTrue D.is_known → IsReady self.old (D.view disk.old) }
+        requires ready { IfKnown (D.known disk.old) (λ v. IsReady self.old v) }
         requires can { (s : State) → HoldsState R.contents S.contents self.old s → CanLoad s name (S.contents tree) }
         ensures loaded { (s : State) → HoldsState R.contents S.contents self.old s
             → HasLoaded R.contents S.contents self.old s name (S.contents tree) self.new result }
-        ensures kept { IsTrue D.is_known → (h : List HistoryEntry) → Stands R.contents S.contents true self.old h
-            → IsKept true self.old h (D.view disk.old)
-            → OnOk result (IsKept true self.new (h ++ load name (S.contents tree) ∷ []) (D.view disk.new)) }
-        ensures crash { IsTrue D.is_known → (h : List HistoryEntry) → Stands R.contents S.contents true self.old h
-            → IsKept true self.old h (D.view disk.old)
-            → Keeps (StandsWithOrWithout h (load name (S.contents tree))) (D.view disk.old) (D.view disk.new) }
+        ensures kept { IfKnown (D.known disk.old) (λ v. (h : List HistoryEntry)
+            → Stands R.contents S.contents true self.old h → IsKept true self.old h v
+            → OnOk result (IsKept true self.new (h ++ load name (S.contents tree) ∷ []) (D.known disk.new).view)) }
+        ensures crash { IfKnown (D.known disk.old) (λ v. (h : List HistoryEntry)
+            → Stands R.contents S.contents true self.old h → IsKept true self.old h v
+            → ViewKeeps (StandsWithOrWithout h (load name (S.contents tree))) v (D.known disk.new).view) }
         ensures room { has_room (end_in self.old) (load_size name (S.contents tree)) ≡ false → disk.new ≡ disk.old }
-        ensures ready { IsTrue D.is_known → OnOk result (IsReady self.new (D.view disk.new)) }
-        ensures durable { IsTrue D.is_known → OnOk result (Only (D.view disk.new).content (D.view disk.new).images) }
+        ensures ready { OnOk result (IfKnown (D.known disk.new) (λ v. IsReady self.new v)) }
+        ensures durable { OnOk result (IsSettled (D.known disk.new)) }
         ensures version { version_in self.new ≡ version_in self.old }
         ensures spent { is_spent self.new ≡ is_spent self.old }
         ensures unchanged { IsErrOf result WriteFault.TooLarge → disk.new ≡ disk.old }
-        ensures cause { Accounts IsWriteDisk (D.counts disk.old).faults (D.counts disk.new).faults result }
-        ensures memory { IsErrOf result WriteFault.Memory
-            → (disk.new ≡ disk.old) ⊎ Rose (D.counts disk.old).wants (D.counts disk.new).wants }
-        ensures reads { (D.counts disk.new).reads ≡ (D.counts disk.old).reads }
+        ensures cause { UsesDisk IsWriteDisk (D.known disk.old) (D.known disk.new) result }
+        ensures memory { IsErrOf result WriteFault.Memory → (disk.new ≡ disk.old)
+            ⊎ Rose (D.known disk.old).counts.wants (D.known disk.new).counts.wants }
+        ensures reads { (D.known disk.new).counts.reads ≡ (D.known disk.old).counts.reads }
     {
         let body = load_bytes(alloc, &name, &tree)?;
         if !self.has_room(body.len()) {
@@ -347,35 +360,33 @@ impl<R: TreeRep, S: TreeRep> Db<R, S> {
     ) -> Result<Tids, CommitFault>
         requires version { version_in self.old ≡ 2 }
         requires stands { IsDatabase R.contents S.contents self.old }
-        requires ready { IsTrue D.is_known → IsReady self.old (D.view disk.old) }
+        requires ready { IfKnown (D.known disk.old) (λ v. IsReady self.old v) }
         requires come { (p : Progress) × HasCome R.contents S.contents self.old transaction p }
         ensures committed { (p : Progress) → HasCome R.contents S.contents self.old transaction p
             → (s : State) → HoldsState R.contents S.contents self.old s
             → HasCommitted R.contents S.contents self.old s stamp p self.new result }
-        ensures kept { IsTrue D.is_known → (ops : List OpValue)
-            → HasCome R.contents S.contents self.old transaction (going ops)
-            → (h : List HistoryEntry) → Stands R.contents S.contents true self.old h
-            → IsKept true self.old h (D.view disk.old)
-            → OnOk result (IsKept true self.new (h ++ commit stamp ops ∷ []) (D.view disk.new)) }
-        ensures crash { IsTrue D.is_known → (p : Progress)
-            → HasCome R.contents S.contents self.old transaction p
-            → (h : List HistoryEntry) → Stands R.contents S.contents true self.old h
-            → IsKept true self.old h (D.view disk.old)
-            → Keeps (IsBeforeOrCommitted h stamp p) (D.view disk.old) (D.view disk.new) }
+        ensures kept { IfKnown (D.known disk.old) (λ v. (ops : List OpValue)
+            → HasCome R.contents S.contents self.old transaction (going ops) → (h : List HistoryEntry)
+            → Stands R.contents S.contents true self.old h → IsKept true self.old h v
+            → OnOk result (IsKept true self.new (h ++ commit stamp ops ∷ []) (D.known disk.new).view)) }
+        ensures crash { IfKnown (D.known disk.old) (λ v. (p : Progress)
+            → HasCome R.contents S.contents self.old transaction p → (h : List HistoryEntry)
+            → Stands R.contents S.contents true self.old h → IsKept true self.old h v
+            → ViewKeeps (IsBeforeOrCommitted h stamp p) v (D.known disk.new).view) }
         ensures room { (ops : List OpValue)
             → HasCome R.contents S.contents self.old transaction (going ops)
             → (s : State) → HoldsState R.contents S.contents self.old s
             → has_room (end_in self.old) (commit_size s stamp ops) ≡ false → disk.new ≡ disk.old }
-        ensures ready { IsTrue D.is_known → OnOk result (IsReady self.new (D.view disk.new)) }
-        ensures durable { IsTrue D.is_known → OnOk result (Only (D.view disk.new).content (D.view disk.new).images) }
+        ensures ready { OnOk result (IfKnown (D.known disk.new) (λ v. IsReady self.new v)) }
+        ensures durable { OnOk result (IsSettled (D.known disk.new)) }
         ensures version { version_in self.new ≡ version_in self.old }
         ensures unchanged { ¬ (IsOk result) → ¬ (IsErrOf result CommitFault.Disk) → ¬ (IsErrOf result CommitFault.Memory)
             → disk.new ≡ disk.old }
         ensures spent { is_spent self.new ≡ is_spent self.old }
-        ensures cause { Accounts IsCommitDisk (D.counts disk.old).faults (D.counts disk.new).faults result }
-        ensures memory { IsErrOf result CommitFault.Memory
-            → (disk.new ≡ disk.old) ⊎ Rose (D.counts disk.old).wants (D.counts disk.new).wants }
-        ensures reads { (D.counts disk.new).reads ≡ (D.counts disk.old).reads }
+        ensures cause { UsesDisk IsCommitDisk (D.known disk.old) (D.known disk.new) result }
+        ensures memory { IsErrOf result CommitFault.Memory → (disk.new ≡ disk.old)
+            ⊎ Rose (D.known disk.old).counts.wants (D.known disk.new).counts.wants }
+        ensures reads { (D.known disk.new).counts.reads ≡ (D.known disk.old).counts.reads }
     {
         let step = transaction.finish(alloc, commit_limit(&stamp))?;
         Ok(self.add_step(alloc, disk, step, stamp)?)
@@ -391,31 +402,31 @@ impl<R: TreeRep, S: TreeRep> Db<R, S> {
     ) -> Result<Tids, WriteFault>
         requires version { version_in self.old ≡ 2 }
         requires stands { IsDatabase R.contents S.contents self.old }
-        requires ready { IsTrue D.is_known → IsReady self.old (D.view disk.old) }
+        requires ready { IfKnown (D.known disk.old) (λ v. IsReady self.old v) }
         requires made { (ops : List OpValue) × HasMade R.contents S.contents self.old ops step }
         ensures committed { (ops : List OpValue) → HasMade R.contents S.contents self.old ops step
             → (s : State) → HoldsState R.contents S.contents self.old s
             → HasStepped R.contents S.contents self.old s stamp ops self.new result }
-        ensures kept { IsTrue D.is_known → (ops : List OpValue) → HasMade R.contents S.contents self.old ops step
-            → (h : List HistoryEntry) → Stands R.contents S.contents true self.old h
-            → IsKept true self.old h (D.view disk.old)
-            → OnOk result (IsKept true self.new (h ++ commit stamp ops ∷ []) (D.view disk.new)) }
-        ensures crash { IsTrue D.is_known → (ops : List OpValue) → HasMade R.contents S.contents self.old ops step
-            → (h : List HistoryEntry) → Stands R.contents S.contents true self.old h
-            → IsKept true self.old h (D.view disk.old)
-            → Keeps (StandsWithOrWithout h (commit stamp ops)) (D.view disk.old) (D.view disk.new) }
+        ensures kept { IfKnown (D.known disk.old) (λ v. (ops : List OpValue)
+            → HasMade R.contents S.contents self.old ops step → (h : List HistoryEntry)
+            → Stands R.contents S.contents true self.old h → IsKept true self.old h v
+            → OnOk result (IsKept true self.new (h ++ commit stamp ops ∷ []) (D.known disk.new).view)) }
+        ensures crash { IfKnown (D.known disk.old) (λ v. (ops : List OpValue)
+            → HasMade R.contents S.contents self.old ops step → (h : List HistoryEntry)
+            → Stands R.contents S.contents true self.old h → IsKept true self.old h v
+            → ViewKeeps (StandsWithOrWithout h (commit stamp ops)) v (D.known disk.new).view) }
         ensures room { (ops : List OpValue) → HasMade R.contents S.contents self.old ops step
             → (s : State) → HoldsState R.contents S.contents self.old s
             → has_room (end_in self.old) (commit_size s stamp ops) ≡ false → disk.new ≡ disk.old }
-        ensures ready { IsTrue D.is_known → OnOk result (IsReady self.new (D.view disk.new)) }
-        ensures durable { IsTrue D.is_known → OnOk result (Only (D.view disk.new).content (D.view disk.new).images) }
+        ensures ready { OnOk result (IfKnown (D.known disk.new) (λ v. IsReady self.new v)) }
+        ensures durable { OnOk result (IsSettled (D.known disk.new)) }
         ensures version { version_in self.new ≡ version_in self.old }
         ensures spent { is_spent self.new ≡ is_spent self.old }
         ensures unchanged { IsErrOf result WriteFault.TooLarge → disk.new ≡ disk.old }
-        ensures cause { Accounts IsWriteDisk (D.counts disk.old).faults (D.counts disk.new).faults result }
-        ensures memory { IsErrOf result WriteFault.Memory
-            → (disk.new ≡ disk.old) ⊎ Rose (D.counts disk.old).wants (D.counts disk.new).wants }
-        ensures reads { (D.counts disk.new).reads ≡ (D.counts disk.old).reads }
+        ensures cause { UsesDisk IsWriteDisk (D.known disk.old) (D.known disk.new) result }
+        ensures memory { IsErrOf result WriteFault.Memory → (disk.new ≡ disk.old)
+            ⊎ Rose (D.known disk.old).counts.wants (D.known disk.new).counts.wants }
+        ensures reads { (D.known disk.new).counts.reads ≡ (D.known disk.old).counts.reads }
     {
         let low = self.committed.store.upto() + 1;
         let entry = Entry::Stamped {
@@ -433,7 +444,7 @@ impl<R: TreeRep, S: TreeRep> Db<R, S> {
         }
         let kept = self
             .committed
-            .keep_records(alloc, step.tids, entry.records());
+            .keep_records(alloc, step.tids, stamped_records(&entry));
         drop(entry);
         kept?;
         self.committed.tree = step.tree;

@@ -136,7 +136,8 @@ fn with_end(
 }
 
 fn record_in(alloc: Global, bytes: &[u8]) -> Result<(String, usize), FormatFault> {
-    let (record, end) = take(alloc, bytes, 0)?;
+    let (packed, end) = take(bytes, 0)?;
+    let record = packed.record(alloc)?;
     let line = record_line(alloc, &record);
     drop(record);
     Ok((line?, end))

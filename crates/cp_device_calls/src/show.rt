@@ -5,8 +5,9 @@
 //! `record TID OP PLACE` and of a copy the source after that.
 
 use cp_frame::Entry;
-use cp_model::{Content, Kind, LitList, Literal, Op, OpList, RecOp, Record, RecordList, Stamp};
+use cp_model::{Content, Kind, LitList, Literal, Op, OpList, RecOp, Record, Stamp};
 use cp_path::{Label, Loc};
+use cp_record::PackedRecords;
 use cp_spelling::{label_text, place_text, value_text};
 use std::alloc::{AllocError, Global};
 
@@ -125,8 +126,13 @@ fn add_ops(alloc: Global, ops: &[Op], lines: &mut String) -> Result<(), AllocErr
 }
 
 /// Adds the lines of records.
-fn add_records(alloc: Global, records: &[Record], lines: &mut String) -> Result<(), AllocError> {
-    for record in records {
+fn add_records(
+    alloc: Global,
+    records: &PackedRecords,
+    lines: &mut String,
+) -> Result<(), AllocError> {
+    let records = records.records(alloc)?;
+    for record in &records.items {
         lines.push_str(record_line(alloc, record)?.as_str())?;
     }
     Ok(())
@@ -136,11 +142,11 @@ fn add_records(alloc: Global, records: &[Record], lines: &mut String) -> Result<
 fn add_changes(
     alloc: Global,
     ops: &OpList,
-    records: &RecordList,
+    records: &PackedRecords,
     lines: &mut String,
 ) -> Result<(), AllocError> {
     add_ops(alloc, ops.items.as_slice(), lines)?;
-    add_records(alloc, records.items.as_slice(), lines)
+    add_records(alloc, records, lines)
 }
 
 /// The line of a content.
@@ -168,7 +174,7 @@ fn commit_lines(
     alloc: Global,
     first: Result<String, AllocError>,
     ops: &OpList,
-    records: &RecordList,
+    records: &PackedRecords,
 ) -> Result<String, AllocError> {
     let mut lines = first?;
     add_changes(alloc, ops, records, &mut lines)?;

@@ -7,7 +7,7 @@ use Rattle.std.proofs.lemmas.List.{take_all, take-append-le, ext_get_or, get_or-
 use Rattle.std.proofs.lemmas.List.Sums.{fold_push}
 use Rattle.std.proofs.lemmas.List.FromFn.{length-map-range_with_len, get_or-map-range_with_len}
 use Rattle.cp_disk.specs.Images.{FileState, DiskCall, synced_file, written_file, shortened_file, after_call, file_after, Image, ImageSince, view_after}
-use Rattle.cp_disk.specs.Views.{Remembers, Steps}
+use Rattle.cp_disk.specs.Views.{Remembers, ViewSteps}
 use Rattle.cp_disk.specs.Writes.{Torn, CutShort}
 
 -- the byte of c, or from one offset up to another that of base
@@ -129,7 +129,7 @@ module _ (first : List ℕ) (calls : List DiskCall) (call : DiskCall) where
   pub later_push : length calls ≤ length (calls ++ call ∷ [])
   later_push = omega (arith, length-append calls (call ∷ []))
 
-  pub steps_push : (Step : List ℕ → List ℕ → Type 0) → ((c : List ℕ) → Image (file_after first (calls ++ call ∷ [])) c → (d : List ℕ) × Image (file_after first calls) d × Step d c) → Steps Step (view_after first calls) (view_after first (calls ++ call ∷ []))
+  pub steps_push : (Step : List ℕ → List ℕ → Type 0) → ((c : List ℕ) → Image (file_after first (calls ++ call ∷ [])) c → (d : List ℕ) × Image (file_after first calls) d × Step d c) → ViewSteps Step (view_after first calls) (view_after first (calls ++ call ∷ []))
   steps_push Step follows = record {
     later = later_push;
     since = λ t c le since. ⊎_elim (λ past. inl past) (λ now. inr (follows c now)) (before_or_after t c since);

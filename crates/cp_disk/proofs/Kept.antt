@@ -1,6 +1,6 @@
 -- The calls of a disk in memory, by what it keeps.
 use Rattle.std.proofs.Common.{◌≡◌, ◌≤◌, inl, inr, ℕ, ◌+◌, min, List, [], ◌∷◌, ◌++◌, length, take, refl, sym, ◌∙◌, ap, subst, arith, Ok}
-use Rattle.cp_disk.specs.Calls.{Wrote, WasCut, Synced}
+use Rattle.cp_disk.specs.Calls.{ViewWrote, ViewWasCut, ViewSynced}
 use Rattle.cp_disk.specs.ImageLaws.{image-content}
 use Rattle.cp_disk.specs.Images.{FileState, DiskCall, writes, cuts, syncs, synced_file, written_file, shortened_file, after_call, file_after, Image, view_after}
 use Rattle.cp_disk.specs.MemoryDisks.{IsKept, IsQuiet, EndsInSync}
@@ -28,7 +28,7 @@ module _ (first : List ℕ) (calls : List DiskCall) where
   file-sync = file_after-push first calls syncs
 
   -- a write
-  pub wrote : (at : ℕ) (bytes : List ℕ) → at ≤ length (file_after first calls).content → Wrote at bytes (Ok (tt {0})) (view_after first calls) (view_after first (calls ++ writes at bytes ∷ []))
+  pub wrote : (at : ℕ) (bytes : List ℕ) → at ≤ length (file_after first calls).content → ViewWrote at bytes (Ok (tt {0})) (view_after first calls) (view_after first (calls ++ writes at bytes ∷ []))
   wrote at bytes le =
       let is = file-write at bytes le in
       record {
@@ -40,7 +40,7 @@ module _ (first : List ℕ) (calls : List DiskCall) where
       }
 
   -- a cut
-  pub was_cut : (size : ℕ) → WasCut size (Ok (tt {0})) (view_after first calls) (view_after first (calls ++ cuts size ∷ []))
+  pub was_cut : (size : ℕ) → ViewWasCut size (Ok (tt {0})) (view_after first calls) (view_after first (calls ++ cuts size ∷ []))
   was_cut size =
       let is = file-cut size in
       record {
@@ -69,7 +69,7 @@ module _ (first : List ℕ) (calls : List DiskCall) where
   no_new : (c : List ℕ) → Image (file_after first (calls ++ syncs ∷ [])) c → Image (file_after first calls) c
   no_new c im = subst (Image (file_after first calls)) (sym (only_content c im)) (image-content first calls)
 
-  synced_now : Synced (Ok (tt {0})) (view_after first calls) (view_after first (calls ++ syncs ∷ []))
+  synced_now : ViewSynced (Ok (tt {0})) (view_after first calls) (view_after first (calls ++ syncs ∷ []))
   synced_now = record {
     durable = only_content;
     rests = record {
@@ -81,18 +81,18 @@ module _ (first : List ℕ) (calls : List DiskCall) where
     };
   }
 
-  synced_before : IsQuiet calls → Synced (Ok (tt {0})) (view_after first calls) (view_after first calls)
+  synced_before : IsQuiet calls → ViewSynced (Ok (tt {0})) (view_after first calls) (view_after first calls)
   synced_before quiet = record {
     durable = λ c im. only_synced (file_after first calls).content c (subst (λ (s : FileState). Image s c) (file-quiet first calls quiet) im);
     rests = rests_none (view_after first calls);
   }
 
 -- a sync, which is noted where a change came before it
-pub synced : (first : List ℕ) (calls next : List DiskCall) → EndsInSync calls next → Synced (Ok (tt {0})) (view_after first calls) (view_after first next)
+pub synced : (first : List ℕ) (calls next : List DiskCall) → EndsInSync calls next → ViewSynced (Ok (tt {0})) (view_after first calls) (view_after first next)
 synced first calls next (inl more) =
-    subst (λ (l : List DiskCall). Synced (Ok (tt {0})) (view_after first calls) (view_after first l)) (sym more) (synced_now first calls)
+    subst (λ (l : List DiskCall). ViewSynced (Ok (tt {0})) (view_after first calls) (view_after first l)) (sym more) (synced_now first calls)
 synced first calls next (inr (same, quiet)) =
-    subst (λ (l : List DiskCall). Synced (Ok (tt {0})) (view_after first calls) (view_after first l)) (sym same) (synced_before first calls quiet)
+    subst (λ (l : List DiskCall). ViewSynced (Ok (tt {0})) (view_after first calls) (view_after first l)) (sym same) (synced_before first calls quiet)
 
 module _ (bytes first : List ℕ) (log : List LoggedEdit) (is : first ≡ bytes) (none : log ≡ []) where
   -- a new disk keeps its bytes
@@ -125,9 +125,9 @@ module _ (first : List ℕ) (calls : List DiskCall) (file : List ℕ) (kept : Is
         few = let greatest = ap (λ (s : FileState). s.greatest) is in omega (arith, greatest, kept.few);
       }
 
-  pub wrote_next : (next : List DiskCall) (at : ℕ) (bytes : List ℕ) → next ≡ calls ++ writes at bytes ∷ [] → at ≤ length file → Wrote at bytes (Ok (tt {0})) (view_after first calls) (view_after first next)
+  pub wrote_next : (next : List DiskCall) (at : ℕ) (bytes : List ℕ) → next ≡ calls ++ writes at bytes ∷ [] → at ≤ length file → ViewWrote at bytes (Ok (tt {0})) (view_after first calls) (view_after first next)
   wrote_next next at bytes more le =
-      subst (λ (l : List DiskCall). Wrote at bytes (Ok (tt {0})) (view_after first calls) (view_after first l)) (sym more)
+      subst (λ (l : List DiskCall). ViewWrote at bytes (Ok (tt {0})) (view_after first calls) (view_after first l)) (sym more)
       (wrote first calls at bytes (inside_content at le))
 
   -- what is kept after a cut
@@ -139,9 +139,9 @@ module _ (first : List ℕ) (calls : List DiskCall) (file : List ℕ) (kept : Is
         few = let greatest = ap (λ (s : FileState). s.greatest) is in omega (arith, greatest, kept.few);
       }
 
-  pub cut_next : (next : List DiskCall) (size : ℕ) → next ≡ calls ++ cuts size ∷ [] → WasCut size (Ok (tt {0})) (view_after first calls) (view_after first next)
+  pub cut_next : (next : List DiskCall) (size : ℕ) → next ≡ calls ++ cuts size ∷ [] → ViewWasCut size (Ok (tt {0})) (view_after first calls) (view_after first next)
   cut_next next size more =
-      subst (λ (l : List DiskCall). WasCut size (Ok (tt {0})) (view_after first calls) (view_after first l)) (sym more) (was_cut first calls size)
+      subst (λ (l : List DiskCall). ViewWasCut size (Ok (tt {0})) (view_after first calls) (view_after first l)) (sym more) (was_cut first calls size)
 
   -- what is kept after a sync
   pub kept_sync : (next : List DiskCall) → EndsInSync calls next → IsKept first next file

@@ -1,10 +1,9 @@
 -- What callers see of the disks in memory.
-use Rattle.std.specs.Prelude.{ℕ, ◌≡◌, ◌≤◌, ◌<◌, ◌⊎◌, ◌↔◌, List, [], ◌∷◌, ◌++◌, None, Some, Contains, Result, IsErrOf, OnOk}
+use Rattle.std.specs.Prelude.{true, ℕ, ◌≡◌, ◌≤◌, ◌<◌, ◌⊎◌, ◌↔◌, List, [], ◌∷◌, ◌++◌, None, Some, Contains, Result, IsErrOf, OnOk}
 use Rattle.std.specs.declared.option.Option.{Option}
 use Rattle.cp_outside.specs.Causes.{one_more}
-use Rattle.cp_disk.specs.Counts.{Counts}
 use Rattle.cp_disk.specs.Images.{FileState, DiskCall, writes, cuts, syncs, file_after, view_after}
-use Rattle.cp_disk.specs.Views.{View}
+use Rattle.cp_disk.specs.Views.{View, KnownDisk, Counts}
 use Rattle.cp_disk.specs.declared.disk.DiskFault.{DiskFault}
 use Rattle.cp_disk.specs.declared.disk.DiskFault.TheVariants.{Failed, Memory}
 use Rattle.cp_disk.specs.declared.limits.TheConstants.{DISK_MAX}
@@ -35,6 +34,10 @@ sure_view s = view_after s.first s.calls
 -- What a disk that never fails counts.
 abbrev pub sure_counts : SureState → Counts
 sure_counts s = record { faults = 0; reads = s.reads; wants = s.wants }
+
+-- All that is known of it.
+abbrev pub sure_disk : SureState → KnownDisk
+sure_disk s = record { known = true; view = sure_view s; counts = sure_counts s }
 
 -- A disk after a write.
 abbrev pub after_write : SureState → ℕ → List ℕ → SureState
@@ -97,6 +100,10 @@ mem_view s = sure_view s.disk
 -- What a disk that fails at some calls counts.
 abbrev pub mem_counts : MemState → Counts
 mem_counts s = record { faults = s.faults; reads = s.disk.reads; wants = s.disk.wants }
+
+-- All that is known of it.
+abbrev pub mem_disk : MemState → KnownDisk
+mem_disk s = record { known = true; view = mem_view s; counts = mem_counts s }
 
 -- The call of this number comes after those that the fuse lets pass.
 abbrev pub IsBurnt : Option ℕ → ℕ → Type 0

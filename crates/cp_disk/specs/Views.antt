@@ -1,7 +1,13 @@
 -- What contracts see of a disk: its content, and the files that a crash may leave, now and since an earlier moment.
-use Rattle.std.specs.Prelude.{ℕ, ◌≡◌, ◌≤◌, ◌⊎◌, List}
+use Rattle.std.specs.Prelude.{ℕ, ◌≡◌, ◌≤◌, ◌⊎◌, Bool, IsTrue, List, length}
 
--- A disk as contracts see it.
+-- How often a disk has failed, how often it was read, and how often it ran out of memory.
+pub record Counts : Type 0 where
+  pub faults : ℕ
+  pub reads : ℕ
+  pub wants : ℕ
+
+-- What a disk holds.
 pub record View : Type 1 where
   -- The bytes that reads give.
   pub content : List ℕ
@@ -11,6 +17,12 @@ pub record View : Type 1 where
   pub since : ℕ → List ℕ → Type 0
   -- What the disk's own clock shows, which goes on with its calls.
   pub moment : ℕ
+
+-- What is known of a disk at one moment: its counts, whether it is known what it holds, and then what that is.
+pub record KnownDisk : Type 1 where
+  pub known : Bool
+  pub view : View
+  pub counts : Counts
 
 -- This content is the one file that a crash may leave.
 abbrev pub Only : List ℕ → (List ℕ → Type 0) → Type 0
@@ -26,7 +38,7 @@ abbrev pub Remembers : View → View → Type 0
 Remembers v w = (t : ℕ) (c : List ℕ) → t ≤ v.moment → v.since t c → w.since t c
 
 -- The content is the same, and a crash leaves nothing that it couldn't leave before.
-pub record Rests (v w : View) : Type 0 where
+pub record ViewRests (v w : View) : Type 0 where
   pub content : w.content ≡ v.content
   pub images : (c : List ℕ) → w.images c → v.images c
   pub later : v.moment ≤ w.moment
@@ -38,13 +50,39 @@ abbrev pub IsAfter : (List ℕ → List ℕ → Type 0) → View → List ℕ �
 IsAfter Step v c = (d : List ℕ) × v.images d × Step d c
 
 -- From v to w, each file that a crash leaves is an image of v after this step.
-pub record Steps (Step : List ℕ → List ℕ → Type 0) (v w : View) : Type 0 where
+pub record ViewSteps (Step : List ℕ → List ℕ → Type 0) (v w : View) : Type 0 where
   pub later : v.moment ≤ w.moment
   pub since : (t : ℕ) (c : List ℕ) → t ≤ v.moment → w.since t c → v.since t c ⊎ IsAfter Step v c
   pub now : (c : List ℕ) → w.images c → IsAfter Step v c
 
 -- From v to w, each file that a crash leaves has this property.
-pub record Keeps (Property : List ℕ → Type 0) (v w : View) : Type 0 where
+pub record ViewKeeps (Property : List ℕ → Type 0) (v w : View) : Type 0 where
   pub later : v.moment ≤ w.moment
   pub since : (t : ℕ) (c : List ℕ) → t ≤ v.moment → w.since t c → v.since t c ⊎ Property c
   pub now : (c : List ℕ) → w.images c → Property c
+
+-- ---- of disks of which it may not be known what they hold
+
+-- This is so of what the disk holds, where that is known.
+abbrev pub IfKnown : KnownDisk → (View → Type 0) → Type 0
+IfKnown d Holds = IsTrue d.known → Holds d.view
+
+-- The content reaches to this offset.
+abbrev pub ReachesTo : ℕ → KnownDisk → Type 0
+ReachesTo at d = IfKnown d (λ v. at ≤ length v.content)
+
+-- A crash leaves the content and nothing else.
+abbrev pub IsSettled : KnownDisk → Type 0
+IsSettled d = IfKnown d (λ v. Only v.content v.images)
+
+-- From d to e the content stays, and a crash leaves nothing that it couldn't leave before.
+abbrev pub Rests : KnownDisk → KnownDisk → Type 0
+Rests d e = IfKnown d (λ v. ViewRests v e.view)
+
+-- From d to e each file that a crash leaves is an image of d after this step.
+abbrev pub Steps : (List ℕ → List ℕ → Type 0) → KnownDisk → KnownDisk → Type 0
+Steps Step d e = IfKnown d (λ v. ViewSteps Step v e.view)
+
+-- From d to e each file that a crash leaves has this property.
+abbrev pub Keeps : (List ℕ → Type 0) → KnownDisk → KnownDisk → Type 0
+Keeps Property d e = IfKnown d (λ v. ViewKeeps Property v e.view)

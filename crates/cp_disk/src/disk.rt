@@ -1,9 +1,9 @@
 //! A file on a disk.
-ghost use Rattle.std.specs.Prelude.{◌≡◌, ◌≤◌, ◌+◌, ◌<◌, List, ℕ, Bool, IsTrue, length, IfOk};
+ghost use Rattle.std.specs.Prelude.{◌≡◌, ◌≤◌, ◌+◌, ◌<◌, List, ℕ, IsTrue, length, IfOk};
 ghost use Rattle.cp_outside.specs.Causes.{one_more};
 ghost use Rattle.cp_disk.specs.Calls.{Sized, Filled, Wrote, WasCut, Synced};
-ghost use Rattle.cp_disk.specs.Counts.{Counts, Counted};
-ghost use Rattle.cp_disk.specs.Views.{View};
+ghost use Rattle.cp_disk.specs.Counts.{Counted};
+ghost use Rattle.cp_disk.specs.Views.{KnownDisk, ReachesTo};
 
 use crate::limits::{DISK_MAX, READ_MAX};
 use thiserror::Error;
@@ -24,65 +24,60 @@ pub enum DiskFault {
 /// A crash may come at any moment. Between two syncs it may leave any bytes in what was written and after what was the end,
 /// and any size between the least and the greatest; other bytes stay. After a sync it leaves the content.
 ///
-/// Of a type whose disks hold what isn't known, only the counts are promised.
+/// Of a disk of which it isn't known what it holds, only the counts are promised.
 pub trait Disk {
-    /// Whether it is known what the disks of this type hold.
-    ghost is_known: { Bool };
-
-    /// The content, and what a crash may leave.
-    ghost view: { Self → View };
-
-    /// How often it has failed, was read, and ran out of memory, each up to the end of a `u64`.
-    ghost counts: { Self → Counts };
+    /// What is known of a disk: its content, what a crash may leave, and how often it has failed, was read, and ran out of
+    /// memory.
+    ghost known: { Self → KnownDisk };
 
     /// The size of the file in bytes, at most [`DISK_MAX`].
     fn size(&mut self) -> Result<u64, DiskFault>
         ensures most { IfOk result (λ n. n ≤ DISK_MAX) }
-        ensures sized { IsTrue is_known → Sized result (view self.old) (view self.new) }
-        ensures cause { Counted (counts self.old) (counts self.new) result }
-        ensures reads { (counts self.new).reads ≡ (counts self.old).reads };
+        ensures sized { Sized result (known self.old) (known self.new) }
+        ensures cause { Counted (known self.old) (known self.new) result }
+        ensures reads { (known self.new).counts.reads ≡ (known self.old).counts.reads };
 
     /// Fills `into` with the bytes from the offset `at` on. After an error what `into` holds is not said. Each call counts as a
     /// read, also one that fails.
     fn read(&mut self, at: u64, into: &mut [u8]) -> Result<(), DiskFault>
         requires some { 0 < length into.old }
         requires few { length into.old ≤ READ_MAX }
-        requires within { IsTrue is_known → at + length into.old ≤ length (view self.old).content }
-        ensures filled { IsTrue is_known → Filled at into.new result (view self.old) (view self.new) }
-        ensures cause { Counted (counts self.old) (counts self.new) result }
-        ensures reads { (counts self.new).reads ≡ one_more (counts self.old).reads };
+        requires within { ReachesTo (at + length into.old) (known self.old) }
+        ensures filled { Filled at into.new result (known self.old) (known self.new) }
+        ensures cause { Counted (known self.old) (known self.new) result }
+        ensures reads { (known self.new).counts.reads ≡ one_more (known self.old).counts.reads };
 
     /// Writes these bytes from the offset `at` on, over those that are there and after the end. After `Failed` the content is
     /// not said: any part of the write may be there.
     fn write_at(&mut self, at: u64, bytes: &[u8]) -> Result<(), DiskFault>
-        requires within { IsTrue is_known → at ≤ length (view self.old).content }
+        requires within { ReachesTo at (known self.old) }
         requires most { at + length bytes.now ≤ DISK_MAX }
-        ensures wrote { IsTrue is_known → Wrote at bytes.now result (view self.old) (view self.new) }
-        ensures cause { Counted (counts self.old) (counts self.new) result }
-        ensures reads { (counts self.new).reads ≡ (counts self.old).reads };
+        ensures wrote { Wrote at bytes.now result (known self.old) (known self.new) }
+        ensures cause { Counted (known self.old) (known self.new) result }
+        ensures reads { (known self.new).counts.reads ≡ (known self.old).counts.reads };
 
     /// Drops the bytes after the first `size`. After `Failed` the content is not said.
     fn cut(&mut self, size: u64) -> Result<(), DiskFault>
-        requires { IsTrue is_known → size ≤ length (view self.old).content }
-        ensures was_cut { IsTrue is_known → WasCut size result (view self.old) (view self.new) }
-        ensures cause { Counted (counts self.old) (counts self.new) result }
-        ensures reads { (counts self.new).reads ≡ (counts self.old).reads };
+        requires { ReachesTo size (known self.old) }
+        ensures was_cut { WasCut size result (known self.old) (known self.new) }
+        ensures cause { Counted (known self.old) (known self.new) result }
+        ensures reads { (known self.new).counts.reads ≡ (known self.old).counts.reads };
 
     /// Waits until a crash leaves the content and nothing else. After an error the content is as it was, and a crash leaves
     /// nothing that it couldn't leave before.
     fn sync(&mut self) -> Result<(), DiskFault>
-        ensures synced { IsTrue is_known → Synced result (view self.old) (view self.new) }
-        ensures cause { Counted (counts self.old) (counts self.new) result }
-        ensures reads { (counts self.new).reads ≡ (counts self.old).reads };
+        ensures synced { Synced result (known self.old) (known self.new) }
+        ensures cause { Counted (known self.old) (known self.new) result }
+        ensures reads { (known self.new).counts.reads ≡ (known self.old).counts.reads };
 
     /// A crash now may leave the content.
-    ghost leaves_content: { (d : Self) → IsTrue is_known → (view d).images (view d).content };
+    ghost leaves_content: { (d : Self) → IsTrue (known d).known → (known d).view.images (known d).view.content };
 
     /// What a crash may have left since this moment, it may leave now.
-    ghost only_now: { (d : Self) (c : List ℕ) → IsTrue is_known
-        → (view d).since (view d).moment c → (view d).images c };
+    ghost only_now: { (d : Self) (c : List ℕ) → IsTrue (known d).known
+        → (known d).view.since (known d).view.moment c → (known d).view.images c };
 
     /// This moment is one of those since an earlier one.
-    ghost counts_now: { (d : Self) (t : ℕ) (c : List ℕ) → IsTrue is_known
-        → t ≤ (view d).moment → (view d).images c → (view d).since t c };
+    ghost counts_now: { (d : Self) (t : ℕ) (c : List ℕ) → IsTrue (known d).known
+        → t ≤ (known d).view.moment → (known d).view.images c → (known d).view.since t c };
 }

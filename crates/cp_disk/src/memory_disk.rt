@@ -1,14 +1,14 @@
 //! A disk in memory that fails at the calls that a list names, or after so many calls, and shows what a crash leaves.
 ghost use Rattle.std.specs.Prelude.{◌≡◌, ◌≤◌, ◌<◌, ◌+◌, [], length, None, Some, IfOk, IsErrOf};
 ghost use Rattle.cp_outside.specs.Causes.{one_more};
-ghost use Rattle.cp_disk.specs.Calls.{Sized, Filled, Wrote, WasCut, Synced};
+ghost use Rattle.cp_disk.specs.Calls.{ViewSized, ViewFilled, ViewWrote, ViewWasCut, ViewSynced};
 ghost use Rattle.cp_disk.specs.Counts.{Counted};
 ghost use Rattle.cp_disk.specs.Crashes.{LeavesImage};
 ghost use Rattle.cp_disk.specs.MemoryDisks.{
   new_mem,
   mem_file,
   mem_view,
-  mem_counts,
+  mem_disk,
   after_read,
   after_write,
   after_cut,
@@ -114,15 +114,10 @@ impl MemDisk {
 }
 
 impl Disk for MemDisk {
-    ghost use Rattle.std.specs.Prelude.{true};
     ghost use Rattle.cp_disk.specs.ImageLaws.{image-content, image-now, since-now};
-    ghost use Rattle.cp_disk.specs.MemoryDisks.{mem_view, mem_counts};
+    ghost use Rattle.cp_disk.specs.MemoryDisks.{mem_disk};
 
-    ghost is_known = { true };
-
-    ghost view = { mem_view };
-
-    ghost counts = { mem_counts };
+    ghost known = { mem_disk };
 
     ghost leaves_content = { λ s known. image-content s.disk.first s.disk.calls };
 
@@ -132,8 +127,8 @@ impl Disk for MemDisk {
 
     fn size(&mut self) -> Result<u64, DiskFault>
         ensures most { IfOk result (λ n. n ≤ DISK_MAX) }
-        ensures sized { Sized result (mem_view self.old) (mem_view self.new) }
-        ensures cause { Counted (mem_counts self.old) (mem_counts self.new) result }
+        ensures sized { ViewSized result (mem_view self.old) (mem_view self.new) }
+        ensures cause { Counted (mem_disk self.old) (mem_disk self.new) result }
         ensures reads { self.new.disk.reads ≡ self.old.disk.reads }
 
         // It takes no memory.
@@ -150,8 +145,8 @@ impl Disk for MemDisk {
         requires some { 0 < length into.old }
         requires few { length into.old ≤ READ_MAX }
         requires within { at + length into.old ≤ length (mem_file self.old).content }
-        ensures filled { Filled at into.new result (mem_view self.old) (mem_view self.new) }
-        ensures cause { Counted (mem_counts self.old) (mem_counts self.new) result }
+        ensures filled { ViewFilled at into.new result (mem_view self.old) (mem_view self.new) }
+        ensures cause { Counted (mem_disk self.old) (mem_disk self.new) result }
         ensures reads { self.new.disk.reads ≡ one_more self.old.disk.reads }
 
         // It takes no memory.
@@ -170,8 +165,8 @@ impl Disk for MemDisk {
     fn write_at(&mut self, at: u64, bytes: &[u8]) -> Result<(), DiskFault>
         requires within { at ≤ length (mem_file self.old).content }
         requires most { at + length bytes.now ≤ DISK_MAX }
-        ensures wrote { Wrote at bytes.now result (mem_view self.old) (mem_view self.new) }
-        ensures cause { Counted (mem_counts self.old) (mem_counts self.new) result }
+        ensures wrote { ViewWrote at bytes.now result (mem_view self.old) (mem_view self.new) }
+        ensures cause { Counted (mem_disk self.old) (mem_disk self.new) result }
         ensures reads { self.new.disk.reads ≡ self.old.disk.reads }
         ensures ends { Ends self.old self.new (λ s. s ≡ after_write self.old.disk at bytes.now) result }
     {
@@ -183,8 +178,8 @@ impl Disk for MemDisk {
 
     fn cut(&mut self, size: u64) -> Result<(), DiskFault>
         requires { size ≤ length (mem_file self.old).content }
-        ensures was_cut { WasCut size result (mem_view self.old) (mem_view self.new) }
-        ensures cause { Counted (mem_counts self.old) (mem_counts self.new) result }
+        ensures was_cut { ViewWasCut size result (mem_view self.old) (mem_view self.new) }
+        ensures cause { Counted (mem_disk self.old) (mem_disk self.new) result }
         ensures reads { self.new.disk.reads ≡ self.old.disk.reads }
         ensures ends { Ends self.old self.new (λ s. s ≡ after_cut self.old.disk size) result }
     {
@@ -195,8 +190,8 @@ impl Disk for MemDisk {
     }
 
     fn sync(&mut self) -> Result<(), DiskFault>
-        ensures synced { Synced result (mem_view self.old) (mem_view self.new) }
-        ensures cause { Counted (mem_counts self.old) (mem_counts self.new) result }
+        ensures synced { ViewSynced result (mem_view self.old) (mem_view self.new) }
+        ensures cause { Counted (mem_disk self.old) (mem_disk self.new) result }
         ensures reads { self.new.disk.reads ≡ self.old.disk.reads }
 
         // It takes no memory.

@@ -1,7 +1,7 @@
 //! A disk in memory that never fails.
 ghost use Rattle.std.specs.Prelude.{◌≡◌, ◌≤◌, ◌<◌, ◌+◌, length, take, drop, Ok, IsOk, IfOk, OnOk, IfErr, OnErr};
 ghost use Rattle.cp_outside.specs.Causes.{one_more};
-ghost use Rattle.cp_disk.specs.Calls.{Sized, Filled, Wrote, WasCut, Synced};
+ghost use Rattle.cp_disk.specs.Calls.{ViewSized, ViewFilled, ViewWrote, ViewWasCut, ViewSynced};
 ghost use Rattle.cp_disk.specs.Counts.{Counted};
 ghost use Rattle.cp_disk.specs.Crashes.{LeavesImage};
 ghost use Rattle.cp_disk.specs.Images.{Image};
@@ -9,7 +9,7 @@ ghost use Rattle.cp_disk.specs.MemoryDisks.{
   new_sure,
   sure_file,
   sure_view,
-  sure_counts,
+  sure_disk,
   after_write,
   after_cut,
   after_read,
@@ -95,7 +95,7 @@ impl SureDisk {
 
     // Notes that the content is durable.
     pub(crate) fn settle(&mut self)
-        ensures synced { Synced (Ok (tt {0})) (sure_view self.old) (sure_view self.new) }
+        ensures synced { ViewSynced (Ok (tt {0})) (sure_view self.old) (sure_view self.new) }
         ensures done { IsSynced self.old self.new }
     {
         note_sync(&mut self.log);
@@ -112,15 +112,10 @@ impl SureDisk {
 }
 
 impl Disk for SureDisk {
-    ghost use Rattle.std.specs.Prelude.{true};
     ghost use Rattle.cp_disk.specs.ImageLaws.{image-content, image-now, since-now};
-    ghost use Rattle.cp_disk.specs.MemoryDisks.{sure_view, sure_counts};
+    ghost use Rattle.cp_disk.specs.MemoryDisks.{sure_disk};
 
-    ghost is_known = { true };
-
-    ghost view = { sure_view };
-
-    ghost counts = { sure_counts };
+    ghost known = { sure_disk };
 
     ghost leaves_content = { λ s known. image-content s.first s.calls };
 
@@ -130,8 +125,8 @@ impl Disk for SureDisk {
 
     fn size(&mut self) -> Result<u64, DiskFault>
         ensures most { IfOk result (λ n. n ≤ DISK_MAX) }
-        ensures sized { Sized result (sure_view self.old) (sure_view self.new) }
-        ensures cause { Counted (sure_counts self.old) (sure_counts self.new) result }
+        ensures sized { ViewSized result (sure_view self.old) (sure_view self.new) }
+        ensures cause { Counted (sure_disk self.old) (sure_disk self.new) result }
         ensures reads { self.new.reads ≡ self.old.reads }
 
         // It always answers, and nothing changes.
@@ -145,8 +140,8 @@ impl Disk for SureDisk {
         requires some { 0 < length into.old }
         requires few { length into.old ≤ READ_MAX }
         requires within { at + length into.old ≤ length (sure_file self.old).content }
-        ensures filled { Filled at into.new result (sure_view self.old) (sure_view self.new) }
-        ensures cause { Counted (sure_counts self.old) (sure_counts self.new) result }
+        ensures filled { ViewFilled at into.new result (sure_view self.old) (sure_view self.new) }
+        ensures cause { Counted (sure_disk self.old) (sure_disk self.new) result }
         ensures reads { self.new.reads ≡ one_more self.old.reads }
 
         // It always answers, and nothing changes but the count.
@@ -162,8 +157,8 @@ impl Disk for SureDisk {
     fn write_at(&mut self, at: u64, bytes: &[u8]) -> Result<(), DiskFault>
         requires within { at ≤ length (sure_file self.old).content }
         requires most { at + length bytes.now ≤ DISK_MAX }
-        ensures wrote { Wrote at bytes.now result (sure_view self.old) (sure_view self.new) }
-        ensures cause { Counted (sure_counts self.old) (sure_counts self.new) result }
+        ensures wrote { ViewWrote at bytes.now result (sure_view self.old) (sure_view self.new) }
+        ensures cause { Counted (sure_disk self.old) (sure_disk self.new) result }
         ensures reads { self.new.reads ≡ self.old.reads }
 
         // It never fails, and is done where there is memory.
@@ -180,8 +175,8 @@ impl Disk for SureDisk {
 
     fn cut(&mut self, size: u64) -> Result<(), DiskFault>
         requires { size ≤ length (sure_file self.old).content }
-        ensures was_cut { WasCut size result (sure_view self.old) (sure_view self.new) }
-        ensures cause { Counted (sure_counts self.old) (sure_counts self.new) result }
+        ensures was_cut { ViewWasCut size result (sure_view self.old) (sure_view self.new) }
+        ensures cause { Counted (sure_disk self.old) (sure_disk self.new) result }
         ensures reads { self.new.reads ≡ self.old.reads }
 
         // It never fails, and is done where there is memory.
@@ -198,8 +193,8 @@ impl Disk for SureDisk {
     }
 
     fn sync(&mut self) -> Result<(), DiskFault>
-        ensures synced { Synced result (sure_view self.old) (sure_view self.new) }
-        ensures cause { Counted (sure_counts self.old) (sure_counts self.new) result }
+        ensures synced { ViewSynced result (sure_view self.old) (sure_view self.new) }
+        ensures cause { Counted (sure_disk self.old) (sure_disk self.new) result }
         ensures reads { self.new.reads ≡ self.old.reads }
 
         // It always answers.

@@ -1,6 +1,7 @@
 -- The end of a transaction.
 use Rattle.cp_model.specs.declared.limits.TheConstants.{ENTRY_MAX}
-use Rattle.std.specs.Prelude.{ℕ, ◌+◌, ◌≤◌, ◌<◌, ◌≡◌, ◌⊎◌, List, length, Ok, Err, refl}
+use Rattle.std.specs.Prelude.{ℕ, ◌+◌, ◌≤◌, ◌<◌, ◌≡◌, ◌⊎◌, List, length, Result, Ok, Err, IfErr, IsErr}
+use Rattle.std.specs.Result.{IsErrAnd}
 use Rattle.std.proofs.Common.{sym, ap, subst, ◌∙◌, arith, inl, inr}
 use Rattle.std.specs.declared.option.Option.TheVariants.{Some}
 use Rattle.cp_model.specs.Tree.{Tree, Source}
@@ -19,6 +20,7 @@ use Rattle.cp_overlay.specs.Kept as overlay
 use Rattle.cp_engine.specs.declared.kept.StepRecords.{StepRecords}
 use Rattle.cp_engine.specs.declared.kept.StepRecords.TheVariants.{Held}
 use Rattle.cp_engine.specs.declared.state.Failure.{Failure}
+use Rattle.cp_engine.specs.declared.txn.Step.{Step}
 use Rattle.cp_engine.specs.declared.txn.Txn.{Txn}
 use Rattle.cp_engine.specs.declared.fault.FinishFault.{FinishFault}
 use Rattle.cp_engine.specs.declared.fault.FinishFault.TheVariants.{Empty, Failed, TooLarge, Memory}
@@ -34,16 +36,6 @@ module _ (k : Kind) (rows : StepRecords) (o : Kept) (a t : Tree) (n : ℕ) where
   pub packs-net : (rs : List Record) → ((k ≡ kind.T) ⊎ (k ≡ kind.HT)) → ((w : Working) → overlay.IsWorking w → overlay.Stands o a w → contents w ≡ t → rs ≡ with_tid n (rows_of k a w)) → Packs k rows o a t n rs
   packs-net rs (inl e) h = subst (λ k. Packs k rows o a t n rs) (sym e) (λ w i s c. h w i s c ∙ ap (λ k. with_tid n (rows_of k a w)) e)
   packs-net rs (inr e) h = subst (λ k. Packs k rows o a t n rs) (sym e) (λ w i s c. h w i s c ∙ ap (λ k. with_tid n (rows_of k a w)) e)
-
-  -- what is packed is within the limit
-  pub packed-within : (ops : List Op) (limit : ℕ) (qs rs : List Record) → Packs k rows o a t n qs → (rs ≡ qs) × (commit_length ops qs ≤ limit) → Packs k rows o a t n rs × (commit_length ops rs ≤ limit)
-  packed-within ops limit qs rs p q = subst (λ rs. Packs k rows o a t n rs × (commit_length ops rs ≤ limit)) (sym q.0) (p, q.1)
-
-  -- or over it, where memory doesn't run out
-  pub packed-over : (ops : List Op) (limit : ℕ) (qs : List Record) (e : FinishFault) → Packs k rows o a t n qs → ((e ≡ Memory) ⊎ ((e ≡ TooLarge) × (limit < commit_length ops qs))) →
-      PacksNothing k rows e ⊎ ((e ≡ TooLarge) × (rs : List Record) × Packs k rows o a t n rs × (limit < commit_length ops rs))
-  packed-over ops limit qs e p (inl m) = inl (subst (PacksNothing k rows) (sym m) tt)
-  packed-over ops limit qs e p (inr z) = inr (z.0, qs, p, z.1)
 
 -- what is packed of a transaction that hasn't failed and holds some operations, with the bytes of the commit
 pub record IsPacked {R : Type 0} (view : R → Tree) (x : Txn R) (tid size : ℕ) (rs : List Record) : Type 0 where
@@ -105,12 +97,12 @@ module _ {R : Type 0} (view : R → Tree) (x : Txn R) (tid size : ℕ) (rs : Lis
       }
   finishes-step (failed j c) limit l g = h.sound _ g.failure
 
-module _ {R : Type 0} (view : R → Tree) (x : Txn R) (tid : ℕ) (sound : (f : Failure) → x.failure ≡ Some f → ⊥) (some : 1 ≤ length x.ops) (first : tid ≡ x.first + 0) (k : Kind) (ss : List Source) (t : Tree) (n : ℕ) where
-  -- it makes nothing where nothing is packed, or what is packed is over the limit
-  pub finishes-not : (e : FinishFault) (p : Progress) (limit : ℕ) → limit ≤ ENTRY_MAX →
-      (PacksNothing x.kind x.rows e ⊎ ((e ≡ TooLarge) × (rs : List Record) × Packs x.kind x.rows (seen x.overlay) (view x.start) (view x.tree) tid rs × (limit < commit_length x.ops rs))) →
-      Stands view x k ss t n p → Finishes view k ss t n p limit (Err e)
-  finishes-not e p limit l (inl u) h = finishes-unpacked view x k ss t n e (record { sound = sound; some = some; nothing = u }) p limit l h
-  finishes-not e p limit l (inr z) h =
-      let packed : IsPacked view x tid (commit_length x.ops z.1) z.1 = record { sound = sound; some = some; first = first; packs = z.2; bytes = refl } in
-      subst (λ e. Finishes view k ss t n p limit (Err e)) (sym z.0) (finishes-large view x tid (commit_length x.ops z.1) z.1 packed k ss t n p limit z.3 h)
+-- the step of a transaction whose records were taken out is that of the transaction
+pub step-taken : {R : Type 0} (x y : Txn R) (rs : List Record) → y ≡ record x { rows = y.rows } →
+    ◌≡◌ {A = Step R} (record { ops = y.ops; tree = y.tree; rows = rs; tids = length (steps_of y.kind y.ops) }) (record { ops = x.ops; tree = x.tree; rows = rs; tids = length (steps_of x.kind x.ops) })
+step-taken {R} x y rs e = ap (λ (z : Txn R). record { ops = z.ops; tree = z.tree; rows = rs; tids = length (steps_of z.kind z.ops) }) e
+
+-- an error that is passed on is that error
+pub passed-on : {T E : Type 0} (Q : E → Type 0) (result : Result T E) (e : E) → IsErr result × IsErrAnd result (λ f. f ≡ e) → Q e → IfErr result Q
+passed-on Q (Ok x) e h q = tt
+passed-on Q (Err f) e h q = subst Q (sym h.1) q

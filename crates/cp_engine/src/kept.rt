@@ -1,5 +1,5 @@
 //! What is kept of the records of a transaction's steps.
-ghost use Rattle.std.specs.Prelude.{◌≡◌, [], List, OnOk, OnErr};
+ghost use Rattle.std.specs.Prelude.{◌≡◌, [], List, OnOk, OnErr, IfSome, IfNone};
 ghost use Rattle.std.specs.declared.option.Option.TheVariants.{None};
 ghost use Rattle.cp_model.specs.History.{IsWritten, with_tid};
 ghost use Rattle.cp_model.specs.Tree.{refusal, tree_after};
@@ -7,13 +7,14 @@ ghost use Rattle.cp_model.specs.declared.record.Record.{Record};
 ghost use Rattle.cp_engine.specs.Held.{AreKept, AreKeptBehind};
 ghost use Rattle.cp_operation.specs.Loaded.{sources_in};
 ghost use Rattle.cp_operation.specs.RowsAlone.{op_rows, top_rows};
-ghost use Rattle.cp_engine.specs.declared.kept.StepRecords.TheVariants.{Held};
+ghost use Rattle.cp_engine.specs.declared.kept.StepRecords.TheVariants.{Held, GivenUp};
 
 use cp_model::{ENTRY_MAX, Op};
 use cp_operation::{Sources, change_tree, record_op, record_top};
 use cp_record::PackedRecords;
 use cp_tree::TreeRep;
 use std::alloc::{AllocError, Global};
+use std::mem;
 
 /// The records of the steps that are done, as long as an entry can hold them. So between two steps these are no more bytes than
 /// an entry may have; while a step is done, its own come to them.
@@ -30,6 +31,17 @@ impl StepRecords {
         ensures { AreKept result [] }
     {
         StepRecords::Held(PackedRecords::new(alloc))
+    }
+
+    /// Takes out the records that are held, unless they were given up.
+    pub(crate) fn take(&mut self) -> Option<PackedRecords>
+        ensures held { IfSome result (λ rs. self.old ≡ Held rs) }
+        ensures given_up { IfNone result (self.old ≡ GivenUp) }
+    {
+        match mem::replace(self, StepRecords::GivenUp) {
+            StepRecords::Held(held) => Some(held),
+            StepRecords::GivenUp => None,
+        }
     }
 
     /// Gives up the records that are held, if they take more bytes than an entry may have.

@@ -12,7 +12,7 @@ ghost use Rattle.cp_engine.specs.Recording.{RecordsWith, RecordsAs};
 ghost use Rattle.cp_operation.specs.RowsAlone.{rows_in};
 
 use crate::follow::follow;
-use cp_model::{Kind, OPS_MAX, Op, RecordList};
+use cp_model::{Kind, OPS_MAX, Op};
 use cp_operation::{Sources, change_tree, check, record_op, record_top};
 use cp_overlay::Overlay;
 use cp_record::PackedRecords;
@@ -30,20 +30,16 @@ pub fn replay_recording<R: TreeRep, S: TreeRep>(
     tree: &mut R,
     sources: &Sources<S>,
     ops: &[Op],
-) -> Result<Option<RecordList>, AllocError>
+) -> Result<Option<PackedRecords>, AllocError>
     requires first { first ≤ 2 ^ 63 }
     requires few { length ops.now ≤ OPS_MAX }
     requires written { AreWritten ops.now }
     requires sources { AreSources (sources_in S.contents sources.now) }
     ensures recorded { IfOk result (RecordsAs (sources_in S.contents sources.now) (R.contents tree.old) (R.contents tree.new) kind first ops.now) }
 {
-    let rows = match kind {
-        Kind::N | Kind::H => record_each(alloc, kind, first, tree, sources, ops)?,
-        Kind::T | Kind::HT => record_whole(alloc, kind, first, tree, sources, ops)?,
-    };
-    match rows {
-        Some(rows) => Ok(Some(rows.records(alloc)?)),
-        None => Ok(None),
+    match kind {
+        Kind::N | Kind::H => record_each(alloc, kind, first, tree, sources, ops),
+        Kind::T | Kind::HT => record_whole(alloc, kind, first, tree, sources, ops),
     }
 }
 

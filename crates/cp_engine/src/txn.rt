@@ -20,7 +20,7 @@ use crate::follow::follow_op;
 use crate::held::{FirstTid, HeldOps};
 use crate::kept::{StepRecords, keep_op, keep_top};
 use crate::state::{Failure, TxnState};
-use cp_model::{Cause, ENTRY_MAX, Kind, OPS_MAX, Op, OpList, RecordList, Refusal};
+use cp_model::{Cause, ENTRY_MAX, Kind, OPS_MAX, Op, OpList, Refusal};
 use cp_operation::{Sources, check, copy_op};
 use cp_overlay::Overlay;
 use cp_record::PackedRecords;
@@ -49,7 +49,7 @@ pub struct Txn<R: TreeRep> {
 pub struct Step<R: TreeRep> {
     pub ops: OpList,
     pub tree: R,
-    pub rows: RecordList,
+    pub rows: PackedRecords,
     pub tids: u64,
 }
 
@@ -203,9 +203,9 @@ impl<R: TreeRep> Txn<R> {
     }
 
     /// Ends the transaction with what it makes, whose bytes in a commit are at most `limit`. The transaction is given up
-    /// where it makes nothing. Costs the bytes of its records, if they are still kept; in the kinds t and ht also what
-    /// the overlay's net effect costs.
-    pub fn finish(self, alloc: Global, limit: u64) -> Result<Step<R>, FinishFault>
+    /// where it makes nothing. Costs the places of its operations; in the kinds t and ht also what the overlay's net effect
+    /// costs.
+    pub fn finish(mut self, alloc: Global, limit: u64) -> Result<Step<R>, FinishFault>
         requires within { limit ≤ ENTRY_MAX }
         ensures { (k : KindValue) (ss : List Source) (t : Tree) (n : ℕ) (p : Progress) → Stands R.contents self k ss t n p → Finishes R.contents k ss t n p limit result }
     {
@@ -218,13 +218,14 @@ impl<R: TreeRep> Txn<R> {
         }
     }
 
-    /// The records of the step that the transaction makes, if it makes one, whose bytes in a commit are at most `limit`.
-    fn packed(&self, alloc: Global, limit: u64) -> Result<RecordList, FinishFault>
+    /// Takes out the records of the step that the transaction makes, if it makes one, whose bytes in a commit are at most `limit`.
+    fn packed(&mut self, alloc: Global, limit: u64) -> Result<PackedRecords, FinishFault>
         requires within { limit ≤ ENTRY_MAX }
-        ensures step { (k : KindValue) (ss : List Source) (t : Tree) (n : ℕ) (p : Progress) → Stands R.contents self.now k ss t n p
-            → IfOk result (λ rs. Finishes R.contents k ss t n p limit (Ok (record { ops = self.now.ops; tree = self.now.tree; rows = rs; tids = length (steps_of self.now.kind self.now.ops) }))) }
-        ensures nothing { (k : KindValue) (ss : List Source) (t : Tree) (n : ℕ) (p : Progress) → Stands R.contents self.now k ss t n p
+        ensures step { (k : KindValue) (ss : List Source) (t : Tree) (n : ℕ) (p : Progress) → Stands R.contents self.old k ss t n p
+            → IfOk result (λ rs. Finishes R.contents k ss t n p limit (Ok (record { ops = self.old.ops; tree = self.old.tree; rows = rs; tids = length (steps_of self.old.kind self.old.ops) }))) }
+        ensures nothing { (k : KindValue) (ss : List Source) (t : Tree) (n : ℕ) (p : Progress) → Stands R.contents self.old k ss t n p
             → IfErr result (λ e. Finishes R.contents k ss t n p limit (Err e)) }
+        ensures rest { self.new ≡ record self.old { rows = self.new.rows } }
     {
         if let Some(failure) = self.failure {
             return Err(FinishFault::Failed(failure.number, failure.cause));
@@ -233,33 +234,33 @@ impl<R: TreeRep> Txn<R> {
             return Err(FinishFault::Empty);
         }
         let first = self.first.after(0);
-        self.pack(alloc, first, limit)
+        let rows = self.take_rows(alloc, first)?;
+        within(&self.ops, rows, limit)
     }
 
-    /// The records of a commit, whose first step has the Tid `first`: those of the steps, unless they were given up, or those
-    /// of the overlay's net effect between the two trees.
-    fn pack(&self, alloc: Global, first: u64, limit: u64) -> Result<RecordList, FinishFault>
-        ensures packed { IfOk result (λ rs. Packs self.now.kind self.now.rows (seen self.now.overlay) (R.contents self.now.start) (R.contents self.now.tree) first rs
-            × (commit_length self.now.ops rs ≤ limit)) }
-        ensures nothing { IfErr result (λ e. PacksNothing self.now.kind self.now.rows e ⊎ ((e ≡ TooLarge) × (rs : List Record)
-            × Packs self.now.kind self.now.rows (seen self.now.overlay) (R.contents self.now.start) (R.contents self.now.tree) first rs × (limit < commit_length self.now.ops rs))) }
+    /// Takes out the records of a commit, whose first step has the Tid `first`: those of the steps, unless they were given up, or
+    /// those of the overlay's net effect between the two trees.
+    fn take_rows(&mut self, alloc: Global, first: u64) -> Result<PackedRecords, FinishFault>
+        ensures packed { IfOk result (λ rs. Packs self.old.kind self.old.rows (seen self.old.overlay) (R.contents self.old.start) (R.contents self.old.tree) first rs) }
+        ensures nothing { IfErr result (PacksNothing self.old.kind self.old.rows) }
+        ensures rest { self.new ≡ record self.old { rows = self.new.rows } }
     {
         match self.kind {
-            Kind::N | Kind::H => match &self.rows {
-                StepRecords::Held(held) => records_within(alloc, &self.ops, held, limit),
-                StepRecords::GivenUp => Err(FinishFault::TooLarge),
+            Kind::N | Kind::H => match self.rows.take() {
+                Some(held) => Ok(held),
+                None => Err(FinishFault::TooLarge),
             },
             Kind::T | Kind::HT => {
                 let net = self
                     .overlay
                     .net(alloc, &self.start, &self.tree, self.kind, first)?;
-                records_within(alloc, &self.ops, &net, limit)
+                Ok(net)
             }
         }
     }
 
     /// What the transaction makes, with these records.
-    fn into_step(self, rows: RecordList) -> Step<R>
+    fn into_step(self, rows: PackedRecords) -> Step<R>
         ensures { result ≡ record { ops = self.ops; tree = self.tree; rows = rows; tids = length (steps_of self.kind self.ops) } }
     {
         let tids = steps_of(self.kind, self.ops.len());
@@ -293,20 +294,15 @@ impl<R: TreeRep> Txn<R> {
     }
 }
 
-/// The records that are packed, if their commit with these operations has at most `limit` bytes. Costs the places of both.
-fn records_within(
-    alloc: Global,
-    ops: &HeldOps,
-    rows: &PackedRecords,
-    limit: u64,
-) -> Result<RecordList, FinishFault>
-    ensures within { IfOk result (λ rs. (rs ≡ rows.now) × (commit_length ops.now rows.now ≤ limit)) }
-    ensures over { IfErr result (λ e. (e ≡ Memory) ⊎ ((e ≡ TooLarge) × (limit < commit_length ops.now rows.now))) }
+/// The records, if their commit with these operations has at most `limit` bytes. Costs the places of the operations.
+fn within(ops: &HeldOps, rows: PackedRecords, limit: u64) -> Result<PackedRecords, FinishFault>
+    ensures within { IfOk result (λ rs. (rs ≡ rows) × (commit_length ops.now rows ≤ limit)) }
+    ensures over { IfErr result (λ e. (e ≡ TooLarge) × (limit < commit_length ops.now rows)) }
 {
-    if commit_length(ops, rows) > limit {
+    if commit_length(ops, &rows) > limit {
         return Err(FinishFault::TooLarge);
     }
-    Ok(rows.records(alloc)?)
+    Ok(rows)
 }
 
 /// The bytes of the commit. Costs the places of its operations.

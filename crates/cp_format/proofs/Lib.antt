@@ -1,5 +1,6 @@
 pub mod Checks
 pub mod Formats
+pub mod Standing
 pub mod Checked
 pub mod Counted
 pub mod Faults

@@ -1,6 +1,6 @@
 -- Sources and records as formats one after another.
 use Rattle.std.proofs.Common.{◌≡◌, ℕ, ◌-◌, true, false, is_some, IfSome, List, ◌++◌, Option, None, Some, refl, sym, ap, ◌∙◌, subst, arith}
-use Rattle.cp_path.specs.Place.{Path, over_limit, target}
+use Rattle.cp_path.specs.Place.{Path, over_limit}
 use Rattle.cp_path.specs.declared.limits.TheConstants.{LOC_MAX}
 use Rattle.cp_path.specs.declared.loc.Loc.{Loc}
 use Rattle.cp_model.specs.Place.{at_target}
@@ -11,11 +11,12 @@ use Rattle.cp_record.specs.Bytes.{source_bytes, record_bytes}
 use Rattle.cp_record.specs.Kept.{IsPlace, IsSourceOf, is_copy}
 use Rattle.cp_format.specs.declared.fault.FormatFault.{FormatFault}
 use Rattle.cp_format.specs.Faults.{FaultAt}
-use Rattle.cp_format.specs.Formats.{Format, ReadsAt}
+use Rattle.cp_format.specs.Formats.{Format, ReadsAt, StandsAt}
 use Rattle.cp_format.specs.Parts.{number_format, letter_format, path_format, place_format, source_format, record_format}
 use Rattle.cp_format.proofs.Faults.{fault_alike, fault_first, fault_second}
 use Rattle.cp_format.proofs.Formats.{HasSome, IsPlain, Alike, both, has_both, has_alike, plain_both, plain_alike, reads_alike_at, reads_both_at}
 use Rattle.cp_format.proofs.Leaves.{has_number, has_letter, plain_number, plain_letter}
+use Rattle.cp_format.proofs.Standing.{stands_alike}
 use Rattle.cp_format.proofs.Labels.{has_path, plain_path, has_place, plain_place, within_limits, is_within}
 
 -- ---- sources
@@ -33,6 +34,9 @@ alike_copy = record {
 
 pub copy_fault : (o : RecOp) (bytes : List ℕ) (at : ℕ) (e : FormatFault) → o ≡ op.C → FaultAt place_format bytes at e → FaultAt (source_format o) bytes at e
 copy_fault o bytes at e same f = subst (λ p. FaultAt (source_format p) bytes at e) (sym same) (fault_alike place_format (source_format op.C) (λ q. Some q) alike_copy bytes at e f)
+
+pub copy_stands : (o : RecOp) (bytes : List ℕ) (at next : ℕ) → o ≡ op.C → StandsAt place_format bytes at next → StandsAt (source_format o) bytes at next
+copy_stands o bytes at next same s = subst (λ p. StandsAt (source_format p) bytes at next) (sym same) (stands_alike place_format (source_format op.C) (λ q. Some q) alike_copy bytes at next s)
 
 no_source : (o : RecOp) (s : Option Loc) → is_copy o ≡ false → IsSourceOf o s → s ≡ None
 no_source o None e f = refl
@@ -152,7 +156,3 @@ module _ (bytes : List ℕ) (at : ℕ) where
             let letter = reads_both_at letter_format behind_letter bytes after behind next o (p, q) s path in
             let number = reads_both_at number_format behind_number bytes at after next t (o, (p, q)) r letter in
             reads_alike_at parts_format record_format record_of alike_record bytes at (t, (o, (p, q))) next number
-
-        -- the same with the name as it was made
-        pub named_read : (db : List ℕ) (q : Option Loc) (next : ℕ) → db ≡ target → ReadsAt (source_format o) bytes below q next → ReadsAt record_format bytes at (record { tid = t; op = o; loc = record { db = db; path = p }; src = q }) next
-        named_read db q next e v = subst (λ d. ReadsAt record_format bytes at (record { tid = t; op = o; loc = record { db = d; path = p }; src = q }) next) (sym e) (record_read q next v)

@@ -56,6 +56,11 @@ pub record ReadsAt {X : Type 0} (F : Format X) (bytes : List ℕ) (at : ℕ) (x 
   pub count : next ≡ at + length (F.bytes x)
   pub within : next ≤ length bytes
 
+-- at the offset stands a spelling, and next is the offset behind it
+pub record StandsAt {X : Type 0} (F : Format X) (bytes : List ℕ) (at next : ℕ) : Type 0 where
+  pub value : X
+  pub reads : ReadsAt F bytes at value next
+
 -- from the offset on the spelling stops at the offset n
 pub record FailsAt {X : Type 0} (F : Format X) (bytes : List ℕ) (at n : ℕ) : Type 0 where
   pub past : at ≤ n

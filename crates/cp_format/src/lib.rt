@@ -20,18 +20,18 @@ mod text;
 mod writing;
 
 pub use content::take_content;
-pub use cp_model::{Content, Op, RecOp, Record};
+pub use cp_model::{Content, Op};
+pub use cp_record::PackedRecord;
 pub use fault::FormatFault;
 pub use operation::put_short;
 pub use reading::take;
 pub use stated::laws;
-pub use writing::put;
 
 // ---- The parts of which entries are made
 pub use content::{put_leaf, put_node};
 pub use name::name_at;
-pub use number::{bounded_at, count_at, number_at};
+pub use number::{bounded_at, count_at, letter_at, number_at};
 pub use operation::{short_behind, target_at};
-pub use place::label_at;
+pub use place::{label_at, place_at};
 pub use reading::record_at;
-pub use writing::{put_counted, put_path};
+pub use writing::{put_counted, put_path, put_place};

@@ -79,6 +79,17 @@ fn name_of(alloc: Global, text: &str) -> Result<Name, AllocError>
     }
 }
 
+/// The text of the name in the next bytes, behind its length in one byte, and the offset after it. Costs its bytes.
+pub(crate) fn name_text_behind(bytes: &[u8], at: usize) -> Result<(&str, usize), FormatFault>
+    requires { at ≤ length bytes.now }
+    ensures read { IfOk result (λ x. ReadsAt name_format bytes.now at x.0.now x.1) }
+    ensures fault { IfErr result (FaultAt name_format bytes.now at) }
+{
+    let (count, at) = count_at(bytes, at, 1, NAME_MAX)?;
+    let text = name_text_at(bytes, at, count)?;
+    Ok((text, at + count))
+}
+
 /// The name in the next bytes, behind its length in one byte, and the offset after it. The fault is the first byte with
 /// which no name goes on, or want of memory. Costs its bytes.
 pub fn name_at(alloc: Global, bytes: &[u8], at: usize) -> Result<(Name, usize), FormatFault>
@@ -86,8 +97,7 @@ pub fn name_at(alloc: Global, bytes: &[u8], at: usize) -> Result<(Name, usize), 
     ensures read { IfOk result (λ x. ReadsAt name_format bytes.now at x.0 x.1) }
     ensures fault { IfErr result (FaultAt name_format bytes.now at) }
 {
-    let (count, at) = count_at(bytes, at, 1, NAME_MAX)?;
-    let text = name_text_at(bytes, at, count)?;
+    let (text, end) = name_text_behind(bytes, at)?;
     let name = name_of(alloc, text)?;
-    Ok((name, at + count))
+    Ok((name, end))
 }

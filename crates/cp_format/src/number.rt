@@ -20,8 +20,9 @@ pub fn number_at(bytes: &[u8], at: usize) -> Result<(u64, usize), FormatFault>
     }
 }
 
-/// The operation of the next byte.
-pub(crate) fn letter_at(bytes: &[u8], at: usize) -> Result<(RecOp, usize), FormatFault>
+/// The operation whose letter the next byte is, and the offset after it. The fault is a byte that is no such letter, or the
+/// end of the bytes.
+pub fn letter_at(bytes: &[u8], at: usize) -> Result<(RecOp, usize), FormatFault>
     requires { at ≤ length bytes.now }
     ensures read { IfOk result (λ x. ReadsAt letter_format bytes.now at x.0 x.1) }
     ensures fault { IfErr result (FaultAt letter_format bytes.now at) }

@@ -11,18 +11,6 @@ use cp_model::{RecOp, Record};
 use cp_path::{LABEL_MAX, Label, Loc, Path};
 use std::alloc::AllocError;
 
-/// The letter of a record in ASCII.
-fn letter(op: RecOp) -> u8
-    ensures { result ≡ letter op }
-{
-    match op {
-        RecOp::I => b'I',
-        RecOp::C => b'C',
-        RecOp::D => b'D',
-        RecOp::K => b'K',
-    }
-}
-
 /// Appends bytes behind their number. Costs them. After an error `out` begins with what it held.
 pub fn put_counted(bytes: &[u8], out: &mut Vec<u8>) -> Result<(), AllocError>
     requires { length bytes.now ≤ LABEL_MAX }
@@ -57,38 +45,12 @@ pub fn put_path(path: &Path, out: &mut Vec<u8>) -> Result<(), AllocError>
     put_labels(labels, out)
 }
 
-/// Writes the name and the path.
-pub(crate) fn put_place(place: &Loc, out: &mut Vec<u8>) -> Result<(), AllocError>
+/// Appends the name and the path of a place. Costs its bytes. After an error `out` begins with what it held.
+pub fn put_place(place: &Loc, out: &mut Vec<u8>) -> Result<(), AllocError>
     ensures ok { OnOk result (out.new.items ≡ out.old.items ++ place_bytes place.now) }
     ensures place { OnOk result (IsPlace place.now) }
     ensures err { Grew out.old.items out.new.items }
 {
     put_counted(place.db.as_str().as_bytes(), out)?;
     put_path(&place.path, out)
-}
-
-/// Writes the place that a copy came from.
-fn put_source(source: Option<&Loc>, out: &mut Vec<u8>) -> Result<(), AllocError>
-    ensures ok { OnOk result (out.new.items ≡ out.old.items ++ source_bytes (option_map (λ q. q.now) source.entry)) }
-    ensures place { OnOk result (IfSome (option_map (λ q. q.now) source.entry) IsPlace) }
-    ensures err { Grew out.old.items out.new.items }
-{
-    match source {
-        None => Ok(()),
-        Some(place) => put_place(place, out),
-    }
-}
-
-/// Appends the bytes of a record. Costs them. After an error `out` begins with what it held.
-pub fn put(record: &Record, out: &mut Vec<u8>) -> Result<(), AllocError>
-    requires target { in_target «record».now.loc ≡ true }
-    requires source { is_some «record».now.src ≡ is_copy «record».now.op }
-    ensures ok { OnOk result (out.new.items ≡ out.old.items ++ record_bytes «record».now) }
-    ensures kept { OnOk result (IsPackable «record».now) }
-    ensures err { OnErr result (Grew out.old.items out.new.items) }
-{
-    out.extend_from_slice(&record.tid.to_be_bytes())?;
-    out.push(letter(record.op))?;
-    put_path(&record.loc.path, out)?;
-    put_source(record.src.as_ref(), out)
 }

@@ -1,10 +1,10 @@
 -- Records in order, each judged by the one before it.
-use Rattle.std.proofs.Common.{◌≡◌, ℕ, zero, suc, ◌+◌, ◌-◌, ◌<◌, ◌≤◌, false, List, [], ◌∷◌, ◌++◌, Option, None, Some, refl, sym, ap, ◌∙◌, subst, length, length-append, slice_get, arith}
+use Rattle.std.proofs.Common.{◌≡◌, ℕ, zero, suc, ◌+◌, ◌-◌, ◌<◌, ◌≤◌, false, List, [], ◌∷◌, ◌++◌, Option, None, Some, refl, sym, ap, ◌∙◌, subst, append_assoc, length, length-append, slice_get, arith}
 use Rattle.std.specs.Int.{to_be_bytes, w32, w64}
 use Rattle.std.specs.List.{flat_map, AllByRecursion}
 use Rattle.cp_path.specs.Encoding.{path_bytes}
 use Rattle.cp_model.specs.declared.record.Record.{Record}
-use Rattle.cp_record.specs.Bytes.{letter, record_bytes, source_bytes}
+use Rattle.cp_record.specs.Bytes.{letter, record_bytes, records_bytes, source_bytes}
 use Rattle.cp_model.specs.Changes.{goes_before}
 use Rattle.cp_format.specs.declared.fault.FormatFault.{FormatFault}
 use Rattle.cp_format.specs.Faults.{FaultAt}
@@ -18,7 +18,7 @@ use Rattle.cp_format.proofs.Faults.{fault_alike, fault_by, fault_first, fault_se
 use Rattle.cp_format.proofs.Formats.{Alike, HasSome, IsPlain, both, has_alike, has_both, plain_alike, plain_both, reads_alike_at, reads_both_at}
 use Rattle.cp_format.proofs.Numbers.{has_bounded, plain_bounded}
 use Rattle.cp_format.proofs.Records.{has_record, plain_record}
-use Rattle.cp_frame.specs.Entries.{follows, records_format_of}
+use Rattle.cp_frame.specs.Entries.{counted_records, follows, records_format_of}
 use Rattle.cp_frame.specs.EntryReading.{counted_records_format, next_record_format}
 
 -- ---- one record
@@ -111,7 +111,7 @@ last_at [] r (suc n) e = absurd (omega (arith, e))
 last_at (q ∷ rs) r zero e = absurd (omega (arith, e))
 last_at (q ∷ rs) r (suc n) e = last_at rs r n (omega (arith, e))
 
-last_added : (rs : List Record) (r : Record) → last_record (rs ++ r ∷ []) ≡ Some r
+pub last_added : (rs : List Record) (r : Record) → last_record (rs ++ r ∷ []) ≡ Some r
 last_added rs r = last_at rs r (length (rs ++ r ∷ []) - 1) (omega (arith, length-append rs (r ∷ [])))
 
 -- the first so many records are read
@@ -183,3 +183,12 @@ module _ (bytes : List ℕ) (at : ℕ) where
     counted_records_read rs next s =
         reads_alike_at (both (bounded_format 0 records_most) none_before) counted_records_format (λ z. z.1) alike_records bytes at (count, rs) next
         (reads_both_at (bounded_format 0 records_most) none_before bytes at mid next count rs r s)
+
+-- ---- their bytes
+
+-- the number and the bytes of records were appended
+pub records_put : (old mid new bytes : List ℕ) (n : ℕ) (rs : List Record) → n ≡ length rs → mid ≡ old ++ to_be_bytes w32 n → bytes ≡ records_bytes rs → new ≡ mid ++ bytes → new ≡ old ++ counted_records rs
+unfolding records_bytes
+records_put old mid new bytes n rs e f b g =
+    g ∙ ap (λ (l : List ℕ). mid ++ l) b ∙ ap (λ (l : List ℕ). l ++ flat_map record_bytes rs) f ∙ append_assoc old (to_be_bytes w32 n) (flat_map record_bytes rs)
+    ∙ ap (λ (k : ℕ). old ++ (to_be_bytes w32 k ++ flat_map record_bytes rs)) e

@@ -164,10 +164,3 @@ IsEntry (entry.Load n l) (load m t) = (m ≡ n) × (rows_of t ≡ literal_rows l
 IsEntry (entry.Commit os rs) (commit b) = IsBatchOf b os rs
 IsEntry (entry.Stamped s os rs) (stamped r b) = (r ≡ s) × IsBatchOf b os rs
 IsEntry _ _ = ⊥
-
--- the records that are written with an entry: those of a commit
-abbrev pub entry_records : Entry → List Record
-entry_records (entry.Start k l) = []
-entry_records (entry.Load n l) = []
-entry_records (entry.Commit os rs) = rs
-entry_records (entry.Stamped s os rs) = rs

@@ -3,7 +3,7 @@ ghost use Rattle.std.specs.Prelude.{◌≡◌, ◌≤◌, ◌<◌, ◌^◌, ◌+
 ghost use Rattle.std.specs.List.{AllByRecursion};
 ghost use Rattle.cp_format.specs.Faults.{FaultAt};
 ghost use Rattle.cp_format.specs.Formats.{Reads, ReadsAt};
-ghost use Rattle.cp_frame.specs.Entries.{Batch, IsBatchOf, IsEntry, IsStamp, IsWellFormedBatch, IsWellFormedEntry, batch_bytes, batch_format, entry_format, entry_records, kind_number, ops_bytes, stamp_bytes, written_entry, WrittenEntry};
+ghost use Rattle.cp_frame.specs.Entries.{Batch, IsBatchOf, IsEntry, IsStamp, IsWellFormedBatch, IsWellFormedEntry, batch_bytes, batch_format, entry_format, kind_number, ops_bytes, stamp_bytes, written_entry, WrittenEntry};
 ghost use Rattle.cp_frame.specs.EntryReading.{HasReadBatch, HasReadEntry, entry_behind, kind_format, stamp_format};
 ghost use Rattle.cp_frame.specs.Faults.{FaultOf};
 ghost use Rattle.cp_frame.specs.Operations.{HasTakenOps, IsWellFormed, WrittenOp, op_of, ops_format_of};
@@ -13,11 +13,12 @@ use crate::operation::{put_op, take_op};
 use crate::record::{put_records, records_at};
 use crate::tree::{put_number, put_tree, take_tree};
 use cp_format::{FormatFault, bounded_at, count_at, label_at, name_at, number_at, put_counted};
-use cp_model::{Kind, Literal, OPS_MAX, Op, OpList, Record, RecordList, Stamp};
+use cp_model::{Kind, Literal, OPS_MAX, Op, OpList, Stamp};
 use cp_path::{LABEL_MAX, Name};
+use cp_record::PackedRecords;
 use std::alloc::{AllocError, Global};
 
-/// An entry of a store's history.
+/// An entry of a store's history. Its records stand in it as they are packed, which is how its bytes have them.
 #[derive(Drop)]
 pub enum Entry {
     /// The kind of the store, and the tree that it starts from.
@@ -33,27 +34,14 @@ pub enum Entry {
     /// The operations of a commit and its records, in a file of version 1.
     Commit {
         ops: OpList,
-        records: RecordList,
+        records: PackedRecords,
     },
     /// The same with the commit's stamp, in a file of version 2.
     Stamped {
         stamp: Stamp,
         ops: OpList,
-        records: RecordList,
+        records: PackedRecords,
     },
-}
-
-impl Entry {
-    /// The records that are written with it: those of a commit.
-    pub fn records(&self) -> &[Record]
-        ensures { result.now ≡ entry_records self.now }
-    {
-        match self {
-            Entry::Start { .. } | Entry::Load { .. } => &[],
-            Entry::Commit { records, .. } => &records.items,
-            Entry::Stamped { records, .. } => &records.items,
-        }
-    }
 }
 
 /// The kind of the next byte.
@@ -97,7 +85,7 @@ fn ops_at(
 /// Operations and records.
 struct Changes {
     ops: OpList,
-    records: RecordList,
+    records: PackedRecords,
 }
 
 /// The operations and the records of a commit.
@@ -232,7 +220,7 @@ fn put_ops(ops: &OpList, out: &mut Vec<u8>) -> Result<(), AllocError>
 }
 
 /// Appends the operations and the records of a commit.
-fn put_batch(ops: &OpList, records: &RecordList, out: &mut Vec<u8>) -> Result<(), AllocError>
+fn put_batch(ops: &OpList, records: &PackedRecords, out: &mut Vec<u8>) -> Result<(), AllocError>
     requires { IsSoundBatch true ops.now records.now }
     ensures { OnOk result ((b : Batch) × IsBatchOf b ops.now records.now × (out.new.items ≡ out.old.items ++ batch_bytes b)
         × IsWellFormedBatch b) }

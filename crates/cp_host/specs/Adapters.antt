@@ -28,6 +28,10 @@ sink_inner s = s.inner
 abbrev pub sink_faults : {W : Type 0} → StdoutSink W → ℕ
 sink_faults s = s.faults
 
+-- How many bytes the output took since it last failed.
+abbrev pub sink_since : {W : Type 0} → StdoutSink W → ℕ
+sink_since s = s.since_failure
+
 -- How many files were asked for.
 abbrev pub files_reads : {R : Type 0} → HostFiles R → ℕ
 files_reads s = s.reads
@@ -35,6 +39,10 @@ files_reads s = s.reads
 -- How often reading a file has failed.
 abbrev pub files_faults : {R : Type 0} → HostFiles R → ℕ
 files_faults s = s.faults
+
+-- How often the clock was asked.
+abbrev pub clock_asked : {R : Type 0} → HostClock R → ℕ
+clock_asked s = s.asked
 
 -- How often the clock has failed.
 abbrev pub clock_faults : {R : Type 0} → HostClock R → ℕ

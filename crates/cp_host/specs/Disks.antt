@@ -1,8 +1,7 @@
 -- What callers see of a real file as a disk: what it counts, and nothing of its content.
-use Rattle.std.specs.Prelude.{[], Result, Ok, Err, ⊤}
+use Rattle.std.specs.Prelude.{false, [], Result, Ok, Err, ⊤}
 use Rattle.cp_outside.specs.Causes.{one_more}
-use Rattle.cp_disk.specs.Counts.{Counts}
-use Rattle.cp_disk.specs.Views.{View}
+use Rattle.cp_disk.specs.Views.{View, KnownDisk, Counts}
 use Rattle.cp_disk.specs.declared.disk.DiskFault.{DiskFault}
 use Rattle.cp_disk.specs.declared.disk.DiskFault.TheVariants.{Failed, Memory}
 use Rattle.cp_host.specs.declared.access.Access.{Access}
@@ -33,3 +32,7 @@ after_answer (Err Memory) c = record c { wants = one_more c.wants }
 -- What is told of a file of which nothing is known: a crash may leave anything.
 abbrev pub untold_view : View
 untold_view = record { content = []; images = λ _. ⊤; since = λ _ _. ⊤; moment = 0 }
+
+-- All that is known of a disk of a real file: its counts.
+abbrev pub known_file_disk : {R : Type 0} → FileDisk R → KnownDisk
+known_file_disk d = record { known = false; view = untold_view; counts = disk_counts d }

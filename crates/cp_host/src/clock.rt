@@ -2,7 +2,7 @@
 ghost use Rattle.std.specs.Prelude.{◌≡◌, None, OnErr};
 ghost use Rattle.cp_outside.specs.Causes.{Accounts, AnyError, one_more};
 ghost use Rattle.cp_outside.specs.Moments.{Tells};
-ghost use Rattle.cp_host.specs.Adapters.{clock_faults};
+ghost use Rattle.cp_host.specs.Adapters.{clock_faults, clock_asked};
 
 use cp_outside::{Clock, Failed};
 use std::rt;
@@ -15,14 +15,20 @@ use std::time::{SystemTime, UNIX_EPOCH};
 pub struct HostClock<R> {
     runtime: R,
     faults: u64,
+    asked: u64,
 }
 
 impl<R> HostClock<R> {
-    /// The clock of this runtime, as `&rt` in `main`. It has not failed.
+    /// The clock of this runtime, as `&rt` in `main`. It has not failed, and was not asked yet.
     pub fn new(runtime: R) -> HostClock<R>
-        ensures { clock_faults result ≡ 0 }
+        ensures faults { clock_faults result ≡ 0 }
+        ensures asked { clock_asked result ≡ 0 }
     {
-        HostClock { runtime, faults: 0 }
+        HostClock {
+            runtime,
+            faults: 0,
+            asked: 0,
+        }
     }
 }
 
@@ -31,13 +37,17 @@ impl<R: rt::Clock> Clock for HostClock<R> {
 
     ghost faults = { clock_faults };
 
+    ghost asked = { clock_asked };
+
     fn now(&mut self) -> Result<u64, Failed>
         ensures told { Tells None None result }
+        ensures counted { clock_asked self.new ≡ one_more (clock_asked self.old) }
         ensures cause { Accounts AnyError (clock_faults self.old) (clock_faults self.new) result }
 
         // Each fault is counted once.
         ensures failed { OnErr result (clock_faults self.new ≡ one_more (clock_faults self.old)) }
     {
+        self.asked = self.asked.saturating_add(1);
         if let Ok(time) = SystemTime::now(&self.runtime) {
             if let Ok(since) = time.duration_since(UNIX_EPOCH) {
                 return Ok(since.as_secs());

@@ -2,7 +2,7 @@
 ghost use Rattle.std.specs.Prelude.{◌≡◌, ◌≤◌, ◌<◌, ◌+◌, length, IfOk, IsErrOf};
 ghost use Rattle.cp_outside.specs.Causes.{one_more};
 ghost use Rattle.cp_disk.specs.Counts.{Counted};
-ghost use Rattle.cp_host.specs.Disks.{disk_access, disk_counts, no_counts, after_read, after_answer};
+ghost use Rattle.cp_host.specs.Disks.{disk_access, disk_counts, known_file_disk, no_counts, after_read, after_answer};
 
 use crate::access::Access;
 use crate::named_file::NamedFile;
@@ -51,7 +51,7 @@ impl<R> FileDisk<R> {
     fn count<T>(&mut self, answer: Result<T, DiskFault>) -> Result<T, DiskFault>
         ensures same { result ≡ answer }
         ensures counts { disk_counts self.new ≡ after_answer answer (disk_counts self.old) }
-        ensures cause { Counted (disk_counts self.old) (disk_counts self.new) result }
+        ensures cause { Counted (known_file_disk self.old) (known_file_disk self.new) result }
         ensures access { disk_access self.new ≡ disk_access self.old }
     {
         match &answer {
@@ -64,14 +64,7 @@ impl<R> FileDisk<R> {
 }
 
 impl<R: rt::Files<File = File>> Disk for FileDisk<R> {
-    ghost use Rattle.std.specs.Prelude.{false};
-    ghost use Rattle.cp_host.specs.Disks.{untold_view};
-
-    ghost is_known = { false };
-
-    ghost view = { λ _. untold_view };
-
-    ghost counts = { disk_counts };
+    ghost known = { known_file_disk };
 
     ghost leaves_content = { λ d known. tt };
 
@@ -82,7 +75,7 @@ impl<R: rt::Files<File = File>> Disk for FileDisk<R> {
     /// Asks the system for the file's length; more than [`DISK_MAX`] bytes are a failure.
     fn size(&mut self) -> Result<u64, DiskFault>
         ensures most { IfOk result (λ n. n ≤ DISK_MAX) }
-        ensures cause { Counted (disk_counts self.old) (disk_counts self.new) result }
+        ensures cause { Counted (known_file_disk self.old) (known_file_disk self.new) result }
         ensures reads { (disk_counts self.new).reads ≡ (disk_counts self.old).reads }
 
         // Each fault is counted once.
@@ -97,7 +90,7 @@ impl<R: rt::Files<File = File>> Disk for FileDisk<R> {
     fn read(&mut self, at: u64, into: &mut [u8]) -> Result<(), DiskFault>
         requires some { 0 < length into.old }
         requires few { length into.old ≤ READ_MAX }
-        ensures cause { Counted (disk_counts self.old) (disk_counts self.new) result }
+        ensures cause { Counted (known_file_disk self.old) (known_file_disk self.new) result }
         ensures reads { (disk_counts self.new).reads ≡ one_more (disk_counts self.old).reads }
 
         // Each read and each fault is counted once.
@@ -114,7 +107,7 @@ impl<R: rt::Files<File = File>> Disk for FileDisk<R> {
     /// gives to new files. Where the offset lies after the end, zeros fill what is between.
     fn write_at(&mut self, at: u64, bytes: &[u8]) -> Result<(), DiskFault>
         requires { at + length bytes.now ≤ DISK_MAX }
-        ensures cause { Counted (disk_counts self.old) (disk_counts self.new) result }
+        ensures cause { Counted (known_file_disk self.old) (known_file_disk self.new) result }
         ensures reads { (disk_counts self.new).reads ≡ (disk_counts self.old).reads }
 
         // Each fault is counted once.
@@ -131,7 +124,7 @@ impl<R: rt::Files<File = File>> Disk for FileDisk<R> {
     /// Sets the file's length; a size greater than it adds zeros. A missing file stays missing: a cut
     /// to 0 does nothing, and any other fails.
     fn cut(&mut self, size: u64) -> Result<(), DiskFault>
-        ensures cause { Counted (disk_counts self.old) (disk_counts self.new) result }
+        ensures cause { Counted (known_file_disk self.old) (known_file_disk self.new) result }
         ensures reads { (disk_counts self.new).reads ≡ (disk_counts self.old).reads }
 
         // Each fault is counted once.
@@ -150,7 +143,7 @@ impl<R: rt::Files<File = File>> Disk for FileDisk<R> {
     /// name stands, whoever made the file. For a missing file nothing is done. Once the system has
     /// failed to do this, each later call fails, since it may have given up what was written.
     fn sync(&mut self) -> Result<(), DiskFault>
-        ensures cause { Counted (disk_counts self.old) (disk_counts self.new) result }
+        ensures cause { Counted (known_file_disk self.old) (known_file_disk self.new) result }
         ensures reads { (disk_counts self.new).reads ≡ (disk_counts self.old).reads }
 
         // Each fault is counted once.

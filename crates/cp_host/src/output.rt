@@ -1,9 +1,9 @@
 //! Real output.
 ghost use Rattle.std.specs.Prelude.{◌≡◌, ◌<◌, length, IfErr};
 ghost use Rattle.std.specs.Io.KnownBytes.{WriteAppends};
-ghost use Rattle.cp_outside.specs.Causes.{Accounts, AnyError, one_more};
-ghost use Rattle.cp_outside.specs.Sinks.{BlamesOutput, TakesSome};
-ghost use Rattle.cp_host.specs.Adapters.{sink_inner, sink_faults};
+ghost use Rattle.cp_outside.specs.Causes.{Accounts, one_more};
+ghost use Rattle.cp_outside.specs.Sinks.{BlamesOutput, CountsRefusal, CountsSince, TakesSome};
+ghost use Rattle.cp_host.specs.Adapters.{sink_inner, sink_faults, sink_since};
 
 use cp_outside::{Sink, SinkFault};
 use std::io::Write;
@@ -15,6 +15,7 @@ use std::io::Write;
 pub struct StdoutSink<W> {
     inner: W,
     faults: u64,
+    since_failure: u64,
 }
 
 impl<W> StdoutSink<W> {
@@ -23,7 +24,11 @@ impl<W> StdoutSink<W> {
         ensures inner { sink_inner result ≡ inner }
         ensures faults { sink_faults result ≡ 0 }
     {
-        StdoutSink { inner, faults: 0 }
+        StdoutSink {
+            inner,
+            faults: 0,
+            since_failure: 0,
+        }
     }
 }
 
@@ -34,22 +39,29 @@ impl<W: Write> Sink for StdoutSink<W> {
 
     ghost refusals = { sink_faults };
 
+    ghost since_refusal = { sink_since };
+
     fn write(&mut self, bytes: &[u8]) -> Result<usize, SinkFault>
         requires { 0 < length bytes.now }
         ensures some { TakesSome result bytes.now }
         ensures bytes { WriteAppends (W.contents (sink_inner self.old)) (W.contents (sink_inner self.new))
             result bytes.now }
         ensures cause { Accounts BlamesOutput (sink_faults self.old) (sink_faults self.new) result }
-        ensures refused { Accounts AnyError (sink_faults self.old) (sink_faults self.new) result }
+        ensures refused { CountsRefusal (sink_faults self.old) (sink_faults self.new) result }
+        ensures since { CountsSince (sink_since self.old) (sink_since self.new) result }
 
         // Each refusal is a failure, and is counted once.
         ensures failed { IfErr result (λ e. (e ≡ SinkFault.Failed)
             × (sink_faults self.new ≡ one_more (sink_faults self.old))) }
     {
         match self.inner.write(bytes) {
-            Ok(count) if 0 < count => Ok(count),
+            Ok(count) if 0 < count => {
+                self.since_failure = self.since_failure.saturating_add(count as u64);
+                Ok(count)
+            }
             _ => {
                 self.faults = self.faults.saturating_add(1);
+                self.since_failure = 0;
                 Err(SinkFault::Failed)
             }
         }

@@ -6,7 +6,8 @@ use Rattle.cp_outside.specs.Causes.{Accounts, Rose}
 use Rattle.cp_outside.specs.FileReads.{FileTable}
 use Rattle.cp_model.specs.Tree.{Tree}
 use Rattle.cp_model.specs.History.{Entry}
-use Rattle.cp_disk.specs.Views.{Rests}
+use Rattle.cp_disk.specs.Counts.{UsesDisk}
+use Rattle.cp_disk.specs.Views.{KnownDisk, ViewRests}
 use Rattle.cp_frame.specs.Stands.{IsStore, Opens}
 use Rattle.cp_frame.specs.Stops.{IsNot}
 use Rattle.cp_db.specs.Databases as database
@@ -23,7 +24,7 @@ use Rattle.cp_reply.specs.declared.reply.Reply.{Reply}
 use Rattle.cp_reply.specs.Session.{Session, says, turn_of, session_after_statements}
 use Rattle.cp_workspace.specs.Texts.{Terms, setting}
 use Rattle.cp_workspace.specs.Loads.{statement_reads}
-use Rattle.cp_workspace.specs.Disks.{KnownDisk, LeavesEither}
+use Rattle.cp_workspace.specs.Disks.{LeavesEither}
 use Rattle.cp_workspace.specs.Faults.{IsFileFault}
 use Rattle.cp_workspace.specs.Files.{KnownFiles, HasRead, IsTable, Reads, UsesFiles}
 use Rattle.cp_workspace.specs.Workspaces.{Stands, HoldsFile, TurnsAs, db_in, end_now, opened_session}
@@ -47,7 +48,7 @@ use Rattle.cp_interpreter.proofs.Said.{statement-said, said-short, said-fitting,
 
 -- a workspace on the database that was opened
 pub alone-opened : {R S : Type 0} (view : R → Tree) (source_view : S → Tree) (v w : KnownDisk) (db : Db R S) (d : Workspace R S) (curator : List ℕ) → curator ≡ [] → db_in d ≡ db
-    → HasOpened view source_view db v.view.content w.view → Rests v.view w.view → w.view.images w.view.content
+    → HasOpened view source_view db v.view.content w.view → ViewRests v.view w.view → w.view.images w.view.content
     → ((h : List Entry) (moments : List ℕ) → database.Stands view source_view true db h → Stands view source_view (record { ends = end_now h db; curator = curator }) d (opened_session h moments))
     → OpenedAlone view source_view v w (Ok d)
 alone-opened view source_view v w db d curator none same o r i f = (
@@ -110,7 +111,7 @@ opening-files f stop kind = record {
 
 module _ {R S : Type 0} (view : R → Tree) (source_view : S → Tree) (l : Load) (f g : KnownFiles) (v m w : KnownDisk) where
   -- no store was opened
-  pub loaded-not : (stop : Stop) → IsOpeningStop stop → (IsTrue v.known → Rests v.view m.view) → (IsTrue v.known → OpenedAlone {R = R} {S = S} view source_view v m (Err stop)) → LoadedAs l f f v m (Err stop)
+  pub loaded-not : (stop : Stop) → IsOpeningStop stop → (IsTrue v.known → ViewRests v.view m.view) → (IsTrue v.known → OpenedAlone {R = R} {S = S} view source_view v m (Err stop)) → LoadedAs l f f v m (Err stop)
   loaded-not stop kind rests opened = record {
     no_store = λ known at h. (not_opened known, not-store Reply view source_view v m stop at h (opened known));
     unopened = λ known never. not_opened known;
@@ -124,7 +125,7 @@ module _ {R S : Type 0} (view : R → Tree) (source_view : S → Tree) (l : Load
       not_opened : IsTrue v.known → NotOpened f f v m (Err stop)
       not_opened known = record { stop = stop; is = refl; opening = kind; files = refl; rests = rests known }
 
-  module _ (old new : Workspace R S) (same : IsTrue v.known → IsTrue m.known) (rests : IsTrue v.known → Rests v.view m.view) (opened : IsTrue v.known → OpenedAlone view source_view v m (Ok old)) where
+  module _ (old new : Workspace R S) (same : IsTrue v.known → IsTrue m.known) (rests : IsTrue v.known → ViewRests v.view m.view) (opened : IsTrue v.known → OpenedAlone view source_view v m (Ok old)) where
     -- the load made its turn
     abbrev MadeTurn : Result Reply WorkspaceFault → Type 0
     MadeTurn r = (t : FileTable) → IsTable t f g → (terms : Terms) (s : Session) → Stands view source_view terms old s
@@ -265,8 +266,11 @@ abbrev IsLoadStop : Stop → Type 0
 IsLoadStop stop = (stop ≡ Output → ⊥) × (stop ≡ Full → ⊥) × (stop ≡ Clock → ⊥)
 
 -- the disk's account
-pub disk-stopped : (v w : KnownDisk) (stop : Stop) → IsLoadStop stop → v.counts.faults ≤ w.counts.faults → (IsDiskStop stop → Rose v.counts.faults w.counts.faults) → DiskCauses v w (end_of_stop stop)
-disk-stopped v w stop kind later rose = stop-account how.Disk v.counts.faults w.counts.faults stop later (λ h. rose (stop-from stop how.Disk kind.1 h))
+pub disk-stopped : (v w : KnownDisk) (stop : Stop) → IsLoadStop stop → {T : Type 0} → UsesDisk {T = T} IsDiskStop v w (Err stop) → DiskCauses v w (end_of_stop stop)
+disk-stopped v w stop kind uses = record {
+  same = uses.same;
+  account = stop-account how.Disk v.counts.faults w.counts.faults stop uses.account.later (λ h. uses.account.blamed (stop-from stop how.Disk kind.1 h));
+}
 
 module _ (i : KnownInput) (f g : KnownFiles) (k : KnownClock) (o p : KnownOutput) where
   abbrev b : Outside
@@ -319,7 +323,7 @@ module _ (i : KnownInput) (f g : KnownFiles) (k : KnownClock) (o p : KnownOutput
     stop-statement r h Memory x t = inr (t, x)
 
     -- the store wasn't opened
-    not-begun : (stop : Stop) → NotOpened f g v w (Err stop) → TellsStop o p stop → HasNotBegun [] [] b a (end_of_stop stop) × Rests v.view w.view
+    not-begun : (stop : Stop) → NotOpened f g v w (Err stop) → TellsStop o p stop → HasNotBegun [] [] b a (end_of_stop stop) × ViewRests v.view w.view
     not-begun stop n t =
         let same : n.stop ≡ stop = (let x = n.is in cc) in
         let early = stop-early o p stop (subst IsOpeningStop same n.opening) t in

@@ -6,7 +6,7 @@ use Rattle.cp_model.specs.declared.kind.Kind.{Kind}
 use Rattle.cp_outside.specs.FileReads.{FileTable}
 use Rattle.cp_outside.specs.declared.files.FilesFault.{FilesFault}
 use Rattle.cp_outside.specs.declared.files.FilesFault.TheVariants as fails
-use Rattle.cp_disk.specs.Views.{View, Rests, Keeps}
+use Rattle.cp_disk.specs.Views.{View, ViewRests, ViewKeeps, KnownDisk}
 use Rattle.cp_journal.specs.NewStores.{IsVacant}
 use Rattle.cp_db.specs.Writing.{IsOldOrVacantOrStart}
 use Rattle.cp_reply.specs.Lines.{lines}
@@ -16,7 +16,6 @@ use Rattle.cp_reply.specs.declared.reply.Why.TheVariants as why
 use Rattle.cp_reply.specs.declared.reply.Reply.{Reply}
 use Rattle.cp_reply.specs.declared.reply.Reply.TheVariants as reply
 use Rattle.cp_reply.specs.Session.{FetchedFile, gives, withholds}
-use Rattle.cp_workspace.specs.Disks.{KnownDisk}
 use Rattle.cp_workspace.specs.Faults.{IsFailedFile}
 use Rattle.cp_workspace.specs.Fetched.{Gives}
 use Rattle.cp_workspace.specs.Files.{KnownFiles, HasRead, IsTable, ReadsBefore, UsesFiles}
@@ -33,12 +32,12 @@ use Rattle.cp_interpreter.specs.declared.stop.Stop.TheVariants.{Output, Full, Fi
 -- ---- what a crash leaves
 
 -- where it leaves what it could leave
-pub leaves-start : (k : Kind) (g : FetchedFile) (v w : View) → Rests v w → LeavesStart k g v w
+pub leaves-start : (k : Kind) (g : FetchedFile) (v w : View) → ViewRests v w → LeavesStart k g v w
 leaves-start k (gives t) v w r = record { later = r.later; since = λ s c le i. inl (r.since s c le i); now = λ c i. inl (r.images c i) }
 leaves-start k (withholds y) v w r = r
 
 -- and then what it leaves of a new store
-start-then : (k : Kind) (t : Tree) (v m w : View) → Rests v m → Keeps (IsOldOrVacantOrStart m k t) m w → Keeps (IsOldOrVacantOrStart v k t) v w
+start-then : (k : Kind) (t : Tree) (v m w : View) → ViewRests v m → ViewKeeps (IsOldOrVacantOrStart m k t) m w → ViewKeeps (IsOldOrVacantOrStart v k t) v w
 start-then k t v m w r p = record {
   later = omega (arith, r.later, p.later);
   since = λ s c le i. elim (p.since s c (omega (arith, le, r.later)) i) [ inl old ↦ inl (r.since s c le old) | inr x ↦ inr (old_then c x) ];
@@ -61,7 +60,7 @@ no_file stop P k e = elim k [ inl d ↦ (let x = sym d ∙ e in absurd (cc)) | i
 making_of : (stop : Stop) → (stop ≡ Disk) ⊎ (stop ≡ Memory) → IsMakingStop stop
 making_of stop k = inr k
 
-module _ (k : Kind) (given : FileTable → FetchedFile) (reads : ℕ) (b a : KnownFiles) (v m : KnownDisk) (rests : IsTrue v.known → Rests v.view m.view) where
+module _ (k : Kind) (given : FileTable → FetchedFile) (reads : ℕ) (b a : KnownFiles) (v m : KnownDisk) (rests : IsTrue v.known → ViewRests v.view m.view) where
   -- there is a store
   pub made-there : (IsTrue v.known → IsVacant v.view.content → ⊥) → StoreMade k given reads b b v m (Ok (reply.Refused of.Init why.StoreExists))
   made-there never = record {
@@ -104,14 +103,14 @@ module _ (k : Kind) (given : FileTable → FetchedFile) (reads : ℕ) (b a : Kno
       stops = tt;
     }
 
-    module _ (w : KnownDisk) (r : Result Reply Stop) {R : Type 0} (view : R → Tree) (tree : R) (created : IsTrue v.known → CreatedAs k (view tree) w r) (crash : IsTrue v.known → Keeps (IsOldOrVacantOrStart m.view k (view tree)) m.view w.view) where
+    module _ (w : KnownDisk) (r : Result Reply Stop) {R : Type 0} (view : R → Tree) (tree : R) (created : IsTrue v.known → CreatedAs k (view tree) w r) (crash : IsTrue v.known → ViewKeeps (IsOldOrVacantOrStart m.view k (view tree)) m.view w.view) where
       created_as : (g : FetchedFile) (q : Result Reply Stop) → Gives view g (Ok tree) → CreatedAs k (view tree) w q → MadeAs k g reads b a w q
       created_as (gives t) (Ok x) h d = subst (λ u. CreatedAs k u w (Ok x)) h d
       created_as (gives t) (Err stop) h d = (making_of stop d, no_file stop _ d)
       created_as (withholds z) q h d = absurd h
 
       leaves_as : (g : FetchedFile) → Gives view g (Ok tree) → IsTrue v.known → LeavesStart k g v.view w.view
-      leaves_as (gives t) h known = subst (λ u. Keeps (IsOldOrVacantOrStart v.view k u) v.view w.view) h (start-then k (view tree) v.view m.view w.view (rests known) (crash known))
+      leaves_as (gives t) h known = subst (λ u. ViewKeeps (IsOldOrVacantOrStart v.view k u) v.view w.view) h (start-then k (view tree) v.view m.view w.view (rests known) (crash known))
       leaves_as (withholds z) h known = absurd h
 
       -- the store was made

@@ -7,7 +7,8 @@ use Rattle.cp_outside.specs.Causes.{Accounts, Rose}
 use Rattle.cp_model.specs.Tree.{Tree}
 use Rattle.cp_model.specs.History.{Entry}
 use Rattle.cp_outside.specs.FileReads.{FileTable}
-use Rattle.cp_disk.specs.Views.{View, Rests, Keeps}
+use Rattle.cp_disk.specs.Counts.{UsesDisk}
+use Rattle.cp_disk.specs.Views.{View, ViewRests, ViewKeeps, KnownDisk}
 use Rattle.cp_lang.specs.Cuts.{scan_start, scan_bytes}
 use Rattle.cp_lang.specs.CutterState.{held_of}
 use Rattle.cp_journal.specs.Frames.{frames_of, spelled_all}
@@ -24,16 +25,15 @@ use Rattle.cp_db.specs.declared.fault.OpenFault.TheVariants as opens
 use Rattle.cp_db.proofs.Keeping.{kept-images}
 use Rattle.cp_reply.specs.Session.{Session, session_after}
 use Rattle.cp_workspace.specs.Texts.{Terms}
-use Rattle.cp_workspace.specs.Disks.{KnownDisk}
 use Rattle.cp_workspace.specs.Workspaces.{Stands, IsUsable, HasStamps, HoldsFile, end_now, opened_session}
 use Rattle.cp_workspace.specs.declared.workspace.Workspace.{Workspace}
 use Rattle.cp_interpreter.specs.Job.{job_so_far, job}
 use Rattle.cp_interpreter.specs.Play.{begun, plays, plays_all}
 use Rattle.cp_workspace.specs.Files.{KnownFiles, HasRead, IsTable}
 use Rattle.cp_interpreter.specs.Outside.{KnownInput, KnownClock, KnownOutput, Outside}
-use Rattle.cp_interpreter.specs.Story.{WritesLast, frames_end, store_terms, left_on, LeavesFronts, DidOn, session_on, work_on, Leaving, Did, IsEarly, early_line, HasNotBegun, RanOn, HasCauses, DiskCauses, result_of}
+use Rattle.cp_interpreter.specs.Story.{LeavesHistory, WritesLast, frames_end, store_terms, left_on, LeavesFronts, DidOn, session_on, work_on, Leaving, Did, IsEarly, early_line, HasNotBegun, RanOn, HasCauses, DiskCauses, result_of}
 use Rattle.cp_interpreter.specs.Turns.{Follows, MayGoOn, IsDiskStop, LeavesAlong, RanFrom, TellsStop, end_of_stop, work_from}
-use Rattle.cp_interpreter.specs.Begins.{LeavesHistory, LeavesStore, Migrated, OpenedAs, BegunOn, IsOpeningStop}
+use Rattle.cp_interpreter.specs.Begins.{LeavesStore, Migrated, OpenedAs, BegunOn, IsOpeningStop}
 use Rattle.cp_interpreter.specs.declared.interpreter.Interpreter.{Interpreter}
 use Rattle.cp_interpreter.specs.declared.end.End.{End}
 use Rattle.cp_interpreter.specs.declared.end.End.TheVariants as how
@@ -52,12 +52,13 @@ kept-end d h v k i =
 -- ---- what a crash leaves of a store that is opened
 
 -- where it leaves what it could leave before
-pub rests-leave : (h : List Entry) (v w : KnownDisk) → Rests v.view w.view → LeavesHistory h v w
-rests-leave h v w r = record { later = r.later; since = λ t c le i. inl (r.since t c le i); now = λ c i. inl (r.images c i) }
+pub rests-leave : (h : List Entry) (v w : KnownDisk) → IsStore h v.view.content → ViewRests v.view w.view → LeavesHistory h v w
+rests-leave h v w store r = record { content = subst (StandsFor h) (sym r.content) (inr store); later = r.later; since = λ t c le i. inl (r.since t c le i); now = λ c i. inl (r.images c i) }
 
 -- and then the history
-pub leave-then : (h : List Entry) (v m w : KnownDisk) → Rests v.view m.view → Keeps (StandsFor h) m.view w.view → LeavesHistory h v w
-leave-then h v m w r k = record {
+pub leave-then : (h : List Entry) (v m w : KnownDisk) → w.view.images w.view.content → ViewRests v.view m.view → ViewKeeps (StandsFor h) m.view w.view → LeavesHistory h v w
+leave-then h v m w i r k = record {
+  content = k.now w.view.content i;
   later = omega (arith, r.later, k.later);
   since = λ t c le i. elim (k.since t c (omega (arith, le, r.later)) i) [ inl old ↦ inl (r.since t c le old) | inr s ↦ inr s ];
   now = λ c i. inr (k.now c i);
@@ -71,7 +72,7 @@ none-migrated view source_view d v h z known k = (record { later = omega arith; 
 
 module _ {R S : Type 0} (view : R → Tree) (source_view : S → Tree) (v m w : KnownDisk) where
   -- an opened database, whose file may have been made one of version 2
-  pub opened-then : (d e : Db R S) → IsTrue m.known → HasOpened view source_view d v.view.content m.view → Rests v.view m.view → m.view.images m.view.content → Migrated view source_view d m w (Ok e) → OpenedAs view source_view v w (Ok e)
+  pub opened-then : (d e : Db R S) → IsTrue m.known → HasOpened view source_view d v.view.content m.view → ViewRests v.view m.view → m.view.images m.view.content → Migrated view source_view d m w (Ok e) → OpenedAs view source_view v w (Ok e)
   opened-then d e known o r i g = (
     o.opens,
     λ h store. (
@@ -89,18 +90,18 @@ module _ {R S : Type 0} (view : R → Tree) (source_view : S → Tree) (v m w : 
   ]
 
   -- what comes of an opened database
-  pub opened-result : (d : Db R S) (r : Result (Db R S) Stop) → IsTrue m.known → HasOpened view source_view d v.view.content m.view → Rests v.view m.view → m.view.images m.view.content → Migrated view source_view d m w r → IfErr r (λ e. (e ≡ Disk) ⊎ (e ≡ Memory)) → OpenedAs view source_view v w r
+  pub opened-result : (d : Db R S) (r : Result (Db R S) Stop) → IsTrue m.known → HasOpened view source_view d v.view.content m.view → ViewRests v.view m.view → m.view.images m.view.content → Migrated view source_view d m w r → IfErr r (λ e. (e ≡ Disk) ⊎ (e ≡ Memory)) → OpenedAs view source_view v w r
   opened-result d (Ok e) known o r i g k = opened-then d e known o r i g
   opened-result d (Err stop) known o r i g k = opened-not d stop o k
 
   -- a crash leaves what it could leave, and then the history
-  pub opened-leaves : (d : Db R S) (r : Result (Db R S) Stop) → IsTrue m.known → HasOpened view source_view d v.view.content m.view → Rests v.view m.view → Migrated view source_view d m w r → (h : List Entry) → IsStore h v.view.content → LeavesHistory h v w
-  opened-leaves d r known o rests g h store = let x = o.stands true h store.told in leave-then h v m w rests (g h x.0 known x.1).0
+  pub opened-leaves : (d : Db R S) (r : Result (Db R S) Stop) → IsTrue m.known → HasOpened view source_view d v.view.content m.view → ViewRests v.view m.view → w.view.images w.view.content → Migrated view source_view d m w r → (h : List Entry) → IsStore h v.view.content → LeavesHistory h v w
+  opened-leaves d r known o rests i g h store = let x = o.stands true h store.told in leave-then h v m w i rests (g h x.0 known x.1).0
 
 -- a content that isn't opened
 pub opened-fault : {R S : Type 0} (view : R → Tree) (source_view : S → Tree) (v w : KnownDisk) (fault : OpenFault) (stop : Stop)
     → (fault ≡ opens.Disk → stop ≡ Disk) × (fault ≡ opens.Memory → stop ≡ Memory) × ((at : ℕ) → fault ≡ opens.NoStore at → stop ≡ NoStore at)
-    → OpensAs view source_view v.view.content w.view (Err fault) → Rests v.view w.view → OpenedAs {R = R} {S = S} view source_view v w (Err stop)
+    → OpensAs view source_view v.view.content w.view (Err fault) → ViewRests v.view w.view → OpenedAs {R = R} {S = S} view source_view v w (Err stop)
 opened-fault view source_view v w opens.Disk stop becomes o r = subst (λ s. OpenedAs view source_view v w (Err s)) (sym (becomes.0 refl)) (λ never. r)
 opened-fault view source_view v w opens.Memory stop becomes o r = subst (λ s. OpenedAs view source_view v w (Err s)) (sym (becomes.1 refl)) (λ never. r)
 opened-fault view source_view v w (opens.NoStore at) stop becomes o r = subst (λ s. OpenedAs view source_view v w (Err s)) (sym (becomes.2 at refl)) (o, r)
@@ -158,14 +159,14 @@ module _ (files : FileTable) (terms : Terms) (s : Session) (Leaves : Leaving) (t
     left = w.left;
   }
   did-on how.Output w = elim w [
-    | inl x ↦ inl (record { at = x.at; within = x.within; wrote = x.wrote; left = x.left })
+    | inl x ↦ inl (record { at = x.at; inside = x.inside; wrote = x.wrote; left = x.left })
     | inr x ↦ inr (record { ended = x.ended; wrote = x.wrote; left = x.left })
   ]
   did-on how.Disk w = record { at = w.at; within = w.within; wrote = w.wrote; left = w.left }
   did-on (how.NoStore at) w = absurd w
   did-on how.Memory w = elim w [
     | inl y ↦ inl (elim y [
-      | inl x ↦ inl (record { at = x.at; within = x.within; wrote = x.wrote; left = x.left })
+      | inl x ↦ inl (record { at = x.at; inside = x.inside; wrote = x.wrote; left = x.left })
       | inr x ↦ inr (record { ended = x.ended; wrote = x.wrote; left = x.left })
     ])
     | inr x ↦ inr (record { at = x.at; within = x.within; wrote = x.wrote; left = x.left })
@@ -180,7 +181,7 @@ along-on files terms s taken k c x = x
 -- ---- calls that end early
 
 -- a disk that isn't touched
-pub same-rests : (v : View) → Rests v v
+pub same-rests : (v : View) → ViewRests v v
 same-rests v = record { content = refl; images = λ c i. i; later = omega arith; since = λ t c le i. i; keeps = λ t c le i. i }
 
 -- the end of a stop of the opening, and its last line
@@ -231,7 +232,7 @@ causes-early-end i f k o p e early later = record {
 
 -- a call that ran no session on its store
 pub ran-early-on : (curator : List ℕ) (i : KnownInput) (f : KnownFiles) (k : KnownClock) (o p : KnownOutput) (v w : KnownDisk) (e : End) → IsEarly e → WritesLast o p [] (early_line e)
-    → (IsTrue v.known → (at : ℕ) → e ≡ how.NoStore at → IsNot Opens v.view.content at × Rests v.view w.view) → (IsTrue v.known → (Opens v.view.content → ⊥) → Rests v.view w.view) → LeavesStore v w
+    → (IsTrue v.known → (at : ℕ) → e ≡ how.NoStore at → IsNot Opens v.view.content at × ViewRests v.view w.view) → (IsTrue v.known → (Opens v.view.content → ⊥) → ViewRests v.view w.view) → LeavesStore v w
     → RanOn curator (record { input = i; files = f; clock = k; output = o }) (record { input = i; files = f; clock = k; output = p }) v w e
 ran-early-on curator i f k o p v w e early wrote none never leaves = record {
   taken = [];
@@ -245,7 +246,7 @@ ran-early-on curator i f k o p v w e early wrote none never leaves = record {
   no_store = λ known at h. (let x = none known at h in (not_begun, x.1, x.0));
   unopened = λ known h. (not_begun, never known h);
   did = λ known files t h store. (let l = leaves known h store in record {
-    did = λ rest. inl (not_begun, l.now);
+    did = λ rest. inl (not_begun, l);
     later = l.later;
     crash = λ rest t c le x. elim (l.since t c le x) [
       | inl old ↦ inl old
@@ -310,31 +311,31 @@ module _ {R S : Type 0} (view : R → Tree) (source_view : S → Tree) (curator 
 
 -- a disk that isn't touched
 pub out-disk : (v : KnownDisk) → DiskCauses v v how.Memory
-out-disk v = record { later = omega arith; blamed = λ h. absurd (cc); steady = tt }
+out-disk v = record { same = refl; account = record { later = omega arith; blamed = λ h. absurd (cc); steady = tt } }
 
 -- one at which the opening stopped
-pub stop-disk : (v w : KnownDisk) (stop : Stop) → IsOpeningStop stop → v.counts.faults ≤ w.counts.faults → (IsDiskStop stop → Rose v.counts.faults w.counts.faults) → DiskCauses v w (end_of_stop stop)
-stop-disk v w stop k later rose = elim k [
-  | inl e ↦ subst (λ s. DiskCauses v w (end_of_stop s)) (sym e) (record { later = later; blamed = λ h. rose e; steady = tt })
+pub stop-disk : (v w : KnownDisk) (stop : Stop) → IsOpeningStop stop → {T : Type 0} → UsesDisk {T = T} IsDiskStop v w (Err stop) → DiskCauses v w (end_of_stop stop)
+stop-disk v w stop k uses = elim k [
+  | inl e ↦ subst (λ s. DiskCauses v w (end_of_stop s)) (sym e) (record { same = uses.same; account = record { later = uses.account.later; blamed = λ h. uses.account.blamed e; steady = tt } })
   | inr l ↦ elim l [
-    | inl a ↦ subst (λ s. DiskCauses v w (end_of_stop s)) (sym a.1) (record { later = later; blamed = λ h. absurd (cc); steady = tt })
-    | inr e ↦ subst (λ s. DiskCauses v w (end_of_stop s)) (sym e) (record { later = later; blamed = λ h. absurd (cc); steady = tt })
+    | inl a ↦ subst (λ s. DiskCauses v w (end_of_stop s)) (sym a.1) (record { same = uses.same; account = record { later = uses.account.later; blamed = λ h. absurd (cc); steady = tt } })
+    | inr e ↦ subst (λ s. DiskCauses v w (end_of_stop s)) (sym e) (record { same = uses.same; account = record { later = uses.account.later; blamed = λ h. absurd (cc); steady = tt } })
   ]
 ]
 
 -- what isn't opened is no store
 pub none-stopped : {R S : Type 0} (view : R → Tree) (source_view : S → Tree) (curator : List ℕ) (v w : KnownDisk) (stop : Stop) → IsOpeningStop stop → (at : ℕ) → end_of_stop stop ≡ how.NoStore at → BegunOn {R = R} {S = S} view source_view curator v w (Err stop)
-    → IsNot Opens v.view.content at × Rests v.view w.view
+    → IsNot Opens v.view.content at × ViewRests v.view w.view
 none-stopped view source_view curator v w Output k at h b = absurd (cc)
 none-stopped view source_view curator v w Full k at h b = absurd (cc)
 none-stopped view source_view curator v w File k at h b = absurd (cc)
 none-stopped view source_view curator v w Disk k at h b = absurd (cc)
-none-stopped view source_view curator v w (NoStore n) k at h b = let same : n ≡ at = cc h in subst (λ m. IsNot Opens v.view.content m × Rests v.view w.view) same b
+none-stopped view source_view curator v w (NoStore n) k at h b = let same : n ≡ at = cc h in subst (λ m. IsNot Opens v.view.content m × ViewRests v.view w.view) same b
 none-stopped view source_view curator v w Clock k at h b = absurd (cc)
 none-stopped view source_view curator v w Memory k at h b = absurd (cc)
 
 -- where none opens, a crash leaves what it could leave
-pub never-stopped : {R S : Type 0} (view : R → Tree) (source_view : S → Tree) (curator : List ℕ) (v w : KnownDisk) (stop : Stop) → IsOpeningStop stop → (Opens v.view.content → ⊥) → BegunOn {R = R} {S = S} view source_view curator v w (Err stop) → Rests v.view w.view
+pub never-stopped : {R S : Type 0} (view : R → Tree) (source_view : S → Tree) (curator : List ℕ) (v w : KnownDisk) (stop : Stop) → IsOpeningStop stop → (Opens v.view.content → ⊥) → BegunOn {R = R} {S = S} view source_view curator v w (Err stop) → ViewRests v.view w.view
 never-stopped view source_view curator v w Output k never b = b never
 never-stopped view source_view curator v w Full k never b = b never
 never-stopped view source_view curator v w File k never b = b never

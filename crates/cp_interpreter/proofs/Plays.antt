@@ -12,7 +12,7 @@ use Rattle.std.proofs.lemmas.List.Folds.{list_any-append}
 use Rattle.std.proofs.lemmas.List.{take-append-le, length-append, take_more, take-append-drop}
 use Rattle.std.specs.Io.KnownBytes.{Appends}
 use Rattle.cp_outside.specs.FileReads.{FileTable}
-use Rattle.cp_outside.specs.Sinks.{TakesPart}
+use Rattle.cp_outside.specs.Sinks.{TakesLess}
 use Rattle.std.proofs.KnownBytes.{Appends-nil, Appends-trans}
 use Rattle.cp_outside.proofs.Telling.{told-then}
 use Rattle.cp_lang.specs.declared.cut.Cut.{Cut}
@@ -31,7 +31,7 @@ use Rattle.cp_reply.specs.Session.{Session, Setting, turn, replies_to, session_a
 use Rattle.cp_reply.proofs.Appended.{replies_to-append, session_after-append}
 use Rattle.cp_workspace.specs.Texts.{Terms, setting}
 use Rattle.cp_workspace.specs.Loads.{cut_reads}
-use Rattle.cp_workspace.specs.Disks.{KnownDisk}
+use Rattle.cp_disk.specs.Views.{KnownDisk}
 use Rattle.cp_workspace.specs.Files.{HasRead, HasReadSome, IsTable, ReadsBefore}
 use Rattle.cp_workspace.specs.Workspaces.{Stands, IsUsable, HasStamps, HoldsFile, TurnsAs, HasTurned}
 use Rattle.cp_workspace.specs.Faults.{IsFileFault}
@@ -42,7 +42,7 @@ use Rattle.cp_workspace.proofs.ReadCounts.{read-then, table-first, table-second}
 use Rattle.cp_interpreter.specs.Job.{Report, report_of, is_refusal, reads_in}
 use Rattle.cp_interpreter.specs.Outside.{World}
 use Rattle.cp_interpreter.specs.Play.{Seen, plays, after_play, closes, plays_all}
-use Rattle.cp_interpreter.specs.Story.{left_on}
+use Rattle.cp_interpreter.specs.Story.{TakesFrom, left_on}
 use Rattle.cp_interpreter.specs.Turns.{Follows, MayGoOn, SendsOut, Goes, Went, Fed, WasFed, RunsLast, RanLast, LeavesBoth, LeavesAlong, cuts_play, after_cuts}
 use Rattle.cp_interpreter.specs.declared.interpreter.Interpreter.{Interpreter}
 use Rattle.cp_interpreter.specs.declared.stop.Stop.{Stop}
@@ -80,10 +80,10 @@ reads_in-append c s (x ∷ xs) ys = omega (arith, reads_in-append c (turn c s x)
 
 -- ---- parts of texts
 
--- a part of the second text, behind the first
-pub part-then : (b m a : Option (List ℕ)) (xs ys : List ℕ) → Appends b m xs → TakesPart m a ys → TakesPart b a (xs ++ ys)
+-- a part of the second text, behind all of the first
+pub part-then : (b m a : Option (List ℕ)) (xs ys : List ℕ) → Appends b m xs → TakesLess m a ys → TakesFrom (length xs) b a (xs ++ ys)
 part-then b m a xs ys h t =
-    (length xs + t.0, omega (arith, length-append xs ys, t.1), subst (Appends b a) (sym (take-append-add xs ys t.0)) (Appends-trans b m a xs (take t.0 ys) h t.2))
+    (length xs + t.0, omega arith, omega (arith, length-append xs ys, t.1), subst (Appends b a) (sym (take-append-add xs ys t.0)) (Appends-trans b m a xs (take t.0 ys) h t.2))
 
 -- nothing written behind a text
 pub nothing-more : (b m a : Option (List ℕ)) (xs : List ℕ) → Appends b m xs → Appends m a [] → Appends b a xs
@@ -356,12 +356,12 @@ module _ (files : FileTable) where
       )
   ran-said view source_view s cut r rest old mid new b a v w (Err Output) t still f n h g o h' l' g' =
       rw (sym t.turned.0) (
-        subst (TakesPart b.output.contents a.output.contents) (sym (append-nil (lines r))) o,
+        subst (TakesLess b.output.contents a.output.contents) (sym (append-nil (lines r))) o,
         held-left mid.workspace _ _ w (λ known. t.kept (still known) (f.holds (still known))),
       )
   ran-said view source_view s cut r rest old mid new b a v w (Err Full) t still f n h g o h' l' g' =
       rw (sym t.turned.0) (
-        subst (TakesPart b.output.contents a.output.contents) (sym (append-nil (lines r))) o,
+        subst (TakesLess b.output.contents a.output.contents) (sym (append-nil (lines r))) o,
         held-left mid.workspace _ _ w (λ known. t.kept (still known) (f.holds (still known))),
       )
   ran-said view source_view s cut r rest old mid new b a v w (Err File) t still f n h g o h' l' g' = absurd o
@@ -485,15 +485,17 @@ module _ (files : FileTable) where
       nothing : Appends m.output.contents a.output.contents [] → Appends b.output.contents a.output.contents (plays files s (take (length xs) whole)).out
       nothing k = subst (λ zs. Appends b.output.contents a.output.contents (plays files s zs).out) (sym front) (nothing-more b.output.contents m.output.contents a.output.contents (plays files s xs).out g.2 k)
 
-      part : TakesPart m.output.contents a.output.contents (plays files (after_play files s xs) (x ∷ [])).out → TakesPart b.output.contents a.output.contents (plays files s (take (length xs + 1) whole)).out
+      part : TakesLess m.output.contents a.output.contents (plays files (after_play files s xs) (x ∷ [])).out
+          → TakesFrom (length (plays files s (take (length xs) whole)).out) b.output.contents a.output.contents (plays files s (take (length xs + 1) whole)).out
       part k =
-          subst (λ zs. TakesPart b.output.contents a.output.contents (plays files s zs).out) (sym one)
-          (subst (λ (r : Report). TakesPart b.output.contents a.output.contents r.out) (sym (plays-append s xs (x ∷ [])))
-          (part-then b.output.contents m.output.contents a.output.contents (plays files s xs).out (plays files (after_play files s xs) (x ∷ [])).out g.2 k))
+          subst (λ zs. TakesFrom (length (plays files s zs).out) b.output.contents a.output.contents (plays files s (take (length xs + 1) whole)).out) (sym front)
+          (subst (λ zs. TakesFrom (length (plays files s xs).out) b.output.contents a.output.contents (plays files s zs).out) (sym one)
+          (subst (λ (r : Report). TakesFrom (length (plays files s xs).out) b.output.contents a.output.contents r.out) (sym (plays-append s xs (x ∷ [])))
+          (part-then b.output.contents m.output.contents a.output.contents (plays files s xs).out (plays files (after_play files s xs) (x ∷ [])).out g.2 k)))
 
       stopped : (z : Stop) → Goes view source_view (plays files (after_play files s xs) (x ∷ [])) (after_play files (after_play files s xs) (x ∷ [])) (after_play files s xs).session.history rest mid new m a w (Err z) → Fed view source_view files s whole rest old new b a w (Err z)
-      stopped Output k = record { at = length xs + 1; within = more; wrote = part k.0; left = left-same w _ _ _ _ behind behind k.1 }
-      stopped Full k = record { at = length xs + 1; within = more; wrote = part k.0; left = left-same w _ _ _ _ behind behind k.1 }
+      stopped Output k = record { at = length xs; inside = omega (arith, more); wrote = part k.0; left = left-same w _ _ _ _ behind behind k.1 }
+      stopped Full k = record { at = length xs; inside = omega (arith, more); wrote = part k.0; left = left-same w _ _ _ _ behind behind k.1 }
       stopped File k = record {
         at = length xs;
         inside = omega (arith, more);
@@ -531,8 +533,8 @@ module _ (files : FileTable) where
       left : left_on w (report_of files s.terms s.session cuts).history (report_of files s.terms s.session cuts).history → left_on w s.session.history s.session.history
       left k = left-same w _ _ _ _ kept kept k
 
-      part : TakesPart b.output.contents a.output.contents (report_of files s.terms s.session cuts).out → TakesPart b.output.contents a.output.contents (report_of files s.terms s.session (rest_of s.scan)).out
-      part k = subst (λ (e : Report). TakesPart b.output.contents a.output.contents e.out) same k
+      part : TakesLess b.output.contents a.output.contents (report_of files s.terms s.session cuts).out → TakesLess b.output.contents a.output.contents (report_of files s.terms s.session (rest_of s.scan)).out
+      part k = subst (λ (e : Report). TakesLess b.output.contents a.output.contents e.out) same k
 
       moved : (e : Result ⊤ Stop) → Goes view source_view (cuts_play files (seen c s.terms s.session) cuts) (after_cuts files (seen c s.terms s.session) cuts) s.session.history rest mid new b a w e → RunsLast files s old new b a w e
       moved (Ok y) g = (

@@ -1,4 +1,5 @@
 -- A run is its first turns, and then the rest.
+use Rattle.cp_interpreter.proofs.Lines.{refused-after}
 use Rattle.cp_interpreter.specs.declared.limits.TheConstants.{INPUT_MAX, PIECE_MAX}
 use Rattle.std.proofs.Common.{◌≡◌, ℕ, ◌+◌, ◌≤◌, ◌<◌, List, [], ◌++◌, take, length, Bool, true, false, Ok, Err, inl, inr, refl, sym, ap, ◌∙◌, subst, append_assoc, append-nil, arith}
 use Rattle.std.proofs.Math.Bool.{or_assoc}
@@ -7,13 +8,13 @@ use Rattle.std.proofs.Math.Seq.{take-append-add}
 use Rattle.std.proofs.lemmas.List.{length-append}
 use Rattle.std.specs.Io.KnownBytes.{Appends, Consumes, Keeps, IsAtEnd}
 use Rattle.std.proofs.KnownBytes.{Appends-trans, Consumes-trans, Consumes-nil, Consumes-kept}
-use Rattle.cp_outside.specs.Causes.{Accounts, Rose}
+use Rattle.cp_outside.specs.Causes.{Accounts}
 use Rattle.cp_outside.specs.FileReads.{FileTable}
 use Rattle.cp_outside.proofs.Telling.{told-none, told-then}
 use Rattle.cp_model.specs.Tree.{Tree}
 use Rattle.cp_frame.specs.Stands.{StandsFor}
 use Rattle.cp_db.proofs.Keeping.{kept-images}
-use Rattle.cp_workspace.specs.Disks.{KnownDisk}
+use Rattle.cp_disk.specs.Views.{KnownDisk}
 use Rattle.cp_workspace.specs.Files.{KnownFiles, HasRead, HasReadSome}
 use Rattle.cp_workspace.proofs.ReadCounts.{read-sum, some-then, table-first, table-second}
 use Rattle.cp_workspace.proofs.Standing.{on-ok}
@@ -21,14 +22,14 @@ use Rattle.cp_interpreter.specs.Texts.{input_line, file_line, disk_line, clock_l
 use Rattle.cp_interpreter.specs.Job.{Report}
 use Rattle.cp_interpreter.specs.Outside.{KnownInput, KnownClock, KnownOutput, World, Outside, world_of}
 use Rattle.cp_interpreter.specs.Play.{Seen, plays, after_play, closes, plays_all}
-use Rattle.cp_interpreter.specs.Story.{Writes, StopsIn, WritesLast, Leaving, left_on, AllDone, OutputStopped, StoppedInside, Did, HasCauses, DiskCauses, result_of}
+use Rattle.cp_interpreter.specs.Story.{Writes, WasRefused, StopsIn, StopsAfter, WritesLast, Leaving, left_on, AllDone, OutputStopped, StoppedInside, Did, HasCauses, DiskCauses, result_of}
 use Rattle.cp_interpreter.specs.declared.interpreter.Interpreter.{Interpreter}
 use Rattle.cp_interpreter.specs.Turns.{Follows, StopRefusesWrite, IsOpenedStop, StopsWriting, Fed, WasFed, RunsLast, RanLast, LeavesBoth, LeavesAlong, with_refusal, work_from, RanFrom, TookPiece, IsSteady, TellsStop, Closes, HasClosed, IsClosing, end_of_stop}
 use Rattle.cp_interpreter.specs.declared.end.End.{End}
 use Rattle.cp_interpreter.specs.declared.end.End.TheVariants as how
 use Rattle.cp_interpreter.specs.declared.stop.Stop.{Stop}
 use Rattle.cp_interpreter.specs.declared.stop.Stop.TheVariants.{Output, Full, File, Disk, NoStore, Clock, Memory}
-use Rattle.cp_interpreter.proofs.Plays.{plays-append, all-append, all-none, closes-reads, closes-history, plays-none, history-none, along-then, goes-none, goes-then, part-then}
+use Rattle.cp_interpreter.proofs.Plays.{plays-append, all-append, all-none, closes-reads, closes-history, plays-none, history-none, along-then, goes-none, goes-then}
 
 -- the outside, of its parts
 abbrev pub parts : KnownInput → KnownFiles → KnownClock → KnownOutput → Outside
@@ -44,7 +45,7 @@ pub last-after : (b m a : KnownOutput) (xs ys last : List ℕ) → Writes b m xs
 last-after b m a xs ys last h w = elim w [
   | inl whole ↦ inl (whole.0 ∙ h.0, subst (Appends b.contents a.contents) (sym (append_assoc xs ys last)) (Appends-trans b.contents m.contents a.contents xs (ys ++ last) h.1 whole.1))
   | inr part ↦ inr (
-    subst (λ n. Rose n a.refusals) h.0 part.0,
+    refused-after b m a h.0 part.0,
     part.1,
     part.2,
     subst (Appends b.contents a.contents) (sym (append_assoc xs ys (take part.1 last))) (Appends-trans b.contents m.contents a.contents xs (ys ++ take part.1 last) h.1 part.3),
@@ -56,8 +57,16 @@ pub last-alone : (b m a : KnownOutput) (last : List ℕ) → Writes b m [] → W
 last-alone b m a last h w = last-after b m a [] [] last h w
 
 -- the output stopped after what was written before
-pub stops-after : (b m a : KnownOutput) (xs ys : List ℕ) → Writes b m xs → StopsIn m a ys → StopsIn b a (xs ++ ys)
-stops-after b m a xs ys h w = (subst (λ n. Rose n a.refusals) h.0 w.0, part-then b.contents m.contents a.contents xs ys h.1 w.1)
+pub stops-after : (b m a : KnownOutput) (xs first ys : List ℕ) → Writes b m xs → StopsAfter m a first ys → StopsAfter b a (xs ++ first) (xs ++ ys)
+stops-after b m a xs first ys h w = (
+  refused-after b m a h.0 w.0,
+  (
+    length xs + w.1.0,
+    omega (arith, length-append xs first, w.1.1),
+    omega (arith, length-append xs ys, w.1.2),
+    subst (Appends b.contents a.contents) (sym (take-append-add xs ys w.1.0)) (Appends-trans b.contents m.contents a.contents xs (take w.1.0 ys) h.1 w.1.3),
+  ),
+)
 
 -- ---- what a crash leaves
 
@@ -168,17 +177,28 @@ module _ (files : FileTable) where
       left = all_left w.left;
     }
 
+    stopped_after : (k : ℕ) → StopsAfter m.output a.output (plays files next (take k ys)).out (plays files next (take (k + 1) ys)).out
+        → StopsAfter b.output a.output (plays files s (take (length xs + k) (xs ++ ys))).out (plays files s (take (length xs + k + 1) (xs ++ ys))).out
+    stopped_after k w =
+        let same : length xs + (k + 1) ≡ length xs + k + 1 = omega arith in
+        subst (λ z. StopsAfter b.output a.output z (plays files s (take (length xs + k + 1) (xs ++ ys))).out) (sym (front-then s xs ys k))
+        (subst (λ n. StopsAfter b.output a.output ((plays files s xs).out ++ (plays files next (take k ys)).out) (plays files s (take n (xs ++ ys))).out) same
+        (subst (StopsAfter b.output a.output ((plays files s xs).out ++ (plays files next (take k ys)).out)) (sym (front-then s xs ys (k + 1)))
+        (stops-after b.output m.output a.output (plays files s xs).out (plays files next (take k ys)).out (plays files next (take (k + 1) ys)).out h w)))
+
     stopped : OutputStopped (work_from files next flag) L ys m a → OutputStopped (work_from files s f) L (xs ++ ys) b a
     stopped v = elim v [
       | inl part ↦ inl (record {
         at = length xs + part.at;
-        within = omega (arith, part.within, length-append xs ys);
-        wrote = subst (StopsIn b.output a.output) (sym (front-then s xs ys part.at)) (stops-after b.output m.output a.output (plays files s xs).out (plays files next (take part.at ys)).out h part.wrote);
-        left = front_left part.at part.left;
+        inside = omega (arith, part.inside, length-append xs ys);
+        wrote = stopped_after part.at part.wrote;
+        left = subst (λ n. L (plays files s (take n (xs ++ ys))).history (plays files s (take n (xs ++ ys))).history) (omega arith) (front_left (part.at + 1) part.left);
       })
       | inr part ↦ inr (record {
         ended = part.ended;
-        wrote = subst (StopsIn b.output a.output) (sym (out-then s xs ys)) (stops-after b.output m.output a.output (plays files s xs).out (plays_all files next ys).out h part.wrote);
+        wrote = subst (λ z. StopsAfter b.output a.output z (plays_all files s (xs ++ ys)).out) (sym (played-then s xs ys))
+            (subst (StopsAfter b.output a.output ((plays files s xs).out ++ (plays files next ys).out)) (sym (out-then s xs ys))
+            (stops-after b.output m.output a.output (plays files s xs).out (plays files next ys).out (plays_all files next ys).out h part.wrote));
         left = all_left part.left;
       })
     ]
@@ -270,7 +290,12 @@ module _ (files : FileTable) where
     }
 
     ending : StopsIn b.output a.output (closes files s).out × L s.session.history s.session.history → OutputStopped (work_from files s f) L [] b a
-    ending c = inr (record { ended = end; wrote = subst (λ (e : Report). StopsIn b.output a.output e.out) (sym (all-none files s)) c.0; left = left_closed c.1 })
+    ending c = inr (record {
+      ended = end;
+      wrote = subst (λ xs. StopsAfter b.output a.output xs (plays_all files s []).out) (sym (plays-none files s).0)
+          (subst (λ (e : Report). StopsAfter b.output a.output [] e.out) (sym (all-none files s)) (c.0.0, (c.0.1.0, omega arith, c.0.1.1, c.0.1.2)));
+      left = left_closed c.1;
+    })
 
     closing : (last : List ℕ) → WritesLast b.output a.output [] last × L s.session.history s.session.history → StoppedInside (work_from files s f) L [] b a last
     closing last c = record { at = 0; within = omega arith; wrote = last-first b.output a.output s last c.0; left = left-first L s c.1 }
@@ -294,10 +319,10 @@ module _ (files : FileTable) where
     line_at : (at : ℕ) (last : List ℕ) → Writes ob om (plays files s (take at bytes)).out → WritesLast om oa [] last → WritesLast ob oa (plays files s (take at bytes)).out last
     line_at at last g t = subst (λ z. WritesLast ob oa z last) (append-nil (plays files s (take at bytes)).out) (last-after ob om oa (plays files s (take at bytes)).out [] last g t)
 
-    writing : StopsWriting files s bytes (world fb cb ob) (world fm cm om) w → Rose ob.refusals om.refusals → oa ≡ om → OutputStopped (work_from files s f) (left_on w) bytes (parts ib fb cb ob) (parts ia fm cm oa)
-    writing g r t = inl (record { at = g.at; within = g.within; wrote = subst (λ o. StopsIn ob o (plays files s (take g.at bytes)).out) (sym t) (r, g.wrote); left = g.left })
+    writing : StopsWriting files s bytes (world fb cb ob) (world fm cm om) w → WasRefused ob om → oa ≡ om → OutputStopped (work_from files s f) (left_on w) bytes (parts ib fb cb ob) (parts ia fm cm oa)
+    writing g r t = inl (record { at = g.at; inside = g.inside; wrote = subst (λ o. StopsAfter ob o (plays files s (take g.at bytes)).out (plays files s (take (g.at + 1) bytes)).out) (sym t) (r, g.wrote); left = g.left })
 
-    pub did-stopped : (stop : Stop) → Fed view source_view files s bytes rest old new (world fb cb ob) (world fm cm om) w (Err stop) → StopRefusesWrite ob.refusals om.refusals stop → TellsStop om oa stop
+    pub did-stopped : (stop : Stop) → Fed view source_view files s bytes rest old new (world fb cb ob) (world fm cm om) w (Err stop) → StopRefusesWrite ob om stop → TellsStop om oa stop
         → Did (work_from files s f) (left_on w) count bytes (parts ib fb cb ob) (parts ia fm cm oa) (end_of_stop stop)
     did-stopped Output g r t = writing g r t
     did-stopped Full g r t = inl (writing g r t)
@@ -311,7 +336,7 @@ module _ (files : FileTable) where
 
 -- a session was stopped at the end of its input
 pub closes-stopped : {R S : Type 0} (files : FileTable) (s : Seen) (f : Bool) (old new : Interpreter R S) (fb fm : KnownFiles) (cb cm : KnownClock) (ob om oa : KnownOutput) (w : KnownDisk) (stop : Stop) → RunsLast files s old new (world fb cb ob) (world fm cm om) w (Err stop)
-    → StopRefusesWrite ob.refusals om.refusals stop → TellsStop om oa stop → Closes files s f (world fb cb ob) (world fm cm oa) w (end_of_stop stop)
+    → StopRefusesWrite ob om stop → TellsStop om oa stop → Closes files s f (world fb cb ob) (world fm cm oa) w (end_of_stop stop)
 closes-stopped files s f old new fb fm cb cm ob om oa w Output g r t = (subst (λ o. StopsIn ob o (closes files s).out) (sym t) (r, g.0), g.1)
 closes-stopped files s f old new fb fm cb cm ob om oa w Full g r t = inl (subst (λ o. StopsIn ob o (closes files s).out) (sym t) (r, g.0), g.1)
 closes-stopped files s f old new fb fm cb cm ob om oa w File g r t = absurd g
@@ -344,7 +369,7 @@ stop-ended Memory P = tt
 
 module _ {R S : Type 0} (view : R → Tree) (source_view : S → Tree) (old new : Interpreter R S) (fb fm : KnownFiles) (cb cm : KnownClock) (ob om oa : KnownOutput) (v w : KnownDisk) where
   -- it was stopped
-  pub closed-stopped : (stop : Stop) → IsOpenedStop stop → RanLast view source_view old new (world fb cb ob) (world fm cm om) v w (Err stop) → StopRefusesWrite ob.refusals om.refusals stop → TellsStop om oa stop
+  pub closed-stopped : (stop : Stop) → IsOpenedStop stop → RanLast view source_view old new (world fb cb ob) (world fm cm om) v w (Err stop) → StopRefusesWrite ob om stop → TellsStop om oa stop
       → HasClosed view source_view old (world fb cb ob) (world fm cm oa) v w (end_of_stop stop)
   closed-stopped stop n g r t = record {
     moments = g.moments;
@@ -375,7 +400,7 @@ module _ {R S : Type 0} (view : R → Tree) (source_view : S → Tree) (old new 
 
 -- none
 pub steady-none : (o : Outside) (v : KnownDisk) → IsSteady o o v v
-steady-none o v = record { input = refl; found = refl; read = (0, refl); files = refl; clock = refl; output = refl; refused = refl; disk = refl }
+steady-none o v = record { input = refl; found = refl; read = (0, refl); files = refl; clock = refl; output = refl; refused = refl; known = refl; disk = refl }
 
 -- some, and then others
 pub steady-then : (b m a : Outside) (v u w : KnownDisk) → IsSteady b m v u → IsSteady m a u w → IsSteady b a v w
@@ -387,6 +412,7 @@ steady-then b m a v u w x y = record {
   clock = y.clock ∙ x.clock;
   output = y.output ∙ x.output;
   refused = y.refused ∙ x.refused;
+  known = y.known ∙ x.known;
   disk = y.disk ∙ x.disk;
 }
 
@@ -441,7 +467,7 @@ module _ {R S : Type 0} (view : R → Tree) (source_view : S → Tree) where
   -- the session was stopped
   pub ran-stopped : (old new : Interpreter R S) (count : ℕ) (bytes : List ℕ) (ib ia : KnownInput) (fb fm : KnownFiles) (cb cm : KnownClock) (ob om oa : KnownOutput) (v w : KnownDisk) (stop : Stop) → IsOpenedStop stop
       → count + length bytes ≤ INPUT_MAX → Consumes ib.left ia.left bytes → ia.given ≡ ib.given + length bytes
-      → WasFed view source_view bytes old new (world fb cb ob) (world fm cm om) v w (Err stop) → StopRefusesWrite ob.refusals om.refusals stop → TellsStop om oa stop
+      → WasFed view source_view bytes old new (world fb cb ob) (world fm cm om) v w (Err stop) → StopRefusesWrite ob om stop → TellsStop om oa stop
       → RanFrom view source_view old count (parts ib fb cb ob) (parts ia fm cm oa) v w (end_of_stop stop)
   ran-stopped old new count bytes ib ia fb fm cb cm ob om oa v w stop n le took given g r t =
       let ends = closing-stopped stop n in
@@ -530,4 +556,4 @@ causes-after b m a v u e x c = record {
 
 -- also in the disk
 pub disk-after : (b m : Outside) (v u w : KnownDisk) (e : End) → IsSteady b m v u → DiskCauses u w e → DiskCauses v w e
-disk-after b m v u w e x c = account-after (λ z. z ≡ how.Disk) (result_of e) x.disk c
+disk-after b m v u w e x c = record { same = c.same ∙ x.known; account = account-after (λ z. z ≡ how.Disk) (result_of e) x.disk c.account }

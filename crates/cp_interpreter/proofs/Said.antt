@@ -10,7 +10,7 @@ use Rattle.cp_reply.specs.Lines.{lines}
 use Rattle.cp_reply.specs.declared.reply.Reply.{Reply}
 use Rattle.cp_reply.specs.Session.{Session, says, turn_of, with_reply, replies_to_statements}
 use Rattle.cp_workspace.specs.Texts.{Terms, setting}
-use Rattle.cp_workspace.specs.Disks.{KnownDisk}
+use Rattle.cp_disk.specs.Views.{KnownDisk}
 use Rattle.cp_workspace.specs.Files.{KnownFiles}
 use Rattle.cp_interpreter.specs.Job.{is_refusal}
 use Rattle.cp_interpreter.specs.Outside.{KnownInput, KnownClock, KnownOutput}
@@ -84,8 +84,8 @@ causes-said i f g k o p line flag e found same s cause = record {
 }
 
 -- and the disk's account
-pub disk-said : (v w : KnownDisk) (line : List ℕ) (flag : Bool) (o p : KnownOutput) (e : End) → w.counts.faults ≡ v.counts.faults → SaidLine line flag o p e → DiskCauses v w e
-disk-said v w line flag o p e same s = said-quiet how.Disk v.counts.faults w.counts.faults line flag o p e s same (λ h. absurd (cc)) (λ h. absurd (cc))
+pub disk-said : (v w : KnownDisk) (line : List ℕ) (flag : Bool) (o p : KnownOutput) (e : End) → w.known ≡ v.known → w.counts.faults ≡ v.counts.faults → SaidLine line flag o p e → DiskCauses v w e
+disk-said v w line flag o p e known same s = record { same = known; account = said-quiet how.Disk v.counts.faults w.counts.faults line flag o p e s same (λ h. absurd (cc)) (λ h. absurd (cc)) }
 
 -- the same of a line that is the same
 pub said-as : (line other : List ℕ) (flag refused : Bool) (o p : KnownOutput) (e : End) → line ≡ other → flag ≡ refused → SaidLine line flag o p e → SaidLine other refused o p e

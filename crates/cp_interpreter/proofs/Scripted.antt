@@ -11,7 +11,7 @@ use Rattle.cp_outside.specs.FileReads.{FileTable}
 use Rattle.cp_outside.specs.declared.files.FilesFault.{FilesFault}
 use Rattle.cp_outside.specs.declared.files.FilesFault.TheVariants as fails
 use Rattle.cp_outside.proofs.Telling.{told-none}
-use Rattle.cp_disk.specs.Views.{Rests}
+use Rattle.cp_disk.specs.Views.{ViewRests, KnownDisk}
 use Rattle.cp_frame.specs.Stands.{IsStore, Opens, StandsFor}
 use Rattle.cp_frame.specs.Stops.{IsNot}
 use Rattle.cp_model.specs.Tree.{Tree}
@@ -19,7 +19,6 @@ use Rattle.cp_model.specs.History.{Entry}
 use Rattle.cp_reply.specs.declared.reply.Why.{Why}
 use Rattle.cp_lang.specs.Cuts.{scan_bytes}
 use Rattle.cp_reply.specs.Session.{Session, session_after}
-use Rattle.cp_workspace.specs.Disks.{KnownDisk}
 use Rattle.cp_workspace.specs.Files.{KnownFiles, HasRead, HasReadSome, IsTable}
 use Rattle.cp_workspace.specs.Texts.{Terms}
 use Rattle.cp_workspace.specs.Workspaces.{opened_session}
@@ -28,10 +27,10 @@ use Rattle.cp_interpreter.specs.Texts.{file_line, memory_line}
 use Rattle.cp_interpreter.specs.Job.{job_so_far, job}
 use Rattle.cp_interpreter.specs.Outside.{KnownInput, KnownClock, KnownOutput, World}
 use Rattle.cp_interpreter.specs.Play.{Seen, begun, plays, plays_all}
-use Rattle.cp_interpreter.specs.Story.{WritesLast, SaidLine, Leaving, left_on, Work, AllDone, OutputStopped, StoppedInside, Did, work_on, store_terms, LeavesFronts, IsEarly, early_line, HasNotBegun, HasCauses, WorldCauses, DiskCauses, result_of}
+use Rattle.cp_interpreter.specs.Story.{LeavesHistory, WritesLast, SaidLine, Leaving, left_on, Work, AllDone, OutputStopped, StoppedInside, Did, work_on, store_terms, LeavesFronts, IsEarly, early_line, HasNotBegun, HasCauses, WorldCauses, DiskCauses, result_of}
 use Rattle.cp_interpreter.specs.Scripts.{script_of, commit_text, ScriptState, refused_script, ScriptFailed, DidScript, script_session, DidCommit, Committed}
 use Rattle.cp_interpreter.specs.Turns.{LeavesAlong, RanFrom, RanScript, IsClosing, TellsStop, end_of_stop, work_from, script_from}
-use Rattle.cp_interpreter.specs.Begins.{LeavesHistory, LeavesStore, BegunOn, GivesScript}
+use Rattle.cp_interpreter.specs.Begins.{LeavesStore, BegunOn, GivesScript}
 use Rattle.cp_interpreter.specs.declared.interpreter.Interpreter.{Interpreter}
 use Rattle.cp_interpreter.specs.declared.end.End.{End}
 use Rattle.cp_interpreter.specs.declared.end.End.TheVariants as how
@@ -52,7 +51,7 @@ module _ (files : FileTable) (s : Seen) (q : Bool) (taken : List ℕ) (i j ia ja
   script_done t w = record { refused_is = w.refused_is; wrote = w.wrote; read = read_all _ _ refl w.read; left = w.left }
 
   script_stopped : OutputStopped (work_from files s q) L taken (parts i fb c o) (parts ia fa ca oa) → OutputStopped (script_from files s q) L taken (parts j f c o) (parts ja fa ca oa)
-  script_stopped (inl w) = inl (record { at = w.at; within = w.within; wrote = w.wrote; left = w.left })
+  script_stopped (inl w) = inl (record { at = w.at; inside = w.inside; wrote = w.wrote; left = w.left })
   script_stopped (inr w) = inr (record { ended = ends w.ended; wrote = w.wrote; left = w.left })
 
   script_inside : (last : List ℕ) → StoppedInside (work_from files s q) L taken (parts i fb c o) (parts ia fa ca oa) last → StoppedInside (script_from files s q) L taken (parts j f c o) (parts ja fa ca oa) last
@@ -220,7 +219,7 @@ early-not-input e k h = elim k [
 
 -- a call that ran no session on its store
 pub committed-early : (file curator : List ℕ) (i : KnownInput) (f : KnownFiles) (k : KnownClock) (o p : KnownOutput) (v w : KnownDisk) (e : End) → IsEarly e → WritesLast o p [] (early_line e)
-    → (IsTrue v.known → (at : ℕ) → e ≡ how.NoStore at → IsNot Opens v.view.content at × Rests v.view w.view) → (IsTrue v.known → (Opens v.view.content → ⊥) → Rests v.view w.view) → LeavesStore v w
+    → (IsTrue v.known → (at : ℕ) → e ≡ how.NoStore at → IsNot Opens v.view.content at × ViewRests v.view w.view) → (IsTrue v.known → (Opens v.view.content → ⊥) → ViewRests v.view w.view) → LeavesStore v w
     → Committed file curator (parts i f k o) (parts i f k p) v w e
 committed-early file curator i f k o p v w e early wrote none never leaves = record {
   input = refl;
@@ -233,7 +232,7 @@ committed-early file curator i f k o p v w e early wrote none never leaves = rec
   no_store = λ known at h. (let x = none known at h in (not_begun, x.1, x.0));
   unopened = λ known h. (not_begun, never known h);
   did = λ known files t h store. (let l = leaves known h store in record {
-    did = λ rest. inl (not_begun, l.now);
+    did = λ rest. inl (not_begun, l);
     later = l.later;
     crash = λ rest t c le x. elim (l.since t c le x) [
       | inl old ↦ inl old

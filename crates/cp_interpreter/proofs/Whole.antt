@@ -7,7 +7,7 @@ use Rattle.cp_outside.specs.declared.files.FilesFault.{FilesFault}
 use Rattle.cp_outside.specs.declared.files.FilesFault.TheVariants as fails
 use Rattle.cp_reply.specs.Session.{Session}
 use Rattle.cp_workspace.specs.Files.{KnownFiles, HasRead}
-use Rattle.cp_workspace.specs.Disks.{KnownDisk}
+use Rattle.cp_disk.specs.Views.{KnownDisk}
 use Rattle.cp_workspace.specs.Texts.{Terms}
 use Rattle.cp_workspace.specs.Faults.{IsFailedFile}
 use Rattle.cp_workspace.proofs.ReadCounts.{read-sum}
@@ -42,7 +42,7 @@ module _ (files : FileTable) (terms : Terms) (s : Session) (k : ℕ) (taken : Li
 
   start_stopped : OutputStopped (work_from files (begun terms s) false) L taken (parts i fb c o) a → OutputStopped (work_on files terms s k) unseen taken (parts i f c o) a
   unfolding plays plays_all job_so_far job
-  start_stopped (inl w) = inl (record { at = w.at; within = w.within; wrote = w.wrote; left = tt })
+  start_stopped (inl w) = inl (record { at = w.at; inside = w.inside; wrote = w.wrote; left = tt })
   start_stopped (inr w) = inr (record { ended = w.ended; wrote = w.wrote; left = tt })
 
   start_inside : (last : List ℕ) → StoppedInside (work_from files (begun terms s) false) L taken (parts i fb c o) a last → StoppedInside (work_on files terms s k) unseen taken (parts i f c o) a last
@@ -105,7 +105,7 @@ quiet d e m n same never = record { later = omega (arith, same); blamed = not-bl
 
 -- a disk that wasn't touched isn't blamed
 pub disk-still : (v : KnownDisk) (e : End) → (e ≡ how.Disk → ⊥) → DiskCauses v v e
-disk-still v e never = quiet how.Disk e v.counts.faults v.counts.faults refl never
+disk-still v e never = record { same = refl; account = quiet how.Disk e v.counts.faults v.counts.faults refl never }
 
 module _ (i : KnownInput) (f fb : KnownFiles) (k : KnownClock) (o p : KnownOutput) where
   -- the causes where a start tree is refused

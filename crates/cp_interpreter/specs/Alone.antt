@@ -3,7 +3,7 @@ use Rattle.std.specs.Prelude.{◌≡◌, ◌⊎◌, ℕ, ◌≤◌, List, [], �
 use Rattle.std.specs.List.{flat_map, list_any}
 use Rattle.cp_outside.specs.FileReads.{FileTable}
 use Rattle.cp_model.specs.History.{Entry}
-use Rattle.cp_disk.specs.Views.{View, Rests}
+use Rattle.cp_disk.specs.Views.{View, ViewRests, KnownDisk}
 use Rattle.cp_frame.specs.Stands.{IsStore, Opens, StandsFor}
 use Rattle.cp_frame.specs.Stops.{IsNot}
 use Rattle.cp_lang.specs.declared.syntax_tree.Load.{Load}
@@ -14,7 +14,6 @@ use Rattle.cp_reply.specs.Session.{Session, replies_to_statements, session_after
 use Rattle.cp_workspace.specs.Texts.{Terms, setting}
 use Rattle.cp_workspace.specs.Loads.{statement_reads}
 use Rattle.cp_workspace.specs.Files.{HasRead, IsTable}
-use Rattle.cp_workspace.specs.Disks.{KnownDisk}
 use Rattle.cp_workspace.specs.Workspaces.{opened_session}
 use Rattle.cp_interpreter.specs.Texts.{file_line, disk_line, memory_line}
 use Rattle.cp_interpreter.specs.Job.{Report, is_refusal}
@@ -56,7 +55,7 @@ LeavesOneOf h i v w = (t : ℕ) (c : List ℕ) → t ≤ v.moment → w.since t 
 
 -- What was done on a store that stands for the history h, which the content tells at entry: the load, whose report this is; or the call ended before it.
 pub record DidLoad (r : Report) (h : List Entry) (before now : Outside) (v w : KnownDisk) (end : End) : Type 0 where
-  pub did : (HasNotBegun [] [] before now end × Rests v.view w.view) ⊎ DidStatement r h (left_on w) before now end
+  pub did : (HasNotBegun [] [] before now end × ViewRests v.view w.view) ⊎ DidStatement r h (left_on w) before now end
   pub later : v.view.moment ≤ w.view.moment
   pub crash : LeavesOneOf h r.history v.view w.view
 
@@ -67,7 +66,7 @@ pub record Loaded (l : Load) (before now : Outside) (v w : KnownDisk) (end : End
   pub clock : now.clock ≡ before.clock
   pub fitting : end ≡ how.Usage → ⊥
   pub short : end ≡ how.TooLong → ⊥
-  pub no_store : IsTrue v.known → (at : ℕ) → end ≡ how.NoStore at → HasNotBegun [] [] before now end × Rests v.view w.view × IsNot Opens v.view.content at
-  pub unopened : IsTrue v.known → (Opens v.view.content → ⊥) → HasNotBegun [] [] before now end × Rests v.view w.view
+  pub no_store : IsTrue v.known → (at : ℕ) → end ≡ how.NoStore at → HasNotBegun [] [] before now end × ViewRests v.view w.view × IsNot Opens v.view.content at
+  pub unopened : IsTrue v.known → (Opens v.view.content → ⊥) → HasNotBegun [] [] before now end × ViewRests v.view w.view
   pub did : IsTrue v.known → (files : FileTable) → IsTable files before.files now.files → (h : List Entry) → IsStore h v.view.content
       → DidLoad (report_on files h v.view.content (stmt.Load l)) h before now v w end

@@ -5,7 +5,7 @@ use Rattle.cp_model.specs.Tree.{Tree}
 use Rattle.cp_model.specs.History.{Entry, start}
 use Rattle.cp_model.specs.declared.kind.Kind.{Kind}
 use Rattle.cp_outside.specs.FileReads.{FileTable}
-use Rattle.cp_disk.specs.Views.{Rests, Keeps}
+use Rattle.cp_disk.specs.Views.{ViewRests, ViewKeeps, KnownDisk}
 use Rattle.cp_journal.specs.NewStores.{IsVacant}
 use Rattle.cp_frame.specs.Stands.{IsStore, Opens, StandsFor}
 use Rattle.cp_frame.specs.Stops.{IsNot}
@@ -21,7 +21,6 @@ use Rattle.cp_reply.specs.declared.reply.Why.TheVariants as why
 use Rattle.cp_reply.specs.declared.reply.Reply.{Reply}
 use Rattle.cp_reply.specs.declared.reply.Reply.TheVariants as reply
 use Rattle.cp_reply.specs.Session.{FetchedFile, gives, withholds}
-use Rattle.cp_workspace.specs.Disks.{KnownDisk}
 use Rattle.cp_workspace.specs.Files.{KnownFiles, HasRead, IsTable}
 use Rattle.cp_workspace.specs.Workspaces as workspace
 use Rattle.cp_workspace.specs.Workspaces.{HoldsFile, opened_session}
@@ -29,7 +28,7 @@ use Rattle.cp_workspace.specs.declared.workspace.Workspace.{Workspace}
 use Rattle.cp_interpreter.specs.Job.{Report, is_refusal}
 use Rattle.cp_interpreter.specs.Outside.{KnownOutput}
 use Rattle.cp_interpreter.specs.Play.{begun}
-use Rattle.cp_interpreter.specs.Story.{frames_end, left_on, store_terms, SaidLine, LeavesStart}
+use Rattle.cp_interpreter.specs.Story.{LeavesHistory, frames_end, left_on, store_terms, SaidLine, LeavesStart}
 use Rattle.cp_interpreter.specs.Alone.{LeavesOneOf, report_on}
 use Rattle.cp_interpreter.specs.Scripts.{ScriptState}
 use Rattle.cp_interpreter.specs.Turns.{Follows, TellsStop, end_of_stop}
@@ -46,12 +45,6 @@ pub record IsOpenedOn {R S : Type 0} (view : R → Tree) (source_view : S → Tr
   pub kept : IsKept true d h w.view
   pub is_end : end_in d ≡ frames_end c
 
--- meanwhile, and now, each file that a crash leaves is one that it could leave before, or stands for the history
-pub record LeavesHistory (h : List Entry) (v w : KnownDisk) : Type 0 where
-  pub later : v.view.moment ≤ w.view.moment
-  pub since : (t : ℕ) (c : List ℕ) → t ≤ v.view.moment → w.view.since t c → v.view.since t c ⊎ StandsFor h c
-  pub now : (c : List ℕ) → w.view.images c → v.view.images c ⊎ StandsFor h c
-
 -- where the content stands for a history
 abbrev pub LeavesStore : KnownDisk → KnownDisk → Type 0
 LeavesStore v w = IsTrue v.known → (h : List Entry) → IsStore h v.view.content → LeavesHistory h v w
@@ -64,20 +57,20 @@ IsMigrated view source_view old h w (Err stop) = (stop ≡ Disk) ⊎ (stop ≡ M
 -- the file was made one of version 2, which tells what it told
 abbrev pub Migrated : {R S : Type 0} → (R → Tree) → (S → Tree) → Db R S → KnownDisk → KnownDisk → Result (Db R S) Stop → Type 0
 Migrated view source_view old v w result = (h : List Entry) → database.Stands view source_view true old h → IsTrue v.known → IsKept true old h v.view
-    → Keeps (StandsFor h) v.view w.view × IsMigrated view source_view old h w result
+    → ViewKeeps (StandsFor h) v.view w.view × IsMigrated view source_view old h w result
 
 -- a content that opens gives its database; of one that doesn't the offset is told at which it stops, and a crash leaves what it could leave
 abbrev pub OpenedAs : {R S : Type 0} → (R → Tree) → (S → Tree) → KnownDisk → KnownDisk → Result (Db R S) Stop → Type 0
 OpenedAs view source_view v w (Ok d) = Opens v.view.content × ((h : List Entry) → IsStore h v.view.content → IsOpenedOn view source_view d h v.view.content w)
-OpenedAs view source_view v w (Err (NoStore at)) = IsNot Opens v.view.content at × Rests v.view w.view
-OpenedAs view source_view v w (Err stop) = (Opens v.view.content → ⊥) → Rests v.view w.view
+OpenedAs view source_view v w (Err (NoStore at)) = IsNot Opens v.view.content at × ViewRests v.view w.view
+OpenedAs view source_view v w (Err stop) = (Opens v.view.content → ⊥) → ViewRests v.view w.view
 
 -- the same of its session
 abbrev pub BegunOn : {R S : Type 0} → (R → Tree) → (S → Tree) → List ℕ → KnownDisk → KnownDisk → Result (Interpreter R S) Stop → Type 0
 BegunOn view source_view curator v w (Ok x) = Opens v.view.content
     × ((h : List Entry) (moments : List ℕ) → IsStore h v.view.content → Follows view source_view w x (begun (store_terms h v.view.content curator) (opened_session h moments)))
-BegunOn view source_view curator v w (Err (NoStore at)) = IsNot Opens v.view.content at × Rests v.view w.view
-BegunOn view source_view curator v w (Err stop) = (Opens v.view.content → ⊥) → Rests v.view w.view
+BegunOn view source_view curator v w (Err (NoStore at)) = IsNot Opens v.view.content at × ViewRests v.view w.view
+BegunOn view source_view curator v w (Err stop) = (Opens v.view.content → ⊥) → ViewRests v.view w.view
 
 -- a store isn't opened for one of these
 abbrev pub IsOpeningStop : Stop → Type 0
@@ -107,7 +100,7 @@ FoundAs (Err stop) = (stop ≡ Disk) ⊎ (stop ≡ Memory)
 
 -- what was replied to `init`, and what became of the files and of the disk
 pub record StoreMade (k : Kind) (given : FileTable → FetchedFile) (reads : ℕ) (before now : KnownFiles) (v w : KnownDisk) (result : Result Reply Stop) : Type 0 where
-  pub exists : IsTrue v.known → (IsVacant v.view.content → ⊥) → (now ≡ before) × Rests v.view w.view × FoundAs result
+  pub exists : IsTrue v.known → (IsVacant v.view.content → ⊥) → (now ≡ before) × ViewRests v.view w.view × FoundAs result
   pub made : IsTrue v.known → IsVacant v.view.content → (files : FileTable) → IsTable files before now
       → MadeAs k (given files) reads before now w result × LeavesStart k (given files) v.view w.view
   pub stops : IfErr result IsMakingStop
@@ -136,7 +129,7 @@ pub record NotOpened (before now : KnownFiles) (v w : KnownDisk) (result : Resul
   pub is : result ≡ Err stop
   pub opening : IsOpeningStop stop
   pub files : now ≡ before
-  pub rests : Rests v.view w.view
+  pub rests : ViewRests v.view w.view
 
 -- what a load with this report gave, on the history h
 abbrev pub LoadGives : Report → List Entry → KnownFiles → KnownFiles → KnownDisk → Result Reply Stop → Type 0

@@ -13,16 +13,18 @@ pub record KnownInput : Type 0 where
   pub given : ℕ
   pub faults : ℕ
 
--- a clock: the moments that are still to come, where they are known; how often it failed
+-- a clock: the moments that are still to come, where they are known; how often it was asked, and how often it failed
 pub record KnownClock : Type 0 where
   pub left : Option (List ℕ)
+  pub asked : ℕ
   pub faults : ℕ
 
--- an output: the bytes that it took, where they are known; how often it failed; how often it refused a write
+-- an output: the bytes that it took, where they are known; how often it failed; how often it refused a write, and how many bytes it took since
 pub record KnownOutput : Type 0 where
   pub contents : Option (List ℕ)
   pub faults : ℕ
   pub refusals : ℕ
+  pub since_refusal : ℕ
 
 -- what statements reach beside the disk: files, the clock and the output
 pub record World : Type 0 where
@@ -43,10 +45,10 @@ abbrev pub known_input : {I : Type 0} → source.Ghosts I → I → KnownInput
 known_input g i = record { left = g.left i; given = g.given i; faults = g.faults i }
 
 abbrev pub known_clock : {K : Type 0} → clock.Ghosts K → K → KnownClock
-known_clock g k = record { left = g.left k; faults = g.faults k }
+known_clock g k = record { left = g.left k; asked = g.asked k; faults = g.faults k }
 
 abbrev pub known_output : {O : Type 0} → sink.Ghosts O → O → KnownOutput
-known_output g o = record { contents = g.contents o; faults = g.faults o; refusals = g.refusals o }
+known_output g o = record { contents = g.contents o; faults = g.faults o; refusals = g.refusals o; since_refusal = g.since_refusal o }
 
 abbrev pub known_world : {F K O : Type 0} → files.Ghosts F → clock.Ghosts K → sink.Ghosts O → F → K → O → World
 known_world g l h f k o = record { files = known_files g f; clock = known_clock l k; output = known_output h o }

@@ -5,7 +5,7 @@ use Rattle.std.specs.declared.option.Option.TheVariants.{None, Some}
 use Rattle.cp_outside.specs.FileReads.{FileTable}
 use Rattle.cp_outside.specs.Moments.{HasTold}
 use Rattle.cp_model.specs.History.{Entry}
-use Rattle.cp_disk.specs.Views.{Rests}
+use Rattle.cp_disk.specs.Views.{ViewRests, KnownDisk}
 use Rattle.cp_frame.specs.Stands.{IsStore, Opens, StandsFor}
 use Rattle.cp_frame.specs.Stops.{IsNot}
 use Rattle.cp_reply.specs.Lines.{lines}
@@ -15,11 +15,10 @@ use Rattle.cp_reply.specs.declared.reply.Why.TheVariants as why
 use Rattle.cp_reply.specs.declared.reply.Reply.TheVariants as reply
 use Rattle.cp_workspace.specs.declared.limits.TheConstants.{FILE_MAX}
 use Rattle.cp_workspace.specs.Files.{HasRead, IsTable}
-use Rattle.cp_workspace.specs.Disks.{KnownDisk}
 use Rattle.cp_workspace.specs.Workspaces.{opened_session}
 use Rattle.cp_interpreter.specs.Texts.{file_line, memory_line}
 use Rattle.cp_interpreter.specs.Outside.{World, Outside, world_of}
-use Rattle.cp_interpreter.specs.Story.{WritesLast, Leaving, left_on, Work, Did, result_of, work_on, store_terms, SaidLine, HasNotBegun, LeavesFronts}
+use Rattle.cp_interpreter.specs.Story.{WritesLast, Leaving, left_on, Work, Did, result_of, work_on, store_terms, SaidLine, HasNotBegun, LeavesHistory, LeavesFronts}
 use Rattle.cp_interpreter.specs.declared.end.End.{End}
 use Rattle.cp_interpreter.specs.declared.end.End.TheVariants as how
 
@@ -75,7 +74,7 @@ script_session files h c curator moments = work_on files (store_terms h c curato
 
 -- What was done on a store that stands for the history h, which the content tells at entry.
 pub record DidCommit (files : FileTable) (h : List Entry) (file curator taken moments : List ℕ) (before now : Outside) (v w : KnownDisk) (end : End) : Type 0 where
-  pub did : (rest : List ℕ) → (HasNotBegun taken moments before now end × ((c : List ℕ) → w.view.images c → v.view.images c ⊎ StandsFor h c))
+  pub did : (rest : List ℕ) → (HasNotBegun taken moments before now end × LeavesHistory h v w)
       ⊎ ScriptFailed h (left_on w) taken moments (world_of before) (world_of now) end
       ⊎ DidScript (script_of (files file)) (script_session files h v.view.content curator (moments ++ rest)) h (left_on w) taken moments (world_of before) (world_of now) end
   pub later : v.view.moment ≤ w.view.moment
@@ -91,7 +90,7 @@ pub record Committed (file curator : List ℕ) (before now : Outside) (v w : Kno
   pub fitting : end ≡ how.Usage → ⊥
   pub fed : end ≡ how.Input → ⊥
   pub short : end ≡ how.TooLong → ⊥
-  pub no_store : IsTrue v.known → (at : ℕ) → end ≡ how.NoStore at → HasNotBegun taken moments before now end × Rests v.view w.view × IsNot Opens v.view.content at
-  pub unopened : IsTrue v.known → (Opens v.view.content → ⊥) → HasNotBegun taken moments before now end × Rests v.view w.view
+  pub no_store : IsTrue v.known → (at : ℕ) → end ≡ how.NoStore at → HasNotBegun taken moments before now end × ViewRests v.view w.view × IsNot Opens v.view.content at
+  pub unopened : IsTrue v.known → (Opens v.view.content → ⊥) → HasNotBegun taken moments before now end × ViewRests v.view w.view
   pub did : IsTrue v.known → (files : FileTable) → IsTable files before.files now.files → (h : List Entry) → IsStore h v.view.content
       → DidCommit files h file curator taken moments before now v w end

@@ -1,15 +1,17 @@
 -- What a call did to the outside, by how it ended.
 use Rattle.cp_interpreter.specs.declared.limits.TheConstants.{INPUT_MAX, PIECE_MAX}
 use Rattle.std.specs.Prelude.{◌≡◌, ◌⊎◌, ◌↔◌, ℕ, ◌≤◌, ◌<◌, ◌+◌, List, [], ◌∷◌, ◌++◌, length, take, drop, Bool, true, false, IsTrue, Result, Ok, Err, ⊤, OnOk}
+use Rattle.std.specs.declared.option.Option.{Option}
 use Rattle.std.specs.Io.KnownBytes.{Appends, Consumes, IsAtEnd}
-use Rattle.cp_outside.specs.Causes.{Accounts, Rose}
+use Rattle.cp_outside.specs.Causes.{Accounts, Rose, one_more}
 use Rattle.cp_outside.specs.FileReads.{FileTable}
-use Rattle.cp_outside.specs.Sinks.{TakesPart}
+use Rattle.cp_outside.specs.Sinks.{TakesLess}
 use Rattle.cp_outside.specs.Moments.{HasTold}
 use Rattle.cp_model.specs.Keyed.{len}
 use Rattle.cp_model.specs.History.{Entry, start}
 use Rattle.cp_model.specs.declared.kind.Kind.{Kind}
-use Rattle.cp_disk.specs.Views.{View, Rests, Keeps}
+use Rattle.cp_disk.specs.Counts.{UsesDisk}
+use Rattle.cp_disk.specs.Views.{View, ViewRests, ViewKeeps, KnownDisk}
 use Rattle.cp_journal.specs.Frames.{frames_of}
 use Rattle.cp_journal.specs.Journals.{walk_end}
 use Rattle.cp_journal.specs.NewStores.{IsVacant}
@@ -24,7 +26,6 @@ use Rattle.cp_reply.specs.declared.reply.Reply.TheVariants as reply
 use Rattle.cp_reply.specs.Session.{Session, FetchedFile, gives, withholds}
 use Rattle.cp_workspace.specs.Texts.{Terms}
 use Rattle.cp_workspace.specs.Files.{HasRead, IsTable}
-use Rattle.cp_workspace.specs.Disks.{KnownDisk}
 use Rattle.cp_workspace.specs.Workspaces.{opened_session}
 use Rattle.cp_interpreter.specs.Texts.{input_line, file_line, disk_line, no_store_line, memory_line, too_long_line, clock_line}
 use Rattle.cp_interpreter.specs.Job.{Report, job_so_far, job}
@@ -38,15 +39,28 @@ use Rattle.cp_interpreter.specs.declared.end.End.TheVariants as how
 abbrev pub Writes : KnownOutput → KnownOutput → List ℕ → Type 0
 Writes before now bytes = (now.refusals ≡ before.refusals) × Appends before.contents now.contents bytes
 
--- A write was refused, and a front part of these bytes was taken before it.
+-- One write was refused, and nothing was taken after it.
+pub record WasRefused (before now : KnownOutput) : Type 0 where
+  pub once : now.refusals ≡ one_more before.refusals
+  pub last : now.since_refusal ≡ 0
+
+-- A write was refused, and less than all of these bytes was taken before it.
 abbrev pub StopsIn : KnownOutput → KnownOutput → List ℕ → Type 0
-StopsIn before now bytes = Rose before.refusals now.refusals × TakesPart before.contents now.contents bytes
+StopsIn before now bytes = WasRefused before now × TakesLess before.contents now.contents bytes
+
+-- A front part of these bytes was taken, which has so many of them at least, and isn't all.
+abbrev pub TakesFrom : ℕ → Option (List ℕ) → Option (List ℕ) → List ℕ → Type 0
+TakesFrom least old new bytes = (n : ℕ) × (least ≤ n) × (n < length bytes) × Appends old new (take n bytes)
+
+-- A write was refused after all of the first bytes, and before all of the others, which begin with them.
+abbrev pub StopsAfter : KnownOutput → KnownOutput → List ℕ → List ℕ → Type 0
+StopsAfter before now first bytes = WasRefused before now × TakesFrom (length first) before.contents now.contents bytes
 
 -- These bytes were written and then the last line; or a write of the last line was refused, of which less than all was taken.
 abbrev pub WritesLast : KnownOutput → KnownOutput → List ℕ → List ℕ → Type 0
 WritesLast before now bytes last =
     Writes before now (bytes ++ last)
-    ⊎ (Rose before.refusals now.refusals × (n : ℕ) × (n < length last) × Appends before.contents now.contents (bytes ++ take n last))
+    ⊎ (WasRefused before now × (n : ℕ) × (n < length last) × Appends before.contents now.contents (bytes ++ take n last))
 
 -- ---- what a crash leaves
 
@@ -76,17 +90,17 @@ pub record AllDone (work : Work) (Leaves : Leaving) (taken : List ℕ) (before n
   pub read : HasRead before.files now.files (work.whole taken).reads
   pub left : Leaves (work.whole taken).history (work.whole taken).history
 
--- The output refused a write of what is written for the bytes up to some byte, whose statement was run.
+-- The output refused a write of what is written for the statement that ends with the next byte, which was run: all lines before it were written, and less than all of its own.
 pub record StoppedWriting (work : Work) (Leaves : Leaving) (taken : List ℕ) (before now : Outside) : Type 0 where
   pub at : ℕ
-  pub within : at ≤ length taken
-  pub wrote : StopsIn before.output now.output (work.so_far (take at taken)).out
-  pub left : Leaves (work.so_far (take at taken)).history (work.so_far (take at taken)).history
+  pub inside : at < length taken
+  pub wrote : StopsAfter before.output now.output (work.so_far (take at taken)).out (work.so_far (take (at + 1) taken)).out
+  pub left : Leaves (work.so_far (take (at + 1) taken)).history (work.so_far (take (at + 1) taken)).history
 
 -- The same of what is written for the input's end, which has come.
 pub record StoppedEnding (work : Work) (Leaves : Leaving) (taken : List ℕ) (before now : Outside) : Type 0 where
   pub ended : IsAtEnd now.input.left
-  pub wrote : StopsIn before.output now.output (work.whole taken).out
+  pub wrote : StopsAfter before.output now.output (work.so_far taken).out (work.whole taken).out
   pub left : Leaves (work.whole taken).history (work.whole taken).history
 
 abbrev pub OutputStopped : Work → Leaving → List ℕ → Outside → Outside → Type 0
@@ -238,9 +252,16 @@ session_on files h c curator moments = work_on files (store_terms h c curator) (
 abbrev pub LeavesFronts : Work → List ℕ → View → View → Type 0
 LeavesFronts work taken v w = (t : ℕ) (c : List ℕ) → t ≤ v.moment → w.since t c → v.since t c ⊎ ((k : ℕ) × (k ≤ length taken) × StandsFor (work.so_far (take k taken)).history c)
 
--- What was done on a store that stands for the history h, which the content tells at entry: its session; or none was run, and a crash leaves what it could leave, or the history.
+-- The content stands for the history; meanwhile, and now, each file that a crash leaves is one that it could leave before, or stands for the history.
+pub record LeavesHistory (h : List Entry) (v w : KnownDisk) : Type 0 where
+  pub content : StandsFor h w.view.content
+  pub later : v.view.moment ≤ w.view.moment
+  pub since : (t : ℕ) (c : List ℕ) → t ≤ v.view.moment → w.view.since t c → v.view.since t c ⊎ StandsFor h c
+  pub now : (c : List ℕ) → w.view.images c → v.view.images c ⊎ StandsFor h c
+
+-- What was done on a store that stands for the history h, which the content tells at entry: its session; or none was run, and the history is left.
 pub record DidOn (files : FileTable) (h : List Entry) (curator taken moments : List ℕ) (before now : Outside) (v w : KnownDisk) (end : End) : Type 0 where
-  pub did : (rest : List ℕ) → (HasNotBegun taken moments before now end × ((c : List ℕ) → w.view.images c → v.view.images c ⊎ StandsFor h c))
+  pub did : (rest : List ℕ) → (HasNotBegun taken moments before now end × LeavesHistory h v w)
       ⊎ Did (session_on files h v.view.content curator (moments ++ rest)) (left_on w) 0 taken before now end
   pub later : v.view.moment ≤ w.view.moment
   pub crash : (rest : List ℕ) → LeavesFronts (session_on files h v.view.content curator (moments ++ rest)) taken v.view w.view
@@ -256,8 +277,8 @@ pub record RanOn (curator : List ℕ) (before now : Outside) (v w : KnownDisk) (
   pub told : HasTold before.clock.left now.clock.left moments
   pub fitting : end ≡ how.Usage → ⊥
   pub ended : OnOk (result_of end) (IsAtEnd now.input.left)
-  pub no_store : IsTrue v.known → (at : ℕ) → end ≡ how.NoStore at → HasNotBegun taken moments before now end × Rests v.view w.view × IsNot Opens v.view.content at
-  pub unopened : IsTrue v.known → (Opens v.view.content → ⊥) → HasNotBegun taken moments before now end × Rests v.view w.view
+  pub no_store : IsTrue v.known → (at : ℕ) → end ≡ how.NoStore at → HasNotBegun taken moments before now end × ViewRests v.view w.view × IsNot Opens v.view.content at
+  pub unopened : IsTrue v.known → (Opens v.view.content → ⊥) → HasNotBegun taken moments before now end × ViewRests v.view w.view
   pub did : IsTrue v.known → (files : FileTable) → IsTable files before.files now.files → (h : List Entry) → IsStore h v.view.content
       → DidOn files h curator taken moments before now v w end
 
@@ -276,8 +297,8 @@ MadeFrom k (gives t) before now v w end =
 
 -- What a crash leaves meanwhile: what it could leave, or a vacant file, or the store with its start alone.
 abbrev pub LeavesStart : Kind → FetchedFile → View → View → Type 0
-LeavesStart k (withholds y) v w = Rests v w
-LeavesStart k (gives t) v w = Keeps (IsOldOrVacantOrStart v k t) v w
+LeavesStart k (withholds y) v w = ViewRests v w
+LeavesStart k (gives t) v w = ViewKeeps (IsOldOrVacantOrStart v k t) v w
 
 -- The call ended before it was known what to say.
 abbrev pub EndedEarly : Outside → Outside → End → Type 0
@@ -293,7 +314,7 @@ pub record Made (k : Kind) (given : FileTable → FetchedFile) (reads : ℕ) (be
   pub input : now.input ≡ before.input
   pub clock : now.clock ≡ before.clock
   pub exists : IsTrue v.known → (IsVacant v.view.content → ⊥)
-      → (now.files ≡ before.files) × Rests v.view w.view × (SaidLine store_exists true before.output now.output end ⊎ EndedEarly before now end)
+      → (now.files ≡ before.files) × ViewRests v.view w.view × (SaidLine store_exists true before.output now.output end ⊎ EndedEarly before now end)
   pub did : IsTrue v.known → IsVacant v.view.content → (files : FileTable) → IsTable files before.files now.files
       → FileOfStartFailed reads before now end ⊎ EndedEarly before now end ⊎ MadeFrom k (given files) before now v w end
   pub crash : IsTrue v.known → IsVacant v.view.content → (files : FileTable) → IsTable files before.files now.files → LeavesStart k (given files) v.view w.view
@@ -314,7 +335,7 @@ pub record HasCauses (before now : Outside) (end : End) : Type 0 where
 
 -- And of the disk.
 abbrev pub DiskCauses : KnownDisk → KnownDisk → End → Type 0
-DiskCauses v w end = Accounts (λ e. e ≡ how.Disk) v.counts.faults w.counts.faults (result_of end)
+DiskCauses v w end = UsesDisk (λ e. e ≡ how.Disk) v w (result_of end)
 
 -- No count of faults has risen.
 pub record IsFaultless (before now : Outside) (v w : KnownDisk) : Type 0 where

@@ -3,9 +3,9 @@ use Rattle.cp_interpreter.specs.declared.limits.TheConstants.{INPUT_MAX}
 use Rattle.std.specs.Prelude.{◌≡◌, ◌⊎◌, ◌↔◌, ℕ, ◌≤◌, ◌<◌, ◌+◌, List, [], ◌++◌, length, take, Bool, true, false, IsTrue, ◌||◌, Result, Ok, Err, ⊤, OnOk}
 use Rattle.std.specs.declared.option.Option.{Option}
 use Rattle.std.specs.Io.KnownBytes.{Appends, Consumes, IsAtEnd}
-use Rattle.cp_outside.specs.Causes.{Accounts, Rose}
+use Rattle.cp_outside.specs.Causes.{Accounts}
 use Rattle.cp_outside.specs.FileReads.{FileTable}
-use Rattle.cp_outside.specs.Sinks.{TakesPart}
+use Rattle.cp_outside.specs.Sinks.{TakesLess}
 use Rattle.cp_outside.specs.Moments.{HasTold}
 use Rattle.cp_lang.specs.Cuts.{Scan}
 use Rattle.cp_lang.specs.CutterState.{CutterState, held_of}
@@ -16,14 +16,15 @@ use Rattle.cp_frame.specs.Stands.{StandsFor}
 use Rattle.cp_reply.specs.Session.{session_after}
 use Rattle.cp_interpreter.specs.Texts.{no_store_line, memory_line, file_line, disk_line, clock_line}
 use Rattle.cp_workspace.specs.Texts.{setting}
-use Rattle.cp_workspace.specs.Disks.{KnownDisk}
+use Rattle.cp_disk.specs.Counts.{UsesDisk}
+use Rattle.cp_disk.specs.Views.{KnownDisk}
 use Rattle.cp_workspace.specs.Files.{HasRead, HasReadSome, IsTable, UsesFiles}
 use Rattle.cp_workspace.specs.Workspaces.{Stands, IsUsable, HasStamps, HoldsFile}
 use Rattle.cp_workspace.specs.declared.workspace.Workspace.{Workspace}
 use Rattle.cp_interpreter.specs.Job.{Report, report_of}
 use Rattle.cp_interpreter.specs.Play.{Seen, plays, after_play, closes, plays_all}
 use Rattle.cp_interpreter.specs.Outside.{KnownOutput, World, Outside, world_of}
-use Rattle.cp_interpreter.specs.Story.{Writes, StopsIn, WritesLast, left_on, Work, Did, after_reads, IsRunning, result_of}
+use Rattle.cp_interpreter.specs.Story.{Writes, WasRefused, StopsIn, TakesFrom, WritesLast, left_on, Work, Did, after_reads, IsRunning, result_of}
 use Rattle.cp_interpreter.specs.Scripts.{script_of, ScriptFailed, DidScript}
 use Rattle.cp_interpreter.specs.declared.interpreter.Interpreter.{Interpreter}
 use Rattle.cp_interpreter.specs.declared.end.End.{End}
@@ -81,24 +82,24 @@ abbrev pub IsOpenedStop : Stop → Type 0
 IsOpenedStop stop = (at : ℕ) → stop ≡ NoStore at → ⊥
 
 -- The output refused a write exactly where it stopped the session.
-abbrev pub StopRefusesWrite : ℕ → ℕ → Stop → Type 0
-StopRefusesWrite before now Output = Rose before now
-StopRefusesWrite before now Full = Rose before now
-StopRefusesWrite before now File = now ≡ before
-StopRefusesWrite before now Disk = now ≡ before
-StopRefusesWrite before now (NoStore at) = now ≡ before
-StopRefusesWrite before now Clock = now ≡ before
-StopRefusesWrite before now Memory = now ≡ before
+abbrev pub StopRefusesWrite : KnownOutput → KnownOutput → Stop → Type 0
+StopRefusesWrite before now Output = WasRefused before now
+StopRefusesWrite before now Full = WasRefused before now
+StopRefusesWrite before now File = now.refusals ≡ before.refusals
+StopRefusesWrite before now Disk = now.refusals ≡ before.refusals
+StopRefusesWrite before now (NoStore at) = now.refusals ≡ before.refusals
+StopRefusesWrite before now Clock = now.refusals ≡ before.refusals
+StopRefusesWrite before now Memory = now.refusals ≡ before.refusals
 
 -- It refused none where nothing stopped.
-abbrev pub RefusesWrite : {T : Type 0} → ℕ → ℕ → Result T Stop → Type 0
-RefusesWrite before now (Ok x) = now ≡ before
+abbrev pub RefusesWrite : {T : Type 0} → KnownOutput → KnownOutput → Result T Stop → Type 0
+RefusesWrite before now (Ok x) = now.refusals ≡ before.refusals
 RefusesWrite before now (Err stop) = StopRefusesWrite before now stop
 
 -- The output is blamed only where its count rose, which stays where nothing stopped; and it refused a write exactly where it stopped the session.
 pub record UsesOutput (before now : KnownOutput) (result : Result ⊤ Stop) : Type 0 where
   pub account : Accounts IsOutputStop before.faults now.faults result
-  pub refuses : RefusesWrite before.refusals now.refusals result
+  pub refuses : RefusesWrite before now result
 
 -- Files, clock, output and disk.
 pub record Uses (before now : World) (v w : KnownDisk) (result : Result ⊤ Stop) : Type 0 where
@@ -106,15 +107,15 @@ pub record Uses (before now : World) (v w : KnownDisk) (result : Result ⊤ Stop
   pub read : HasReadSome before.files now.files
   pub clock : Accounts IsClockStop before.clock.faults now.clock.faults result
   pub output : UsesOutput before.output now.output result
-  pub disk : Accounts IsDiskStop v.counts.faults w.counts.faults result
+  pub disk : UsesDisk IsDiskStop v w result
 
 -- ---- what was written
 
 -- Bytes were written; or the output stopped in them; or nothing was written.
 abbrev pub SendsOut : List ℕ → Option (List ℕ) → Option (List ℕ) → Result ⊤ Stop → Type 0
 SendsOut text before after (Ok x) = Appends before after text
-SendsOut text before after (Err Output) = TakesPart before after text
-SendsOut text before after (Err Full) = TakesPart before after text
+SendsOut text before after (Err Output) = TakesLess before after text
+SendsOut text before after (Err Full) = TakesLess before after text
 SendsOut text before after (Err File) = ⊥
 SendsOut text before after (Err Disk) = ⊥
 SendsOut text before after (Err (NoStore at)) = ⊥
@@ -136,8 +137,8 @@ after_cuts files s cuts = record { scan = s.scan; terms = s.terms; session = ses
 abbrev pub Goes : {R S : Type 0} → (R → Tree) → (S → Tree) → Report → Seen → List Entry → List ℕ → Interpreter R S → Interpreter R S → World → World → KnownDisk → Result ⊤ Stop → Type 0
 Goes view source_view r next h rest old new before now w (Ok x) =
     Follows view source_view w new next × (new.refused ≡ (old.refused || r.refused)) × Appends before.output.contents now.output.contents r.out × HasRead before.files now.files r.reads × (next.session.moments ≡ rest)
-Goes view source_view r next h rest old new before now w (Err Output) = TakesPart before.output.contents now.output.contents r.out × left_on w r.history r.history
-Goes view source_view r next h rest old new before now w (Err Full) = TakesPart before.output.contents now.output.contents r.out × left_on w r.history r.history
+Goes view source_view r next h rest old new before now w (Err Output) = TakesLess before.output.contents now.output.contents r.out × left_on w r.history r.history
+Goes view source_view r next h rest old new before now w (Err Full) = TakesLess before.output.contents now.output.contents r.out × left_on w r.history r.history
 Goes view source_view r next h rest old new before now w (Err File) =
     (r.reads ≡ 1) × Appends before.output.contents now.output.contents [] × HasRead before.files now.files 1 × left_on w h h
 Goes view source_view r next h rest old new before now w (Err Disk) = Appends before.output.contents now.output.contents [] × left_on w h r.history
@@ -159,12 +160,12 @@ pub record Went {R S : Type 0} (view : R → Tree) (source_view : S → Tree) (r
 
 -- ---- what the bytes of a piece do
 
--- the output stopped in what is written up to some byte
+-- the output stopped in what is written for the statement that ends with the byte at this position: all before it was written
 pub record StopsWriting (files : FileTable) (s : Seen) (bytes : List ℕ) (before now : World) (w : KnownDisk) : Type 0 where
   pub at : ℕ
-  pub within : at ≤ length bytes
-  pub wrote : TakesPart before.output.contents now.output.contents (plays files s (take at bytes)).out
-  pub left : left_on w (plays files s (take at bytes)).history (plays files s (take at bytes)).history
+  pub inside : at < length bytes
+  pub wrote : TakesFrom (length (plays files s (take at bytes)).out) before.output.contents now.output.contents (plays files s (take (at + 1) bytes)).out
+  pub left : left_on w (plays files s (take (at + 1) bytes)).history (plays files s (take (at + 1) bytes)).history
 
 -- a file failed at the load that ends with the byte at this position: all before it was written and read
 pub record StopsAtLoad (files : FileTable) (s : Seen) (bytes : List ℕ) (before now : World) (w : KnownDisk) : Type 0 where
@@ -219,8 +220,8 @@ pub record WasFed {R S : Type 0} (view : R → Tree) (source_view : S → Tree) 
 abbrev pub RunsLast : {R S : Type 0} → FileTable → Seen → Interpreter R S → Interpreter R S → World → World → KnownDisk → Result ⊤ Stop → Type 0
 RunsLast files s old new before now w (Ok x) =
     (new.refused ≡ (old.refused || (closes files s).refused)) × Appends before.output.contents now.output.contents (closes files s).out × HasRead before.files now.files 0 × left_on w s.session.history s.session.history
-RunsLast files s old new before now w (Err Output) = TakesPart before.output.contents now.output.contents (closes files s).out × left_on w s.session.history s.session.history
-RunsLast files s old new before now w (Err Full) = TakesPart before.output.contents now.output.contents (closes files s).out × left_on w s.session.history s.session.history
+RunsLast files s old new before now w (Err Output) = TakesLess before.output.contents now.output.contents (closes files s).out × left_on w s.session.history s.session.history
+RunsLast files s old new before now w (Err Full) = TakesLess before.output.contents now.output.contents (closes files s).out × left_on w s.session.history s.session.history
 RunsLast files s old new before now w (Err File) = ⊥
 RunsLast files s old new before now w (Err Disk) = Appends before.output.contents now.output.contents [] × left_on w s.session.history s.session.history
 RunsLast files s old new before now w (Err (NoStore at)) = ⊥
@@ -329,6 +330,7 @@ pub record IsSteady (before now : Outside) (v w : KnownDisk) : Type 0 where
   pub clock : now.clock.faults ≡ before.clock.faults
   pub output : now.output.faults ≡ before.output.faults
   pub refused : now.output.refusals ≡ before.output.refusals
+  pub known : w.known ≡ v.known
   pub disk : w.counts.faults ≡ v.counts.faults
 
 -- ---- scripts

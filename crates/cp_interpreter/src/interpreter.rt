@@ -1,11 +1,11 @@
 //! A session: the cuts of its input, run one after another in its workspace.
 ghost use Rattle.std.specs.Prelude.{◌≡◌, ◌||◌, false, OnOk, IfErr, [], ◌∷◌};
+ghost use Rattle.cp_disk.specs.Views.{Keeps};
 ghost use Rattle.std.specs.Option.{option_to_list};
 ghost use Rattle.cp_reply.specs.Lines.{lines};
 ghost use Rattle.cp_interpreter.specs.Job.{is_refusal};
 ghost use Rattle.cp_lang.specs.Cuts.{scan_start};
 ghost use Rattle.cp_lang.specs.CutterState.{held_of};
-ghost use Rattle.cp_workspace.specs.Disks.{known_disk};
 ghost use Rattle.cp_interpreter.specs.Outside.{known_output, known_world};
 ghost use Rattle.cp_interpreter.specs.Play.{plays, after_play};
 ghost use Rattle.cp_interpreter.specs.Turns.{MayGoOn, SendsOut, Went, WasFed, RanLast, Uses, UsesOutput, IsOpenedStop, cuts_play, after_cuts, cutter_in, workspace_in, has_refused};
@@ -96,13 +96,13 @@ impl<R: TreeRep, S: TreeRep> Interpreter<R, S> {
         clock: &mut K,
         output: &mut O,
     ) -> Result<(), Stop>
-        requires goes_on { MayGoOn R.contents S.contents (known_disk D.Disk disk.old) self.old }
+        requires goes_on { MayGoOn R.contents S.contents (D.known disk.old) self.old }
         ensures went { Went R.contents S.contents (λ t s. cuts_play t s (option_to_list cut)) (λ t s. after_cuts t s (option_to_list cut)) self.old self.new
             (known_world F.Files K.Clock O.Sink files.old clock.old output.old) (known_world F.Files K.Clock O.Sink files.new clock.new output.new)
-            (known_disk D.Disk disk.old) (known_disk D.Disk disk.new) result }
-        ensures stays { OnOk result (MayGoOn R.contents S.contents (known_disk D.Disk disk.new) self.new) }
+            (D.known disk.old) (D.known disk.new) result }
+        ensures stays { OnOk result (MayGoOn R.contents S.contents (D.known disk.new) self.new) }
         ensures uses { Uses (known_world F.Files K.Clock O.Sink files.old clock.old output.old) (known_world F.Files K.Clock O.Sink files.new clock.new output.new)
-            (known_disk D.Disk disk.old) (known_disk D.Disk disk.new) result }
+            (D.known disk.old) (D.known disk.new) result }
         ensures opened { IfErr result IsOpenedStop }
     {
         let Some(cut) = cut else {
@@ -125,13 +125,13 @@ impl<R: TreeRep, S: TreeRep> Interpreter<R, S> {
         clock: &mut K,
         output: &mut O,
     ) -> Result<(), Stop>
-        requires goes_on { MayGoOn R.contents S.contents (known_disk D.Disk disk.old) self.old }
+        requires goes_on { MayGoOn R.contents S.contents (D.known disk.old) self.old }
         ensures went { Went R.contents S.contents (λ t s. plays t s (byte ∷ [])) (λ t s. after_play t s (byte ∷ [])) self.old self.new
             (known_world F.Files K.Clock O.Sink files.old clock.old output.old) (known_world F.Files K.Clock O.Sink files.new clock.new output.new)
-            (known_disk D.Disk disk.old) (known_disk D.Disk disk.new) result }
-        ensures stays { OnOk result (MayGoOn R.contents S.contents (known_disk D.Disk disk.new) self.new) }
+            (D.known disk.old) (D.known disk.new) result }
+        ensures stays { OnOk result (MayGoOn R.contents S.contents (D.known disk.new) self.new) }
         ensures uses { Uses (known_world F.Files K.Clock O.Sink files.old clock.old output.old) (known_world F.Files K.Clock O.Sink files.new clock.new output.new)
-            (known_disk D.Disk disk.old) (known_disk D.Disk disk.new) result }
+            (D.known disk.old) (D.known disk.new) result }
         ensures opened { IfErr result IsOpenedStop }
     {
         let cut = self.cutter.push(byte)?;
@@ -148,13 +148,13 @@ impl<R: TreeRep, S: TreeRep> Interpreter<R, S> {
         clock: &mut K,
         output: &mut O,
     ) -> Result<(), Stop>
-        requires goes_on { MayGoOn R.contents S.contents (known_disk D.Disk disk.old) self.old }
+        requires goes_on { MayGoOn R.contents S.contents (D.known disk.old) self.old }
         ensures went { WasFed R.contents S.contents piece.now self.old self.new
             (known_world F.Files K.Clock O.Sink files.old clock.old output.old) (known_world F.Files K.Clock O.Sink files.new clock.new output.new)
-            (known_disk D.Disk disk.old) (known_disk D.Disk disk.new) result }
-        ensures stays { OnOk result (MayGoOn R.contents S.contents (known_disk D.Disk disk.new) self.new) }
+            (D.known disk.old) (D.known disk.new) result }
+        ensures stays { OnOk result (MayGoOn R.contents S.contents (D.known disk.new) self.new) }
         ensures uses { Uses (known_world F.Files K.Clock O.Sink files.old clock.old output.old) (known_world F.Files K.Clock O.Sink files.new clock.new output.new)
-            (known_disk D.Disk disk.old) (known_disk D.Disk disk.new) result }
+            (D.known disk.old) (D.known disk.new) result }
         ensures opened { IfErr result IsOpenedStop }
     {
         for byte in piece {
@@ -171,12 +171,12 @@ impl<R: TreeRep, S: TreeRep> Interpreter<R, S> {
         clock: &mut K,
         output: &mut O,
     ) -> Result<(), Stop>
-        requires goes_on { MayGoOn R.contents S.contents (known_disk D.Disk disk.old) self.old }
+        requires goes_on { MayGoOn R.contents S.contents (D.known disk.old) self.old }
         ensures went { RanLast R.contents S.contents self.old self.new
             (known_world F.Files K.Clock O.Sink files.old clock.old output.old) (known_world F.Files K.Clock O.Sink files.new clock.new output.new)
-            (known_disk D.Disk disk.old) (known_disk D.Disk disk.new) result }
+            (D.known disk.old) (D.known disk.new) result }
         ensures uses { Uses (known_world F.Files K.Clock O.Sink files.old clock.old output.old) (known_world F.Files K.Clock O.Sink files.new clock.new output.new)
-            (known_disk D.Disk disk.old) (known_disk D.Disk disk.new) result }
+            (D.known disk.old) (D.known disk.new) result }
         ensures opened { IfErr result IsOpenedStop }
     {
         let cutter = mem::replace(&mut self.cutter, Cutter::new(self.alloc));

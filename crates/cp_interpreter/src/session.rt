@@ -1,6 +1,5 @@
 //! A session over an input, from its first byte to its end.
 ghost use Rattle.std.specs.Prelude.{◌≤◌, ◌<◌, length, IfOk, IfErr};
-ghost use Rattle.cp_workspace.specs.Disks.{known_disk};
 ghost use Rattle.cp_workspace.specs.Files.{known_files, HasReadSome};
 ghost use Rattle.cp_interpreter.specs.Outside.{known_world, known_outside};
 ghost use Rattle.cp_interpreter.specs.Story.{WorldCauses, HasCauses, DiskCauses};
@@ -22,13 +21,13 @@ fn closing<R: TreeRep, S: TreeRep, D: Disk, F: Files, K: Clock, O: Sink>(
     clock: &mut K,
     output: &mut O,
 ) -> End
-    requires goes_on { MayGoOn R.contents S.contents (known_disk D.Disk disk.old) session.old }
+    requires goes_on { MayGoOn R.contents S.contents (D.known disk.old) session.old }
     ensures closed { HasClosed R.contents S.contents session.old
         (known_world F.Files K.Clock O.Sink files.old clock.old output.old) (known_world F.Files K.Clock O.Sink files.new clock.new output.new)
-        (known_disk D.Disk disk.old) (known_disk D.Disk disk.new) result }
+        (D.known disk.old) (D.known disk.new) result }
     ensures read { HasReadSome (known_files F.Files files.old) (known_files F.Files files.new) }
     ensures causes { WorldCauses (known_world F.Files K.Clock O.Sink files.old clock.old output.old) (known_world F.Files K.Clock O.Sink files.new clock.new output.new) result }
-    ensures disk { DiskCauses (known_disk D.Disk disk.old) (known_disk D.Disk disk.new) result }
+    ensures disk { DiskCauses (D.known disk.old) (D.known disk.new) result }
 {
     match session.close(disk, files, clock, output) {
         Ok(()) if session.refused() => End::Refused,
@@ -48,27 +47,27 @@ fn turn<R: TreeRep, S: TreeRep, D: Disk, F: Files, K: Clock, I: Source, O: Sink>
     output: &mut O,
     before: u64,
 ) -> Result<u64, End>
-    requires goes_on { MayGoOn R.contents S.contents (known_disk D.Disk disk.old) session.old }
+    requires goes_on { MayGoOn R.contents S.contents (D.known disk.old) session.old }
     requires taken { before ≤ INPUT_MAX }
     requires room { 0 < length piece.old }
     requires bounded { length piece.old ≤ PIECE_MAX }
-    ensures goes_on { IfOk result (λ n. (before < n) × (n ≤ INPUT_MAX) × MayGoOn R.contents S.contents (known_disk D.Disk disk.new) session.new) }
+    ensures goes_on { IfOk result (λ n. (before < n) × (n ≤ INPUT_MAX) × MayGoOn R.contents S.contents (D.known disk.new) session.new) }
     ensures took { IfOk result (λ n. TookPiece R.contents S.contents session.old session.new before n
         (known_outside F.Files K.Clock I.Source O.Sink files.old clock.old input.old output.old)
         (known_outside F.Files K.Clock I.Source O.Sink files.new clock.new input.new output.new)
-        (known_disk D.Disk disk.old) (known_disk D.Disk disk.new)) }
+        (D.known disk.old) (D.known disk.new)) }
     ensures steady { IfOk result (λ n. IsSteady
         (known_outside F.Files K.Clock I.Source O.Sink files.old clock.old input.old output.old)
         (known_outside F.Files K.Clock I.Source O.Sink files.new clock.new input.new output.new)
-        (known_disk D.Disk disk.old) (known_disk D.Disk disk.new)) }
+        (D.known disk.old) (D.known disk.new)) }
     ensures ends { IfErr result (λ end. RanFrom R.contents S.contents session.old before
         (known_outside F.Files K.Clock I.Source O.Sink files.old clock.old input.old output.old)
         (known_outside F.Files K.Clock I.Source O.Sink files.new clock.new input.new output.new)
-        (known_disk D.Disk disk.old) (known_disk D.Disk disk.new) end) }
+        (D.known disk.old) (D.known disk.new) end) }
     ensures causes { IfErr result (λ end. HasCauses
         (known_outside F.Files K.Clock I.Source O.Sink files.old clock.old input.old output.old)
         (known_outside F.Files K.Clock I.Source O.Sink files.new clock.new input.new output.new) end) }
-    ensures disk { IfErr result (λ end. DiskCauses (known_disk D.Disk disk.old) (known_disk D.Disk disk.new) end) }
+    ensures disk { IfErr result (λ end. DiskCauses (D.known disk.old) (D.known disk.new) end) }
     ensures read { HasReadSome (known_files F.Files files.old) (known_files F.Files files.new) }
 {
     let Ok(count) = input.read(piece) else {
@@ -103,17 +102,17 @@ pub fn turns<R: TreeRep, S: TreeRep, D: Disk, F: Files, K: Clock, I: Source, O: 
     input: &mut I,
     output: &mut O,
 ) -> End
-    requires goes_on { MayGoOn R.contents S.contents (known_disk D.Disk disk.old) session.old }
+    requires goes_on { MayGoOn R.contents S.contents (D.known disk.old) session.old }
     requires room { 0 < length piece.old }
     requires bounded { length piece.old ≤ PIECE_MAX }
     ensures ran { RanFrom R.contents S.contents session.old 0
         (known_outside F.Files K.Clock I.Source O.Sink files.old clock.old input.old output.old)
         (known_outside F.Files K.Clock I.Source O.Sink files.new clock.new input.new output.new)
-        (known_disk D.Disk disk.old) (known_disk D.Disk disk.new) result }
+        (D.known disk.old) (D.known disk.new) result }
     ensures causes { HasCauses
         (known_outside F.Files K.Clock I.Source O.Sink files.old clock.old input.old output.old)
         (known_outside F.Files K.Clock I.Source O.Sink files.new clock.new input.new output.new) result }
-    ensures disk { DiskCauses (known_disk D.Disk disk.old) (known_disk D.Disk disk.new) result }
+    ensures disk { DiskCauses (D.known disk.old) (D.known disk.new) result }
     ensures read { HasReadSome (known_files F.Files files.old) (known_files F.Files files.new) }
 {
     let mut taken = 0;

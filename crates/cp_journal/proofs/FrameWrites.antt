@@ -2,7 +2,7 @@
 use Rattle.std.proofs.Common.{◌≡◌, ◌≤◌, ◌+◌, inl, inr, ⊎_elim, ◌⊎◌, ◌↔◌, Bool, IsTrue, is_err, IsErrOf, OnErr, ℕ, List, [], ◌∷◌, length, true, refl, ◌∙◌, ap, subst, arith, Result, Ok, Err, OnOk}
 use Rattle.std.proofs.lemmas.Bool.Decides.{nat_tests}
 use lib.Dec.{leb}
-use Rattle.cp_disk.specs.Views.{View, Only, Steps, Keeps}
+use Rattle.cp_disk.specs.Views.{View, Only, ViewSteps, ViewKeeps}
 use Rattle.cp_disk.specs.Writes.{Torn, with_bytes}
 use Rattle.cp_disk.proofs.Composing.{keeps_none, keeps_steps}
 use Rattle.cp_journal.specs.Frames.{Frame, entry, after_gate, spelled}
@@ -43,24 +43,24 @@ module _ {T : Type 0} where
   spent_is (Ok v) spent is kinds = (λ yes. absurd (cc (is, yes)), λ fault. ⊎_elim (λ disk. absurd (cc disk)) (λ memory. absurd (cc memory)) fault)
   spent_is (Err e) spent is kinds = (λ yes. kinds, λ fault. is)
 
-pub before_writes : (e : ℕ) (v : View) (f : Frame) (rest : IsAtRest e v) → Keeps (IsBeforeOrAfter e v.content f) v v
+pub before_writes : (e : ℕ) (v : View) (f : Frame) (rest : IsAtRest e v) → ViewKeeps (IsBeforeOrAfter e v.content f) v v
 before_writes e v f rest = keeps_none (IsBeforeOrAfter e v.content f) v (λ c im. inl (now_before e v rest c (rest.settled c im)))
 
 module _ (e : ℕ) (v : View) (f : Frame) (ok : IsLawful f) (rest : IsAtRest e v) where
   abbrev P : List ℕ → Type 0
   P = IsBeforeOrAfter e v.content f
 
-  pub after_first : (w : View) (n : ℕ) → Steps (Torn (e + 1) n) v w → Keeps P v w
+  pub after_first : (w : View) (n : ℕ) → ViewSteps (Torn (e + 1) n) v w → ViewKeeps P v w
   after_first w n steps = keeps_steps P (Torn (e + 1) n) v v w (before_writes e v f rest) steps (λ d c im torn. inl (now_before e v rest c (torn_behind e v rest n d c im torn)))
 
-  module _ (w x : View) (bytes : List ℕ) (is : bytes ≡ after_gate f) (n : ℕ) (steps : Steps (Torn (e + 1) n) v w) (content : w.content ≡ with_bytes v.content (e + 1) bytes) (only : Only w.content w.images) where
+  module _ (w x : View) (bytes : List ℕ) (is : bytes ≡ after_gate f) (n : ℕ) (steps : ViewSteps (Torn (e + 1) n) v w) (content : w.content ≡ with_bytes v.content (e + 1) bytes) (only : Only w.content w.images) where
     is_staged : w.content ≡ staged e v f ok rest
     is_staged = content ∙ ap (λ (l : List ℕ). with_bytes v.content (e + 1) l) is
 
     pub room_at_gate : e ≤ length w.content
     room_at_gate = let long = length-staged e v f ok rest in let same = ap length is_staged in omega (arith, long, same)
 
-    pub after_second : Steps (Torn e 1) w x → Keeps P v x
+    pub after_second : ViewSteps (Torn e 1) w x → ViewKeeps P v x
     after_second more = keeps_steps P (Torn e 1) v w x (after_first w n steps) more
         (λ d c im torn. torn_gate e v f ok rest c (subst (λ (l : List ℕ). Torn e 1 l c) (only d im ∙ is_staged) torn))
 

@@ -3,8 +3,8 @@ use Rattle.std.proofs.Common.{◌≡◌, ◌≤◌, ◌<◌, ◌+◌, ◌⊎◌,
 use Rattle.std.proofs.lemmas.List.{take_at, drop_at, drop_more, drop-take, take-take, drop-append-le, get_or-take, get_or_at}
 use Rattle.std.proofs.lemmas.Bool.{cases_eq, cases_Bool}
 use Rattle.std.proofs.lemmas.Bool.Decides.{nat_tests}
-use Rattle.cp_disk.specs.Calls.{Wrote}
-use Rattle.cp_disk.specs.Views.{View, Only, IsDurable, Rests, Steps, Keeps}
+use Rattle.cp_disk.specs.Calls.{ViewWrote}
+use Rattle.cp_disk.specs.Views.{View, Only, IsDurable, ViewRests, ViewSteps, ViewKeeps}
 use Rattle.cp_disk.specs.Writes.{Torn, CutShort, with_bytes}
 use Rattle.cp_disk.specs.declared.disk.DiskFault.{DiskFault}
 use Rattle.cp_disk.proofs.Composing.{keeps_none, keeps_steps, keeps_rests, keeps_wider, keeps_then}
@@ -75,20 +75,20 @@ module _ (start : ℕ) (v : View) (opening : StaysVacant start v.content) (only 
   abbrev P : List ℕ → Type 0
   P c = take start c ≡ take start v.content
 
-  after_write : (w : View) (bs : List ℕ) (result : Result (Unit {0}) DiskFault) → Wrote start bs result v w → Keeps P v w
+  after_write : (w : View) (bs : List ℕ) (result : Result (Unit {0}) DiskFault) → ViewWrote start bs result v w → ViewKeeps P v w
   after_write w bs result wrote =
       keeps_steps P (Torn start (length bs)) v v w (keeps_none P v (λ c im. ap (take start) (only c im))) wrote.steps
       (λ d c im torn. torn.before ∙ ap (take start) (only d im))
 
-  after_trim : (w x : View) (bs : List ℕ) (result : Result (Unit {0}) DiskFault) (len : ℕ) → start ≤ len → Wrote start bs result v w → Steps (CutShort len) w x → Keeps P v x
+  after_trim : (w x : View) (bs : List ℕ) (result : Result (Unit {0}) DiskFault) (len : ℕ) → start ≤ len → ViewWrote start bs result v w → ViewSteps (CutShort len) w x → ViewKeeps P v x
   after_trim w x bs result len le wrote cut =
       let so_far = after_write w bs result wrote in
       keeps_steps P (CutShort len) v w x so_far cut (λ d c im short. shorter_front start len c d le short.front ∙ so_far.now d im)
 
-  pub trim_crash : (w x : View) (bs : List ℕ) (result : Result (Unit {0}) DiskFault) (len : ℕ) → start ≤ len → Wrote start bs result v w → Steps (CutShort len) w x → Keeps IsVacant v x
+  pub trim_crash : (w x : View) (bs : List ℕ) (result : Result (Unit {0}) DiskFault) (len : ℕ) → start ≤ len → ViewWrote start bs result v w → ViewSteps (CutShort len) w x → ViewKeeps IsVacant v x
   trim_crash w x bs result len le wrote cut = keeps_wider P IsVacant v x (after_trim w x bs result len le wrote cut) (λ c same. vacant_front start v.content c opening same)
 
-  pub sync_crash : (w x y : View) (bs : List ℕ) (result : Result (Unit {0}) DiskFault) (len : ℕ) → start ≤ len → Wrote start bs result v w → Steps (CutShort len) w x → Rests x y → Keeps IsVacant v y
+  pub sync_crash : (w x y : View) (bs : List ℕ) (result : Result (Unit {0}) DiskFault) (len : ℕ) → start ≤ len → ViewWrote start bs result v w → ViewSteps (CutShort len) w x → ViewRests x y → ViewKeeps IsVacant v y
   sync_crash w x y bs result len le wrote cut rests = keeps_rests IsVacant v x y (trim_crash w x bs result len le wrote cut) rests
 
 pub opening_size : (start : ℕ) (c : List ℕ) → StaysVacant start c → start ≤ length c
@@ -147,7 +147,7 @@ module _ (f : Frame) (ok : IsLawful f) where
     long_x : 1 ≤ length x.content
     long_x = omega (arith, ap length rest_x, length-drop 1 x.content, length-append (header_rest ++ spelled f) (0 ∷ []))
 
-    pub making_crash : Keeps (IsOldOrVacant v) v w → Keeps IsVacant w x → Steps (Torn 0 1) x y → Keeps (IsOldOrVacantOrNew v f) v y
+    pub making_crash : ViewKeeps (IsOldOrVacant v) v w → ViewKeeps IsVacant w x → ViewSteps (Torn 0 1) x y → ViewKeeps (IsOldOrVacantOrNew v f) v y
     making_crash first second third =
         let a = keeps_wider (IsOldOrVacant v) (IsOldOrVacantOrNew v f) v w first (λ c h. ⊎_elim (λ o. inl o) (λ n. inr (inl n)) h) in
         let b = keeps_then (IsOldOrVacantOrNew v f) IsVacant v w x a second (λ c h. inr (inl h)) in

@@ -2,7 +2,7 @@
 use Rattle.std.proofs.Common.{◌≡◌, inl, inr, ℕ, List, [], ◌∷◌, ◌++◌, length, take, drop, refl, sym, ◌∙◌, ap, subst, arith, append_assoc, append-nil, length-append, take-append-drop}
 use Rattle.std.proofs.lemmas.List.{take_at, drop_at, drop-take}
 use Rattle.std.proofs.lemmas.List.Concat.{flat_map-append}
-use Rattle.cp_disk.specs.Views.{View, Keeps}
+use Rattle.cp_disk.specs.Views.{View, ViewKeeps}
 use Rattle.cp_disk.proofs.Composing.{keeps_wider}
 use Rattle.cp_journal.specs.Frames.{Frame, spelled, spelled_all, Walk, frames_of}
 use Rattle.cp_journal.specs.Holding.{IsLawful, AreLawful, IsAdded, Continues, IsBeforeOrAfter, Stands, Holds, StandsWithOrWithout}
@@ -36,7 +36,7 @@ module _ (head : List ℕ) (fs : List Frame) (e : ℕ) (v : View) (holds : Holds
   with_or_without f c (inl before) = inl (subst (λ (l : List Frame). Stands head l c) (append-nil fs) (stands_continues [] c before))
   with_or_without f c (inr after) = inr (stands_continues (f ∷ []) c after)
 
-  pub keeps_stands : (f : Frame) (w : View) → Keeps (IsBeforeOrAfter e v.content f) v w → Keeps (StandsWithOrWithout head fs f) v w
+  pub keeps_stands : (f : Frame) (w : View) → ViewKeeps (IsBeforeOrAfter e v.content f) v w → ViewKeeps (StandsWithOrWithout head fs f) v w
   keeps_stands f w keeps = keeps_wider (IsBeforeOrAfter e v.content f) (StandsWithOrWithout head fs f) v w keeps (with_or_without f)
 
   pub holds_more : (f : Frame) (to : ℕ) (w : View) → IsLawful f → IsAdded e f v.content to w → Holds head (fs ++ f ∷ []) to w

@@ -5,7 +5,7 @@ use Rattle.std.proofs.lemmas.List.Concat.{flat_map-append}
 use Rattle.std.proofs.lemmas.List.{take_at, get_or-drop}
 use Rattle.std.proofs.lemmas.Bool.{cases_Bool}
 use lib.Dec.{leb}
-use Rattle.cp_disk.specs.Views.{View, Only, Rests}
+use Rattle.cp_disk.specs.Views.{View, Only, ViewRests}
 use Rattle.cp_journal.specs.Frames.{Frame, fits, spelled, spelled_all, closed, broken, frame_of, with_length, at_open, gate_at, Walk, onto, ended, frames_of}
 use Rattle.cp_journal.specs.Holding.{Holds}
 use Rattle.cp_journal.specs.Journals.{JournalState, places, Lists, HasWalked, Describes}
@@ -95,7 +95,7 @@ stretch_lists from fs to j c s places = record {
   bytes = ap (take (length (spelled_all fs))) s.bytes ∙ take_at (spelled_all fs) (drop to c) (length (spelled_all fs)) refl;
 }
 
-module _ (at : ℕ) (fs : List Frame) (u v w : View) (clean : Bool) (j : JournalState) (uv : Rests u v) (vw : Rests v w) (s : Stretches at fs j.next v.content) (end : gate_at (drop j.next v.content) ≡ end_gate clean) (listed : j.frames ≡ places at fs) where
+module _ (at : ℕ) (fs : List Frame) (u v w : View) (clean : Bool) (j : JournalState) (uv : ViewRests u v) (vw : ViewRests v w) (s : Stretches at fs j.next v.content) (end : gate_at (drop j.next v.content) ≡ end_gate clean) (listed : j.frames ≡ places at fs) where
   here : Stretches at fs j.next u.content
   here = subst (λ (l : List ℕ). Stretches at fs j.next l) uv.content s
 

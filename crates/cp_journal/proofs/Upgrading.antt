@@ -2,7 +2,7 @@
 use Rattle.std.proofs.Common.{◌≡◌, ◌≤◌, ◌<◌, ◌+◌, ◌-◌, ◌==◌, inl, inr, ⊎_elim, ℕ, if◌then◌else◌, Option, List, [], ◌∷◌, ◌++◌, length, take, drop, get_or, sym, ◌∙◌, ap, subst, arith, append_assoc, length-append, length-take, length-drop, take-append-drop}
 use Rattle.std.proofs.lemmas.List.{take_at, drop_at, drop-drop, drop-take, take-take, take-append-le, drop-append-le, get_or-take, get_or-drop, get_or_at}
 use Rattle.std.proofs.lemmas.Bool.{cases_Bool}
-use Rattle.cp_disk.specs.Views.{View, Only, Steps, Keeps}
+use Rattle.cp_disk.specs.Views.{View, Only, ViewSteps, ViewKeeps}
 use Rattle.cp_disk.specs.Writes.{Torn}
 use Rattle.cp_journal.specs.Frames.{Frame, spelled_all, frames_of}
 use Rattle.cp_journal.specs.Headers.{slot_in, header_in, IsSlot, IsFront, IsHeader}
@@ -16,7 +16,7 @@ use Rattle.cp_journal.proofs.Adding.{shorter_front, front_inside}
 use Rattle.cp_journal.proofs.Standing.{holds_images, describes}
 
 -- a step after which each file has a property
-pub steps_keep : (Step : List ℕ → List ℕ → Type 0) (P : List ℕ → Type 0) (v w : View) → Steps Step v w → ((d c : List ℕ) → v.images d → Step d c → P c) → Keeps P v w
+pub steps_keep : (Step : List ℕ → List ℕ → Type 0) (P : List ℕ → Type 0) (v w : View) → ViewSteps Step v w → ((d c : List ℕ) → v.images d → Step d c → P c) → ViewKeeps P v w
 steps_keep Step P v w steps next = record {
   later = steps.later;
   since = λ t c le h. ⊎_elim (λ past. inl past) (λ now. inr (next now.0 c now.1 now.2)) (steps.since t c le h);
@@ -24,7 +24,7 @@ steps_keep Step P v w steps next = record {
 }
 
 -- a step that is also another one
-pub steps_wider : (Step Other : List ℕ → List ℕ → Type 0) (v w : View) → Steps Step v w → ((d c : List ℕ) → v.images d → Step d c → Other d c) → Steps Other v w
+pub steps_wider : (Step Other : List ℕ → List ℕ → Type 0) (v w : View) → ViewSteps Step v w → ((d c : List ℕ) → v.images d → Step d c → Other d c) → ViewSteps Other v w
 steps_wider Step Other v w steps wider = record {
   later = steps.later;
   since = λ t c le h. ⊎_elim (λ past. inl past) (λ now. inr (now.0, now.1, wider now.0 c now.1 now.2)) (steps.since t c le h);
@@ -208,7 +208,7 @@ module _ (v w : View) (at : ℕ) (rest : IsAtRest at v) (lt : 6 < at) where
   image_long c im = let long = front_inside at c v.content rest.inside (rest.settled c im) in omega (arith, long)
 
   -- a write of the gate of the version changes the version alone
-  pub upgrade_crash : Steps (Torn 6 1) v w → Steps HasOtherVersion v w
+  pub upgrade_crash : ViewSteps (Torn 6 1) v w → ViewSteps HasOtherVersion v w
   upgrade_crash steps = steps_wider (Torn 6 1) HasOtherVersion v w steps (λ d c im torn. torn_version d c (image_long d im) torn)
 
   -- after it nothing is pending but after the closed gate
@@ -222,17 +222,17 @@ module _ (v w : View) (at : ℕ) (rest : IsAtRest at v) (lt : 6 < at) where
         settled = λ c im. ap (take (at + 1)) (only c im);
       }
 
-module _ (v w : View) (steps : Steps HasOtherVersion v w) where
+module _ (v w : View) (steps : ViewSteps HasOtherVersion v w) where
   -- the frames that each image has stay
-  pub upgrade_frames : (from : ℕ) (fs : List Frame) → 6 < from → ((c : List ℕ) → v.images c → HasFrames from fs c) → Keeps (HasFrames from fs) v w
+  pub upgrade_frames : (from : ℕ) (fs : List Frame) → 6 < from → ((c : List ℕ) → v.images c → HasFrames from fs c) → ViewKeeps (HasFrames from fs) v w
   upgrade_frames from fs lt all = steps_keep HasOtherVersion (HasFrames from fs) v w steps (λ d c im other. other_frames d c other from fs lt (all d im))
 
   -- and the header says the same but for the version
-  pub upgrade_slots : (h : Header) (at : ℕ) → IsAtRest at v → HEADER_SIZE ≤ at → SaysHeader h v.content → Keeps (SaysInAVersion h) v w
+  pub upgrade_slots : (h : Header) (at : ℕ) → IsAtRest at v → HEADER_SIZE ≤ at → SaysHeader h v.content → ViewKeeps (SaysInAVersion h) v w
   upgrade_slots h at rest le says = steps_keep HasOtherVersion (SaysInAVersion h) v w steps (λ d c im other. other_says_in h d c other (images_say h at v rest le says d im))
 
   -- and what a journal holds stands
-  pub upgrade_stands : (head : List ℕ) (fs : List Frame) (at : ℕ) → 6 < length head → Holds head fs at v → Keeps (StandsInAVersion head fs) v w
+  pub upgrade_stands : (head : List ℕ) (fs : List Frame) (at : ℕ) → 6 < length head → Holds head fs at v → ViewKeeps (StandsInAVersion head fs) v w
   upgrade_stands head fs at lt holds =
       steps_keep HasOtherVersion (StandsInAVersion head fs) v w steps (λ d c im other. other_stands head fs d c lt other (holds_images head fs at v holds d im))
 

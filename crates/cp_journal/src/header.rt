@@ -1,9 +1,8 @@
 //! The header of a store: its version, and two slots that name checkpoints.
-ghost use Rattle.std.specs.Prelude.{◌≡◌, ◌≤◌, ◌⊎◌, ◌↔◌, ◌+◌, ◌==◌, if◌then◌else◌, IsTrue, IsErrOf, ℕ, length, take, None, Some, IfOk, OnOk, IfErr, MatchOption};
+ghost use Rattle.std.specs.Prelude.{◌≡◌, ◌≤◌, ◌⊎◌, ◌↔◌, ◌+◌, ◌==◌, if◌then◌else◌, IsTrue, IsErrOf, length, take, None, Some, IfOk, OnOk, IfErr, MatchOption};
 ghost use Rattle.std.specs.Int.{w64, from_be_bytes};
-ghost use Rattle.cp_outside.specs.Causes.{Accounts};
-ghost use Rattle.cp_disk.specs.Counts.{Counted};
-ghost use Rattle.cp_disk.specs.Views.{Only, Rests};
+ghost use Rattle.cp_disk.specs.Counts.{Counted, UsesDisk};
+ghost use Rattle.cp_disk.specs.Views.{IfKnown, IsSettled, Rests};
 ghost use Rattle.cp_journal.specs.Headers.{slot_in as slot_of, header_in, IsSlot, IsFront, HasOwnNumbers, IsHeader, HasHeader};
 ghost use Rattle.cp_journal.specs.Journals.{IsDiskFault};
 
@@ -113,12 +112,12 @@ fn parse(bytes: &[u8; HEADER_SIZE]) -> Option<Header>
 
 // Waits until the file is on the disk, and reads its header, if it has one.
 fn look_up<D: Disk>(disk: &mut D) -> Result<Option<Header>, DiskFault>
-    ensures found { IsTrue D.is_known → IfOk result (λ o. MatchOption o (HasHeader (D.view disk.old).content → ⊥)
-        (λ h. HasHeader (D.view disk.old).content × (h ≡ header_in (take HEADER_SIZE (D.view disk.old).content)))) }
-    ensures durable { IsTrue D.is_known → OnOk result (Only (D.view disk.new).content (D.view disk.new).images) }
-    ensures rests { IsTrue D.is_known → Rests (D.view disk.old) (D.view disk.new) }
-    ensures cause { Counted (D.counts disk.old) (D.counts disk.new) result }
-    ensures reads { (D.counts disk.new).reads ≤ (D.counts disk.old).reads + 1 }
+    ensures found { IfKnown (D.known disk.old) (λ v. IfOk result (λ o. MatchOption o (HasHeader v.content
+        → ⊥) (λ h. HasHeader v.content × (h ≡ header_in (take HEADER_SIZE v.content))))) }
+    ensures durable { OnOk result (IsSettled (D.known disk.new)) }
+    ensures rests { Rests (D.known disk.old) (D.known disk.new) }
+    ensures cause { Counted (D.known disk.old) (D.known disk.new) result }
+    ensures reads { (D.known disk.new).counts.reads ≤ (D.known disk.old).counts.reads + 1 }
 {
     disk.sync()?;
     if disk.size()? < HEADER_SIZE as u64 {
@@ -131,16 +130,16 @@ fn look_up<D: Disk>(disk: &mut D) -> Result<Option<Header>, DiskFault>
 
 // Waits until the file is on the disk, and reads its header.
 pub(crate) fn read_header<D: Disk>(disk: &mut D) -> Result<Header, JournalFault>
-    ensures header { IsTrue D.is_known → IfOk result (λ h. HasHeader (D.view disk.old).content
-        × (h ≡ header_in (take HEADER_SIZE (D.view disk.old).content))) }
-    ensures no_store { IsTrue D.is_known
-        → IsErrOf result (JournalFault.NoStore 0) → HasHeader (D.view disk.old).content → ⊥ }
+    ensures header { IfKnown (D.known disk.old) (λ v. IfOk result (λ h. HasHeader v.content
+        × (h ≡ header_in (take HEADER_SIZE v.content)))) }
+    ensures no_store { IfKnown (D.known disk.old) (λ v. IsErrOf result (JournalFault.NoStore 0)
+        → HasHeader v.content → ⊥) }
     ensures kinds { IfErr result
         (λ e. (e ≡ JournalFault.Disk) ⊎ ((e ≡ JournalFault.Memory) ⊎ (e ≡ JournalFault.NoStore 0))) }
-    ensures durable { IsTrue D.is_known → OnOk result (Only (D.view disk.new).content (D.view disk.new).images) }
-    ensures rests { IsTrue D.is_known → Rests (D.view disk.old) (D.view disk.new) }
-    ensures cause { Accounts IsDiskFault (D.counts disk.old).faults (D.counts disk.new).faults result }
-    ensures reads { (D.counts disk.new).reads ≤ (D.counts disk.old).reads + 1 }
+    ensures durable { OnOk result (IsSettled (D.known disk.new)) }
+    ensures rests { Rests (D.known disk.old) (D.known disk.new) }
+    ensures cause { UsesDisk IsDiskFault (D.known disk.old) (D.known disk.new) result }
+    ensures reads { (D.known disk.new).counts.reads ≤ (D.known disk.old).counts.reads + 1 }
 {
     match look_up(disk)? {
         Some(header) => Ok(header),

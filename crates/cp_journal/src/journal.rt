@@ -1,8 +1,9 @@
 //! Frames in a file, one right after the other.
 ghost use Rattle.std.specs.Prelude.{◌≡◌, ◌≤◌, ◌<◌, ◌⊎◌, ◌↔◌, ◌+◌, ◌-◌, ◌*◌, ◌++◌, ◌==◌, if◌then◌else◌, [], ◌∷◌, take, drop, List, ℕ, false, IsTrue, IsErrOf, None, Some, length, IfOk, OnOk, IfErr, OnErr};
 ghost use Rattle.std.specs.List.{slice_get};
-ghost use Rattle.cp_outside.specs.Causes.{Accounts, Rose};
-ghost use Rattle.cp_disk.specs.Views.{Only, IsDurable, Rests, Steps, Keeps};
+ghost use Rattle.cp_outside.specs.Causes.{Rose};
+ghost use Rattle.cp_disk.specs.Counts.{UsesDisk};
+ghost use Rattle.cp_disk.specs.Views.{Only, IsDurable, ViewKeeps, IfKnown, IsSettled, Rests, Steps, Keeps};
 ghost use Rattle.cp_journal.specs.Frames.{Frame, entry, frames_of, after_gate};
 ghost use Rattle.cp_journal.specs.Holding.{HasFrames, IsAtRest, IsAdded, IsBeforeOrAfter, IsLawful, Holds, StandsWithOrWithout};
 ghost use Rattle.cp_journal.specs.Journals.{next_byte, Lists, entry_body, HasWalked, Describes, IsDiskFault};
@@ -60,11 +61,11 @@ impl Journal {
     /// Whether the file is vacant, so that a store may be made in it: it has one byte at most, or its first byte is 00, or that
     /// isn't 01 and `CPDB` and the format's number 01 come next. Makes one read at most.
     pub fn vacant<D: Disk>(disk: &mut D) -> Result<bool, JournalFault>
-        ensures vacant { IsTrue D.is_known → IfOk result (λ b. IsTrue b ↔ IsVacant (D.view disk.old).content) }
-        ensures rests { IsTrue D.is_known → Rests (D.view disk.old) (D.view disk.new) }
+        ensures vacant { IfKnown (D.known disk.old) (λ v. IfOk result (λ b. IsTrue b ↔ IsVacant v.content)) }
+        ensures rests { Rests (D.known disk.old) (D.known disk.new) }
         ensures kinds { OnErr result (IsErrOf result JournalFault.Disk ⊎ IsErrOf result JournalFault.Memory) }
-        ensures cause { Accounts IsDiskFault (D.counts disk.old).faults (D.counts disk.new).faults result }
-        ensures wants { (D.counts disk.old).wants ≤ (D.counts disk.new).wants }
+        ensures cause { UsesDisk IsDiskFault (D.known disk.old) (D.known disk.new) result }
+        ensures wants { (D.known disk.old).counts.wants ≤ (D.known disk.new).counts.wants }
     {
         Ok(is_vacant(disk)?)
     }
@@ -79,19 +80,18 @@ impl Journal {
         body: &[u8],
     ) -> Result<Journal, JournalFault>
         requires short { length body.now ≤ BODY_MAX }
-        requires vacant { IsTrue D.is_known → IsVacant (D.view disk.old).content }
-        ensures described { IsTrue D.is_known
-            → IfOk result (λ j. Describes header (entry body.now ∷ []) j (D.view disk.new)) }
-        ensures durable { IsTrue D.is_known → OnOk result (IsDurable (new_file (entry body.now)) (D.view disk.new)) }
-        ensures crash { IsTrue D.is_known
-            → Keeps (IsOldOrVacantOrNew (D.view disk.old) (entry body.now)) (D.view disk.old) (D.view disk.new) }
+        requires vacant { IfKnown (D.known disk.old) (λ v. IsVacant v.content) }
+        ensures described { IfKnown (D.known disk.new) (λ v.
+            IfOk result (λ j. Describes header (entry body.now ∷ []) j v)) }
+        ensures durable { OnOk result (IfKnown (D.known disk.new) (λ v. IsDurable (new_file (entry body.now)) v)) }
+        ensures crash { Keeps (IsOldOrVacantOrNew (D.known disk.old).view (entry body.now)) (D.known disk.old) (D.known disk.new) }
         ensures next { IfOk result (λ j. j.next ≡ HEADER_SIZE + FRAME_HEAD + length body.now) }
         ensures usable { IfOk result (λ j. (j.broken ≡ None) × (j.spent ≡ false)) }
         ensures idle { IfOk result (λ j. j.begun ≡ None) }
         ensures kinds { OnErr result (IsErrOf result JournalFault.Disk ⊎ IsErrOf result JournalFault.Memory) }
-        ensures cause { Accounts IsDiskFault (D.counts disk.old).faults (D.counts disk.new).faults result }
-        ensures memory { IsErrOf result JournalFault.Memory
-            → (disk.new ≡ disk.old) ⊎ Rose (D.counts disk.old).wants (D.counts disk.new).wants }
+        ensures cause { UsesDisk IsDiskFault (D.known disk.old) (D.known disk.new) result }
+        ensures memory { IsErrOf result JournalFault.Memory → (disk.new ≡ disk.old)
+            ⊎ Rose (D.known disk.old).counts.wants (D.known disk.new).counts.wants }
     {
         let bytes = file_bytes(alloc, body)?;
         let journal = Journal::of_one(alloc, body.len() as u64)?;
@@ -130,16 +130,16 @@ impl Journal {
     /// come after it, the bytes from 7 to 63 aren't zero, an open slot doesn't end with zeros, two open slots have the same
     /// number, or there are fewer bytes.
     pub fn header<D: Disk>(disk: &mut D) -> Result<Header, JournalFault>
-        ensures header { IsTrue D.is_known → IfOk result (λ h. HasHeader (D.view disk.old).content
-            × (h ≡ header_in (take HEADER_SIZE (D.view disk.old).content))) }
-        ensures no_store { IsTrue D.is_known
-            → IsErrOf result (JournalFault.NoStore 0) → HasHeader (D.view disk.old).content → ⊥ }
+        ensures header { IfKnown (D.known disk.old) (λ v. IfOk result (λ h. HasHeader v.content
+            × (h ≡ header_in (take HEADER_SIZE v.content)))) }
+        ensures no_store { IfKnown (D.known disk.old) (λ v. IsErrOf result (JournalFault.NoStore 0)
+            → HasHeader v.content → ⊥) }
         ensures kinds { IfErr result
             (λ e. (e ≡ JournalFault.Disk) ⊎ ((e ≡ JournalFault.Memory) ⊎ (e ≡ JournalFault.NoStore 0))) }
-        ensures durable { IsTrue D.is_known → OnOk result (Only (D.view disk.new).content (D.view disk.new).images) }
-        ensures rests { IsTrue D.is_known → Rests (D.view disk.old) (D.view disk.new) }
-        ensures cause { Accounts IsDiskFault (D.counts disk.old).faults (D.counts disk.new).faults result }
-        ensures reads { (D.counts disk.new).reads ≤ (D.counts disk.old).reads + 1 }
+        ensures durable { OnOk result (IsSettled (D.known disk.new)) }
+        ensures rests { Rests (D.known disk.old) (D.known disk.new) }
+        ensures cause { UsesDisk IsDiskFault (D.known disk.old) (D.known disk.new) result }
+        ensures reads { (D.known disk.new).counts.reads ≤ (D.known disk.old).counts.reads + 1 }
     {
         read_header(disk)
     }
@@ -148,21 +148,21 @@ impl Journal {
     /// an entry over the limit. It keeps the frames before. It writes nothing, and makes two reads for each frame and for the
     /// gate after them.
     pub fn open_on<D: Disk>(alloc: Global, disk: &mut D, at: u64) -> Result<Journal, JournalFault>
-        ensures walked { IsTrue D.is_known → IfOk result (λ j.
-            HasWalked at (frames_of (drop at (D.view disk.old).content)) j (D.view disk.old).content) }
-        ensures rests { IsTrue D.is_known → Rests (D.view disk.old) (D.view disk.new) }
+        ensures walked { IfKnown (D.known disk.old) (λ v.
+            IfOk result (λ j. HasWalked at (frames_of (drop at v.content)) j v.content)) }
+        ensures rests { Rests (D.known disk.old) (D.known disk.new) }
 
         // Where nothing is pending, and the walk ended at a closed gate, frames may be added.
-        ensures described { IsTrue D.is_known → Only (D.view disk.old).content (D.view disk.old).images
-            → IfOk result (λ j. j.broken ≡ None → Describes (take at (D.view disk.old).content)
-            (frames_of (drop at (D.view disk.old).content)).frames j (D.view disk.new)) }
+        ensures described { IfKnown (D.known disk.old) (λ v. Only v.content v.images
+            → IfOk result (λ j. j.broken ≡ None
+            → Describes (take at v.content) (frames_of (drop at v.content)).frames j (D.known disk.new).view)) }
         ensures usable { IfOk result (λ j. j.spent ≡ false) }
         ensures idle { IfOk result (λ j. j.begun ≡ None) }
         ensures kinds { OnErr result (IsErrOf result JournalFault.Disk ⊎ IsErrOf result JournalFault.Memory) }
-        ensures cause { Accounts IsDiskFault (D.counts disk.old).faults (D.counts disk.new).faults result }
-        ensures reads { IfOk result (λ j. (D.counts disk.new).reads ≤ (D.counts disk.old).reads + 2 * length j.frames + 2) }
-        ensures most_reads { IsTrue D.is_known → (D.counts disk.new).reads
-            ≤ (D.counts disk.old).reads + 2 * length (frames_of (drop at (D.view disk.old).content)).frames + 2 }
+        ensures cause { UsesDisk IsDiskFault (D.known disk.old) (D.known disk.new) result }
+        ensures reads { IfOk result (λ j. (D.known disk.new).counts.reads ≤ (D.known disk.old).counts.reads + 2 * length j.frames + 2) }
+        ensures most_reads { IfKnown (D.known disk.old) (λ v.
+            (D.known disk.new).counts.reads ≤ (D.known disk.old).counts.reads + 2 * length (frames_of (drop at v.content)).frames + 2) }
     {
         let size = disk.size()?;
         if at > size {
@@ -194,17 +194,17 @@ impl Journal {
         into: &mut Vec<u8>,
     ) -> Result<FrameAt, JournalFault>
         requires within { n < length self.now.frames }
-        requires listed { IsTrue D.is_known
-            → (from : ℕ) × (fs : List Frame) × Lists from fs self.now (D.view disk.old).content }
+        requires listed { IfKnown (D.known disk.old) (λ v. (from : ℕ) × (fs : List Frame)
+            × Lists from fs self.now v.content) }
         ensures at { IfOk result (λ f. slice_get self.now.frames n ≡ Some f) }
-        ensures body { IsTrue D.is_known → (from : ℕ) (fs : List Frame) (f : Frame)
-            → Lists from fs self.now (D.view disk.old).content → slice_get fs n ≡ Some f
-            → OnOk result (into.new.items ≡ entry_body f) }
-        ensures rests { IsTrue D.is_known → Rests (D.view disk.old) (D.view disk.new) }
+        ensures body { IfKnown (D.known disk.old) (λ v. (from : ℕ) (fs : List Frame) (f : Frame)
+            → Lists from fs self.now v.content → slice_get fs n ≡ Some f
+            → OnOk result (into.new.items ≡ entry_body f)) }
+        ensures rests { Rests (D.known disk.old) (D.known disk.new) }
         ensures kinds { OnErr result (IsErrOf result JournalFault.Disk ⊎ IsErrOf result JournalFault.Memory) }
-        ensures cause { Accounts IsDiskFault (D.counts disk.old).faults (D.counts disk.new).faults result }
-        ensures reads { (f : frame_at) → slice_get self.now.frames n ≡ Some f → READ_MAX * (D.counts disk.new).reads
-            ≤ READ_MAX * (D.counts disk.old).reads + f.len + (READ_MAX - 1) }
+        ensures cause { UsesDisk IsDiskFault (D.known disk.old) (D.known disk.new) result }
+        ensures reads { (f : frame_at) → slice_get self.now.frames n ≡ Some f
+            → READ_MAX * (D.known disk.new).counts.reads ≤ READ_MAX * (D.known disk.old).counts.reads + f.len + (READ_MAX - 1) }
     {
         let frame = self.frames[n];
         read_range(
@@ -261,21 +261,22 @@ impl Journal {
         requires whole { self.old.broken ≡ None }
         requires usable { self.old.spent ≡ false }
         requires idle { self.old.begun ≡ None }
-        requires rest { IsTrue D.is_known → IsAtRest self.old.next (D.view disk.old) }
+        requires rest { IfKnown (D.known disk.old) (λ v. IsAtRest self.old.next v) }
         ensures at { IfOk result (λ at. at ≡ self.old.next) }
-        ensures added { IsTrue D.is_known
-            → OnOk result (IsAdded self.old.next (entry body.now) (D.view disk.old).content self.new.next (D.view disk.new)) }
+        ensures added { IfKnown (D.known disk.old) (λ v.
+            OnOk result (IsAdded self.old.next (entry body.now) v.content self.new.next (D.known disk.new).view)) }
         ensures frames { OnOk result (self.new.frames ≡
             self.old.frames ++ record { at = self.old.next; tag = ENTRY; len = length body.now } ∷ []) }
         ensures next { OnOk result (self.new.next ≡ self.old.next + length body.now + FRAME_HEAD) }
-        ensures crash { IsTrue D.is_known → Keeps (IsBeforeOrAfter self.old.next (D.view disk.old).content (entry body.now))
-            (D.view disk.old) (D.view disk.new) }
+        ensures crash { Keeps (IsBeforeOrAfter self.old.next (D.known disk.old).view.content (entry body.now)) (D.known disk.old) (D.known disk.new) }
 
         // The same of the whole file, where it holds frames up to the closed gate.
-        ensures described { IsTrue D.is_known → (head : List ℕ) (fs : List Frame) → Describes head fs self.old (D.view disk.old)
-            → OnOk result (Describes head (fs ++ entry body.now ∷ []) self.new (D.view disk.new)) }
-        ensures stands { IsTrue D.is_known → (head : List ℕ) (fs : List Frame) → Holds head fs self.old.next (D.view disk.old)
-            → Keeps (StandsWithOrWithout head fs (entry body.now)) (D.view disk.old) (D.view disk.new) }
+        ensures described { IfKnown (D.known disk.old) (λ v. (head : List ℕ) (fs : List Frame)
+            → Describes head fs self.old v
+            → OnOk result (Describes head (fs ++ entry body.now ∷ []) self.new (D.known disk.new).view)) }
+        ensures stands { IfKnown (D.known disk.old) (λ v. (head : List ℕ) (fs : List Frame)
+            → Holds head fs self.old.next v
+            → ViewKeeps (StandsWithOrWithout head fs (entry body.now)) v (D.known disk.new).view) }
         ensures too_large { IsErrOf result JournalFault.TooLarge
             ↔ ((BODY_MAX < length body.now) ⊎ (DISK_MAX < self.old.next + length body.now + FRAME_HEAD + 1)) }
         ensures unchanged { IsErrOf result JournalFault.TooLarge → (self.new ≡ self.old) × (disk.new ≡ disk.old) }
@@ -284,10 +285,10 @@ impl Journal {
         ensures spent { IsTrue self.new.spent ↔ (IsErrOf result JournalFault.Disk ⊎ IsErrOf result JournalFault.Memory) }
         ensures broken { self.new.broken ≡ self.old.broken }
         ensures idle { self.new.begun ≡ self.old.begun }
-        ensures cause { Accounts IsDiskFault (D.counts disk.old).faults (D.counts disk.new).faults result }
-        ensures memory { IsErrOf result JournalFault.Memory
-            → (disk.new ≡ disk.old) ⊎ Rose (D.counts disk.old).wants (D.counts disk.new).wants }
-        ensures reads { (D.counts disk.new).reads ≡ (D.counts disk.old).reads }
+        ensures cause { UsesDisk IsDiskFault (D.known disk.old) (D.known disk.new) result }
+        ensures memory { IsErrOf result JournalFault.Memory → (disk.new ≡ disk.old)
+            ⊎ Rose (D.known disk.old).counts.wants (D.known disk.new).counts.wants }
+        ensures reads { (D.known disk.new).counts.reads ≡ (D.known disk.old).counts.reads }
     {
         if body.len() > BODY_MAX || self.next + body.len() as u64 + FRAME_HEAD + 1 > DISK_MAX {
             return Err(JournalFault::TooLarge);
@@ -305,40 +306,41 @@ impl Journal {
         requires whole { self.old.broken ≡ None }
         requires usable { self.old.spent ≡ false }
         requires idle { self.old.begun ≡ None }
-        requires rest { IsTrue D.is_known → IsAtRest self.old.next (D.view disk.old) }
-        requires header { IsTrue D.is_known → HEADER_SIZE ≤ self.old.next }
-        ensures content { IsTrue D.is_known
-            → OnOk result (IsDurable (upgraded (D.view disk.old).content) (D.view disk.new)) }
-        ensures at_rest { IsTrue D.is_known → OnOk result (IsAtRest self.new.next (D.view disk.new)) }
-        ensures crash { IsTrue D.is_known → Steps HasOtherVersion (D.view disk.old) (D.view disk.new) }
+        requires rest { IfKnown (D.known disk.old) (λ v. IsAtRest self.old.next v) }
+        requires header { IfKnown (D.known disk.old) (λ v. HEADER_SIZE ≤ self.old.next) }
+        ensures content { IfKnown (D.known disk.old) (λ v.
+            OnOk result (IsDurable (upgraded v.content) (D.known disk.new).view)) }
+        ensures at_rest { OnOk result (IfKnown (D.known disk.new) (λ v. IsAtRest self.new.next v)) }
+        ensures crash { Steps HasOtherVersion (D.known disk.old) (D.known disk.new) }
 
         // The frames that each image has stay, and the header says the same, but for the version, which is 2 at the end.
-        ensures frames { IsTrue D.is_known → (from : ℕ) (fs : List Frame) → VERSION_AT < from
-            → ((c : List ℕ) → (D.view disk.old).images c → HasFrames from fs c)
-            → Keeps (HasFrames from fs) (D.view disk.old) (D.view disk.new) }
-        ensures slots { IsTrue D.is_known → (h : header_state) → SaysHeader h (D.view disk.old).content
-            → Keeps (SaysInAVersion h) (D.view disk.old) (D.view disk.new) }
-        ensures version { IsTrue D.is_known → (h : header_state) → SaysHeader h (D.view disk.old).content
-            → OnOk result (SaysHeader (with_version 2 h) (D.view disk.new).content) }
+        ensures frames { IfKnown (D.known disk.old) (λ v. (from : ℕ) (fs : List Frame) → VERSION_AT < from
+            → ((c : List ℕ) → v.images c → HasFrames from fs c)
+            → ViewKeeps (HasFrames from fs) v (D.known disk.new).view) }
+        ensures slots { IfKnown (D.known disk.old) (λ v. (h : header_state) → SaysHeader h v.content
+            → ViewKeeps (SaysInAVersion h) v (D.known disk.new).view) }
+        ensures version { IfKnown (D.known disk.old) (λ v. (h : header_state) → SaysHeader h v.content
+            → OnOk result (SaysHeader (with_version 2 h) (D.known disk.new).view.content)) }
 
         // The same of the whole file, where it holds frames up to the closed gate.
-        ensures described { IsTrue D.is_known → (head : List ℕ) (fs : List Frame) → VERSION_AT < length head
-            → Describes head fs self.old (D.view disk.old)
-            → OnOk result (Describes (upgraded head) fs self.new (D.view disk.new)) }
-        ensures holds { IsTrue D.is_known → (head : List ℕ) (fs : List Frame) → VERSION_AT < length head
-            → Holds head fs self.old.next (D.view disk.old)
-            → OnOk result (Holds (upgraded head) fs self.new.next (D.view disk.new)) }
-        ensures stands { IsTrue D.is_known → (head : List ℕ) (fs : List Frame) → VERSION_AT < length head
-            → Holds head fs self.old.next (D.view disk.old)
-            → Keeps (StandsInAVersion head fs) (D.view disk.old) (D.view disk.new) }
+        ensures described { IfKnown (D.known disk.old) (λ v. (head : List ℕ) (fs : List Frame)
+            → VERSION_AT < length head → Describes head fs self.old v
+            → OnOk result (Describes (upgraded head) fs self.new (D.known disk.new).view)) }
+        ensures holds { IfKnown (D.known disk.old) (λ v. (head : List ℕ) (fs : List Frame)
+            → VERSION_AT < length head → Holds head fs self.old.next v
+            → OnOk result (Holds (upgraded head) fs self.new.next (D.known disk.new).view)) }
+        ensures stands { IfKnown (D.known disk.old) (λ v. (head : List ℕ) (fs : List Frame)
+            → VERSION_AT < length head → Holds head fs self.old.next v
+            → ViewKeeps (StandsInAVersion head fs) v (D.known disk.new).view) }
         ensures kinds { OnErr result (IsErrOf result JournalFault.Disk ⊎ IsErrOf result JournalFault.Memory) }
         ensures spent { IsTrue self.new.spent ↔ (IsErrOf result JournalFault.Disk ⊎ IsErrOf result JournalFault.Memory) }
         ensures same { (self.new.frames ≡ self.old.frames) × (self.new.next ≡ self.old.next)
             × (self.new.broken ≡ self.old.broken) }
         ensures idle { self.new.begun ≡ self.old.begun }
-        ensures cause { Accounts IsDiskFault (D.counts disk.old).faults (D.counts disk.new).faults result }
-        ensures memory { IsErrOf result JournalFault.Memory → Rose (D.counts disk.old).wants (D.counts disk.new).wants }
-        ensures reads { (D.counts disk.new).reads ≡ (D.counts disk.old).reads }
+        ensures cause { UsesDisk IsDiskFault (D.known disk.old) (D.known disk.new) result }
+        ensures memory { IsErrOf result JournalFault.Memory
+            → Rose (D.known disk.old).counts.wants (D.known disk.new).counts.wants }
+        ensures reads { (D.known disk.new).counts.reads ≡ (D.known disk.old).counts.reads }
     {
         match put(disk, VERSION_AT as u64, &[1]) {
             Ok(()) => Ok(()),
@@ -378,23 +380,22 @@ impl Journal {
         requires lawful { IsLawful (record { tag = tag; body = body.now }) }
         requires room { self.old.next + length body.now + FRAME_HEAD + 1 ≤ DISK_MAX }
         requires idle { self.old.begun ≡ None }
-        requires rest { IsTrue D.is_known → IsAtRest self.old.next (D.view disk.old) }
+        requires rest { IfKnown (D.known disk.old) (λ v. IsAtRest self.old.next v) }
         ensures at { IfOk result (λ at. at ≡ self.old.next) }
-        ensures added { IsTrue D.is_known → OnOk result (IsAdded self.old.next (record { tag = tag; body = body.now })
-            (D.view disk.old).content self.new.next (D.view disk.new)) }
+        ensures added { IfKnown (D.known disk.old) (λ v.
+            OnOk result (IsAdded self.old.next (record { tag = tag; body = body.now }) v.content self.new.next (D.known disk.new).view)) }
         ensures frames { OnOk result (self.new.frames ≡
             self.old.frames ++ record { at = self.old.next; tag = tag; len = length body.now } ∷ []) }
         ensures next { OnOk result (self.new.next ≡ self.old.next + length body.now + FRAME_HEAD) }
-        ensures crash { IsTrue D.is_known → Keeps (IsBeforeOrAfter self.old.next (D.view disk.old).content
-            (record { tag = tag; body = body.now })) (D.view disk.old) (D.view disk.new) }
+        ensures crash { Keeps (IsBeforeOrAfter self.old.next (D.known disk.old).view.content (record { tag = tag; body = body.now })) (D.known disk.old) (D.known disk.new) }
         ensures kinds { OnErr result (IsErrOf result JournalFault.Disk ⊎ IsErrOf result JournalFault.Memory) }
         ensures spent { self.new.spent ≡ self.old.spent }
         ensures broken { self.new.broken ≡ self.old.broken }
         ensures idle { self.new.begun ≡ self.old.begun }
-        ensures cause { Accounts IsDiskFault (D.counts disk.old).faults (D.counts disk.new).faults result }
-        ensures memory { IsErrOf result JournalFault.Memory
-            → (disk.new ≡ disk.old) ⊎ Rose (D.counts disk.old).wants (D.counts disk.new).wants }
-        ensures reads { (D.counts disk.new).reads ≡ (D.counts disk.old).reads }
+        ensures cause { UsesDisk IsDiskFault (D.known disk.old) (D.known disk.new) result }
+        ensures memory { IsErrOf result JournalFault.Memory → (disk.new ≡ disk.old)
+            ⊎ Rose (D.known disk.old).counts.wants (D.known disk.new).counts.wants }
+        ensures reads { (D.known disk.new).counts.reads ≡ (D.known disk.old).counts.reads }
     {
         let at = self.next;
         let bytes = self.list_frame(alloc, tag, body)?;

@@ -1,7 +1,7 @@
 //! A new store in a file that is vacant.
-ghost use Rattle.std.specs.Prelude.{◌≡◌, ◌≤◌, ◌<◌, ◌⊎◌, ◌↔◌, ◌+◌, ◌++◌, [], ◌∷◌, List, ℕ, IsTrue, IsErrOf, length, take, drop, get_or, ltb, if◌then◌else◌, IfOk, OnOk};
+ghost use Rattle.std.specs.Prelude.{◌≡◌, ◌≤◌, ◌<◌, ◌↔◌, ◌+◌, ◌++◌, [], IsTrue, length, take, drop, ltb, if◌then◌else◌, IfOk, OnOk};
 ghost use Rattle.cp_disk.specs.Counts.{Counted};
-ghost use Rattle.cp_disk.specs.Views.{Only, IsDurable, Rests, Steps, Keeps};
+ghost use Rattle.cp_disk.specs.Views.{Only, IsDurable, ViewKeeps, IfKnown, IsSettled, Rests, Steps, Keeps};
 ghost use Rattle.cp_disk.specs.Writes.{CutShort};
 ghost use Rattle.cp_journal.specs.Frames.{Frame, entry};
 ghost use Rattle.cp_journal.specs.Holding.{IsLawful};
@@ -28,9 +28,9 @@ fn front_len(size: u64) -> usize
 
 // Whether the file is vacant. Makes one read at most.
 pub(crate) fn is_vacant<D: Disk>(disk: &mut D) -> Result<bool, DiskFault>
-    ensures vacant { IsTrue D.is_known → IfOk result (λ b. IsTrue b ↔ IsVacant (D.view disk.old).content) }
-    ensures rests { IsTrue D.is_known → Rests (D.view disk.old) (D.view disk.new) }
-    ensures cause { Counted (D.counts disk.old) (D.counts disk.new) result }
+    ensures vacant { IfKnown (D.known disk.old) (λ v. IfOk result (λ b. IsTrue b ↔ IsVacant v.content)) }
+    ensures rests { Rests (D.known disk.old) (D.known disk.new) }
+    ensures cause { Counted (D.known disk.old) (D.known disk.new) result }
 {
     let size = disk.size()?;
     if size <= 1 {
@@ -59,12 +59,12 @@ fn start_of(gate: u8) -> u64
 
 // Waits until the file is on the disk, and gives one without a second byte its closed gate.
 fn settle<D: Disk>(disk: &mut D) -> Result<Settled, DiskFault>
-    requires { IsTrue D.is_known → IsVacant (D.view disk.old).content }
+    requires { IfKnown (D.known disk.old) (λ v. IsVacant v.content) }
     ensures range { IfOk result (λ o. (1 ≤ o.start) × (o.start ≤ 6) × (o.size ≤ DISK_MAX)) }
-    ensures vacant { IsTrue D.is_known → IfOk result (λ o. StaysVacant o.start (D.view disk.new).content
-        × (o.size ≡ length (D.view disk.new).content) × Only (D.view disk.new).content (D.view disk.new).images) }
-    ensures crash { IsTrue D.is_known → Keeps (IsOldOrVacant (D.view disk.old)) (D.view disk.old) (D.view disk.new) }
-    ensures cause { Counted (D.counts disk.old) (D.counts disk.new) result }
+    ensures vacant { IfKnown (D.known disk.new) (λ v. IfOk result (λ o. StaysVacant o.start v.content
+        × (o.size ≡ length v.content) × Only v.content v.images)) }
+    ensures crash { Keeps (IsOldOrVacant (D.known disk.old).view) (D.known disk.old) (D.known disk.new) }
+    ensures cause { Counted (D.known disk.old) (D.known disk.new) result }
 {
     disk.sync()?;
     let size = disk.size()?;
@@ -80,10 +80,11 @@ fn settle<D: Disk>(disk: &mut D) -> Result<Settled, DiskFault>
 
 // Cuts the file where it is longer.
 fn trim<D: Disk>(disk: &mut D, size: u64, len: u64) -> Result<(), DiskFault>
-    requires { IsTrue D.is_known → size ≡ length (D.view disk.old).content }
-    ensures content { IsTrue D.is_known → OnOk result ((D.view disk.new).content ≡ take len (D.view disk.old).content) }
-    ensures crash { IsTrue D.is_known → Steps (CutShort len) (D.view disk.old) (D.view disk.new) }
-    ensures cause { Counted (D.counts disk.old) (D.counts disk.new) result }
+    requires { IfKnown (D.known disk.old) (λ v. size ≡ length v.content) }
+    ensures content { IfKnown (D.known disk.old) (λ v.
+        OnOk result ((D.known disk.new).view.content ≡ take len v.content)) }
+    ensures crash { Steps (CutShort len) (D.known disk.old) (D.known disk.new) }
+    ensures cause { Counted (D.known disk.old) (D.known disk.new) result }
 {
     if size > len {
         return disk.cut(len);
@@ -95,13 +96,13 @@ fn trim<D: Disk>(disk: &mut D, size: u64, len: u64) -> Result<(), DiskFault>
 fn fill<D: Disk>(disk: &mut D, start: u64, size: u64, bytes: &[u8]) -> Result<(), DiskFault>
     requires room { length bytes.now ≤ DISK_MAX }
     requires range { (start ≤ length bytes.now) × (size ≤ DISK_MAX) }
-    requires vacant { IsTrue D.is_known → StaysVacant start (D.view disk.old).content
-        × (size ≡ length (D.view disk.old).content) × Only (D.view disk.old).content (D.view disk.old).images }
-    ensures content { IsTrue D.is_known
-        → OnOk result ((D.view disk.new).content ≡ take start (D.view disk.old).content ++ drop start bytes.now) }
-    ensures durable { IsTrue D.is_known → OnOk result (Only (D.view disk.new).content (D.view disk.new).images) }
-    ensures crash { IsTrue D.is_known → Keeps IsVacant (D.view disk.old) (D.view disk.new) }
-    ensures cause { Counted (D.counts disk.old) (D.counts disk.new) result }
+    requires vacant { IfKnown (D.known disk.old) (λ v. StaysVacant start v.content × (size ≡ length v.content)
+        × Only v.content v.images) }
+    ensures content { IfKnown (D.known disk.old) (λ v.
+        OnOk result ((D.known disk.new).view.content ≡ take start v.content ++ drop start bytes.now)) }
+    ensures durable { OnOk result (IsSettled (D.known disk.new)) }
+    ensures crash { Keeps IsVacant (D.known disk.old) (D.known disk.new) }
+    ensures cause { Counted (D.known disk.old) (D.known disk.new) result }
 {
     let len = bytes.len() as u64;
     disk.write_at(start, &bytes[start as usize..])?;
@@ -113,12 +114,12 @@ fn fill<D: Disk>(disk: &mut D, start: u64, size: u64, bytes: &[u8]) -> Result<()
 pub(crate) fn put_store<D: Disk>(disk: &mut D, bytes: &[u8]) -> Result<(), DiskFault>
     requires room { length bytes.now ≤ DISK_MAX }
     requires long { 6 ≤ length bytes.now }
-    requires vacant { IsTrue D.is_known → IsVacant (D.view disk.old).content }
-    ensures durable { IsTrue D.is_known → (f : Frame) → IsLawful f → bytes.now ≡ new_file f
-        → OnOk result (IsDurable (new_file f) (D.view disk.new)) }
-    ensures crash { IsTrue D.is_known → (f : Frame) → IsLawful f → bytes.now ≡ new_file f
-        → Keeps (IsOldOrVacantOrNew (D.view disk.old) f) (D.view disk.old) (D.view disk.new) }
-    ensures cause { Counted (D.counts disk.old) (D.counts disk.new) result }
+    requires vacant { IfKnown (D.known disk.old) (λ v. IsVacant v.content) }
+    ensures durable { IfKnown (D.known disk.new) (λ v. (f : Frame) → IsLawful f → bytes.now ≡ new_file f
+        → OnOk result (IsDurable (new_file f) v)) }
+    ensures crash { IfKnown (D.known disk.old) (λ v. (f : Frame) → IsLawful f → bytes.now ≡ new_file f
+        → ViewKeeps (IsOldOrVacantOrNew v f) v (D.known disk.new).view) }
+    ensures cause { Counted (D.known disk.old) (D.known disk.new) result }
 {
     let settled = settle(disk)?;
     fill(disk, settled.start, settled.size, bytes)?;

@@ -1,7 +1,7 @@
 //! A range of a file, read in pieces.
-ghost use Rattle.std.specs.Prelude.{◌≡◌, ◌≤◌, ◌<◌, ◌⊎◌, ◌+◌, ◌-◌, ◌*◌, IsTrue, IsErrOf, length, take, drop, OnOk, OnErr};
-ghost use Rattle.cp_outside.specs.Causes.{Accounts};
-ghost use Rattle.cp_disk.specs.Views.{Rests};
+ghost use Rattle.std.specs.Prelude.{◌≡◌, ◌≤◌, ◌<◌, ◌⊎◌, ◌+◌, ◌-◌, ◌*◌, IsErrOf, length, take, drop, OnOk, OnErr};
+ghost use Rattle.cp_disk.specs.Counts.{UsesDisk};
+ghost use Rattle.cp_disk.specs.Views.{IfKnown, Rests};
 ghost use Rattle.cp_journal.specs.Journals.{IsDiskFault};
 
 use crate::fault::JournalFault;
@@ -15,12 +15,12 @@ pub(crate) fn read_range<D: Disk>(
     into: &mut Vec<u8>,
 ) -> Result<(), JournalFault>
     requires most { at + len ≤ DISK_MAX }
-    requires within { IsTrue D.is_known → at + len ≤ length (D.view disk.old).content }
-    ensures bytes { IsTrue D.is_known → OnOk result (into.new.items ≡ take len (drop at (D.view disk.old).content)) }
-    ensures rests { IsTrue D.is_known → Rests (D.view disk.old) (D.view disk.new) }
+    requires within { IfKnown (D.known disk.old) (λ v. at + len ≤ length v.content) }
+    ensures bytes { IfKnown (D.known disk.old) (λ v. OnOk result (into.new.items ≡ take len (drop at v.content))) }
+    ensures rests { Rests (D.known disk.old) (D.known disk.new) }
     ensures kinds { OnErr result (IsErrOf result JournalFault.Disk ⊎ IsErrOf result JournalFault.Memory) }
-    ensures cause { Accounts IsDiskFault (D.counts disk.old).faults (D.counts disk.new).faults result }
-    ensures reads { READ_MAX * (D.counts disk.new).reads ≤ READ_MAX * (D.counts disk.old).reads + len + (READ_MAX - 1) }
+    ensures cause { UsesDisk IsDiskFault (D.known disk.old) (D.known disk.new) result }
+    ensures reads { READ_MAX * (D.known disk.new).counts.reads ≤ READ_MAX * (D.known disk.old).counts.reads + len + (READ_MAX - 1) }
 {
     into.clear();
     let mut page = [0u8; READ_MAX];

@@ -1,8 +1,7 @@
 //! The walk over frames from gate to gate.
 ghost use Rattle.std.specs.Prelude.{◌≡◌, ◌≤◌, ◌<◌, ◌⊎◌, ◌↔◌, ◌+◌, ◌*◌, IsTrue, IsErrOf, ℕ, length, drop, get_or, if◌then◌else◌, None, Some, IfOk, OnErr};
-ghost use Rattle.cp_outside.specs.Causes.{Accounts};
-ghost use Rattle.cp_disk.specs.Counts.{Counted};
-ghost use Rattle.cp_disk.specs.Views.{Rests};
+ghost use Rattle.cp_disk.specs.Counts.{Counted, UsesDisk};
+ghost use Rattle.cp_disk.specs.Views.{IfKnown, Rests};
 ghost use Rattle.cp_journal.specs.Frames.{fits as may_be_frame, frames_of};
 ghost use Rattle.cp_journal.specs.Journals.{AreInRange, IsDiskFault};
 ghost use Rattle.cp_journal.specs.Walks.{length_in, IsSeen, HasRoom, IsWalked};
@@ -50,14 +49,14 @@ fn is_inside(size: u64, at: u64, len: u64) -> bool
 // is asked for again: a writer may have added frames meanwhile. Once is enough, since a writer opens a gate only after the
 // whole frame and the closed gate of the next one are in the file.
 fn has_bytes<D: Disk>(disk: &mut D, size: &mut u64, at: u64, len: u64) -> Result<bool, DiskFault>
-    requires size { IsTrue D.is_known → size.old ≡ length (D.view disk.old).content }
+    requires size { IfKnown (D.known disk.old) (λ v. size.old ≡ length v.content) }
     requires most { size.old ≤ DISK_MAX }
     ensures bytes { IfOk result (λ b. IsTrue b ↔ (at + len ≤ size.new)) }
-    ensures size { IsTrue D.is_known → size.new ≡ length (D.view disk.old).content }
+    ensures size { IfKnown (D.known disk.old) (λ v. size.new ≡ length v.content) }
     ensures most { size.new ≤ DISK_MAX }
-    ensures rests { IsTrue D.is_known → Rests (D.view disk.old) (D.view disk.new) }
-    ensures cause { Counted (D.counts disk.old) (D.counts disk.new) result }
-    ensures reads { (D.counts disk.new).reads ≡ (D.counts disk.old).reads }
+    ensures rests { Rests (D.known disk.old) (D.known disk.new) }
+    ensures cause { Counted (D.known disk.old) (D.known disk.new) result }
+    ensures reads { (D.known disk.new).counts.reads ≡ (D.known disk.old).counts.reads }
 {
     if is_inside(*size, at, len) {
         return Ok(true);
@@ -68,17 +67,17 @@ fn has_bytes<D: Disk>(disk: &mut D, size: &mut u64, at: u64, len: u64) -> Result
 
 // Looks at what comes after an open gate, with one read at most.
 fn look_after<D: Disk>(disk: &mut D, size: &mut u64, at: u64) -> Result<Seen, DiskFault>
-    requires size { IsTrue D.is_known → size.old ≡ length (D.view disk.old).content }
+    requires size { IfKnown (D.known disk.old) (λ v. size.old ≡ length v.content) }
     requires most { size.old ≤ DISK_MAX }
-    requires inside { IsTrue D.is_known → at < length (D.view disk.old).content }
-    requires gate { IsTrue D.is_known → get_or (D.view disk.old).content at 0 ≡ 1 }
-    ensures seen { IsTrue D.is_known → IfOk result (λ s. IsSeen at (D.view disk.old).content s) }
+    requires inside { IfKnown (D.known disk.old) (λ v. at < length v.content) }
+    requires gate { IfKnown (D.known disk.old) (λ v. get_or v.content at 0 ≡ 1) }
+    ensures seen { IfKnown (D.known disk.old) (λ v. IfOk result (λ s. IsSeen at v.content s)) }
     ensures room { IfOk result (λ s. HasRoom at size.new s) }
-    ensures size { IsTrue D.is_known → size.new ≡ length (D.view disk.old).content }
+    ensures size { IfKnown (D.known disk.old) (λ v. size.new ≡ length v.content) }
     ensures most { size.new ≤ DISK_MAX }
-    ensures rests { IsTrue D.is_known → Rests (D.view disk.old) (D.view disk.new) }
-    ensures cause { Counted (D.counts disk.old) (D.counts disk.new) result }
-    ensures reads { (D.counts disk.new).reads ≤ (D.counts disk.old).reads + 1 }
+    ensures rests { Rests (D.known disk.old) (D.known disk.new) }
+    ensures cause { Counted (D.known disk.old) (D.known disk.new) result }
+    ensures reads { (D.known disk.new).counts.reads ≤ (D.known disk.old).counts.reads + 1 }
 {
     if !has_bytes(disk, size, at, FRAME_HEAD)? {
         return Ok(Seen::Broken);
@@ -98,15 +97,15 @@ fn look_after<D: Disk>(disk: &mut D, size: &mut u64, at: u64) -> Result<Seen, Di
 
 // Looks at a gate, with two reads at most.
 fn look<D: Disk>(disk: &mut D, size: &mut u64, at: u64) -> Result<Seen, DiskFault>
-    requires size { IsTrue D.is_known → size.old ≡ length (D.view disk.old).content }
+    requires size { IfKnown (D.known disk.old) (λ v. size.old ≡ length v.content) }
     requires most { size.old ≤ DISK_MAX }
-    ensures seen { IsTrue D.is_known → IfOk result (λ s. IsSeen at (D.view disk.old).content s) }
+    ensures seen { IfKnown (D.known disk.old) (λ v. IfOk result (λ s. IsSeen at v.content s)) }
     ensures room { IfOk result (λ s. HasRoom at size.new s) }
-    ensures size { IsTrue D.is_known → size.new ≡ length (D.view disk.old).content }
+    ensures size { IfKnown (D.known disk.old) (λ v. size.new ≡ length v.content) }
     ensures most { size.new ≤ DISK_MAX }
-    ensures rests { IsTrue D.is_known → Rests (D.view disk.old) (D.view disk.new) }
-    ensures cause { Counted (D.counts disk.old) (D.counts disk.new) result }
-    ensures reads { (D.counts disk.new).reads ≤ (D.counts disk.old).reads + 2 }
+    ensures rests { Rests (D.known disk.old) (D.known disk.new) }
+    ensures cause { Counted (D.known disk.old) (D.known disk.new) result }
+    ensures reads { (D.known disk.new).counts.reads ≤ (D.known disk.old).counts.reads + 2 }
 {
     if !has_bytes(disk, size, at, 1)? {
         return Ok(Seen::Broken);
@@ -141,17 +140,17 @@ pub(crate) fn walk_frames<D: Disk>(
     size: u64,
     from: u64,
 ) -> Result<Walked, JournalFault>
-    requires size { IsTrue D.is_known → size ≡ length (D.view disk.old).content }
+    requires size { IfKnown (D.known disk.old) (λ v. size ≡ length v.content) }
     requires from { from ≤ size }
     requires most { size ≤ DISK_MAX }
-    ensures walked { IsTrue D.is_known → IfOk result (λ w. IsWalked from (D.view disk.old).content w) }
+    ensures walked { IfKnown (D.known disk.old) (λ v. IfOk result (λ w. IsWalked from v.content w)) }
     ensures kinds { OnErr result (IsErrOf result JournalFault.Disk ⊎ IsErrOf result JournalFault.Memory) }
     ensures range { IfOk result (λ w. (w.next ≤ DISK_MAX) × AreInRange w.frames.items) }
-    ensures rests { IsTrue D.is_known → Rests (D.view disk.old) (D.view disk.new) }
-    ensures cause { Accounts IsDiskFault (D.counts disk.old).faults (D.counts disk.new).faults result }
-    ensures reads { IfOk result (λ w. (D.counts disk.new).reads ≤ (D.counts disk.old).reads + 2 * length w.frames.items + 2) }
-    ensures most_reads { IsTrue D.is_known → (D.counts disk.new).reads
-        ≤ (D.counts disk.old).reads + 2 * length (frames_of (drop from (D.view disk.old).content)).frames + 2 }
+    ensures rests { Rests (D.known disk.old) (D.known disk.new) }
+    ensures cause { UsesDisk IsDiskFault (D.known disk.old) (D.known disk.new) result }
+    ensures reads { IfOk result (λ w. (D.known disk.new).counts.reads ≤ (D.known disk.old).counts.reads + 2 * length w.frames.items + 2) }
+    ensures most_reads { IfKnown (D.known disk.old) (λ v.
+        (D.known disk.new).counts.reads ≤ (D.known disk.old).counts.reads + 2 * length (frames_of (drop from v.content)).frames + 2) }
 {
     let mut frames = Vec::new(alloc);
     let mut size = size;

@@ -10,6 +10,7 @@
 //! | `cuts SIZE` and a text | the cuts of an input that comes in pieces of this size |
 //! | `reply WORDS` and a text | the lines of a reply, as `replies` says |
 //! | `store KIND UPTO TIDS`, rows and questions | what a store tells that keeps the rows, as `store` says |
+//! | `counted KIND TIDS`, rows and steps | the rows of each step, and how many calls there were, of a store that keeps the rows as they are, and of one that keeps them packed, as `counted` says |
 //! | `modified KIND TIDS`, a line of JSON, rows and places | the steps that changed each place or one below it, and by how many calls of the store they are found, as `modified` says |
 //! | `reduce PLACE` and rows | the reduced rows of an operation that wrote the place |
 //! | `expand`, two lines of JSON and rows | the full rows of a step, from the trees before and after it |
@@ -25,6 +26,7 @@
 #![tactic(auto)]
 
 mod copies;
+mod counted;
 mod fault;
 mod length;
 mod modified;

@@ -20,7 +20,7 @@ fn store_of(alloc: Global, name: &str, tids: u64, text: &str) -> Result<MemorySt
     let Some(kind) = kind_called(name) else {
         return Err(Fault::Name);
     };
-    let mut store = MemoryStore::new(alloc, kind, 0)?;
+    let mut store = MemoryStore::new(alloc, kind, 0);
     keep(alloc, &mut store, tids, text)?;
     Ok(store)
 }

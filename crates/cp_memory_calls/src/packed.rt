@@ -36,7 +36,7 @@ fn push(
 }
 
 /// The rows, packed.
-fn pack(alloc: Global, count: usize, rows: &[Record]) -> Result<PackedRecords, Fault> {
+pub(crate) fn pack(alloc: Global, count: usize, rows: &[Record]) -> Result<PackedRecords, Fault> {
     let mut packed = PackedRecords::new(alloc);
     for row in rows {
         push(alloc, &mut packed, row, count)?;

@@ -65,7 +65,7 @@ fn or_none(alloc: Global, text: String) -> Result<String, AllocError> {
 }
 
 /// The rows as parts of an answer.
-fn rows_text(alloc: Global, rows: &[Record]) -> Result<String, AllocError> {
+pub(crate) fn rows_text(alloc: Global, rows: &[Record]) -> Result<String, AllocError> {
     let mut text = String::new(alloc);
     for row in rows {
         let row = record_text(alloc, row)?;

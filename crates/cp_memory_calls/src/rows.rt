@@ -1,7 +1,7 @@
 //! Calls of rows: what the stores tell of them, and what is made of the rows of a step.
 
 use crate::fault::Fault;
-use crate::{length, modified, packed, row, step as steps, store};
+use crate::{counted, length, modified, packed, row, step as steps, store};
 use cp_cases::{Step, number_of};
 use std::alloc::{AllocError, Global};
 
@@ -12,6 +12,7 @@ fn add_answer(alloc: Global, step: &Step, lines: &mut String) -> Result<bool, Fa
     let words = step.rest.as_str();
     let added = match step.key.as_str() {
         "store" => store::add_answers(alloc, words, text, lines),
+        "counted" => counted::add_counted(alloc, words, text, lines),
         "modified" => modified::add_modified(alloc, words, text, lines),
         "reduce" => steps::add_reduced(alloc, words, text, lines),
         "expand" => steps::add_expanded(alloc, text, lines),

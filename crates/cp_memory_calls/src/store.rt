@@ -51,9 +51,9 @@ fn add_state(alloc: Global, store: &MemoryStore, lines: &mut String) -> Result<(
 }
 
 /// Keeps the rows of a text in the store, where they are those of the next `tids` steps.
-pub(crate) fn keep(
+pub(crate) fn keep<P: ProvStore>(
     alloc: Global,
-    store: &mut MemoryStore,
+    store: &mut P,
     tids: u64,
     text: &str,
 ) -> Result<(), Fault> {
@@ -99,7 +99,7 @@ fn add_to(
 
 /// Adds what a new store of this kind tells before and after it gets the rows.
 fn add_all(alloc: Global, kind: Kind, part: Part<'_>, lines: &mut String) -> Result<(), Fault> {
-    let mut store = MemoryStore::new(alloc, kind, part.upto)?;
+    let mut store = MemoryStore::new(alloc, kind, part.upto);
     let added = add_to(alloc, &mut store, part, lines);
     drop(store);
     added

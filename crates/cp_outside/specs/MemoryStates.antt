@@ -1,5 +1,5 @@
 -- What callers see of a source, a sink and files in memory.
-use Rattle.std.specs.Prelude.{ℕ, List, [], ◌∷◌, ◌+◌, ◌++◌, drop, None, Some, bytes_eq, if◌then◌else◌}
+use Rattle.std.specs.Prelude.{ℕ, ◌-◌, ◌^◌, min, length, List, [], ◌∷◌, ◌+◌, ◌++◌, drop, None, Some, bytes_eq, if◌then◌else◌}
 use Rattle.cp_outside.specs.Causes.{one_more}
 use Rattle.cp_outside.specs.FileReads.{FileTable}
 
@@ -23,29 +23,34 @@ after_read s n = record s { left = drop n s.left; given = s.given + n; calls = o
 abbrev pub after_failed_read : SourceState → SourceState
 after_failed_read s = record s { calls = one_more s.calls; faults = one_more s.faults }
 
--- The bytes that were taken, the numbers of the writes that fail, how many writes there were, how many failed, and how many were refused.
+-- The bytes that were taken, the numbers of the writes that fail, how many writes there were, how many failed, how many were refused, and how many bytes were taken since.
 pub record SinkState : Type 0 where
   pub bytes : List ℕ
   pub fails : List ℕ
   pub calls : ℕ
   pub faults : ℕ
   pub refusals : ℕ
+  pub since_refusal : ℕ
 
 -- A sink before its first write.
 abbrev pub new_sink : List ℕ → SinkState
-new_sink fails = record { bytes = []; fails = fails; calls = 0; faults = 0; refusals = 0 }
+new_sink fails = record { bytes = []; fails = fails; calls = 0; faults = 0; refusals = 0; since_refusal = 0 }
 
 -- A sink after a write that took these bytes.
 abbrev pub after_write : SinkState → List ℕ → SinkState
-after_write s bytes = record s { bytes = s.bytes ++ bytes; calls = one_more s.calls }
+after_write s bytes = record s { bytes = s.bytes ++ bytes; calls = one_more s.calls; since_refusal = min (s.since_refusal + length bytes) (2 ^ 64 - 1) }
+
+-- A sink whose refusal of a write was counted.
+abbrev pub after_refusal : SinkState → SinkState
+after_refusal s = record s { refusals = one_more s.refusals; since_refusal = 0 }
 
 -- A sink after a write that failed.
 abbrev pub after_failed_write : SinkState → SinkState
-after_failed_write s = record s { calls = one_more s.calls; faults = one_more s.faults; refusals = one_more s.refusals }
+after_failed_write s = after_refusal (record s { calls = one_more s.calls; faults = one_more s.faults })
 
 -- A sink after a write for which it found no memory.
 abbrev pub after_refused_write : SinkState → SinkState
-after_refused_write s = record s { calls = one_more s.calls; refusals = one_more s.refusals }
+after_refused_write s = after_refusal (record s { calls = one_more s.calls })
 
 -- A file in memory: the name that it is read by, and all of it.
 pub record FileState : Type 0 where

@@ -68,8 +68,11 @@ impl Clock for MemClock {
 
     ghost faults = { λ s. s.faults };
 
+    ghost asked = { λ s. s.calls };
+
     fn now(&mut self) -> Result<u64, Failed>
         ensures told { Tells (Some self.old.left) (Some self.new.left) result }
+        ensures counted { self.new.calls ≡ one_more self.old.calls }
         ensures cause { Accounts AnyError self.old.faults self.new.faults result }
 
         // The calls that the list names fail, and the others tell the next moment.

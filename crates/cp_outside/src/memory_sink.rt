@@ -1,9 +1,9 @@
 //! A sink in memory.
 ghost use Rattle.std.specs.Prelude.{◌≡◌, [], ◌<◌, ◌↔◌, length, Some, IfOk, OnOk, IsErrOf, Contains};
 ghost use Rattle.std.specs.Io.KnownBytes.{WriteAppends};
-ghost use Rattle.cp_outside.specs.Causes.{Accounts, AnyError, one_more};
-ghost use Rattle.cp_outside.specs.MemoryStates.{new_sink, after_write, after_failed_write, after_refused_write};
-ghost use Rattle.cp_outside.specs.Sinks.{BlamesOutput, TakesSome};
+ghost use Rattle.cp_outside.specs.Causes.{Accounts, one_more};
+ghost use Rattle.cp_outside.specs.MemoryStates.{new_sink, after_refusal, after_write, after_failed_write, after_refused_write};
+ghost use Rattle.cp_outside.specs.Sinks.{BlamesOutput, CountsRefusal, CountsSince, TakesSome};
 
 use crate::plan::Plan;
 use crate::sink::{Sink, SinkFault};
@@ -17,6 +17,7 @@ pub struct MemSink {
     bytes: Vec<u8>,
     plan: Plan,
     refusals: u64,
+    since_refusal: u64,
 }
 
 impl Model for MemSink {
@@ -30,6 +31,7 @@ impl Model for MemSink {
       calls = s.plan.calls;
       faults = s.plan.faults;
       refusals = s.refusals;
+      since_refusal = s.since_refusal;
     } };
 }
 
@@ -50,7 +52,16 @@ impl MemSink {
             bytes: Vec::new(alloc),
             plan: Plan::new(alloc, fails)?,
             refusals: 0,
+            since_refusal: 0,
         })
+    }
+
+    // Counts a refusal, after which nothing was taken yet.
+    fn refuse(&mut self)
+        ensures { self.new ≡ after_refusal self.old }
+    {
+        self.refusals = self.refusals.saturating_add(1);
+        self.since_refusal = 0;
     }
 
     /// All that it took.
@@ -68,12 +79,15 @@ impl Sink for MemSink {
 
     ghost refusals = { λ s. s.refusals };
 
+    ghost since_refusal = { λ s. s.since_refusal };
+
     fn write(&mut self, bytes: &[u8]) -> Result<usize, SinkFault>
         requires { 0 < length bytes.now }
         ensures some { TakesSome result bytes.now }
         ensures bytes { WriteAppends (Some self.old.bytes) (Some self.new.bytes) result bytes.now }
         ensures cause { Accounts BlamesOutput self.old.faults self.new.faults result }
-        ensures refused { Accounts AnyError self.old.refusals self.new.refusals result }
+        ensures refused { CountsRefusal self.old.refusals self.new.refusals result }
+        ensures since { CountsSince self.old.since_refusal self.new.since_refusal result }
 
         // The writes that the list names fail, and the others take all, where there is memory.
         ensures listed { IsErrOf result SinkFault.Failed
@@ -84,13 +98,14 @@ impl Sink for MemSink {
         ensures memory { IsErrOf result SinkFault.Memory → self.new ≡ after_refused_write self.old }
     {
         if self.plan.fails_now() {
-            self.refusals = self.refusals.saturating_add(1);
+            self.refuse();
             return Err(SinkFault::Failed);
         }
         if self.bytes.extend_from_slice(bytes).is_err() {
-            self.refusals = self.refusals.saturating_add(1);
+            self.refuse();
             return Err(SinkFault::Memory);
         }
+        self.since_refusal = self.since_refusal.saturating_add(bytes.len() as u64);
         Ok(bytes.len())
     }
 }

@@ -1,9 +1,9 @@
 //! Bytes that go out.
-ghost use Rattle.std.specs.Prelude.{◌<◌, ℕ, List, length, OnOk, OnErr};
+ghost use Rattle.std.specs.Prelude.{◌≡◌, ◌<◌, ℕ, List, length, OnOk, OnErr};
 ghost use Rattle.std.specs.declared.option.Option.{Option};
 ghost use Rattle.std.specs.Io.KnownBytes.{WriteAppends, Appends};
-ghost use Rattle.cp_outside.specs.Causes.{Accounts, AnyError};
-ghost use Rattle.cp_outside.specs.Sinks.{BlamesOutput, TakesSome, TakesLess};
+ghost use Rattle.cp_outside.specs.Causes.{Accounts};
+ghost use Rattle.cp_outside.specs.Sinks.{BlamesOutput, CountsRefusal, CountsSince, TakesSome, TakesLess};
 
 use std::alloc::{AllocError, AllocFailed};
 use thiserror::Error;
@@ -52,6 +52,9 @@ pub trait Sink {
     /// How often it has refused a write, for a failure or for memory, up to the end of a `u64`.
     ghost refusals: { Self → ℕ };
 
+    /// How many bytes it took since it last refused a write, or since it was made, up to the end of a `u64`.
+    ghost since_refusal: { Self → ℕ };
+
     /// Takes bytes off the front of `bytes`, and says how many: at least one, and maybe not all.
     /// After an error it has taken none, and a later write may still succeed.
     fn write(&mut self, bytes: &[u8]) -> Result<usize, SinkFault>
@@ -59,7 +62,8 @@ pub trait Sink {
         ensures some { TakesSome result bytes.now }
         ensures bytes { WriteAppends (contents self.old) (contents self.new) result bytes.now }
         ensures cause { Accounts BlamesOutput (faults self.old) (faults self.new) result }
-        ensures refused { Accounts AnyError (refusals self.old) (refusals self.new) result };
+        ensures refused { CountsRefusal (refusals self.old) (refusals self.new) result }
+        ensures since { CountsSince (since_refusal self.old) (since_refusal self.new) result };
 }
 
 /// Writes all of `bytes`, in as many writes as the sink wants, and gives up at the first that it
@@ -70,7 +74,8 @@ pub fn write_all<O: Sink>(output: &mut O, bytes: &[u8]) -> Result<(), SinkFault>
     ensures part { OnErr result
         (TakesLess (O.contents output.old) (O.contents output.new) bytes.now) }
     ensures cause { Accounts BlamesOutput (O.faults output.old) (O.faults output.new) result }
-    ensures refused { Accounts AnyError (O.refusals output.old) (O.refusals output.new) result }
+    ensures refused { CountsRefusal (O.refusals output.old) (O.refusals output.new) result }
+    ensures since { OnErr result (O.since_refusal output.new ≡ 0) }
 {
     let mut at = 0;
     while at < bytes.len() {

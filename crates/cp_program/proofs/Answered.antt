@@ -1,11 +1,12 @@
 -- Calls that answer from a store, and leave it as it is.
-use Rattle.std.proofs.Common.{◌≡◌, ℕ, List, [], Ok, Err, inl, inr, refl, sym, ap, subst}
+use Rattle.std.proofs.Common.{◌≡◌, ℕ, List, [], Ok, Err, inl, inr, refl, sym, ◌∙◌, ap, subst}
 use Rattle.std.specs.Prelude.{IsTrue, IfErr, Result, ◌≤◌}
 use Rattle.std.specs.declared.option.Option.TheVariants.{Some}
 use Rattle.cp_outside.specs.Causes.{Accounts}
 use Rattle.cp_outside.specs.FileReads.{FileTable}
 use Rattle.cp_model.specs.Tree.{Tree}
-use Rattle.cp_disk.specs.Views.{Rests}
+use Rattle.cp_disk.specs.Counts.{UsesDisk}
+use Rattle.cp_disk.specs.Views.{Rests, KnownDisk}
 use Rattle.cp_frame.specs.Stands.{Opens, OpensAndReplays}
 use Rattle.cp_frame.specs.Stops.{IsNot}
 use Rattle.cp_model.specs.declared.answer.LogLine.{LogLine}
@@ -18,7 +19,6 @@ use Rattle.cp_reply.specs.declared.reply.Reply.{Reply}
 use Rattle.cp_reply.specs.declared.reply.Reply.TheVariants as reply
 use Rattle.cp_reply.specs.Session.{Session, says, turn_of}
 use Rattle.cp_workspace.specs.Texts.{Terms, setting}
-use Rattle.cp_workspace.specs.Disks.{KnownDisk}
 use Rattle.cp_workspace.specs.Files.{KnownFiles}
 use Rattle.cp_workspace.specs.Workspaces.{Stands, Turned, opened_session}
 use Rattle.cp_workspace.specs.declared.workspace.Workspace.{Workspace}
@@ -76,7 +76,7 @@ module _ (Answers : List ℕ → Type 0) (IsReply : List ℕ → Reply → Type 
   none-at Memory at h n = absurd (cc)
 
   -- the answer was written
-  answered-line : (y : Reply) (e : End) → (IsTrue v.known → AnsweredAs Answers IsReply v (Ok y)) → (IsTrue v.known → Rests v.view w.view) → SaidLine (lines y) (is_refusal y) o p e → Answered Answers IsReply b a v w e
+  answered-line : (y : Reply) (e : End) → (IsTrue v.known → AnsweredAs Answers IsReply v (Ok y)) → (Rests v w) → SaidLine (lines y) (is_refusal y) o p e → Answered Answers IsReply b a v w e
   answered-line y e answered rests s = record {
     input = refl;
     files = refl;
@@ -87,7 +87,7 @@ module _ (Answers : List ℕ → Type 0) (IsReply : List ℕ → Reply → Type 
   }
 
   -- the call was stopped
-  answered-early : (stop : Stop) → IsOpeningStop stop → (IsTrue v.known → AnsweredAs Answers IsReply v (Err stop)) → (IsTrue v.known → Rests v.view w.view) → TellsStop o p stop → Answered Answers IsReply b a v w (end_of_stop stop)
+  answered-early : (stop : Stop) → IsOpeningStop stop → (IsTrue v.known → AnsweredAs Answers IsReply v (Err stop)) → (Rests v w) → TellsStop o p stop → Answered Answers IsReply b a v w (end_of_stop stop)
   answered-early stop kind none rests tells = (let early = stop-early o p stop kind tells in record {
     input = refl;
     files = refl;
@@ -98,7 +98,7 @@ module _ (Answers : List ℕ → Type 0) (IsReply : List ℕ → Reply → Type 
   })
 
   -- what came of the answer
-  pub answered-end : (r : Result Reply Stop) (e : End) → IfErr r IsOpeningStop → (IsTrue v.known → AnsweredAs Answers IsReply v r) → (IsTrue v.known → Rests v.view w.view) → GaveAnswer r o p e → Answered Answers IsReply b a v w e
+  pub answered-end : (r : Result Reply Stop) (e : End) → IfErr r IsOpeningStop → (IsTrue v.known → AnsweredAs Answers IsReply v r) → (Rests v w) → GaveAnswer r o p e → Answered Answers IsReply b a v w e
   answered-end (Ok y) e kind answered rests gave = answered-line y e answered rests gave
   answered-end (Err stop) e kind answered rests gave = subst (Answered Answers IsReply b a v w) (sym gave.0) (answered-early stop kind answered rests gave.1)
 
@@ -110,10 +110,17 @@ causes-answer i f k o p (Err stop) e kind gave cause =
     subst (HasCauses (record { input = i; files = f; clock = k; output = o }) (record { input = i; files = f; clock = k; output = p })) (sym gave.0)
     (causes-early-end i f k o p (end_of_stop stop) (stop-early o p stop kind gave.1).0 cause.later)
 
+-- a disk after a call that gave no error, and then what follows
+pub disk-then : {T E : Type 0} {Blames : E → Type 0} {x : T} (v m w : KnownDisk) (e : End) → UsesDisk {T = T} Blames v m (Ok x) → DiskCauses m w e → DiskCauses v w e
+disk-then v m w e first next = record {
+  same = next.same ∙ first.same;
+  account = subst (λ n. Accounts (λ d. d ≡ how.Disk) n w.counts.faults (result_of e)) first.account.steady next.account;
+}
+
 -- the disk's account of it
-pub disk-answer : (v w : KnownDisk) (o p : KnownOutput) (r : Result Reply Stop) (e : End) → IfErr r IsOpeningStop → GaveAnswer r o p e → Accounts IsDiskStop v.counts.faults w.counts.faults r → DiskCauses v w e
-disk-answer v w o p (Ok y) e kind gave cause = disk-said v w (lines y) (is_refusal y) o p e cause.steady gave
-disk-answer v w o p (Err stop) e kind gave cause = subst (λ z. DiskCauses v w z) (sym gave.0) (stop-disk v w stop kind cause.later cause.blamed)
+pub disk-answer : (v w : KnownDisk) (o p : KnownOutput) (r : Result Reply Stop) (e : End) → IfErr r IsOpeningStop → GaveAnswer r o p e → UsesDisk IsDiskStop v w r → DiskCauses v w e
+disk-answer v w o p (Ok y) e kind gave cause = disk-said v w (lines y) (is_refusal y) o p e cause.same cause.account.steady gave
+disk-answer v w o p (Err stop) e kind gave cause = subst (λ z. DiskCauses v w z) (sym gave.0) (stop-disk v w stop kind cause)
 
 -- it takes no input, so not too much came
 pub short-answer : (o p : KnownOutput) (r : Result Reply Stop) (e : End) → IfErr r IsOpeningStop → GaveAnswer r o p e → e ≡ how.TooLong → ⊥

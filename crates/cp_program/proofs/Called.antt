@@ -1,15 +1,13 @@
 -- One call: what its end says, and what it has to do with the words.
 use Rattle.cp_interpreter.specs.declared.limits.TheConstants.{INPUT_MAX}
 use Rattle.std.proofs.Common.{◌≡◌, ℕ, ◌+◌, ◌≤◌, ◌<◌, List, [], length, Bool, false, refl, inl, inr, sym, ap, subst, ◌∙◌, arith}
-use Rattle.std.proofs.lemmas.List.{length-append}
 use Rattle.std.specs.Prelude.{◌⊎◌, ◌↔◌}
-use Rattle.std.specs.Io.KnownBytes.{Consumes}
 use Rattle.std.specs.declared.option.Option.{Option}
 use Rattle.std.specs.declared.option.Option.TheVariants.{None, Some}
 use Rattle.cp_words.specs.declared.command.Command.{Command}
 use Rattle.cp_words.specs.declared.command.Command.TheVariants as words
 use Rattle.cp_workspace.specs.Files.{KnownFiles}
-use Rattle.cp_workspace.specs.Disks.{KnownDisk}
+use Rattle.cp_disk.specs.Views.{KnownDisk}
 use Rattle.cp_frame.specs.Stands.{Opens, OpensAndReplays}
 use Rattle.cp_program.specs.Texts.{usage_text}
 use Rattle.cp_interpreter.specs.Texts.{memory_line}
@@ -29,13 +27,9 @@ use Rattle.cp_interpreter.proofs.Runs.{parts}
 use Rattle.cp_interpreter.proofs.Opened.{same-rests, early-not-usage, causes-early-end, out-disk}
 use Rattle.cp_interpreter.proofs.Whole.{disk-still}
 
--- more came than a call takes, so that it isn't known that so little would come
-pub too-short : (l m : Option (List ℕ)) (taken : List ℕ) (e : End) → Consumes l m taken → (e ≡ how.TooLong) ↔ (INPUT_MAX < length taken) → e ≡ how.TooLong → IsShort l → ⊥
-too-short None m taken e t much h s = s
-too-short (Some all) None taken e t much h s = t
-too-short (Some all) (Some rest) taken e t much h s =
-    let n : length all ≡ length taken + length rest = ap length t ∙ length-append taken rest in
-    absurd (omega (arith, much.0 h, n, s))
+-- more came than a call takes
+pub too-long : (given now : ℕ) (taken : List ℕ) (e : End) → now ≡ given + length taken → (e ≡ how.TooLong) ↔ (INPUT_MAX < length taken) → e ≡ how.TooLong → given + INPUT_MAX < now
+too-long given now taken e counted much h = omega (arith, much.0 h, counted)
 
 -- a line that is said doesn't end the call with the usage
 said-not-usage : (line : List ℕ) (refused : Bool) (o p : KnownOutput) (e : End) → SaidLine line refused o p e → e ≡ how.Usage → ⊥
@@ -58,8 +52,8 @@ generated-not k seed count before now e d r memory said h = elim r.said [ inl ou
 
 -- with words that fit the call doesn't end with the usage
 fits : (x : Command) (before now : Outside) (v w : KnownDisk) (e : End) → DidCommand x before now v w e → e ≡ how.Usage → ⊥
-fits (words.Scratch k s) before now v w e r = r.running.fitting
-fits (words.Init k s) before now v w e r = r.running.fitting
+fits (words.Scratch k s) before now v w e r = r.0.running.fitting
+fits (words.Init k s) before now v w e r = r.0.running.fitting
 fits (words.Run curator) before now v w e r = r.fitting
 fits (words.Commit file curator) before now v w e r = r.fitting
 fits (words.Load l) before now v w e r = r.fitting
@@ -71,8 +65,8 @@ fits words.Verify before now v w e r = answered-fits OpensAndReplays IsVerdictOn
 
 -- where there is a store, if there is to be one, it is found
 opens : (x : Command) (before now : Outside) (v w : KnownDisk) (e : End) → DidCommand x before now v w e → HasItsStore x v → (at : ℕ) → e ≡ how.NoStore at → ⊥
-opens (words.Scratch k s) before now v w e r has at h = r.running.opened at h
-opens (words.Init k s) before now v w e r has at h = r.running.opened at h
+opens (words.Scratch k s) before now v w e r has at h = r.0.running.opened at h
+opens (words.Init k s) before now v w e r has at h = r.0.running.opened at h
 opens (words.Run curator) before now v w e r has at h = (r.no_store has.0 at h).2.never has.1
 opens (words.Commit file curator) before now v w e r has at h = (r.no_store has.0 at h).2.never has.1
 opens (words.Load l) before now v w e r has at h = (r.no_store has.0 at h).2.never has.1
@@ -83,22 +77,22 @@ opens words.Log before now v w e r has at h = (r.no_store has.0 at h).1.never ha
 opens words.Verify before now v w e r has at h = (r.no_store has.0 at h).1.never has.1
 
 -- where nothing failed and little came, the call ends with an answer
-complete : (x : Command) (before now : Outside) (v w : KnownDisk) (e : End) → DidCommand x before now v w e → HasCauses before now e → DiskCauses v w e → (e ≡ how.TooLong → IsShort before.input.left → ⊥)
-    → HasItsStore x v → IsShort before.input.left → IsFaultless before now v w → (e ≡ how.Done) ⊎ (e ≡ how.Refused) ⊎ (e ≡ how.Memory)
+complete : (x : Command) (before now : Outside) (v w : KnownDisk) (e : End) → DidCommand x before now v w e → HasCauses before now e → DiskCauses v w e → (e ≡ how.TooLong → before.input.given + INPUT_MAX < now.input.given)
+    → HasItsStore x v → IsShort before.input now.input → IsFaultless before now v w → (e ≡ how.Done) ⊎ (e ≡ how.Refused) ⊎ (e ≡ how.Memory)
 complete x before now v w how.Done r c d few has short calm = inl refl
 complete x before now v w how.Refused r c d few has short calm = inr (inl refl)
 complete x before now v w how.Usage r c d few has short calm = absurd (fits x before now v w how.Usage r refl)
 complete x before now v w how.Input r c d few has short calm = absurd (calm.input (c.input.blamed refl))
 complete x before now v w how.File r c d few has short calm = absurd (calm.files (c.world.files.blamed refl))
 complete x before now v w how.Output r c d few has short calm = absurd (calm.output (c.world.output.blamed refl))
-complete x before now v w how.Disk r c d few has short calm = absurd (calm.disk (d.blamed refl))
+complete x before now v w how.Disk r c d few has short calm = absurd (calm.disk (d.account.blamed refl))
 complete x before now v w (how.NoStore at) r c d few has short calm = absurd (opens x before now v w (how.NoStore at) r has at refl)
 complete x before now v w how.Memory r c d few has short calm = inr (inr refl)
-complete x before now v w how.TooLong r c d few has short calm = absurd (few refl short)
+complete x before now v w how.TooLong r c d few has short calm = absurd (omega (arith, few refl, short))
 complete x before now v w how.Clock r c d few has short calm = absurd (calm.clock (c.world.clock.blamed refl))
 
 -- a call with words that fit
-pub called : (x : Command) (before now : Outside) (v w : KnownDisk) (e : End) (code : ℕ) → code ≡ code_of e → DidCommand x before now v w e → HasCauses before now e → DiskCauses v w e → (e ≡ how.TooLong → IsShort before.input.left → ⊥) → Called (Some x) before now v w code
+pub called : (x : Command) (before now : Outside) (v w : KnownDisk) (e : End) (code : ℕ) → code ≡ code_of e → DidCommand x before now v w e → HasCauses before now e → DiskCauses v w e → (e ≡ how.TooLong → before.input.given + INPUT_MAX < now.input.given) → Called (Some x) before now v w code
 called x before now v w e code n r c d few = record {
   end = e;
   number = n;

@@ -22,7 +22,7 @@ use Rattle.cp_reply.specs.Session.{FetchedFile, gives, withholds}
 use Rattle.cp_reply.specs.declared.reply.Why.{Why}
 use Rattle.cp_workspace.specs.Fetched.{Gives}
 use Rattle.cp_workspace.specs.Files.{KnownFiles, HasRead, HasReadSome, IsTable, ReadsBefore}
-use Rattle.cp_workspace.specs.Disks.{KnownDisk}
+use Rattle.cp_disk.specs.Views.{KnownDisk}
 use Rattle.cp_workspace.specs.Workspaces.{Stands, IsWorkspace, IsUsable, HasStamps, HoldsFile, db_in, end_now}
 use Rattle.cp_workspace.specs.declared.workspace.Workspace.{Workspace}
 use Rattle.cp_workspace.specs.Faults.{IsFailedFile}

@@ -3,7 +3,7 @@ use Rattle.std.specs.Prelude.{◌≡◌, ◌⊎◌, ℕ, List, [], true, false, 
 use Rattle.cp_model.specs.History.{Entry, log_of}
 use Rattle.cp_model.specs.declared.kind.Kind.{Kind}
 use Rattle.cp_model.specs.declared.record.Verdict.{Verdict}
-use Rattle.cp_disk.specs.Views.{Rests}
+use Rattle.cp_disk.specs.Views.{Rests, KnownDisk}
 use Rattle.cp_frame.specs.Stands.{IsStore, IsTold}
 use Rattle.cp_frame.specs.Stops.{IsNot}
 use Rattle.cp_verify.specs.Verify.{VerifiesAs}
@@ -11,7 +11,6 @@ use Rattle.cp_lang.specs.declared.syntax_tree.Stmt.{Stmt}
 use Rattle.cp_reply.specs.Lines.{lines}
 use Rattle.cp_reply.specs.declared.reply.Reply.{Reply}
 use Rattle.cp_reply.specs.declared.reply.Reply.TheVariants as reply
-use Rattle.cp_workspace.specs.Disks.{KnownDisk}
 use Rattle.cp_scratch.specs.Sessions.{no_files}
 use Rattle.cp_scratch.specs.Workloads.{ComesTo}
 use Rattle.cp_interpreter.specs.Job.{is_refusal}
@@ -44,7 +43,7 @@ pub record Answered (Answers : List ℕ → Type 0) (IsReply : List ℕ → Repl
   pub input : now.input ≡ before.input
   pub files : now.files ≡ before.files
   pub clock : now.clock ≡ before.clock
-  pub rests : IsTrue v.known → Rests v.view w.view
+  pub rests : Rests v w
   pub no_store : IsTrue v.known → (at : ℕ) → end ≡ how.NoStore at → EndedEarly before now end × IsNot Answers v.view.content at
   pub ended : EndedEarly before now end
       ⊎ ((y : Reply) × SaidReply y before now end × (IsTrue v.known → Answers v.view.content × IsReply v.view.content y))

@@ -4,7 +4,7 @@ use Rattle.cp_model.specs.Tree.{Tree}
 use Rattle.cp_model.specs.declared.kind.Kind.{Kind}
 use Rattle.cp_reply.specs.declared.reply.Why.{Why}
 use Rattle.cp_reply.specs.Session.{FetchedFile, gives, withholds}
-use Rattle.cp_workspace.specs.Disks.{KnownDisk}
+use Rattle.cp_disk.specs.Views.{KnownDisk}
 use Rattle.cp_scratch.specs.Sessions.{scratch_session, scratch_terms}
 use Rattle.cp_interpreter.specs.Play.{begun}
 use Rattle.cp_interpreter.specs.Turns.{Follows}

@@ -1,19 +1,18 @@
 -- One call of the program: its words, what was done for them, and how it ended.
 use Rattle.cp_interpreter.specs.declared.limits.TheConstants.{INPUT_MAX}
-use Rattle.std.specs.Prelude.{◌≡◌, ◌⊎◌, ℕ, ◌≤◌, List, [], length, IsTrue, ⊤}
+use Rattle.std.specs.Prelude.{◌≡◌, ◌⊎◌, ℕ, ◌≤◌, ◌+◌, [], IsTrue, ⊤}
 use Rattle.std.specs.declared.option.Option.{Option}
 use Rattle.std.specs.declared.option.Option.TheVariants.{None, Some}
-use Rattle.cp_disk.specs.Views.{Rests}
+use Rattle.cp_disk.specs.Views.{ViewRests, KnownDisk}
 use Rattle.cp_frame.specs.Stands.{Opens, OpensAndReplays}
 use Rattle.cp_lang.specs.declared.syntax_tree.Stmt.TheVariants as stmt
 use Rattle.cp_words.specs.declared.command.Command.{Command}
 use Rattle.cp_words.specs.declared.command.Command.TheVariants as words
-use Rattle.cp_workspace.specs.Disks.{KnownDisk}
 use Rattle.cp_program.specs.Texts.{usage_text}
 use Rattle.cp_interpreter.specs.Texts.{memory_line}
 use Rattle.cp_scratch.specs.Starts.{start_given, start_reads}
 use Rattle.cp_program.specs.InMemory.{Ran}
-use Rattle.cp_interpreter.specs.Outside.{Outside}
+use Rattle.cp_interpreter.specs.Outside.{KnownInput, Outside}
 use Rattle.cp_interpreter.specs.Ends.{code_of}
 use Rattle.cp_interpreter.specs.Story.{WritesLast, RanOn, Made, HasCauses, DiskCauses, IsFaultless}
 use Rattle.cp_interpreter.specs.Alone.{Loaded}
@@ -39,12 +38,12 @@ pub record RanOut (before now : Outside) (v w : KnownDisk) (end : End) : Type 0 
   pub files : now.files ≡ before.files
   pub clock : now.clock ≡ before.clock
   pub wrote : WritesLast before.output now.output [] memory_line
-  pub rests : Rests v.view w.view
+  pub rests : ViewRests v.view w.view
 
--- What was done for a command.
+-- What was done for a command. A session in memory never ends since the disk failed, nor a new store since too much came.
 abbrev pub DidCommand : Command → Outside → Outside → KnownDisk → KnownDisk → End → Type 0
-DidCommand (words.Scratch k from) before now v w end = Ran k (λ files. start_given files from) (start_reads from) before now end
-DidCommand (words.Init k from) before now v w end = Made k (λ files. start_given files from) (start_reads from) before now v w end
+DidCommand (words.Scratch k from) before now v w end = Ran k (λ files. start_given files from) (start_reads from) before now end × (end ≡ how.Disk → ⊥)
+DidCommand (words.Init k from) before now v w end = Made k (λ files. start_given files from) (start_reads from) before now v w end × (end ≡ how.TooLong → ⊥)
 DidCommand (words.Run curator) before now v w end = RanOn curator before now v w end
 DidCommand (words.Commit file curator) before now v w end = Committed file curator before now v w end
 DidCommand (words.Load l) before now v w end = Loaded l before now v w end
@@ -79,10 +78,9 @@ NeedsNoDisk (Some x) = LeavesDisk x
 
 -- ---- completeness
 
--- At most so many bytes are known to come.
-abbrev pub IsShort : Option (List ℕ) → Type 0
-IsShort None = ⊥
-IsShort (Some all) = length all ≤ INPUT_MAX
+-- At most as many bytes as a call takes came.
+abbrev pub IsShort : KnownInput → KnownInput → Type 0
+IsShort before now = now.given ≤ before.given + INPUT_MAX
 
 -- The disk is known to hold a store that opens.
 abbrev pub HasOpenStore : KnownDisk → Type 0
@@ -116,6 +114,6 @@ pub record Called (asked : Option Command) (before now : Outside) (v w : KnownDi
   pub number : code ≡ code_of end
   pub ran : RanOut before now v w end ⊎ RanAs asked before now v w end
   -- where the words fit, the store opens if there is to be one, nothing failed and not too much comes, the end is an answer, or memory ran out
-  pub complete : HasStore asked v → IsShort before.input.left → IsFaultless before now v w → (end ≡ how.Done) ⊎ (end ≡ how.Refused) ⊎ (end ≡ how.Memory)
+  pub complete : HasStore asked v → IsShort before.input now.input → IsFaultless before now v w → (end ≡ how.Done) ⊎ (end ≡ how.Refused) ⊎ (end ≡ how.Memory)
   pub causes : HasCauses before now end
   pub disk : DiskCauses v w end

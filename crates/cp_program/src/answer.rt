@@ -1,10 +1,10 @@
 //! Answers from a store that is left as it is: queries, what stands at a place, its commits, and whether its records are right.
 ghost use Rattle.std.specs.Prelude.{◌≡◌, IsTrue, IfErr};
 ghost use Rattle.cp_outside.specs.Causes.{Accounts};
+ghost use Rattle.cp_disk.specs.Counts.{UsesDisk};
 ghost use Rattle.cp_disk.specs.Views.{Rests};
 ghost use Rattle.cp_frame.specs.Stands.{Opens, OpensAndReplays};
 ghost use Rattle.cp_lang.specs.declared.syntax_tree.Stmt.TheVariants as stmt;
-ghost use Rattle.cp_workspace.specs.Disks.{known_disk};
 ghost use Rattle.cp_workspace.specs.Files.{KnownFiles};
 ghost use Rattle.cp_program.specs.Answering.{Answered, IsAnswerTo, IsLogOf, IsVerdictOn};
 ghost use Rattle.cp_interpreter.specs.Begins.{AnsweredAs, GaveAnswer, IsOpeningStop};
@@ -30,9 +30,10 @@ fn reply_to_query<R: TreeRep, S: TreeRep, D: Disk>(
     query: Query,
     disk: &mut D,
 ) -> Result<Reply, Stop>
-    ensures answered { IsTrue D.is_known → AnsweredAs Opens (IsAnswerTo (stmt.Ask query)) (known_disk D.Disk disk.old) result }
-    ensures rests { IsTrue D.is_known → Rests (D.view disk.old) (D.view disk.new) }
-    ensures cause { Accounts IsDiskStop (D.counts disk.old).faults (D.counts disk.new).faults result }
+    ensures answered { IsTrue (D.known disk.old).known →
+        AnsweredAs Opens (IsAnswerTo (stmt.Ask query)) (D.known disk.old) result }
+    ensures rests { Rests (D.known disk.old) (D.known disk.new) }
+    ensures cause { UsesDisk IsDiskStop (D.known disk.old) (D.known disk.new) result }
     ensures kinds { IfErr result IsOpeningStop }
 {
     match open_workspace::<R, S, D>(alloc, disk) {
@@ -54,9 +55,10 @@ fn reply_to_show<R: TreeRep, S: TreeRep, D: Disk>(
     place: Loc,
     disk: &mut D,
 ) -> Result<Reply, Stop>
-    ensures answered { IsTrue D.is_known → AnsweredAs Opens (IsAnswerTo (stmt.Show place)) (known_disk D.Disk disk.old) result }
-    ensures rests { IsTrue D.is_known → Rests (D.view disk.old) (D.view disk.new) }
-    ensures cause { Accounts IsDiskStop (D.counts disk.old).faults (D.counts disk.new).faults result }
+    ensures answered { IsTrue (D.known disk.old).known →
+        AnsweredAs Opens (IsAnswerTo (stmt.Show place)) (D.known disk.old) result }
+    ensures rests { Rests (D.known disk.old) (D.known disk.new) }
+    ensures cause { UsesDisk IsDiskStop (D.known disk.old) (D.known disk.new) result }
     ensures kinds { IfErr result IsOpeningStop }
 {
     match open_workspace::<R, S, D>(alloc, disk) {
@@ -74,9 +76,10 @@ fn reply_to_show<R: TreeRep, S: TreeRep, D: Disk>(
 
 /// The commits of a store.
 fn commits_in<R: TreeRep, S: TreeRep, D: Disk>(alloc: Global, disk: &mut D) -> Result<Reply, Stop>
-    ensures answered { IsTrue D.is_known → AnsweredAs OpensAndReplays IsLogOf (known_disk D.Disk disk.old) result }
-    ensures rests { IsTrue D.is_known → Rests (D.view disk.old) (D.view disk.new) }
-    ensures cause { Accounts IsDiskStop (D.counts disk.old).faults (D.counts disk.new).faults result }
+    ensures answered { IsTrue (D.known disk.old).known →
+        AnsweredAs OpensAndReplays IsLogOf (D.known disk.old) result }
+    ensures rests { Rests (D.known disk.old) (D.known disk.new) }
+    ensures cause { UsesDisk IsDiskStop (D.known disk.old) (D.known disk.new) result }
     ensures kinds { IfErr result IsOpeningStop }
 {
     let commits = log_of::<R, S, D>(alloc, disk)?;
@@ -85,9 +88,10 @@ fn commits_in<R: TreeRep, S: TreeRep, D: Disk>(alloc: Global, disk: &mut D) -> R
 
 /// The verdict on the records of a store.
 fn verdict_on<R: TreeRep, S: TreeRep, D: Disk>(alloc: Global, disk: &mut D) -> Result<Reply, Stop>
-    ensures answered { IsTrue D.is_known → AnsweredAs OpensAndReplays IsVerdictOn (known_disk D.Disk disk.old) result }
-    ensures rests { IsTrue D.is_known → Rests (D.view disk.old) (D.view disk.new) }
-    ensures cause { Accounts IsDiskStop (D.counts disk.old).faults (D.counts disk.new).faults result }
+    ensures answered { IsTrue (D.known disk.old).known →
+        AnsweredAs OpensAndReplays IsVerdictOn (D.known disk.old) result }
+    ensures rests { Rests (D.known disk.old) (D.known disk.new) }
+    ensures cause { UsesDisk IsDiskStop (D.known disk.old) (D.known disk.new) result }
     ensures kinds { IfErr result IsOpeningStop }
 {
     let verdict = verify::<R, S, D>(alloc, disk)?;
@@ -115,11 +119,11 @@ pub(crate) fn ask<R: TreeRep, S: TreeRep, D: Disk, O: Sink>(
     ensures ran { (i : KnownInput) (f : KnownFiles) (k : KnownClock) → Answered Opens (IsAnswerTo (stmt.Ask query))
         (record { input = i; files = f; clock = k; output = known_output O.Sink output.old })
         (record { input = i; files = f; clock = k; output = known_output O.Sink output.new })
-        (known_disk D.Disk disk.old) (known_disk D.Disk disk.new) result }
+        (D.known disk.old) (D.known disk.new) result }
     ensures causes { (i : KnownInput) (f : KnownFiles) (k : KnownClock) → HasCauses
         (record { input = i; files = f; clock = k; output = known_output O.Sink output.old })
         (record { input = i; files = f; clock = k; output = known_output O.Sink output.new }) result }
-    ensures disk { DiskCauses (known_disk D.Disk disk.old) (known_disk D.Disk disk.new) result }
+    ensures disk { DiskCauses (D.known disk.old) (D.known disk.new) result }
     ensures short { result ≡ End.TooLong → ⊥ }
 {
     let answer = reply_to_query::<R, S, D>(alloc, query, disk);
@@ -136,11 +140,11 @@ pub(crate) fn show<R: TreeRep, S: TreeRep, D: Disk, O: Sink>(
     ensures ran { (i : KnownInput) (f : KnownFiles) (k : KnownClock) → Answered Opens (IsAnswerTo (stmt.Show place))
         (record { input = i; files = f; clock = k; output = known_output O.Sink output.old })
         (record { input = i; files = f; clock = k; output = known_output O.Sink output.new })
-        (known_disk D.Disk disk.old) (known_disk D.Disk disk.new) result }
+        (D.known disk.old) (D.known disk.new) result }
     ensures causes { (i : KnownInput) (f : KnownFiles) (k : KnownClock) → HasCauses
         (record { input = i; files = f; clock = k; output = known_output O.Sink output.old })
         (record { input = i; files = f; clock = k; output = known_output O.Sink output.new }) result }
-    ensures disk { DiskCauses (known_disk D.Disk disk.old) (known_disk D.Disk disk.new) result }
+    ensures disk { DiskCauses (D.known disk.old) (D.known disk.new) result }
     ensures short { result ≡ End.TooLong → ⊥ }
 {
     let answer = reply_to_show::<R, S, D>(alloc, place, disk);
@@ -156,11 +160,11 @@ pub(crate) fn list_commits<R: TreeRep, S: TreeRep, D: Disk, O: Sink>(
     ensures ran { (i : KnownInput) (f : KnownFiles) (k : KnownClock) → Answered OpensAndReplays IsLogOf
         (record { input = i; files = f; clock = k; output = known_output O.Sink output.old })
         (record { input = i; files = f; clock = k; output = known_output O.Sink output.new })
-        (known_disk D.Disk disk.old) (known_disk D.Disk disk.new) result }
+        (D.known disk.old) (D.known disk.new) result }
     ensures causes { (i : KnownInput) (f : KnownFiles) (k : KnownClock) → HasCauses
         (record { input = i; files = f; clock = k; output = known_output O.Sink output.old })
         (record { input = i; files = f; clock = k; output = known_output O.Sink output.new }) result }
-    ensures disk { DiskCauses (known_disk D.Disk disk.old) (known_disk D.Disk disk.new) result }
+    ensures disk { DiskCauses (D.known disk.old) (D.known disk.new) result }
     ensures short { result ≡ End.TooLong → ⊥ }
 {
     let answer = commits_in::<R, S, D>(alloc, disk);
@@ -177,11 +181,11 @@ pub(crate) fn verify_records<R: TreeRep, S: TreeRep, D: Disk, O: Sink>(
     ensures ran { (i : KnownInput) (f : KnownFiles) (k : KnownClock) → Answered OpensAndReplays IsVerdictOn
         (record { input = i; files = f; clock = k; output = known_output O.Sink output.old })
         (record { input = i; files = f; clock = k; output = known_output O.Sink output.new })
-        (known_disk D.Disk disk.old) (known_disk D.Disk disk.new) result }
+        (D.known disk.old) (D.known disk.new) result }
     ensures causes { (i : KnownInput) (f : KnownFiles) (k : KnownClock) → HasCauses
         (record { input = i; files = f; clock = k; output = known_output O.Sink output.old })
         (record { input = i; files = f; clock = k; output = known_output O.Sink output.new }) result }
-    ensures disk { DiskCauses (known_disk D.Disk disk.old) (known_disk D.Disk disk.new) result }
+    ensures disk { DiskCauses (D.known disk.old) (D.known disk.new) result }
     ensures short { result ≡ End.TooLong → ⊥ }
 {
     let answer = verdict_on::<R, S, D>(alloc, disk);

@@ -1,6 +1,5 @@
 //! The statements of a file, run on a store and committed.
 ghost use Rattle.std.specs.Prelude.{◌≡◌, ◌<◌, ◌≤◌, length};
-ghost use Rattle.cp_workspace.specs.Disks.{known_disk};
 ghost use Rattle.cp_workspace.specs.Files.{known_files, HasReadSome};
 ghost use Rattle.cp_interpreter.specs.Outside.{KnownInput, known_clock, known_output, known_world};
 ghost use Rattle.cp_interpreter.specs.Scripts.{Committed};
@@ -39,14 +38,14 @@ fn play_file<R: TreeRep, S: TreeRep, D: Disk, F: Files, K: Clock, O: Sink>(
     clock: &mut K,
     output: &mut O,
 ) -> End
-    requires goes_on { MayGoOn R.contents S.contents (known_disk D.Disk disk.old) session.old }
+    requires goes_on { MayGoOn R.contents S.contents (D.known disk.old) session.old }
     requires room { 0 < length piece.old }
     requires bounded { length piece.old ≤ PIECE_MAX }
     ensures ran { RanScript R.contents S.contents session.old file.now
         (known_world F.Files K.Clock O.Sink files.old clock.old output.old) (known_world F.Files K.Clock O.Sink files.new clock.new output.new)
-        (known_disk D.Disk disk.old) (known_disk D.Disk disk.new) result }
+        (D.known disk.old) (D.known disk.new) result }
     ensures causes { WorldCauses (known_world F.Files K.Clock O.Sink files.old clock.old output.old) (known_world F.Files K.Clock O.Sink files.new clock.new output.new) result }
-    ensures disk { DiskCauses (known_disk D.Disk disk.old) (known_disk D.Disk disk.new) result }
+    ensures disk { DiskCauses (D.known disk.old) (D.known disk.new) result }
     ensures read { HasReadSome (known_files F.Files files.old) (known_files F.Files files.new) }
 {
     match read_script(alloc, file, files) {
@@ -69,11 +68,11 @@ pub(crate) fn commit<R: TreeRep, S: TreeRep, D: Disk, F: Files, K: Clock, O: Sin
     ensures ran { (i : KnownInput) → Committed file curator
         (record { input = i; files = known_files F.Files files.old; clock = known_clock K.Clock clock.old; output = known_output O.Sink output.old })
         (record { input = i; files = known_files F.Files files.new; clock = known_clock K.Clock clock.new; output = known_output O.Sink output.new })
-        (known_disk D.Disk disk.old) (known_disk D.Disk disk.new) result }
+        (D.known disk.old) (D.known disk.new) result }
     ensures causes { (i : KnownInput) → HasCauses
         (record { input = i; files = known_files F.Files files.old; clock = known_clock K.Clock clock.old; output = known_output O.Sink output.old })
         (record { input = i; files = known_files F.Files files.new; clock = known_clock K.Clock clock.new; output = known_output O.Sink output.new }) result }
-    ensures disk { DiskCauses (known_disk D.Disk disk.old) (known_disk D.Disk disk.new) result }
+    ensures disk { DiskCauses (D.known disk.old) (D.known disk.new) result }
 {
     let Ok(mut piece) = vec![in alloc; 0u8; PIECE_MAX] else {
         drop(file);

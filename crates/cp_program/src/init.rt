@@ -1,10 +1,9 @@
 //! A new store.
-ghost use Rattle.std.specs.Prelude.{◌≡◌, ◌⊎◌, IsTrue, IfErr};
-ghost use Rattle.cp_outside.specs.Causes.{Accounts};
-ghost use Rattle.cp_disk.specs.Views.{Keeps};
+ghost use Rattle.std.specs.Prelude.{◌≡◌, ◌⊎◌, IfErr};
+ghost use Rattle.cp_disk.specs.Counts.{UsesDisk};
+ghost use Rattle.cp_disk.specs.Views.{IfKnown, Keeps};
 ghost use Rattle.cp_journal.specs.NewStores.{IsVacant};
 ghost use Rattle.cp_db.specs.Writing.{IsOldOrVacantOrStart};
-ghost use Rattle.cp_workspace.specs.Disks.{known_disk};
 ghost use Rattle.cp_workspace.specs.Files.{known_files, UsesFiles};
 ghost use Rattle.cp_interpreter.specs.Begins.{CreatedAs, StoreMade};
 ghost use Rattle.cp_scratch.specs.Starts.{start_given, start_reads};
@@ -38,9 +37,10 @@ fn create<R: TreeRep, D: Disk>(
     tree: R,
     disk: &mut D,
 ) -> Result<Reply, Stop>
-    ensures created { IsTrue D.is_known → IsVacant (D.view disk.old).content → CreatedAs kind (R.contents tree) (known_disk D.Disk disk.new) result }
-    ensures crash { IsTrue D.is_known → Keeps (IsOldOrVacantOrStart (D.view disk.old) kind (R.contents tree)) (D.view disk.old) (D.view disk.new) }
-    ensures cause { Accounts IsDiskStop (D.counts disk.old).faults (D.counts disk.new).faults result }
+    ensures created { IfKnown (D.known disk.old) (λ v. IsVacant v.content
+        → CreatedAs kind (R.contents tree) (D.known disk.new) result) }
+    ensures crash { Keeps (IsOldOrVacantOrStart (D.known disk.old).view kind (R.contents tree)) (D.known disk.old) (D.known disk.new) }
+    ensures cause { UsesDisk IsDiskStop (D.known disk.old) (D.known disk.new) result }
     ensures kinds { IfErr result (λ e. (e ≡ Stop.Disk) ⊎ (e ≡ Stop.Memory)) }
 {
     let nodes = tree.count();
@@ -63,9 +63,9 @@ fn make<R: TreeRep, D: Disk, F: Files>(
     files: &mut F,
 ) -> Result<Reply, Stop>
     ensures made { StoreMade kind (λ t. start_given t start) (start_reads start)
-        (known_files F.Files files.old) (known_files F.Files files.new) (known_disk D.Disk disk.old) (known_disk D.Disk disk.new) result }
+        (known_files F.Files files.old) (known_files F.Files files.new) (D.known disk.old) (D.known disk.new) result }
     ensures used { UsesFiles IsFileStop (known_files F.Files files.old) (known_files F.Files files.new) result }
-    ensures cause { Accounts IsDiskStop (D.counts disk.old).faults (D.counts disk.new).faults result }
+    ensures cause { UsesDisk IsDiskStop (D.known disk.old) (D.known disk.new) result }
 {
     if !Journal::vacant(disk)? {
         return Ok(refused(Why::StoreExists));
@@ -88,11 +88,11 @@ pub(crate) fn init<R: TreeRep, D: Disk, F: Files, O: Sink>(
     ensures made { (i : KnownInput) (c : KnownClock) → Made kind (λ t. start_given t start) (start_reads start)
         (record { input = i; files = known_files F.Files files.old; clock = c; output = known_output O.Sink output.old })
         (record { input = i; files = known_files F.Files files.new; clock = c; output = known_output O.Sink output.new })
-        (known_disk D.Disk disk.old) (known_disk D.Disk disk.new) result }
+        (D.known disk.old) (D.known disk.new) result }
     ensures causes { (i : KnownInput) (c : KnownClock) → HasCauses
         (record { input = i; files = known_files F.Files files.old; clock = c; output = known_output O.Sink output.old })
         (record { input = i; files = known_files F.Files files.new; clock = c; output = known_output O.Sink output.new }) result }
-    ensures disk { DiskCauses (known_disk D.Disk disk.old) (known_disk D.Disk disk.new) result }
+    ensures disk { DiskCauses (D.known disk.old) (D.known disk.new) result }
     ensures short { result ≡ End.TooLong → ⊥ }
 {
     match make::<R, D, F>(alloc, kind, start, disk, files) {

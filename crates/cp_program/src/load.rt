@@ -1,9 +1,8 @@
 //! A source that is loaded into a store.
 ghost use Rattle.std.specs.Prelude.{◌≡◌, false, IsTrue, IfOk, IfErr};
-ghost use Rattle.cp_outside.specs.Causes.{Accounts};
+ghost use Rattle.cp_disk.specs.Counts.{UsesDisk};
 ghost use Rattle.cp_disk.specs.Views.{Rests};
 ghost use Rattle.cp_model.specs.Place.{label_eq, target};
-ghost use Rattle.cp_workspace.specs.Disks.{known_disk};
 ghost use Rattle.cp_workspace.specs.Files.{known_files, HasReadSome, UsesFiles};
 ghost use Rattle.cp_workspace.specs.Workspaces.{IsUsable};
 ghost use Rattle.cp_interpreter.specs.Alone.{Loaded};
@@ -28,10 +27,11 @@ pub(crate) fn open_workspace<R: TreeRep, S: TreeRep, D: Disk>(
     alloc: Global,
     disk: &mut D,
 ) -> Result<Workspace<R, S>, Stop>
-    ensures opened { IsTrue D.is_known → OpenedAlone R.contents S.contents (known_disk D.Disk disk.old) (known_disk D.Disk disk.new) result }
-    ensures rests { IsTrue D.is_known → Rests (D.view disk.old) (D.view disk.new) }
-    ensures usable { IfOk result (λ d. IsUsable R.contents S.contents (known_disk D.Disk disk.new) d) }
-    ensures cause { Accounts IsDiskStop (D.counts disk.old).faults (D.counts disk.new).faults result }
+    ensures opened { IsTrue (D.known disk.old).known →
+        OpenedAlone R.contents S.contents (D.known disk.old) (D.known disk.new) result }
+    ensures rests { Rests (D.known disk.old) (D.known disk.new) }
+    ensures usable { IfOk result (λ d. IsUsable R.contents S.contents (D.known disk.new) d) }
+    ensures cause { UsesDisk IsDiskStop (D.known disk.old) (D.known disk.new) result }
     ensures kinds { IfErr result IsOpeningStop }
 {
     let curator = no_curator(alloc)?;
@@ -47,10 +47,10 @@ fn reply_to_load<R: TreeRep, S: TreeRep, D: Disk, F: Files>(
     files: &mut F,
 ) -> Result<Reply, Stop>
     requires other { label_eq source.name target ≡ false }
-    ensures loaded { LoadedAs source (known_files F.Files files.old) (known_files F.Files files.new) (known_disk D.Disk disk.old) (known_disk D.Disk disk.new) result }
+    ensures loaded { LoadedAs source (known_files F.Files files.old) (known_files F.Files files.new) (D.known disk.old) (D.known disk.new) result }
     ensures used { UsesFiles IsFileStop (known_files F.Files files.old) (known_files F.Files files.new) result }
     ensures read { HasReadSome (known_files F.Files files.old) (known_files F.Files files.new) }
-    ensures cause { Accounts IsDiskStop (D.counts disk.old).faults (D.counts disk.new).faults result }
+    ensures cause { UsesDisk IsDiskStop (D.known disk.old) (D.known disk.new) result }
 {
     match open_workspace::<R, S, D>(alloc, disk) {
         Ok(mut workspace) => {
@@ -77,11 +77,11 @@ pub(crate) fn load<R: TreeRep, S: TreeRep, D: Disk, F: Files, O: Sink>(
     ensures ran { (i : KnownInput) (k : KnownClock) → Loaded source
         (record { input = i; files = known_files F.Files files.old; clock = k; output = known_output O.Sink output.old })
         (record { input = i; files = known_files F.Files files.new; clock = k; output = known_output O.Sink output.new })
-        (known_disk D.Disk disk.old) (known_disk D.Disk disk.new) result }
+        (D.known disk.old) (D.known disk.new) result }
     ensures causes { (i : KnownInput) (k : KnownClock) → HasCauses
         (record { input = i; files = known_files F.Files files.old; clock = k; output = known_output O.Sink output.old })
         (record { input = i; files = known_files F.Files files.new; clock = k; output = known_output O.Sink output.new }) result }
-    ensures disk { DiskCauses (known_disk D.Disk disk.old) (known_disk D.Disk disk.new) result }
+    ensures disk { DiskCauses (D.known disk.old) (D.known disk.new) result }
 {
     match reply_to_load::<R, S, D, F>(alloc, source, disk, files) {
         Ok(reply) => end_with(alloc, reply, output),

@@ -1,13 +1,13 @@
 //! A call: its words, what they ask for, and its end.
-ghost use Rattle.std.specs.Prelude.{◌≡◌, ◌⊎◌, ◌≤◌, [], map, string_bytes};
+ghost use Rattle.std.specs.Prelude.{◌≡◌, ◌+◌, ◌<◌, ◌⊎◌, ◌≤◌, [], map, string_bytes};
 ghost use Rattle.std.specs.declared.option.Option.TheVariants.{None, Some};
 ghost use Rattle.cp_words.specs.Commands.{command_of, IsWrittenCommand};
-ghost use Rattle.cp_workspace.specs.Disks.{known_disk};
 ghost use Rattle.cp_program.specs.Texts.{usage_text};
+ghost use Rattle.cp_interpreter.specs.declared.limits.TheConstants.{INPUT_MAX};
 ghost use Rattle.cp_interpreter.specs.Ends.{code_of};
 ghost use Rattle.cp_interpreter.specs.Outside.{known_output, known_outside};
 ghost use Rattle.cp_interpreter.specs.Story.{WritesLast, HasCauses, DiskCauses};
-ghost use Rattle.cp_program.specs.Calls.{DidCommand, LeavesDisk, NeedsNoDisk, IsShort, Called};
+ghost use Rattle.cp_program.specs.Calls.{DidCommand, LeavesDisk, NeedsNoDisk, Called};
 
 use crate::answer::{ask, list_commits, show, verify_records};
 use crate::commit::commit;
@@ -40,13 +40,13 @@ fn run_command<R: TreeRep, S: TreeRep, D: Disk, F: Files, K: Clock, I: Source, O
     ensures ran { DidCommand command
         (known_outside F.Files K.Clock I.Source O.Sink files.old clock.old input.old output.old)
         (known_outside F.Files K.Clock I.Source O.Sink files.new clock.new input.new output.new)
-        (known_disk D.Disk disk.old) (known_disk D.Disk disk.new) result }
+        (D.known disk.old) (D.known disk.new) result }
     ensures causes { HasCauses
         (known_outside F.Files K.Clock I.Source O.Sink files.old clock.old input.old output.old)
         (known_outside F.Files K.Clock I.Source O.Sink files.new clock.new input.new output.new) result }
-    ensures disk { DiskCauses (known_disk D.Disk disk.old) (known_disk D.Disk disk.new) result }
+    ensures disk { DiskCauses (D.known disk.old) (D.known disk.new) result }
     ensures untouched { LeavesDisk command → disk.new ≡ disk.old }
-    ensures short { result ≡ End.TooLong → IsShort (I.left input.old) → ⊥ }
+    ensures short { result ≡ End.TooLong → I.given input.old + INPUT_MAX < I.given input.new }
 {
     match command {
         Command::Scratch { kind, start } => {
@@ -116,7 +116,7 @@ pub fn run_cpdb<R: TreeRep, S: TreeRep, D: Disk, F: Files, K: Clock, I: Source, 
     ensures call { Called (command_of (map string_bytes words.now))
         (known_outside F.Files K.Clock I.Source O.Sink files.old clock.old input.old output.old)
         (known_outside F.Files K.Clock I.Source O.Sink files.new clock.new input.new output.new)
-        (known_disk D.Disk disk.old) (known_disk D.Disk disk.new) result.code }
+        (D.known disk.old) (D.known disk.new) result.code }
     ensures usage { result.code ≡ 2 → command_of (map string_bytes words.now) ≡ None }
     ensures unfitting { command_of (map string_bytes words.now) ≡ None → (result.code ≡ 2) ⊎ (result.code ≡ 7) }
     ensures untouched { NeedsNoDisk (command_of (map string_bytes words.now)) → disk.new ≡ disk.old }

@@ -1,8 +1,8 @@
 //! A session on a store.
 ghost use Rattle.std.specs.Prelude.{◌≡◌, ◌⊎◌, false, IsTrue, IfOk, IfErr};
-ghost use Rattle.cp_outside.specs.Causes.{Accounts};
+ghost use Rattle.cp_disk.specs.Counts.{UsesDisk};
+ghost use Rattle.cp_disk.specs.Views.{IfKnown};
 ghost use Rattle.cp_db.specs.Databases.{IsDatabase, IsReady, is_spent, version_in};
-ghost use Rattle.cp_workspace.specs.Disks.{known_disk};
 ghost use Rattle.cp_interpreter.specs.Begins.{Migrated, OpenedAs, BegunOn, IsOpeningStop, LeavesStore};
 ghost use Rattle.cp_interpreter.specs.Outside.{known_outside};
 ghost use Rattle.cp_interpreter.specs.Story.{RanOn, HasCauses, DiskCauses};
@@ -25,11 +25,11 @@ fn migrate<R: TreeRep, S: TreeRep, D: Disk>(
     requires usable { is_spent db ≡ false }
     requires version { (version_in db ≡ 1) ⊎ (version_in db ≡ 2) }
     requires stands { IsDatabase R.contents S.contents db }
-    requires ready { IsTrue D.is_known → IsReady db (D.view disk.old) }
-    ensures migrated { Migrated R.contents S.contents db (known_disk D.Disk disk.old) (known_disk D.Disk disk.new) result }
+    requires ready { IfKnown (D.known disk.old) (λ v. IsReady db v) }
+    ensures migrated { Migrated R.contents S.contents db (D.known disk.old) (D.known disk.new) result }
     ensures usable { IfOk result (λ d. IsDatabase R.contents S.contents d × (is_spent d ≡ false) × (version_in d ≡ 2)) }
-    ensures ready { IsTrue D.is_known → IfOk result (λ d. IsReady d (D.view disk.new)) }
-    ensures cause { Accounts IsDiskStop (D.counts disk.old).faults (D.counts disk.new).faults result }
+    ensures ready { IfKnown (D.known disk.new) (λ v. IfOk result (λ d. IsReady d v)) }
+    ensures cause { UsesDisk IsDiskStop (D.known disk.old) (D.known disk.new) result }
     ensures kinds { IfErr result (λ e. (e ≡ Stop.Disk) ⊎ (e ≡ Stop.Memory)) }
 {
     if db.version() == 2 {
@@ -51,11 +51,12 @@ fn migrate<R: TreeRep, S: TreeRep, D: Disk>(
 
 /// Opens a store, whose file then is of version 2.
 fn open_db<R: TreeRep, S: TreeRep, D: Disk>(alloc: Global, disk: &mut D) -> Result<Db<R, S>, Stop>
-    ensures opened { IsTrue D.is_known → OpenedAs R.contents S.contents (known_disk D.Disk disk.old) (known_disk D.Disk disk.new) result }
-    ensures leaves { LeavesStore (known_disk D.Disk disk.old) (known_disk D.Disk disk.new) }
+    ensures opened { IsTrue (D.known disk.old).known →
+        OpenedAs R.contents S.contents (D.known disk.old) (D.known disk.new) result }
+    ensures leaves { LeavesStore (D.known disk.old) (D.known disk.new) }
     ensures usable { IfOk result (λ d. IsDatabase R.contents S.contents d × (is_spent d ≡ false) × (version_in d ≡ 2)) }
-    ensures ready { IsTrue D.is_known → IfOk result (λ d. IsReady d (D.view disk.new)) }
-    ensures cause { Accounts IsDiskStop (D.counts disk.old).faults (D.counts disk.new).faults result }
+    ensures ready { IfKnown (D.known disk.new) (λ v. IfOk result (λ d. IsReady d v)) }
+    ensures cause { UsesDisk IsDiskStop (D.known disk.old) (D.known disk.new) result }
     ensures kinds { IfErr result IsOpeningStop }
 {
     let db = Db::open_on(alloc, disk)?;
@@ -68,10 +69,11 @@ pub(crate) fn begin<R: TreeRep, S: TreeRep, D: Disk>(
     curator: Label,
     disk: &mut D,
 ) -> Result<Interpreter<R, S>, Stop>
-    ensures begun { IsTrue D.is_known → BegunOn R.contents S.contents curator (known_disk D.Disk disk.old) (known_disk D.Disk disk.new) result }
-    ensures leaves { LeavesStore (known_disk D.Disk disk.old) (known_disk D.Disk disk.new) }
-    ensures goes_on { IfOk result (λ x. MayGoOn R.contents S.contents (known_disk D.Disk disk.new) x × (has_refused x ≡ false)) }
-    ensures cause { Accounts IsDiskStop (D.counts disk.old).faults (D.counts disk.new).faults result }
+    ensures begun { IsTrue (D.known disk.old).known →
+        BegunOn R.contents S.contents curator (D.known disk.old) (D.known disk.new) result }
+    ensures leaves { LeavesStore (D.known disk.old) (D.known disk.new) }
+    ensures goes_on { IfOk result (λ x. MayGoOn R.contents S.contents (D.known disk.new) x × (has_refused x ≡ false)) }
+    ensures cause { UsesDisk IsDiskStop (D.known disk.old) (D.known disk.new) result }
     ensures kinds { IfErr result IsOpeningStop }
 {
     let db = open_db(alloc, disk)?;
@@ -91,11 +93,11 @@ pub(crate) fn run<R: TreeRep, S: TreeRep, D: Disk, F: Files, K: Clock, I: Source
     ensures ran { RanOn curator
         (known_outside F.Files K.Clock I.Source O.Sink files.old clock.old input.old output.old)
         (known_outside F.Files K.Clock I.Source O.Sink files.new clock.new input.new output.new)
-        (known_disk D.Disk disk.old) (known_disk D.Disk disk.new) result }
+        (D.known disk.old) (D.known disk.new) result }
     ensures causes { HasCauses
         (known_outside F.Files K.Clock I.Source O.Sink files.old clock.old input.old output.old)
         (known_outside F.Files K.Clock I.Source O.Sink files.new clock.new input.new output.new) result }
-    ensures disk { DiskCauses (known_disk D.Disk disk.old) (known_disk D.Disk disk.new) result }
+    ensures disk { DiskCauses (D.known disk.old) (D.known disk.new) result }
 {
     let Ok(mut piece) = vec![in alloc; 0u8; PIECE_MAX] else {
         return out_of_memory(output);

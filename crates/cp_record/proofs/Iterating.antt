@@ -21,6 +21,14 @@ one-is bytes h = h.is ∙ sym (append-nil (record_bytes (record_in bytes).0))
 pub one-begins : (bytes : List ℕ) → IsPackedOne bytes → BeginsWith record_bytes IsPackable bytes
 one-begins bytes h = record { first = (record_in bytes).0; fit = h.kept; rest = []; is = one-is bytes h }
 
+module _ (bytes : List ℕ) (r : Record) (k : IsPackable r) (e : bytes ≡ record_bytes r) where
+  -- the bytes of a record are that record
+  pub only-record : (record_in bytes).0 ≡ r
+  only-record = ap (λ (m : Record × List ℕ). m.0) (record_in-record r [] bytes k (e ∙ sym (append-nil (record_bytes r))))
+
+  pub packed-one : IsPackedOne bytes
+  packed-one = record { is = e ∙ ap record_bytes (sym only-record); kept = subst IsPackable (sym only-record) k }
+
 -- one more behind others
 pub more-packed : (old new one : List ℕ) → IsPacked old → IsPackedOne one → new ≡ old ++ one → IsPacked new
 more-packed old new one h k e = packed-more old new (record_in one).0 h k.kept (e ∙ ap (λ (l : List ℕ). old ++ l) k.is)

@@ -234,3 +234,9 @@ no_source q f g e = ap (λ o. source_bytes (option_map g (option_map f o))) (sym
 -- a source takes the bytes of the place below it
 pub the_source : {B : Type 0} (q : Option B) (x : B) (f : B → Loc) (g : Loc → Loc) → q ≡ Some x → place_bytes (g (f x)) ≡ source_bytes (option_map g (option_map f q))
 the_source q x f g e = ap (λ o. source_bytes (option_map g (option_map f o))) (sym e)
+
+-- records are no more than their bytes
+pub fewer_than_bytes : (rs : List Record) → length rs ≤ length (records_bytes rs)
+unfolding records_bytes
+fewer_than_bytes [] = omega arith
+fewer_than_bytes (r ∷ rs) = omega (arith, some_more r, fewer_than_bytes rs, length-append (record_bytes r) (records_bytes rs))

@@ -3,3 +3,4 @@ mod Kept
 mod Lengths
 mod Decoded
 mod Iterating
+mod Ordered

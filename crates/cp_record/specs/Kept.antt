@@ -1,8 +1,9 @@
 -- Which records can be kept as bytes, and what begins bytes.
 use Rattle.std.specs.Prelude.{ℕ, ◌^◌, ◌≡◌, ◌<◌, ◌≤◌, ◌++◌, Bool, true, false, List, length, is_some, IfSome, IsUtf8, ⊤}
-use Rattle.std.specs.List.{AllByRecursion}
+use Rattle.std.specs.List.{AllByRecursion, flat_map}
 use Rattle.std.specs.declared.option.Option.{Option}
 use Rattle.cp_record.specs.Bytes.{letter}
+use Rattle.cp_path.specs.Encoding.{counted_bytes}
 use Rattle.cp_path.specs.Text.{is_name}
 use Rattle.cp_path.specs.declared.limits.TheConstants.{LABEL_MAX, LABELS_MAX}
 use Rattle.cp_path.specs.declared.loc.Loc.{Loc}
@@ -60,6 +61,10 @@ pub record BeginsWith {X : Type 0} (bytes_of : X → List ℕ) (IsFit : X → Ty
 -- whatever it is
 abbrev pub IsAny : {X : Type 0} → X → Type 0
 IsAny x = ⊤
+
+-- labels, each behind its length
+abbrev pub AreCounted : List ℕ → Type 0
+AreCounted bytes = (p : Path) × (bytes ≡ flat_map counted_bytes p)
 
 -- so many labels
 pub record IsPathOf (count : ℕ) (p : Path) : Type 0 where

@@ -2,6 +2,7 @@
 #![tactic(auto)]
 
 mod length;
+mod order;
 mod pack;
 mod packed;
 mod packed_iter;

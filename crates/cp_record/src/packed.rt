@@ -89,6 +89,27 @@ impl PackedRecords {
         }
     }
 
+    /// How many records there are. Costs their labels.
+    pub fn count(&self) -> usize
+        ensures { result ≡ length self.now }
+    {
+        let _ = self.len();
+        let mut count = 0;
+        let mut rest = self.iter();
+        while rest.next().is_some() {
+            count += 1;
+        }
+        count
+    }
+
+    /// The bytes of the records, one after another.
+    pub fn as_bytes(&self) -> &[u8]
+        ensures bytes { result.now ≡ records_bytes self.now }
+        ensures kept { AllByRecursion IsPackable self.now }
+    {
+        self.bytes.as_slice()
+    }
+
     /// The bytes that the records take.
     pub fn len(&self) -> usize
         ensures bytes { result ≡ length (records_bytes self.now) }

@@ -53,7 +53,7 @@ fn op_at(bytes: &[u8]) -> (RecOp, &[u8])
 }
 
 /// The bytes behind their number, and what follows.
-fn counted_at(bytes: &[u8]) -> (&[u8], &[u8])
+pub(crate) fn counted_at(bytes: &[u8]) -> (&[u8], &[u8])
     requires { BeginsWith counted_bytes IsAny bytes.now }
     ensures { (xs : List ℕ) → (rest : List ℕ) → bytes.now ≡ counted_bytes xs ++ rest → (result.0.now ≡ xs) × (result.1.now ≡ rest) }
 {

@@ -18,7 +18,7 @@ use Rattle.cp_gen.specs.Script.{IsOpOrCommit, script}
 use Rattle.cp_gen.specs.Summaries.{IsAt, summary_of}
 use Rattle.cp_db.specs.declared.database.Db.{Db}
 use Rattle.cp_workspace.specs.Texts.{Terms, setting}
-use Rattle.cp_workspace.specs.Disks.{KnownDisk}
+use Rattle.cp_disk.specs.Views.{KnownDisk}
 use Rattle.cp_workspace.specs.Workspaces.{Stands, HasTurned, db_in}
 use Rattle.cp_workspace.specs.declared.workspace.Workspace.{Workspace}
 use Rattle.cp_scratch.specs.Sessions.{no_files}

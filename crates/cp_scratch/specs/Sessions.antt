@@ -12,7 +12,7 @@ use Rattle.cp_journal.specs.declared.limits.TheConstants.{HEADER_SIZE, FRAME_HEA
 use Rattle.cp_frame.specs.Sizes.{start_size}
 use Rattle.cp_reply.specs.Session.{Session}
 use Rattle.cp_workspace.specs.Texts.{Terms}
-use Rattle.cp_workspace.specs.Disks.{KnownDisk}
+use Rattle.cp_disk.specs.Views.{KnownDisk}
 use Rattle.cp_workspace.specs.Workspaces.{opened_session}
 
 -- a disk in memory, which never fails

@@ -3,8 +3,8 @@ ghost use Rattle.std.specs.Prelude.{◌≡◌, ◌↔◌, IsTrue, IfOk, OnOk, �
 ghost use Rattle.std.specs.List.{slice_get};
 ghost use Rattle.std.specs.declared.option.Option.TheVariants.{None, Some};
 ghost use Rattle.cp_model.specs.declared.record.Verdict.TheVariants.{Agrees};
-ghost use Rattle.cp_outside.specs.Causes.{Accounts};
-ghost use Rattle.cp_disk.specs.Views.{Rests};
+ghost use Rattle.cp_disk.specs.Counts.{UsesDisk};
+ghost use Rattle.cp_disk.specs.Views.{IfKnown, Rests};
 ghost use Rattle.cp_db.specs.Opening.{IsOpenDisk};
 ghost use Rattle.cp_verify.specs.Verify.{IsDifference, VerifiesAs};
 ghost use Rattle.cp_verify.specs.Verdicts.{IsVerdict, Judges};
@@ -14,64 +14,57 @@ use cp_disk::Disk;
 use cp_engine::{replay_recording, steps_of};
 use cp_model::{Kind, Record, Verdict};
 use cp_operation::Sources;
-use cp_path::Loc;
+use cp_record::{PackedRecord, PackedRecords};
 use cp_tree::TreeRep;
 use std::alloc::{AllocError, Global};
 
-/// Whether two places are the same, or both are lacking.
-fn is_same_source(one: &Option<Loc>, other: &Option<Loc>) -> bool
+/// Whether two records are the same, or both are lacking.
+fn is_same(one: &Option<PackedRecord<'_>>, other: &Option<PackedRecord<'_>>) -> bool
     ensures { IsTrue result ↔ (one.now ≡ other.now) }
 {
     match (one, other) {
         (None, None) => true,
-        (Some(place), Some(there)) => place.is_at(there),
+        (Some(record), Some(there)) => record.is_same(there),
         _ => false,
     }
 }
 
-/// Whether two records are the same.
-fn is_same(one: &Record, other: &Record) -> bool
-    ensures { IsTrue result ↔ (one.now ≡ other.now) }
-{
-    one.tid == other.tid
-        && one.op == other.op
-        && one.loc.is_at(&other.loc)
-        && is_same_source(&one.src, &other.src)
-}
-
-/// The first position at which two lists of records differ; one that has ended differs from one that hasn't.
-fn first_difference(stored: &[Record], expected: &[Record]) -> Option<usize>
+/// The first position at which two lists of records differ; one that has ended differs from one that hasn't. Costs the labels
+/// of the first list, and the records up to that position.
+fn first_difference(stored: &PackedRecords, expected: &PackedRecords) -> Option<usize>
     ensures { IsDifference stored.now expected.now result }
 {
-    for n in 0..stored.len() {
-        if n >= expected.len() {
-            return Some(n);
-        }
-        if !is_same(&stored[n], &expected[n]) {
+    let count = stored.count();
+    let mut ours = stored.iter();
+    let mut theirs = expected.iter();
+    for n in 0..count {
+        if !is_same(&ours.next(), &theirs.next()) {
             return Some(n);
         }
     }
-    if stored.len() < expected.len() {
-        return Some(stored.len());
+    if theirs.next().is_some() {
+        return Some(count);
     }
     None
 }
 
-/// A copy of the record at a position, if there is one.
-fn record_at(records: &[Record], n: usize) -> Result<Option<Record>, AllocError>
+/// The record at a position by itself, if there is one.
+fn record_at(alloc: Global, records: &PackedRecords, n: usize) -> Result<Option<Record>, AllocError>
     ensures { IfOk result (λ found. found ≡ slice_get records.now n) }
 {
-    match records.get(n) {
-        Some(record) => Ok(Some(record.clone()?)),
-        None => Ok(None),
+    if n >= records.count() {
+        return Ok(None);
     }
+    let record = records.record(alloc, n)?;
+    Ok(Some(record))
 }
 
 /// The verdict on records that differ first at a position.
 fn differing(
+    alloc: Global,
     at: u64,
-    stored: &[Record],
-    expected: &[Record],
+    stored: &PackedRecords,
+    expected: &PackedRecords,
     n: usize,
 ) -> Result<Verdict, AllocError>
     requires differ { IsDifference stored.now expected.now (Some n) }
@@ -79,40 +72,42 @@ fn differing(
 {
     Ok(Verdict::Differs {
         at,
-        stored: record_at(stored, n)?,
-        expected: record_at(expected, n)?,
+        stored: record_at(alloc, stored, n)?,
+        expected: record_at(alloc, expected, n)?,
     })
 }
 
 /// The verdict after the records of one commit more, where so many agreed before.
 fn judged(
+    alloc: Global,
     at: u64,
-    stored: &[Record],
-    expected: &[Record],
+    stored: &PackedRecords,
+    expected: &PackedRecords,
     count: u64,
 ) -> Result<Verdict, AllocError>
     ensures { IfOk result (Judges at stored.now expected.now (Agrees count)) }
 {
     match first_difference(stored, expected) {
-        None => match count.checked_add(stored.len() as u64) {
+        None => match count.checked_add(stored.count() as u64) {
             Some(more) => Ok(Verdict::Agrees(more)),
             None => Err(AllocError),
         },
-        Some(n) => differing(at, stored, expected, n),
+        Some(n) => differing(alloc, at, stored, expected, n),
     }
 }
 
 /// Judges the records of one commit more, whose frame is at this offset. Costs the records up to the first that differs.
 fn judge(
+    alloc: Global,
     at: u64,
-    stored: &[Record],
-    expected: &[Record],
+    stored: &PackedRecords,
+    expected: &PackedRecords,
     verdict: &mut Verdict,
 ) -> Result<(), AllocError>
     ensures { OnOk result (Judges at stored.now expected.now verdict.old verdict.new) }
 {
     if let Verdict::Agrees(count) = verdict {
-        let judged = judged(at, stored, expected, *count)?;
+        let judged = judged(alloc, at, stored, expected, *count)?;
         drop(std::mem::replace(verdict, judged));
     }
     Ok(())
@@ -151,7 +146,7 @@ impl Work for Verifying {
         commit: CommitAt,
     ) -> Result<Option<u64>, AllocError> {
         let tids = steps_of(kind, commit.ops.items.len() as u32);
-        if !tids_lie_between(&commit.records.items, last, last + tids) {
+        if !tids_lie_between(&commit.records, last, last + tids) {
             return Ok(None);
         }
         let recorded = replay_recording(alloc, kind, last + 1, tree, sources, &commit.ops.items)?;
@@ -159,9 +154,10 @@ impl Work for Verifying {
             return Ok(None);
         };
         judge(
+            alloc,
             commit.at,
-            &commit.records.items,
-            &expected.items,
+            &commit.records,
+            &expected,
             &mut self.verdict,
         )?;
         Ok(Some(tids))
@@ -178,9 +174,9 @@ pub fn verify<R: TreeRep, S: TreeRep, D: Disk>(
     alloc: Global,
     disk: &mut D,
 ) -> Result<Verdict, OpenFault>
-    ensures verified { IsTrue D.is_known → VerifiesAs (D.view disk.old).content result }
-    ensures rests { IsTrue D.is_known → Rests (D.view disk.old) (D.view disk.new) }
-    ensures cause { Accounts IsOpenDisk (D.counts disk.old).faults (D.counts disk.new).faults result }
+    ensures verified { IfKnown (D.known disk.old) (λ v. VerifiesAs v.content result) }
+    ensures rests { Rests (D.known disk.old) (D.known disk.new) }
+    ensures cause { UsesDisk IsOpenDisk (D.known disk.old) (D.known disk.new) result }
 {
     let work = work_over::<R, S, Verifying, D>(alloc, disk)?;
     Ok(work.verdict)

@@ -26,7 +26,7 @@ use Rattle.cp_engine.specs.declared.state.TxnState.{TxnState}
 use Rattle.cp_engine.specs.declared.state.TxnState.TheVariants as state
 use Rattle.cp_engine.proofs.Committed.{committed}
 use Rattle.cp_outside.specs.FileReads.{FileTable}
-use Rattle.cp_disk.specs.Views.{Keeps}
+use Rattle.cp_disk.specs.Views.{KnownDisk, ViewKeeps}
 use Rattle.cp_disk.specs.declared.disk.Disk as disk
 use Rattle.cp_disk.proofs.Composing.{keeps_wider}
 use Rattle.cp_frame.specs.Stands.{StandsFor}
@@ -38,7 +38,7 @@ use Rattle.cp_db.specs.declared.database.Tids.{Tids}
 use Rattle.cp_db.specs.declared.fault.CommitFault.{CommitFault}
 use Rattle.cp_db.specs.declared.fault.CommitFault.TheVariants as fault
 use Rattle.cp_workspace.specs.Texts.{Terms, setting}
-use Rattle.cp_workspace.specs.Disks.{KnownDisk, known_disk, LeavesEither}
+use Rattle.cp_workspace.specs.Disks.{LeavesEither}
 use Rattle.cp_workspace.specs.Workspaces.{Stands, Opens, HoldsFile, IsBegun, Turned, TurnsAs, holding}
 use Rattle.cp_workspace.specs.declared.fault.WorkspaceFault.{WorkspaceFault}
 use Rattle.cp_workspace.specs.declared.workspace.Workspace.{Workspace}
@@ -168,10 +168,10 @@ module _ {R S D : Type 0} (view : R → Tree) (source_view : S → Tree) (g : di
   at = z.db.state
 
   abbrev v : KnownDisk
-  v = known_disk g k
+  v = g.known k
 
   abbrev w : KnownDisk
-  w = known_disk g l
+  w = g.known l
 
   abbrev the_turn : Turn
   the_turn = turn_of c s (says stmt.Commit)
@@ -212,7 +212,7 @@ module _ {R S D : Type 0} (view : R → Tree) (source_view : S → Tree) (g : di
 
     turns_done : (tids : Tids) → m.curator ≡ d.curator → m.transaction ≡ None → HasCommitted view source_view d.db at stamp (txn.going ops) m.db (Ok tids)
         → (IsTrue v.known → IsKept true d.db s.history v.view → IsKept true m.db (s.history ++ commit stamp ops ∷ []) w.view)
-        → (IsTrue v.known → IsKept true d.db s.history v.view → Keeps (IsBeforeOrCommitted s.history stamp (txn.going ops)) v.view w.view)
+        → (IsTrue v.known → IsKept true d.db s.history v.view → ViewKeeps (IsBeforeOrCommitted s.history stamp (txn.going ops)) v.view w.view)
         → TurnsAs view source_view (λ r. Some r) terms the_turn s rest (holding d x) m v w (Ok (reply.Committed tids.low tids.high))
     turns_done tids signs none is kept crash =
         subst (λ (t : Turn). TurnsAs view source_view (λ r. Some r) terms t s rest (holding d x) m v w (Ok (reply.Committed tids.low tids.high))) (sym (turn_if true is.1)) (record {
@@ -230,24 +230,24 @@ module _ {R S D : Type 0} (view : R → Tree) (source_view : S → Tree) (g : di
         → TurnsAs view source_view (λ r. Some r) terms the_turn s rest (holding d x) m v w (Ok (reply.Refused of.Commit why.TransactionTooLarge))
     turns_full y same signs none no_room =
         subst (λ (t : Turn). TurnsAs view source_view (λ r. Some r) terms t s rest (holding d x) m v w (Ok (reply.Refused of.Commit why.TransactionTooLarge))) (sym (turn_if false no_room))
-        (subst (λ (i : D). TurnsAs view source_view (λ r. Some r) terms full s rest (holding d x) m v (known_disk g i) (Ok (reply.Refused of.Commit why.TransactionTooLarge))) (sym y)
+        (subst (λ (i : D). TurnsAs view source_view (λ r. Some r) terms full s rest (holding d x) m v (g.known i) (Ok (reply.Refused of.Commit why.TransactionTooLarge))) (sym y)
         (turns-still view source_view (λ r. Some r) terms full s rest (holding d x) m v (Ok (reply.Refused of.Commit why.TransactionTooLarge)) same refl (ap (drop 1) timed)
         (refl, stands_after (stands-closed view source_view terms (holding d x) m s z same signs none))))
       where
         stands_after : Stands view source_view terms m (with_opened s closed) → Stands view source_view terms m (after_moment s)
         stands_after h = record { db = h.db; ends = h.ends; curator = h.curator; opened = h.opened }
 
-    leaves_by : (b : Bool) → has_room (end_in d.db) (commit_size at stamp ops) ≡ b → (b ≡ false → l ≡ k) → HoldsFile (holding d x) s.history v → Keeps (IsBeforeOrCommitted s.history stamp (txn.going ops)) v.view w.view → LeavesEither s.history the_turn.next.history v w
+    leaves_by : (b : Bool) → has_room (end_in d.db) (commit_size at stamp ops) ≡ b → (b ≡ false → l ≡ k) → HoldsFile (holding d x) s.history v → ViewKeeps (IsBeforeOrCommitted s.history stamp (txn.going ops)) v.view w.view → LeavesEither s.history the_turn.next.history v w
     leaves_by true e still file crash = subst (λ (t : Turn). LeavesEither s.history t.next.history v w) (sym (turn_if true e)) crash
     leaves_by false e still file crash =
         subst (λ (t : Turn). LeavesEither s.history t.next.history v w) (sym (turn_if false e))
-        (subst (λ (i : D). LeavesEither s.history s.history v (known_disk g i)) (sym (still refl)) (leaves-still view source_view (λ (r : Reply). Some r) terms full s rest (holding d x) m v s.history file))
+        (subst (λ (i : D). LeavesEither s.history s.history v (g.known i)) (sym (still refl)) (leaves-still view source_view (λ (r : Reply). Some r) terms full s rest (holding d x) m v s.history file))
 
   -- the operations are committed
   pub turns-committed : (tids : Tids) → m.curator ≡ d.curator → m.transaction ≡ None
       → ((p : txn.Progress) → HasCome view source_view d.db x p → HasCommitted view source_view d.db at stamp p m.db (Ok tids))
       → (IsTrue v.known → (ops : List Op) → HasCome view source_view d.db x (txn.going ops) → IsKept true d.db s.history v.view → IsKept true m.db (s.history ++ commit stamp ops ∷ []) w.view)
-      → (IsTrue v.known → (p : txn.Progress) → HasCome view source_view d.db x p → IsKept true d.db s.history v.view → Keeps (IsBeforeOrCommitted s.history stamp p) v.view w.view)
+      → (IsTrue v.known → (p : txn.Progress) → HasCome view source_view d.db x p → IsKept true d.db s.history v.view → ViewKeeps (IsBeforeOrCommitted s.history stamp p) v.view w.view)
       → TurnsAs view source_view (λ r. Some r) terms the_turn s rest (holding d x) m v w (Ok (reply.Committed tids.low tids.high))
   turns-committed tids signs none is kept crash =
       by_opened (TurnsAs view source_view (λ r. Some r) terms the_turn s rest (holding d x) m v w (Ok (reply.Committed tids.low tids.high)))
@@ -272,7 +272,7 @@ module _ {R S D : Type 0} (view : R → Tree) (source_view : S → Tree) (g : di
 
   -- the disk failed, or memory ran out
   pub turns-uncommitted : (result : Result Reply WorkspaceFault) → (y : WorkspaceFault) × (result ≡ Err y)
-      → (IsTrue v.known → (p : txn.Progress) → HasCome view source_view d.db x p → IsKept true d.db s.history v.view → Keeps (IsBeforeOrCommitted s.history stamp p) v.view w.view)
+      → (IsTrue v.known → (p : txn.Progress) → HasCome view source_view d.db x p → IsKept true d.db s.history v.view → ViewKeeps (IsBeforeOrCommitted s.history stamp p) v.view w.view)
       → ((ops : List Op) → HasCome view source_view d.db x (txn.going ops) → has_room (end_in d.db) (commit_size at stamp ops) ≡ false → l ≡ k)
       → TurnsAs view source_view (λ r. Some r) terms the_turn s rest (holding d x) m v w result
   turns-uncommitted result p crash room =

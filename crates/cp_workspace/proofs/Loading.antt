@@ -21,7 +21,7 @@ use Rattle.cp_reply.specs.declared.reply.Why.TheVariants as why
 use Rattle.cp_reply.specs.declared.reply.Reply.{Reply}
 use Rattle.cp_reply.specs.declared.reply.Reply.TheVariants as reply
 use Rattle.cp_reply.specs.Session.{Session, OpenTransaction, closed, going, failed, Setting, Turn, gives, withholds, replies, says, turn_of, with_entry, on_load, load_fetched, refused_load, is_closed}
-use Rattle.cp_disk.specs.Views.{Keeps}
+use Rattle.cp_disk.specs.Views.{KnownDisk, ViewKeeps}
 use Rattle.cp_disk.specs.declared.disk.Disk as disk
 use Rattle.cp_engine.specs.declared.txn.Txn.{Txn}
 use Rattle.cp_frame.specs.Stands.{StandsWithOrWithout}
@@ -33,7 +33,7 @@ use Rattle.cp_db.specs.declared.fault.WriteFault.TheVariants as fault
 use Rattle.cp_workspace.specs.Fetching.{fetch}
 use Rattle.cp_workspace.specs.Fetched.{FitsUnder}
 use Rattle.cp_workspace.specs.Texts.{Terms, setting}
-use Rattle.cp_workspace.specs.Disks.{KnownDisk, known_disk, LeavesEither}
+use Rattle.cp_workspace.specs.Disks.{LeavesEither}
 use Rattle.cp_workspace.specs.Loads.{why_not_loaded, load_reads, reads_unless}
 use Rattle.cp_workspace.specs.Workspaces.{Stands, Opens, HoldsFile, MayLoad, TurnsAs}
 use Rattle.cp_workspace.specs.declared.fault.WorkspaceFault.{WorkspaceFault}
@@ -129,10 +129,10 @@ module _ {R S D : Type 0} (view : R → Tree) (source_view : S → Tree) (g : di
   c = setting files terms
 
   abbrev v : KnownDisk
-  v = known_disk g k
+  v = g.known k
 
   abbrev w : KnownDisk
-  w = known_disk g l
+  w = g.known l
 
   abbrev the_turn : Turn
   the_turn = load_fetched c s name (gives u)
@@ -152,7 +152,7 @@ module _ {R S D : Type 0} (view : R → Tree) (source_view : S → Tree) (g : di
   -- the tree is a source of the session's history
   pub turns-loaded : (loaded : List ℕ) (nodes : ℕ) → loaded ≡ name → nodes ≡ len u → m.curator ≡ d.curator → m.transaction ≡ d.transaction → HasLoaded view source_view d.db z.db.state name u m.db (Ok tt)
       → (IsTrue v.known → IsKept true d.db s.history v.view → IsKept true m.db (s.history ++ load name u ∷ []) w.view)
-      → (IsTrue v.known → IsKept true d.db s.history v.view → Keeps (StandsWithOrWithout s.history (load name u)) v.view w.view)
+      → (IsTrue v.known → IsKept true d.db s.history v.view → ViewKeeps (StandsWithOrWithout s.history (load name u)) v.view w.view)
       → TurnsAs view source_view (λ r. Some r) terms the_turn s s.moments d m v w (Ok (reply.Loaded loaded nodes))
   turns-loaded loaded nodes named counted signed same is kept crash =
       subst (λ (t : Turn). TurnsAs view source_view (λ r. Some r) terms t s s.moments d m v w (Ok (reply.Loaded loaded nodes))) (sym (turn_if true is.0)) (record {
@@ -171,19 +171,19 @@ module _ {R S D : Type 0} (view : R → Tree) (source_view : S → Tree) (g : di
       → TurnsAs view source_view (λ r. Some r) terms the_turn s s.moments d m v w (Ok (reply.Refused of.Load why.StoreTooLarge))
   turns-no_room y same no_room =
       subst (λ (t : Turn). TurnsAs view source_view (λ r. Some r) terms t s s.moments d m v w (Ok (reply.Refused of.Load why.StoreTooLarge))) (sym (turn_if false no_room))
-      (subst (λ (i : D). TurnsAs view source_view (λ r. Some r) terms full s s.moments d m v (known_disk g i) (Ok (reply.Refused of.Load why.StoreTooLarge))) (sym y)
+      (subst (λ (i : D). TurnsAs view source_view (λ r. Some r) terms full s s.moments d m v (g.known i) (Ok (reply.Refused of.Load why.StoreTooLarge))) (sym y)
       (subst (λ (b : Workspace R S). TurnsAs view source_view (λ r. Some r) terms full s s.moments d b v v (Ok (reply.Refused of.Load why.StoreTooLarge))) (sym same)
       (turns-still view source_view (λ r. Some r) terms full s s.moments d d v (Ok (reply.Refused of.Load why.StoreTooLarge)) refl refl refl (refl, z))))
 
-  leaves_by : (b : Bool) → has_room (end_in d.db) (load_size name u) ≡ b → (b ≡ false → l ≡ k) → HoldsFile d s.history v → Keeps (StandsWithOrWithout s.history (load name u)) v.view w.view → LeavesEither s.history the_turn.next.history v w
+  leaves_by : (b : Bool) → has_room (end_in d.db) (load_size name u) ≡ b → (b ≡ false → l ≡ k) → HoldsFile d s.history v → ViewKeeps (StandsWithOrWithout s.history (load name u)) v.view w.view → LeavesEither s.history the_turn.next.history v w
   leaves_by true e still held crash = subst (λ (t : Turn). LeavesEither s.history t.next.history v w) (sym (turn_if true e)) crash
   leaves_by false e still held crash =
       subst (λ (t : Turn). LeavesEither s.history t.next.history v w) (sym (turn_if false e))
-      (subst (λ (i : D). LeavesEither s.history s.history v (known_disk g i)) (sym (still refl)) (leaves-still view source_view (λ (r : Reply). Some r) terms full s s.moments d m v s.history held))
+      (subst (λ (i : D). LeavesEither s.history s.history v (g.known i)) (sym (still refl)) (leaves-still view source_view (λ (r : Reply). Some r) terms full s s.moments d m v s.history held))
 
   -- the disk failed, or memory ran out
   pub turns-unloaded : (result : Result Reply WorkspaceFault) → (y : WorkspaceFault) × (result ≡ Err y)
-      → (IsTrue v.known → IsKept true d.db s.history v.view → Keeps (StandsWithOrWithout s.history (load name u)) v.view w.view)
+      → (IsTrue v.known → IsKept true d.db s.history v.view → ViewKeeps (StandsWithOrWithout s.history (load name u)) v.view w.view)
       → (has_room (end_in d.db) (load_size name u) ≡ false → l ≡ k)
       → TurnsAs view source_view (λ r. Some r) terms the_turn s s.moments d m v w result
   turns-unloaded result p crash room =

@@ -6,6 +6,7 @@ use Rattle.std.specs.declared.option.Option.TheVariants.{None, Some}
 use Rattle.cp_model.specs.Tree.{Tree}
 use Rattle.cp_model.specs.History.{Entry, State, replay}
 use Rattle.cp_lang.specs.declared.syntax_tree.Stmt.{Stmt}
+use Rattle.cp_disk.specs.Views.{KnownDisk}
 use Rattle.cp_reply.specs.declared.reply.Reply.{Reply}
 use Rattle.cp_reply.specs.Session.{Session, OpenTransaction, closed, going, failed, with_opened, Setting, Turn, says, turn_of, turn_by, turn_on}
 use Rattle.cp_disk.specs.declared.disk.Disk as disk
@@ -19,7 +20,7 @@ use Rattle.cp_db.specs.Writing.{HasAdded}
 use Rattle.cp_db.specs.declared.database.Db.{Db}
 use Rattle.cp_db.proofs.Keeping.{kept-images, stands-then}
 use Rattle.cp_workspace.specs.Texts.{Terms}
-use Rattle.cp_workspace.specs.Disks.{KnownDisk, known_disk, LeavesEither}
+use Rattle.cp_workspace.specs.Disks.{LeavesEither}
 use Rattle.cp_workspace.specs.Workspaces.{Stands, Opens, EndsAt, IsWorkspace, IsUsable, IsBegun, HoldsFile, Turned, TurnsAs, end_now}
 use Rattle.cp_workspace.specs.declared.fault.WorkspaceFault.{WorkspaceFault}
 use Rattle.cp_workspace.specs.declared.workspace.Workspace.{Workspace}
@@ -107,10 +108,10 @@ module _ {R S : Type 0} (view : R → Tree) (source_view : S → Tree) (d m : Wo
     begun = none_begun;
   }
 
-  pub usable-shut : {D : Type 0} (g : disk.Ghosts D) (k l : D) → l ≡ k → IsUsable view source_view (known_disk g k) d → m.db ≡ d.db → IsUsable view source_view (known_disk g l) m
+  pub usable-shut : {D : Type 0} (g : disk.Ghosts D) (k l : D) → l ≡ k → IsUsable view source_view (g.known k) d → m.db ≡ d.db → IsUsable view source_view (g.known l) m
   usable-shut g k l still u same =
-      subst (λ i. IsUsable view source_view (known_disk g i) m) (sym still)
-      (record { workspace = workspace-shut u.workspace same; ready = λ known. subst (λ (b : Db R S). IsReady b (known_disk g k).view) (sym same) (u.ready known) })
+      subst (λ i. IsUsable view source_view (g.known i) m) (sym still)
+      (record { workspace = workspace-shut u.workspace same; ready = λ known. subst (λ (b : Db R S). IsReady b (g.known k).view) (sym same) (u.ready known) })
 
 -- ---- turns
 

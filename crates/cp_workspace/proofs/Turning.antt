@@ -16,6 +16,7 @@ use Rattle.cp_model.specs.declared.query.Query.{Query}
 use Rattle.cp_model.specs.declared.refusal.Refusal.{Refusal}
 use Rattle.cp_lang.specs.declared.syntax_tree.Stmt.{Stmt}
 use Rattle.cp_lang.specs.declared.syntax_tree.Stmt.TheVariants as stmt
+use Rattle.cp_disk.specs.Views.{KnownDisk}
 use Rattle.cp_reply.specs.declared.reply.Reply.{Reply}
 use Rattle.cp_reply.specs.declared.reply.Reply.TheVariants as reply
 use Rattle.cp_reply.specs.declared.reply.Why.{Why}
@@ -29,7 +30,7 @@ use Rattle.cp_db.specs.Databases.{IsDatabase, IsReady, IsSameFile, end_in, is_sp
 use Rattle.cp_db.specs.declared.database.Db.{Db}
 use Rattle.cp_db.proofs.Keeping.{kept-images, kept-same}
 use Rattle.cp_workspace.specs.Texts.{Terms, setting}
-use Rattle.cp_workspace.specs.Disks.{KnownDisk, LeavesEither}
+use Rattle.cp_workspace.specs.Disks.{LeavesEither}
 use Rattle.cp_workspace.specs.Workspaces.{Stands, Opens, EndsAt, IsBegun, IsWorkspace, IsUsable, HoldsFile, Turned, TurnsAs, HasTurned}
 use Rattle.cp_workspace.specs.declared.fault.WorkspaceFault.{WorkspaceFault}
 use Rattle.cp_workspace.specs.declared.workspace.Workspace.{Workspace}

@@ -8,6 +8,7 @@ use Rattle.cp_model.specs.declared.limits.TheConstants.{SOURCES_MAX}
 use Rattle.cp_model.specs.Tree.{Tree, source}
 use Rattle.cp_model.specs.Subtrees.{is_there, below}
 use Rattle.cp_model.specs.History.{Entry, State}
+use Rattle.cp_disk.specs.Views.{KnownDisk}
 use Rattle.cp_reply.specs.declared.reply.Reply.{Reply}
 use Rattle.cp_reply.specs.declared.reply.Of.TheVariants as of
 use Rattle.cp_reply.specs.declared.reply.Why.TheVariants as why
@@ -22,7 +23,7 @@ use Rattle.cp_db.specs.Databases as database
 use Rattle.cp_db.specs.Databases.{HoldsState, IsDatabase, IsReady, IsKept, HasCome, IsSameFile, end_in, is_spent, version_in}
 use Rattle.cp_db.specs.declared.database.Db.{Db}
 use Rattle.cp_workspace.specs.Texts.{Terms}
-use Rattle.cp_workspace.specs.Disks.{KnownDisk, LeavesEither}
+use Rattle.cp_workspace.specs.Disks.{LeavesEither}
 use Rattle.cp_workspace.specs.declared.fault.WorkspaceFault.{WorkspaceFault}
 use Rattle.cp_workspace.specs.declared.workspace.Workspace.{Workspace}
 pub use Rattle.cp_lang.specs.Written.{IsWrittenStmt}

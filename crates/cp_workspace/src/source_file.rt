@@ -1,10 +1,7 @@
 //! Source files: each is read, and gives a tree or the first refusal of its reading.
-ghost use Rattle.std.specs.Prelude.{◌≡◌, ◌≤◌, true, false, IfOk, IfErr, OnOk, IsErrOf, ◌⊎◌};
+ghost use Rattle.std.specs.Prelude.{◌≡◌, IfOk};
 ghost use Rattle.std.specs.Option.{option_map};
-ghost use Rattle.std.specs.declared.option.Option.TheVariants.{Some};
 ghost use Rattle.cp_outside.specs.FileReads.{FileTable};
-ghost use Rattle.cp_model.specs.Place.{Path as PathValue, over_limit};
-ghost use Rattle.cp_model.specs.Subtrees.{is_there};
 ghost use Rattle.cp_workspace.specs.Fetching.{file_gives, form_given, json_why, csv_why};
 ghost use Rattle.cp_workspace.specs.Fetched.{Gives, FitsUnder};
 ghost use Rattle.cp_workspace.specs.Faults.{IsFailedFile};

@@ -1,5 +1,5 @@
 //! What a text says.
-ghost use Rattle.std.specs.Prelude.{◌≡◌, IfOk};
+ghost use Rattle.std.specs.Prelude.{IfOk};
 ghost use Rattle.cp_workspace.specs.Texts.{SaysAs};
 
 use cp_lang::{Stmt, StmtFault, parse_bytes};

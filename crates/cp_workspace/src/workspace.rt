@@ -1,4 +1,5 @@
 ghost use Rattle.std.specs.Prelude.{◌≡◌, true, false, List, ℕ, IsErrOf, OnOk};
+ghost use Rattle.cp_disk.specs.Counts.{UsesDisk};
 ghost use Rattle.cp_outside.specs.Causes.{Accounts};
 ghost use Rattle.cp_model.specs.History.{Entry};
 ghost use Rattle.cp_reply.specs.Session.{Session, says, turn_of};
@@ -7,19 +8,8 @@ ghost use Rattle.cp_db.specs.Databases.{IsDatabase, is_spent, version_in};
 ghost use Rattle.cp_workspace.specs.Texts.{Terms, setting};
 ghost use Rattle.cp_workspace.specs.Loads.{statement_reads};
 ghost use Rattle.cp_workspace.specs.Files.{known_files, HasReadSome, IsTable, Reads, UsesFiles};
-ghost use Rattle.cp_workspace.specs.Disks.{known_disk};
 ghost use Rattle.cp_workspace.specs.Faults.{IsFileFault, IsDiskFault, IsClockFault};
-ghost use Rattle.cp_workspace.specs.Workspaces.{
-  Stands,
-  IsWorkspace,
-  IsUsable,
-  HasStamps,
-  HasTurned,
-  IsWrittenStmt,
-  db_in,
-  end_now,
-  opened_session,
-};
+ghost use Rattle.cp_workspace.specs.Workspaces.{Stands, IsWorkspace, IsUsable, HasStamps, HasTurned, IsWrittenStmt, db_in, end_now, opened_session};
 
 mod answer;
 mod commit;
@@ -102,19 +92,19 @@ impl<R: TreeRep, S: TreeRep> Workspace<R, S> {
         files: &mut F,
         clock: &mut K,
     ) -> Result<Option<Reply>, WorkspaceFault>
-        requires usable { IsUsable R.contents S.contents (known_disk D.Disk disk.old) self.old }
+        requires usable { IsUsable R.contents S.contents (D.known disk.old) self.old }
         requires written { IsWrittenStmt statement }
         requires stamps { statement ≡ Stmt.Commit → HasStamps self.old }
         ensures turned { HasTurned R.contents S.contents (λ r. r) (λ t terms s. turn_of (setting t terms) s (says statement))
             (λ t. IsTable t (known_files F.Files files.old) (known_files F.Files files.new)) self.old self.new
-            (known_disk D.Disk disk.old) (known_disk D.Disk disk.new) (K.left clock.old) (K.left clock.new) result }
-        ensures stays { OnOk result (IsUsable R.contents S.contents (known_disk D.Disk disk.new) self.new) }
+            (D.known disk.old) (D.known disk.new) (K.left clock.old) (K.left clock.new) result }
+        ensures stays { OnOk result (IsUsable R.contents S.contents (D.known disk.new) self.new) }
         ensures version { OnOk result (version_in (db_in self.new) ≡ version_in (db_in self.old)) }
         ensures reads { (terms : Terms) (s : Session) → Stands R.contents S.contents terms self.old s
             → Reads IsFileFault (statement_reads s statement) (known_files F.Files files.old) (known_files F.Files files.new) result }
         ensures read { HasReadSome (known_files F.Files files.old) (known_files F.Files files.new) }
         ensures used { UsesFiles IsFileFault (known_files F.Files files.old) (known_files F.Files files.new) result }
-        ensures disk { Accounts IsDiskFault (D.counts disk.old).faults (D.counts disk.new).faults result }
+        ensures disk { UsesDisk IsDiskFault (D.known disk.old) (D.known disk.new) result }
         ensures clock { Accounts IsClockFault (K.faults clock.old) (K.faults clock.new) result }
         ensures same { IsErrOf result WorkspaceFault.File → disk.new ≡ disk.old }
         ensures untouched { IsErrOf result WorkspaceFault.Clock → disk.new ≡ disk.old }

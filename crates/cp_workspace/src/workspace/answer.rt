@@ -1,7 +1,6 @@
 ghost use Rattle.std.specs.Prelude.{◌≡◌, IfOk, OnOk};
 ghost use Rattle.std.specs.declared.option.Option.TheVariants.{Some};
 ghost use Rattle.cp_outside.specs.FileReads.{FileTable};
-ghost use Rattle.cp_query.specs.declared.fault.QueryFault.TheVariants.{Disk};
 ghost use Rattle.cp_reply.specs.Session.{Session, says, turn_of, no_place_of};
 ghost use Rattle.cp_workspace.specs.Texts.{Terms, setting};
 ghost use Rattle.cp_workspace.specs.Workspaces.{Stands, IsWorkspace, KeepsFile, Turned};

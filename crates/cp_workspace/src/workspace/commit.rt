@@ -1,4 +1,5 @@
 ghost use Rattle.std.specs.Prelude.{◌≡◌, List, OnOk, IsErrOf, ⊤};
+ghost use Rattle.cp_disk.specs.Counts.{UsesDisk};
 ghost use Rattle.std.specs.declared.option.Option.TheVariants.{None, Some};
 ghost use Rattle.cp_outside.specs.Causes.{Accounts};
 ghost use Rattle.cp_outside.specs.FileReads.{FileTable};
@@ -7,7 +8,6 @@ ghost use Rattle.cp_model.specs.declared.op.Op.{Op as OpValue};
 ghost use Rattle.cp_db.specs.Databases.{HasCome, version_in};
 ghost use Rattle.cp_reply.specs.Session.{Session, says, turn_of};
 ghost use Rattle.cp_workspace.specs.Texts.{Terms, setting};
-ghost use Rattle.cp_workspace.specs.Disks.{known_disk};
 ghost use Rattle.cp_workspace.specs.Faults.{IsDiskFault, IsClockFault};
 ghost use Rattle.cp_workspace.specs.Workspaces.{Stands, IsWorkspace, IsUsable, HasStamps, HasTurned, Turned, db_in, holding};
 
@@ -33,15 +33,15 @@ impl<R: TreeRep, S: TreeRep> Workspace<R, S> {
         disk: &mut D,
         clock: &mut K,
     ) -> Result<Reply, WorkspaceFault>
-        requires usable { IsUsable R.contents S.contents (known_disk D.Disk disk.old) self.old }
+        requires usable { IsUsable R.contents S.contents (D.known disk.old) self.old }
         requires stamps { HasStamps self.old }
         requires taken { self.old.transaction ≡ None }
         requires going { (ops : List OpValue) × HasCome R.contents S.contents self.old.db transaction (going ops) }
         ensures turned { HasTurned R.contents S.contents (λ r. Some r) (λ t terms s. turn_of (setting t terms) s (says Stmt.Commit)) (λ t. ⊤)
-            (holding self.old transaction) self.new (known_disk D.Disk disk.old) (known_disk D.Disk disk.new) (K.left clock.old) (K.left clock.new) result }
-        ensures stays { OnOk result (IsUsable R.contents S.contents (known_disk D.Disk disk.new) self.new) }
+            (holding self.old transaction) self.new (D.known disk.old) (D.known disk.new) (K.left clock.old) (K.left clock.new) result }
+        ensures stays { OnOk result (IsUsable R.contents S.contents (D.known disk.new) self.new) }
         ensures version { version_in (db_in self.new) ≡ version_in (db_in self.old) }
-        ensures disk { Accounts IsDiskFault (D.counts disk.old).faults (D.counts disk.new).faults result }
+        ensures disk { UsesDisk IsDiskFault (D.known disk.old) (D.known disk.new) result }
         ensures clock { Accounts IsClockFault (K.faults clock.old) (K.faults clock.new) result }
         ensures kinds { IsErrOf result WorkspaceFault.File → ⊥ }
         ensures untouched { IsErrOf result WorkspaceFault.Clock → disk.new ≡ disk.old }
@@ -73,13 +73,13 @@ impl<R: TreeRep, S: TreeRep> Workspace<R, S> {
         disk: &mut D,
         clock: &mut K,
     ) -> Result<Reply, WorkspaceFault>
-        requires usable { IsUsable R.contents S.contents (known_disk D.Disk disk.old) self.old }
+        requires usable { IsUsable R.contents S.contents (D.known disk.old) self.old }
         requires stamps { HasStamps self.old }
         ensures turned { HasTurned R.contents S.contents (λ r. Some r) (λ t terms s. turn_of (setting t terms) s (says Stmt.Commit)) (λ t. ⊤)
-            self.old self.new (known_disk D.Disk disk.old) (known_disk D.Disk disk.new) (K.left clock.old) (K.left clock.new) result }
-        ensures stays { OnOk result (IsUsable R.contents S.contents (known_disk D.Disk disk.new) self.new) }
+            self.old self.new (D.known disk.old) (D.known disk.new) (K.left clock.old) (K.left clock.new) result }
+        ensures stays { OnOk result (IsUsable R.contents S.contents (D.known disk.new) self.new) }
         ensures version { version_in (db_in self.new) ≡ version_in (db_in self.old) }
-        ensures disk { Accounts IsDiskFault (D.counts disk.old).faults (D.counts disk.new).faults result }
+        ensures disk { UsesDisk IsDiskFault (D.known disk.old) (D.known disk.new) result }
         ensures clock { Accounts IsClockFault (K.faults clock.old) (K.faults clock.new) result }
         ensures kinds { IsErrOf result WorkspaceFault.File → ⊥ }
         ensures untouched { IsErrOf result WorkspaceFault.Clock → disk.new ≡ disk.old }

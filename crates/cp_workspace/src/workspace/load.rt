@@ -1,13 +1,13 @@
-ghost use Rattle.std.specs.Prelude.{◌≡◌, ◌<◌, false, length, is_some, IfOk, OnOk, IsErrOf};
+ghost use Rattle.std.specs.Prelude.{◌≡◌, ◌<◌, false, IfOk, OnOk, IsErrOf};
+ghost use Rattle.cp_disk.specs.Views.{Keeps};
+ghost use Rattle.cp_disk.specs.Counts.{UsesDisk};
 ghost use Rattle.std.specs.declared.option.Option.TheVariants.{None, Some};
-ghost use Rattle.cp_outside.specs.Causes.{Accounts};
 ghost use Rattle.cp_outside.specs.FileReads.{FileTable};
 ghost use Rattle.cp_model.specs.Place.{label_eq, target};
 ghost use Rattle.cp_db.specs.Databases.{version_in};
 ghost use Rattle.cp_reply.specs.Session.{Session, gives, load_fetched, says, turn_of};
 ghost use Rattle.cp_workspace.specs.Fetched.{FitsUnder};
 ghost use Rattle.cp_workspace.specs.Texts.{Terms, setting};
-ghost use Rattle.cp_workspace.specs.Disks.{known_disk};
 ghost use Rattle.cp_workspace.specs.Loads.{why_not_loaded, statement_reads};
 ghost use Rattle.cp_workspace.specs.Faults.{IsFileFault, IsDiskFault};
 ghost use Rattle.cp_workspace.specs.Files.{known_files, HasReadSome, IsTable, Reads, UsesFiles};
@@ -36,16 +36,16 @@ impl<R: TreeRep, S: TreeRep> Workspace<R, S> {
         tree: S,
         disk: &mut D,
     ) -> Result<Reply, WorkspaceFault>
-        requires usable { IsUsable R.contents S.contents (known_disk D.Disk disk.old) self.old }
+        requires usable { IsUsable R.contents S.contents (D.known disk.old) self.old }
         requires may { MayLoad R.contents S.contents self.old name }
         requires other { label_eq name target ≡ false }
         requires fits { FitsUnder name (S.contents tree) }
         ensures turned { (t : FileTable) (terms : Terms) (s : Session) → Stands R.contents S.contents terms self.old s
             → TurnsAs R.contents S.contents (λ r. Some r) terms (load_fetched (setting t terms) s name (gives (S.contents tree))) s s.moments self.old self.new
-            (known_disk D.Disk disk.old) (known_disk D.Disk disk.new) result }
-        ensures stays { OnOk result (IsUsable R.contents S.contents (known_disk D.Disk disk.new) self.new) }
+            (D.known disk.old) (D.known disk.new) result }
+        ensures stays { OnOk result (IsUsable R.contents S.contents (D.known disk.new) self.new) }
         ensures version { version_in (db_in self.new) ≡ version_in (db_in self.old) }
-        ensures disk { Accounts IsDiskFault (D.counts disk.old).faults (D.counts disk.new).faults result }
+        ensures disk { UsesDisk IsDiskFault (D.known disk.old) (D.known disk.new) result }
         ensures kinds { (IsErrOf result WorkspaceFault.File → ⊥) × (IsErrOf result WorkspaceFault.Clock → ⊥) }
     {
         // Its text says that the name is one.
@@ -94,19 +94,19 @@ impl<R: TreeRep, S: TreeRep> Workspace<R, S> {
         disk: &mut D,
         files: &mut F,
     ) -> Result<Reply, WorkspaceFault>
-        requires usable { IsUsable R.contents S.contents (known_disk D.Disk disk.old) self.old }
+        requires usable { IsUsable R.contents S.contents (D.known disk.old) self.old }
         requires other { label_eq load.name target ≡ false }
         ensures turned { (t : FileTable) → IsTable t (known_files F.Files files.old) (known_files F.Files files.new)
             → (terms : Terms) (s : Session) → Stands R.contents S.contents terms self.old s
             → TurnsAs R.contents S.contents (λ r. Some r) terms (turn_of (setting t terms) s (says (Stmt.Load load))) s s.moments self.old self.new
-            (known_disk D.Disk disk.old) (known_disk D.Disk disk.new) result }
-        ensures stays { OnOk result (IsUsable R.contents S.contents (known_disk D.Disk disk.new) self.new) }
+            (D.known disk.old) (D.known disk.new) result }
+        ensures stays { OnOk result (IsUsable R.contents S.contents (D.known disk.new) self.new) }
         ensures version { version_in (db_in self.new) ≡ version_in (db_in self.old) }
         ensures reads { (terms : Terms) (s : Session) → Stands R.contents S.contents terms self.old s
             → Reads IsFileFault (statement_reads s (Stmt.Load load)) (known_files F.Files files.old) (known_files F.Files files.new) result }
         ensures read { HasReadSome (known_files F.Files files.old) (known_files F.Files files.new) }
         ensures used { UsesFiles IsFileFault (known_files F.Files files.old) (known_files F.Files files.new) result }
-        ensures disk { Accounts IsDiskFault (D.counts disk.old).faults (D.counts disk.new).faults result }
+        ensures disk { UsesDisk IsDiskFault (D.known disk.old) (D.known disk.new) result }
         ensures kinds { IsErrOf result WorkspaceFault.Clock → ⊥ }
         ensures untouched { IsErrOf result WorkspaceFault.File → disk.new ≡ disk.old }
     {

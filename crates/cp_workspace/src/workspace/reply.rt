@@ -1,10 +1,10 @@
 //! The turn that a cut of an input brings.
 ghost use Rattle.std.specs.Prelude.{◌≡◌, IfOk, OnOk, IsErrOf};
+ghost use Rattle.cp_disk.specs.Counts.{UsesDisk};
 ghost use Rattle.std.specs.declared.option.Option.TheVariants.{Some};
 ghost use Rattle.cp_outside.specs.Causes.{Accounts};
 ghost use Rattle.cp_reply.specs.Session.{Session, turn, turn_of, not_read};
 ghost use Rattle.cp_workspace.specs.Texts.{Terms, setting, reading};
-ghost use Rattle.cp_workspace.specs.Disks.{known_disk};
 ghost use Rattle.cp_workspace.specs.Loads.{text_reads, cut_reads};
 ghost use Rattle.cp_workspace.specs.Files.{known_files, HasReadSome, IsTable, Reads, UsesFiles};
 ghost use Rattle.cp_workspace.specs.Faults.{IsFileFault, IsDiskFault, IsClockFault};
@@ -48,18 +48,18 @@ impl<R: TreeRep, S: TreeRep> Workspace<R, S> {
         files: &mut F,
         clock: &mut K,
     ) -> Result<Option<Reply>, WorkspaceFault>
-        requires usable { IsUsable R.contents S.contents (known_disk D.Disk disk.old) self.old }
+        requires usable { IsUsable R.contents S.contents (D.known disk.old) self.old }
         requires stamps { HasStamps self.old }
         ensures turned { HasTurned R.contents S.contents (λ r. r) (λ t terms s. turn_of (setting t terms) s (reading text.now))
             (λ t. IsTable t (known_files F.Files files.old) (known_files F.Files files.new)) self.old self.new
-            (known_disk D.Disk disk.old) (known_disk D.Disk disk.new) (K.left clock.old) (K.left clock.new) result }
-        ensures stays { OnOk result (IsUsable R.contents S.contents (known_disk D.Disk disk.new) self.new) }
+            (D.known disk.old) (D.known disk.new) (K.left clock.old) (K.left clock.new) result }
+        ensures stays { OnOk result (IsUsable R.contents S.contents (D.known disk.new) self.new) }
         ensures stamps { OnOk result (HasStamps self.new) }
         ensures reads { (terms : Terms) (s : Session) → Stands R.contents S.contents terms self.old s
             → Reads IsFileFault (text_reads s (reading text.now)) (known_files F.Files files.old) (known_files F.Files files.new) result }
         ensures read { HasReadSome (known_files F.Files files.old) (known_files F.Files files.new) }
         ensures used { UsesFiles IsFileFault (known_files F.Files files.old) (known_files F.Files files.new) result }
-        ensures disk { Accounts IsDiskFault (D.counts disk.old).faults (D.counts disk.new).faults result }
+        ensures disk { UsesDisk IsDiskFault (D.known disk.old) (D.known disk.new) result }
         ensures clock { Accounts IsClockFault (K.faults clock.old) (K.faults clock.new) result }
         ensures same { IsErrOf result WorkspaceFault.File → disk.new ≡ disk.old }
         ensures untouched { IsErrOf result WorkspaceFault.Clock → disk.new ≡ disk.old }
@@ -83,18 +83,18 @@ impl<R: TreeRep, S: TreeRep> Workspace<R, S> {
         files: &mut F,
         clock: &mut K,
     ) -> Result<Option<Reply>, WorkspaceFault>
-        requires usable { IsUsable R.contents S.contents (known_disk D.Disk disk.old) self.old }
+        requires usable { IsUsable R.contents S.contents (D.known disk.old) self.old }
         requires stamps { HasStamps self.old }
         ensures turned { HasTurned R.contents S.contents (λ r. r) (λ t terms s. turn (setting t terms) s cut)
             (λ t. IsTable t (known_files F.Files files.old) (known_files F.Files files.new)) self.old self.new
-            (known_disk D.Disk disk.old) (known_disk D.Disk disk.new) (K.left clock.old) (K.left clock.new) result }
-        ensures stays { OnOk result (IsUsable R.contents S.contents (known_disk D.Disk disk.new) self.new) }
+            (D.known disk.old) (D.known disk.new) (K.left clock.old) (K.left clock.new) result }
+        ensures stays { OnOk result (IsUsable R.contents S.contents (D.known disk.new) self.new) }
         ensures stamps { OnOk result (HasStamps self.new) }
         ensures reads { (terms : Terms) (s : Session) → Stands R.contents S.contents terms self.old s
             → Reads IsFileFault (cut_reads s cut) (known_files F.Files files.old) (known_files F.Files files.new) result }
         ensures read { HasReadSome (known_files F.Files files.old) (known_files F.Files files.new) }
         ensures used { UsesFiles IsFileFault (known_files F.Files files.old) (known_files F.Files files.new) result }
-        ensures disk { Accounts IsDiskFault (D.counts disk.old).faults (D.counts disk.new).faults result }
+        ensures disk { UsesDisk IsDiskFault (D.known disk.old) (D.known disk.new) result }
         ensures clock { Accounts IsClockFault (K.faults clock.old) (K.faults clock.new) result }
         ensures same { IsErrOf result WorkspaceFault.File → disk.new ≡ disk.old }
         ensures untouched { IsErrOf result WorkspaceFault.Clock → disk.new ≡ disk.old }

@@ -1,6 +1,7 @@
-use Rattle.cp_format.proofs.Growing.{grew_then}
-use Rattle.cp_frame.proofs.Moved.{on_error}
+use Rattle.cp_frame.proofs.RecordLists.{records_put}
 use Rattle.cp_frame.proofs.record.put_records.Goals as goal
 
-pub returns-in_err-put-clause-err : goal.returns-in_err-put-clause-err
-returns-in_err-put-clause-err c = on_error c.from_residual-in_err-put.result (grew_then _ _ _ _ c.loop-record.invariant.bytes c.in_err-put.ensures.err)
+pub returns-clause-ok : goal.returns-clause-ok
+returns-clause-ok c =
+    records_put c.args.out.now.items c.put_number.new.out.items c.extend_from_slice.new.self.items c.as_bytes.result.now c.count.result c.args.records.now c.count.ensures c.in_ok-put_number.ensures.ok c.as_bytes.ensures.bytes
+    c.in_ok-extend_from_slice.ensures.items

@@ -1,5 +1,4 @@
 use Rattle.std.proofs.Common.{sym, subst, ◌∙◌}
-use Rattle.cp_workspace.specs.Disks.{known_disk}
 use Rattle.cp_workspace.specs.Files.{known_files}
 use Rattle.cp_interpreter.specs.Outside.{known_clock, known_output}
 use Rattle.cp_interpreter.specs.Turns.{RanLast, HasClosed}
@@ -19,8 +18,8 @@ returns-in-Err-clause-closed g c =
     let ob = known_output g.O.Sink c.args.output.now in
     let om = known_output g.O.Sink c.close.new.output in
     let oa = known_output g.O.Sink c.stopped.new.output in
-    let v = known_disk g.D.Disk c.args.disk.now in
-    let w = known_disk g.D.Disk c.close.new.disk in
+    let v = g.D.Disk.known c.args.disk.now in
+    let w = g.D.Disk.known c.close.new.disk in
     let P : End → Type 0 = λ e. HasClosed view source_view first (world fb kb ob) (world fm km oa) v w e in
     let ran = subst (RanLast view source_view first c.close.new.self (world fb kb ob) (world fm km om) v w) c.in-Err.is c.close.ensures.went in
     subst P (sym c.stopped.ensures.end) (closed-stopped view source_view first c.close.new.self fb fm kb km ob om oa v w c.in-Err.stop c.in-Err.ensures.opened ran c.in-Err.ensures.uses.output.refuses c.stopped.ensures.wrote)
@@ -36,8 +35,8 @@ returns-in-Ok-clause-closed g c =
     let km = known_clock g.K.Clock c.close.new.clock in
     let ob = known_output g.O.Sink c.args.output.now in
     let om = known_output g.O.Sink c.close.new.output in
-    let v = known_disk g.D.Disk c.args.disk.now in
-    let w = known_disk g.D.Disk c.close.new.disk in
+    let v = g.D.Disk.known c.args.disk.now in
+    let w = g.D.Disk.known c.close.new.disk in
     let ran = subst (RanLast view source_view first c.close.new.self (world fb kb ob) (world fm km om) v w) c.in-Ok.is c.close.ensures.went in
     closed-refused view source_view first c.close.new.self fb fm kb km ob om om v w ran c.in-Ok.ensures.uses.output.refuses (sym c.refused.ensures ∙ c.if-refused.true)
 
@@ -52,7 +51,7 @@ returns-in-Ok-2-clause-closed g c =
     let km = known_clock g.K.Clock c.close.new.clock in
     let ob = known_output g.O.Sink c.args.output.now in
     let om = known_output g.O.Sink c.close.new.output in
-    let v = known_disk g.D.Disk c.args.disk.now in
-    let w = known_disk g.D.Disk c.close.new.disk in
+    let v = g.D.Disk.known c.args.disk.now in
+    let w = g.D.Disk.known c.close.new.disk in
     let ran = subst (RanLast view source_view first c.close.new.self (world fb kb ob) (world fm km om) v w) c.in-Ok-2.is c.close.ensures.went in
     closed-done view source_view first c.close.new.self fb fm kb km ob om om v w ran c.in-Ok-2.ensures.uses.output.refuses (sym c.refused.ensures ∙ c.if-refused.false)

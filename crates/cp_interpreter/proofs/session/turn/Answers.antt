@@ -1,7 +1,6 @@
 use Rattle.std.proofs.Common.{◌≡◌, ℕ, [], length, take, subst, sym, rules, arith}
 use Rattle.std.proofs.lemmas.List.{length-take-le}
 use Rattle.std.specs.Io.KnownBytes.{Consumes, IsAtEnd}
-use Rattle.cp_workspace.specs.Disks.{known_disk}
 use Rattle.cp_workspace.specs.Files.{known_files}
 use Rattle.cp_interpreter.specs.Outside.{known_input, known_clock, known_output, known_outside}
 use Rattle.cp_interpreter.specs.Turns.{RanFrom, WasFed}
@@ -12,7 +11,7 @@ use Rattle.cp_interpreter.proofs.session.turn.Goals as goal
 pub returns-in_default-clause-ends : goal.returns-in_default-clause-ends
 returns-in_default-clause-ends g c =
     ran-input g.R.TreeRep.contents g.S.TreeRep.contents c.args.session.now c.args.before (known_input g.I.Source c.args.input.now) (known_input g.I.Source c.read.new.self) (known_files g.F.Files c.args.files.now) (known_clock g.K.Clock c.args.clock.now)
-    (known_output g.O.Sink c.args.output.now) (known_output g.O.Sink c.last_line.new.output) (known_disk g.D.Disk c.args.disk.now) c.requires.taken c.in_default.ensures.bytes c.in_default.ensures.counted c.last_line.ensures.wrote
+    (known_output g.O.Sink c.args.output.now) (known_output g.O.Sink c.last_line.new.output) (g.D.Disk.known c.args.disk.now) c.requires.taken c.in_default.ensures.bytes c.in_default.ensures.counted c.last_line.ensures.wrote
 
 pub returns-then-count-eq0-clause-ends : goal.returns-then-count-eq0-clause-ends
 returns-then-count-eq0-clause-ends g c =
@@ -24,7 +23,7 @@ returns-then-count-eq0-clause-ends g c =
     ran-closed g.R.TreeRep.contents g.S.TreeRep.contents c.args.session.now c.args.before
     (known_outside g.F.Files g.K.Clock g.I.Source g.O.Sink c.args.files.now c.args.clock.now c.args.input.now c.args.output.now)
     (known_outside g.F.Files g.K.Clock g.I.Source g.O.Sink c.closing.new.files c.closing.new.clock c.read.new.self c.closing.new.output)
-    (known_disk g.D.Disk c.args.disk.now) (known_disk g.D.Disk c.closing.new.disk) c.closing.result c.requires.taken took (omega (arith, none, c.in-Ok.ensures.counted)) end c.closing.ensures.closed
+    (g.D.Disk.known c.args.disk.now) (g.D.Disk.known c.closing.new.disk) c.closing.result c.requires.taken took (omega (arith, none, c.in-Ok.ensures.counted)) end c.closing.ensures.closed
 
 pub returns-then-now-gt-INPUT_MAX-clause-ends : goal.returns-then-now-gt-INPUT_MAX-clause-ends
 returns-then-now-gt-INPUT_MAX-clause-ends g c =
@@ -32,7 +31,7 @@ returns-then-now-gt-INPUT_MAX-clause-ends g c =
     let same : length c.read.new.into ≡ length c.args.piece.now = search rules in
     let count : length bytes ≡ c.in-Ok.count = length-take-le c.in-Ok.count c.read.new.into (omega (arith, c.in-Ok.ensures.bound)) in
     ran-too-long g.R.TreeRep.contents g.S.TreeRep.contents c.args.session.now c.args.before bytes (known_input g.I.Source c.args.input.now) (known_input g.I.Source c.read.new.self) (known_files g.F.Files c.args.files.now) (known_clock g.K.Clock c.args.clock.now)
-    (known_output g.O.Sink c.args.output.now) (known_output g.O.Sink c.last_line-then-now-gt-INPUT_MAX.new.output) (known_disk g.D.Disk c.args.disk.now) c.requires.taken
+    (known_output g.O.Sink c.args.output.now) (known_output g.O.Sink c.last_line-then-now-gt-INPUT_MAX.new.output) (g.D.Disk.known c.args.disk.now) c.requires.taken
     c.in-Ok.ensures.bytes.0 (omega (arith, count, c.in-Ok.ensures.counted)) (omega (arith, count, c.if-now-gt-INPUT_MAX.true)) (omega (arith, count, same, c.in-Ok.ensures.bound, c.requires.bounded)) c.last_line-then-now-gt-INPUT_MAX.ensures.wrote
 
 pub returns-in-Err-clause-ends : goal.returns-in-Err-clause-ends
@@ -46,8 +45,8 @@ returns-in-Err-clause-ends g c =
     let ob = known_output g.O.Sink c.args.output.now in
     let om = known_output g.O.Sink c.feed.new.output in
     let oa = known_output g.O.Sink c.stopped.new.output in
-    let v = known_disk g.D.Disk c.args.disk.now in
-    let w = known_disk g.D.Disk c.feed.new.disk in
+    let v = g.D.Disk.known c.args.disk.now in
+    let w = g.D.Disk.known c.feed.new.disk in
     let bytes = take c.in-Ok.count c.read.new.into in
     let count : length bytes ≡ c.in-Ok.count = length-take-le c.in-Ok.count c.read.new.into (omega (arith, c.in-Ok.ensures.bound)) in
     let first = c.args.session.now in

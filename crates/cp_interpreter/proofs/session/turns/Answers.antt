@@ -1,5 +1,4 @@
 use Rattle.std.proofs.Common.{refl, arith}
-use Rattle.cp_workspace.specs.Disks.{known_disk}
 use Rattle.cp_workspace.specs.Files.{known_files}
 use Rattle.cp_workspace.proofs.ReadCounts.{some-then}
 use Rattle.cp_interpreter.specs.Outside.{known_outside}
@@ -9,7 +8,7 @@ use Rattle.cp_interpreter.proofs.session.turns.Goals as goal
 pub loop-now-init : goal.loop-now-init
 loop-now-init g c =
     let o = known_outside g.F.Files g.K.Clock g.I.Source g.O.Sink c.args.files.now c.args.clock.now c.args.input.now c.args.output.now in
-    let v = known_disk g.D.Disk c.args.disk.now in
+    let v = g.D.Disk.known c.args.disk.now in
     record {
       within = omega arith;
       goes_on = c.requires.goes_on;
@@ -24,13 +23,13 @@ loop-now-preserved g c =
     let first = known_outside g.F.Files g.K.Clock g.I.Source g.O.Sink c.args.files.now c.args.clock.now c.args.input.now c.args.output.now in
     let here = known_outside g.F.Files g.K.Clock g.I.Source g.O.Sink c.loop-now.files c.loop-now.clock c.loop-now.input c.loop-now.output in
     let next = known_outside g.F.Files g.K.Clock g.I.Source g.O.Sink c.turn.new.files c.turn.new.clock c.turn.new.input c.turn.new.output in
-    let v = known_disk g.D.Disk c.args.disk.now in
-    let u = known_disk g.D.Disk c.loop-now.disk in
-    let w = known_disk g.D.Disk c.turn.new.disk in
+    let v = g.D.Disk.known c.args.disk.now in
+    let u = g.D.Disk.known c.loop-now.disk in
+    let w = g.D.Disk.known c.turn.new.disk in
     record {
       within = c.in-Ok.ensures.goes_on.1;
       goes_on = c.in-Ok.ensures.goes_on.2;
-      took = piece-more g.R.TreeRep.contents g.S.TreeRep.contents c.args.session.now c.loop-now.session c.turn.new.session 0 c.loop-now.taken c.in-Ok.now first here next v u w refl i.steady steady.read i.took c.in-Ok.ensures.took;
+      took = piece-more g.R.TreeRep.contents g.S.TreeRep.contents c.args.session.now c.loop-now.session c.turn.new.session 0 c.loop-now.taken c.in-Ok.now first here next v u w i.steady.known i.steady steady.read i.took c.in-Ok.ensures.took;
       steady = steady-then first here next v u w i.steady steady;
     }
 
@@ -43,7 +42,7 @@ returns-in-Err-clause-ran g c =
     let first = known_outside g.F.Files g.K.Clock g.I.Source g.O.Sink c.args.files.now c.args.clock.now c.args.input.now c.args.output.now in
     let here = known_outside g.F.Files g.K.Clock g.I.Source g.O.Sink c.loop-now.files c.loop-now.clock c.loop-now.input c.loop-now.output in
     let next = known_outside g.F.Files g.K.Clock g.I.Source g.O.Sink c.turn.new.files c.turn.new.clock c.turn.new.input c.turn.new.output in
-    piece-ran g.R.TreeRep.contents g.S.TreeRep.contents c.args.session.now c.loop-now.session c.loop-now.taken first here next (known_disk g.D.Disk c.args.disk.now) (known_disk g.D.Disk c.loop-now.disk) (known_disk g.D.Disk c.turn.new.disk) c.in-Err.end refl
+    piece-ran g.R.TreeRep.contents g.S.TreeRep.contents c.args.session.now c.loop-now.session c.loop-now.taken first here next (g.D.Disk.known c.args.disk.now) (g.D.Disk.known c.loop-now.disk) (g.D.Disk.known c.turn.new.disk) c.in-Err.end i.steady.known
     i.steady c.turn.ensures.read i.took c.in-Err.ensures.ends
 
 pub returns-in-Err-clause-causes : goal.returns-in-Err-clause-causes
@@ -51,13 +50,13 @@ returns-in-Err-clause-causes g c =
     let first = known_outside g.F.Files g.K.Clock g.I.Source g.O.Sink c.args.files.now c.args.clock.now c.args.input.now c.args.output.now in
     let here = known_outside g.F.Files g.K.Clock g.I.Source g.O.Sink c.loop-now.files c.loop-now.clock c.loop-now.input c.loop-now.output in
     let next = known_outside g.F.Files g.K.Clock g.I.Source g.O.Sink c.turn.new.files c.turn.new.clock c.turn.new.input c.turn.new.output in
-    causes-after first here next (known_disk g.D.Disk c.args.disk.now) (known_disk g.D.Disk c.loop-now.disk) c.in-Err.end c.loop-now.invariant.steady c.in-Err.ensures.causes
+    causes-after first here next (g.D.Disk.known c.args.disk.now) (g.D.Disk.known c.loop-now.disk) c.in-Err.end c.loop-now.invariant.steady c.in-Err.ensures.causes
 
 pub returns-in-Err-clause-disk : goal.returns-in-Err-clause-disk
 returns-in-Err-clause-disk g c =
     let first = known_outside g.F.Files g.K.Clock g.I.Source g.O.Sink c.args.files.now c.args.clock.now c.args.input.now c.args.output.now in
     let here = known_outside g.F.Files g.K.Clock g.I.Source g.O.Sink c.loop-now.files c.loop-now.clock c.loop-now.input c.loop-now.output in
-    disk-after first here (known_disk g.D.Disk c.args.disk.now) (known_disk g.D.Disk c.loop-now.disk) (known_disk g.D.Disk c.turn.new.disk) c.in-Err.end c.loop-now.invariant.steady c.in-Err.ensures.disk
+    disk-after first here (g.D.Disk.known c.args.disk.now) (g.D.Disk.known c.loop-now.disk) (g.D.Disk.known c.turn.new.disk) c.in-Err.end c.loop-now.invariant.steady c.in-Err.ensures.disk
 
 pub returns-in-Err-clause-read : goal.returns-in-Err-clause-read
 returns-in-Err-clause-read g c =

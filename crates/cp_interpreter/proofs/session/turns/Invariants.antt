@@ -1,6 +1,5 @@
 use Rattle.cp_interpreter.specs.declared.limits.TheConstants.{INPUT_MAX}
 use Rattle.std.proofs.Common.{◌≤◌, ◌-◌}
-use Rattle.cp_workspace.specs.Disks.{known_disk}
 use Rattle.cp_interpreter.specs.Outside.{known_outside}
 use Rattle.cp_interpreter.specs.Turns.{MayGoOn, TookPiece, IsSteady}
 use Rattle.cp_interpreter.proofs.session.turns.Given as goal
@@ -11,11 +10,11 @@ decreases-loop-now g l = INPUT_MAX - l.taken
 abbrev pub invariant-loop-now : goal.invariant-loop-now
 invariant-loop-now g l = record {
   within : l.taken ≤ INPUT_MAX;
-  goes_on : MayGoOn g.R.TreeRep.contents g.S.TreeRep.contents (known_disk g.D.Disk l.disk) l.session;
+  goes_on : MayGoOn g.R.TreeRep.contents g.S.TreeRep.contents (g.D.Disk.known l.disk) l.session;
   took : TookPiece g.R.TreeRep.contents g.S.TreeRep.contents l.initial.session l.session 0 l.taken
       (known_outside g.F.Files g.K.Clock g.I.Source g.O.Sink l.initial.files l.initial.clock l.initial.input l.initial.output) (known_outside g.F.Files g.K.Clock g.I.Source g.O.Sink l.files l.clock l.input l.output)
-      (known_disk g.D.Disk l.initial.disk) (known_disk g.D.Disk l.disk);
+      (g.D.Disk.known l.initial.disk) (g.D.Disk.known l.disk);
   steady : IsSteady
       (known_outside g.F.Files g.K.Clock g.I.Source g.O.Sink l.initial.files l.initial.clock l.initial.input l.initial.output) (known_outside g.F.Files g.K.Clock g.I.Source g.O.Sink l.files l.clock l.input l.output)
-      (known_disk g.D.Disk l.initial.disk) (known_disk g.D.Disk l.disk);
+      (g.D.Disk.known l.initial.disk) (g.D.Disk.known l.disk);
 }

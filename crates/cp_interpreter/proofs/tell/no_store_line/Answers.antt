@@ -7,7 +7,7 @@ use Rattle.cp_interpreter.proofs.tell.no_store_line.Goals as goal
 pub returns-then-is_err-clause-wrote : goal.returns-then-is_err-clause-wrote
 returns-then-is_err-clause-wrote g c =
     let met = c.write_all.ensures in
-    last-refused (known_output g.O.Sink c.args.output.now) (known_output g.O.Sink c.write_all.new.output) (codes "error: not a store at ") (decimal c.args.at ++ codes "\n") c.write_all.result (sym c.is_err.ensures.value ∙ c.if-is_err.true) met.part met.refused
+    last-refused (known_output g.O.Sink c.args.output.now) (known_output g.O.Sink c.write_all.new.output) (codes "error: not a store at ") (decimal c.args.at ++ codes "\n") c.write_all.result (sym c.is_err.ensures.value ∙ c.if-is_err.true) met.part met.refused met.since
 
 pub returns-then-is_err-2-clause-wrote : goal.returns-then-is_err-2-clause-wrote
 returns-then-is_err-2-clause-wrote g c =
@@ -19,7 +19,7 @@ returns-then-is_err-2-clause-wrote g c =
     last-then b m a (codes "error: not a store at ") (decimal c.args.at ++ codes "\n")
     (part-wrote b m (codes "error: not a store at ") c.write_all.result (sym c.is_err.ensures.value ∙ c.if-is_err.false) one.all one.refused)
     (subst (λ xs. WritesLast m a [] (xs ++ codes "\n")) (c.as_bytes.ensures.value ∙ c.format.ensures.text)
-    (last-refused m a c.as_bytes.result.now (codes "\n") c.write_all-2.result (sym c.is_err-2.ensures.value ∙ c.if-is_err-2.true) two.part two.refused))
+    (last-refused m a c.as_bytes.result.now (codes "\n") c.write_all-2.result (sym c.is_err-2.ensures.value ∙ c.if-is_err-2.true) two.part two.refused two.since))
 
 pub returns-clause-wrote : goal.returns-clause-wrote
 returns-clause-wrote g c =

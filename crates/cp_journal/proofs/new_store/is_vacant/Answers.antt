@@ -1,4 +1,5 @@
 use Rattle.std.proofs.Common.{rules, ◌≡◌, ◌∙◌, ap, ℕ, List, length, take}
+use Rattle.cp_disk.proofs.Composing.{still}
 use Rattle.cp_journal.proofs.NewStores.{front_says}
 use Rattle.cp_journal.proofs.Faults.{counted_error, counted_after}
 use Rattle.cp_journal.proofs.new_store.is_vacant.Goals as goal
@@ -7,7 +8,7 @@ pub returns-clause-vacant : goal.returns-clause-vacant
 returns-clause-vacant g c = λ known.
     let sized = c.in_ok-size.ensures.sized known in
     let long : length c.read.new.into ≡ c.front_len.result = search rules in
-    let bytes = (c.in_ok-read.ensures.filled known).bytes ∙ ap (λ (l : List ℕ). take (length c.read.new.into) l) sized.rests.content in
+    let bytes = (c.in_ok-read.ensures.filled (still c.in_ok-size.ensures.cause.same known)).bytes ∙ ap (λ (l : List ℕ). take (length c.read.new.into) l) sized.rests.content in
     let says = front_says _ c.read.new.into _ _ sized.size c.if-size-le1.false c.front_len.ensures long bytes in
     (λ yes. says.0 (c.has_no_store.ensures.0 yes), λ vacant. c.has_no_store.ensures.1 (says.1 vacant))
 

@@ -1,15 +1,20 @@
-use Rattle.std.proofs.Common.{◌∙◌}
+use Rattle.std.proofs.Common.{sym, ◌∙◌}
+use Rattle.cp_disk.proofs.Composing.{still, only_when_known}
 use Rattle.cp_journal.proofs.FrameWrites.{of_success}
 use Rattle.cp_journal.proofs.NewStores.{making_crash, made_file}
 use Rattle.cp_journal.proofs.new_store.put_store.Goals as goal
 
 pub returns-clause-crash : goal.returns-clause-crash
 returns-clause-crash g c = λ known f ok is.
-    making_crash f ok _ _ _ _ _ (c.in_ok-settled.ensures.vacant known).0 (c.in_ok-fill.ensures.durable known) _ is (c.in_ok-fill.ensures.content known)
-    (c.settle.ensures.crash known) (c.fill.ensures.crash known) (c.put.ensures.crash known)
+    let settled = still c.in_ok-settled.ensures.cause.same known in
+    let filled = still c.in_ok-fill.ensures.cause.same settled in
+    making_crash f ok _ _ _ _ _ (c.in_ok-settled.ensures.vacant settled).0 (c.in_ok-fill.ensures.durable filled) _ is (c.in_ok-fill.ensures.content settled)
+    (c.settle.ensures.crash known) (c.fill.ensures.crash settled) (c.put.ensures.crash filled)
 
 pub returns-clause-durable : goal.returns-clause-durable
 returns-clause-durable g c = λ known f ok is.
+    let filled = still (sym c.put.ensures.cause.same) known in
+    let settled = still (sym c.in_ok-fill.ensures.cause.same) filled in
     of_success c.put.result (λ content only.
-    let made = made_file f ok (g.D.Disk.view c.args.disk.now) (g.D.Disk.view c.settle.new.disk) (g.D.Disk.view c.fill.new.disk) (g.D.Disk.view c.put.new.disk) _ (c.in_ok-settled.ensures.vacant known).0 (c.in_ok-fill.ensures.durable known) _ is (c.in_ok-fill.ensures.content known) content in
-    record { content = made; only = λ left im. only left im ∙ made }) (c.put.ensures.content known) (c.put.ensures.durable known)
+    let made = made_file f ok (g.D.Disk.known c.args.disk.now).view (g.D.Disk.known c.settle.new.disk).view (g.D.Disk.known c.fill.new.disk).view (g.D.Disk.known c.put.new.disk).view _ (c.in_ok-settled.ensures.vacant settled).0 (c.in_ok-fill.ensures.durable filled) _ is (c.in_ok-fill.ensures.content settled) content in
+    record { content = made; only = λ left im. only left im ∙ made }) (c.put.ensures.content filled) (only_when_known c.put.result (g.D.Disk.known c.put.new.disk) c.put.ensures.durable known)

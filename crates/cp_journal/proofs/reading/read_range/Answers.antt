@@ -1,7 +1,7 @@
 use Rattle.std.proofs.Common.{rules, arith, List, ℕ, sym, ◌≡◌, ◌∙◌, ap, ◌+◌, ◌++◌, take, drop, length}
 use Rattle.std.proofs.Math.Seq.{take-add}
 use Rattle.std.proofs.lemmas.List.{drop-drop, take_at}
-use Rattle.cp_disk.proofs.Composing.{rests_then}
+use Rattle.cp_disk.proofs.Composing.{still, rests_then}
 use Rattle.cp_journal.proofs.Faults.{disk_kinds, disk_accounts, memory_kinds}
 use Rattle.cp_journal.proofs.reading.read_range.Goals as goal
 
@@ -20,8 +20,9 @@ loop-done-preserved g c =
     let long : length c.read.new.into ≡ c.min-count.result = search rules in
     record {
       within = omega arith;
-      rests = λ known. rests_then _ _ _ (c.loop-done.invariant.rests known) (c.in_ok-read.ensures.filled known).rests;
-      bytes = λ known. piece_read c.args.at c.loop-done.done c.min-count.result _ _ c.loop-done.into.items _ _ _ (c.loop-done.invariant.bytes known) (c.loop-done.invariant.rests known).content long (c.in_ok-read.ensures.filled known).bytes c.in_ok-extend_from_slice.ensures.items;
+      rests = λ known. rests_then _ _ _ (c.loop-done.invariant.rests known) (c.in_ok-read.ensures.filled (still c.loop-done.invariant.same known)).rests;
+      bytes = λ known. piece_read c.args.at c.loop-done.done c.min-count.result _ _ c.loop-done.into.items _ _ _ (c.loop-done.invariant.bytes known) (c.loop-done.invariant.rests known).content long (c.in_ok-read.ensures.filled (still c.loop-done.invariant.same known)).bytes c.in_ok-extend_from_slice.ensures.items;
+      same = search rules;
       faults = search rules;
       full = λ more. omega (arith, one, full, more);
       reads = omega (arith, one, full);
@@ -50,7 +51,7 @@ pub returns-in_err-read-clause-kinds : goal.returns-in_err-read-clause-kinds
 returns-in_err-read-clause-kinds g c = disk_kinds c.from_residual.result c.in_err-read.field-0.0 c.from_residual.ensures.1
 
 pub returns-in_err-read-clause-cause : goal.returns-in_err-read-clause-cause
-returns-in_err-read-clause-cause g c = disk_accounts c.from_residual.result _ _ _ c.in_err-read.field-0.0 c.loop-done.invariant.faults c.in_err-read.ensures.cause c.from_residual.ensures.1
+returns-in_err-read-clause-cause g c = disk_accounts c.from_residual.result _ _ _ c.in_err-read.field-0.0 c.loop-done.invariant.same c.loop-done.invariant.faults c.in_err-read.ensures.cause c.from_residual.ensures.1
 
 pub returns-in_err-extend_from_slice-clause-kinds : goal.returns-in_err-extend_from_slice-clause-kinds
 returns-in_err-extend_from_slice-clause-kinds g c = memory_kinds c.from_residual-in_err-extend_from_slice.result c.from_residual-in_err-extend_from_slice.ensures.1

@@ -1,5 +1,5 @@
-use Rattle.std.proofs.Common.{◌≡◌, ◌≤◌, ◌<◌, ◌+◌, ◌-◌, ◌*◌, IsTrue, take, drop}
-use Rattle.cp_disk.specs.Views.{Rests}
+use Rattle.std.proofs.Common.{◌≡◌, ◌≤◌, ◌<◌, ◌+◌, ◌-◌, ◌*◌, take, drop}
+use Rattle.cp_disk.specs.Views.{IfKnown, Rests}
 use Rattle.cp_journal.proofs.reading.read_range.Given as goal
 
 abbrev pub decreases-loop-done : goal.decreases-loop-done
@@ -8,9 +8,10 @@ decreases-loop-done g l = l.len - l.done
 abbrev pub invariant-loop-done : goal.invariant-loop-done
 invariant-loop-done g l = record {
   within : l.done ≤ l.len;
-  rests : IsTrue g.D.Disk.is_known → Rests (g.D.Disk.view l.initial.disk) (g.D.Disk.view l.disk);
-  bytes : IsTrue g.D.Disk.is_known → l.into.items ≡ take l.done (drop l.at (g.D.Disk.view l.initial.disk).content);
-  faults : (g.D.Disk.counts l.disk).faults ≡ (g.D.Disk.counts l.initial.disk).faults;
-  full : l.done < l.len → 4096 * (g.D.Disk.counts l.disk).reads ≤ 4096 * (g.D.Disk.counts l.initial.disk).reads + l.done;
-  reads : 4096 * (g.D.Disk.counts l.disk).reads ≤ 4096 * (g.D.Disk.counts l.initial.disk).reads + l.done + 4095;
+  rests : Rests (g.D.Disk.known l.initial.disk) (g.D.Disk.known l.disk);
+  bytes : IfKnown (g.D.Disk.known l.initial.disk) (λ v. l.into.items ≡ take l.done (drop l.at v.content));
+  same : (g.D.Disk.known l.disk).known ≡ (g.D.Disk.known l.initial.disk).known;
+  faults : (g.D.Disk.known l.disk).counts.faults ≡ (g.D.Disk.known l.initial.disk).counts.faults;
+  full : l.done < l.len → 4096 * (g.D.Disk.known l.disk).counts.reads ≤ 4096 * (g.D.Disk.known l.initial.disk).counts.reads + l.done;
+  reads : 4096 * (g.D.Disk.known l.disk).counts.reads ≤ 4096 * (g.D.Disk.known l.initial.disk).counts.reads + l.done + 4095;
 }

@@ -1,5 +1,5 @@
 use Rattle.std.proofs.Common.{rules, arith, ap, ◌∙◌, length, subst, List, ℕ, ◌≤◌, ◌+◌}
-use Rattle.cp_disk.proofs.Composing.{rests_then}
+use Rattle.cp_disk.proofs.Composing.{still, rests_then}
 use Rattle.cp_journal.specs.Walks.{IsWholeAt}
 use Rattle.cp_journal.proofs.Places.{in_range-pushed}
 use Rattle.cp_journal.proofs.Stretch.{stretch_more, reads_few}
@@ -11,15 +11,17 @@ loop-frames-preserved g c = record {
       let room : c.loop-frames.next + 10 + c.in-Whole.len ≤ c.look.new.size = search rules in
       omega (arith, room, c.look.ensures.most);
   most = c.look.ensures.most;
-  size = λ known. c.look.ensures.size known ∙ ap length (c.loop-frames.invariant.rests known).content;
+  size = λ known. c.look.ensures.size (still c.loop-frames.invariant.same known) ∙ ap length (c.loop-frames.invariant.rests known).content;
   range =
       let room : c.loop-frames.next + 10 + c.in-Whole.len ≤ c.look.new.size = search rules in
       in_range-pushed _ _ _ _ _ c.in_ok-push-in-Whole.ensures.items c.loop-frames.invariant.range (omega (arith, room, c.look.ensures.most));
+  same = search rules;
   faults = search rules;
   reads = search rules;
-  rests = λ known. rests_then _ _ _ (c.loop-frames.invariant.rests known) (c.look.ensures.rests known);
+  rests = λ known. rests_then _ _ _ (c.loop-frames.invariant.rests known) (c.look.ensures.rests (still c.loop-frames.invariant.same known));
   found = λ known.
-      let seen : IsWholeAt c.loop-frames.next (g.D.Disk.view c.loop-frames.disk).content c.in-Whole.tag c.in-Whole.len = search rules in
+      let here_known = still c.loop-frames.invariant.same known in
+      let seen : IsWholeAt c.loop-frames.next (g.D.Disk.known c.loop-frames.disk).view.content c.in-Whole.tag c.in-Whole.len = search rules in
       let here = subst (λ (l : List ℕ). IsWholeAt c.loop-frames.next l c.in-Whole.tag c.in-Whole.len) (c.loop-frames.invariant.rests known).content seen in
       stretch_more _ _ _ _ _ _ _ (c.loop-frames.invariant.found known) here c.in_ok-push-in-Whole.ensures.items;
 }

@@ -1,5 +1,5 @@
-use Rattle.std.proofs.Common.{◌≡◌, ◌≤◌, ◌+◌, ◌-◌, ◌*◌, List, IsTrue, length}
-use Rattle.cp_disk.specs.Views.{Rests}
+use Rattle.std.proofs.Common.{◌≡◌, ◌≤◌, ◌+◌, ◌-◌, ◌*◌, List, length}
+use Rattle.cp_disk.specs.Views.{IfKnown, Rests}
 use Rattle.cp_disk.specs.declared.limits.TheConstants.{DISK_MAX}
 use Rattle.cp_journal.specs.Frames.{Frame}
 use Rattle.cp_journal.specs.Walks.{Stretches}
@@ -13,10 +13,11 @@ abbrev pub invariant-loop-frames : goal.invariant-loop-frames
 invariant-loop-frames g l = record {
   within : l.next ≤ DISK_MAX;
   most : l.size ≤ DISK_MAX;
-  size : IsTrue g.D.Disk.is_known → l.size ≡ length (g.D.Disk.view l.initial.disk).content;
+  size : IfKnown (g.D.Disk.known l.initial.disk) (λ v. l.size ≡ length v.content);
   range : AreInRange l.frames.items;
-  faults : (g.D.Disk.counts l.disk).faults ≡ (g.D.Disk.counts l.initial.disk).faults;
-  reads : (g.D.Disk.counts l.disk).reads ≤ (g.D.Disk.counts l.initial.disk).reads + 2 * length l.frames.items;
-  rests : IsTrue g.D.Disk.is_known → Rests (g.D.Disk.view l.initial.disk) (g.D.Disk.view l.disk);
-  found : IsTrue g.D.Disk.is_known → (fs : List Frame) × Stretches l.from fs l.next (g.D.Disk.view l.initial.disk).content × (l.frames.items ≡ places l.from fs);
+  same : (g.D.Disk.known l.disk).known ≡ (g.D.Disk.known l.initial.disk).known;
+  faults : (g.D.Disk.known l.disk).counts.faults ≡ (g.D.Disk.known l.initial.disk).counts.faults;
+  reads : (g.D.Disk.known l.disk).counts.reads ≤ (g.D.Disk.known l.initial.disk).counts.reads + 2 * length l.frames.items;
+  rests : Rests (g.D.Disk.known l.initial.disk) (g.D.Disk.known l.disk);
+  found : IfKnown (g.D.Disk.known l.initial.disk) (λ v. (fs : List Frame) × Stretches l.from fs l.next v.content × (l.frames.items ≡ places l.from fs));
 }

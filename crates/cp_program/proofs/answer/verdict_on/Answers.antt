@@ -1,6 +1,5 @@
-use Rattle.cp_workspace.specs.Disks.{known_disk}
 use Rattle.cp_program.proofs.Answered.{answered-verdict}
 use Rattle.cp_program.proofs.answer.verdict_on.Goals as goal
 
 pub returns-clause-answered : goal.returns-clause-answered
-returns-clause-answered g c = λ known. answered-verdict (known_disk g.D.Disk c.args.disk.now) c.in_ok-verdict.verdict (c.in_ok-verdict.ensures.verified known)
+returns-clause-answered g c = λ known. answered-verdict (g.D.Disk.known c.args.disk.now) c.in_ok-verdict.verdict (c.in_ok-verdict.ensures.verified known)

@@ -1,5 +1,4 @@
 use Rattle.cp_frame.specs.Stands.{OpensAndReplays}
-use Rattle.cp_workspace.specs.Disks.{known_disk}
 use Rattle.cp_program.specs.Answering.{IsVerdictOn}
 use Rattle.cp_interpreter.specs.Outside.{known_output}
 use Rattle.cp_program.proofs.Answered.{answered-end, causes-answer, disk-answer, short-answer}
@@ -9,7 +8,7 @@ pub returns-clause-ran : goal.returns-clause-ran
 returns-clause-ran g c = λ i f k.
     let met = c.verdict_on-answer.ensures in
     answered-end OpensAndReplays IsVerdictOn i f k (known_output g.O.Sink c.args.output.now) (known_output g.O.Sink c.give_answer.new.output)
-    (known_disk g.D.Disk c.args.disk.now) (known_disk g.D.Disk c.verdict_on-answer.new.disk) c.verdict_on-answer.result c.give_answer.result met.kinds met.answered met.rests c.give_answer.ensures.gave
+    (g.D.Disk.known c.args.disk.now) (g.D.Disk.known c.verdict_on-answer.new.disk) c.verdict_on-answer.result c.give_answer.result met.kinds met.answered met.rests c.give_answer.ensures.gave
 
 pub returns-clause-causes : goal.returns-clause-causes
 returns-clause-causes g c = λ i f k.
@@ -19,7 +18,7 @@ returns-clause-causes g c = λ i f k.
 pub returns-clause-disk : goal.returns-clause-disk
 returns-clause-disk g c =
     let met = c.verdict_on-answer.ensures in
-    disk-answer (known_disk g.D.Disk c.args.disk.now) (known_disk g.D.Disk c.verdict_on-answer.new.disk) (known_output g.O.Sink c.args.output.now) (known_output g.O.Sink c.give_answer.new.output)
+    disk-answer (g.D.Disk.known c.args.disk.now) (g.D.Disk.known c.verdict_on-answer.new.disk) (known_output g.O.Sink c.args.output.now) (known_output g.O.Sink c.give_answer.new.output)
     c.verdict_on-answer.result c.give_answer.result met.kinds c.give_answer.ensures.gave met.cause
 
 pub returns-clause-short : goal.returns-clause-short

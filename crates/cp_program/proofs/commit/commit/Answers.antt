@@ -1,8 +1,9 @@
 use Rattle.std.proofs.Common.{◌≡◌, Err, inr, refl, sym, subst}
 use Rattle.std.specs.Prelude.{IsTrue}
+use Rattle.cp_program.proofs.Answered.{disk-then}
+use Rattle.cp_disk.proofs.Composing.{still}
 use Rattle.cp_outside.specs.Causes.{Accounts}
 use Rattle.cp_workspace.specs.Files.{known_files}
-use Rattle.cp_workspace.specs.Disks.{known_disk}
 use Rattle.cp_interpreter.specs.Outside.{known_clock, known_output}
 use Rattle.cp_interpreter.specs.Begins.{BegunOn}
 use Rattle.cp_interpreter.specs.Scripts.{Committed}
@@ -20,9 +21,9 @@ returns-in_default-clause-ran g c = λ i.
     let k = known_clock g.K.Clock c.args.clock.now in
     let o = known_output g.O.Sink c.args.output.now in
     let p = known_output g.O.Sink c.out_of_memory.new.output in
-    let v = known_disk g.D.Disk c.args.disk.now in
+    let v = g.D.Disk.known c.args.disk.now in
     subst (λ e. Committed c.args.file c.args.curator (parts i f k o) (parts i f k p) v v e) (sym c.out_of_memory.ensures.end)
-    (committed-early c.args.file c.args.curator i f k o p v v how.Memory (inr (inr refl)) c.out_of_memory.ensures.wrote (λ known at h. absurd (cc)) (λ known never. same-rests v.view) (λ known h store. rests-leave h v v (same-rests v.view)))
+    (committed-early c.args.file c.args.curator i f k o p v v how.Memory (inr (inr refl)) c.out_of_memory.ensures.wrote (λ known at h. absurd (cc)) (λ known never. same-rests v.view) (λ known h store. rests-leave h v v store (same-rests v.view)))
 
 pub returns-in_default-clause-causes : goal.returns-in_default-clause-causes
 returns-in_default-clause-causes g c = λ i.
@@ -34,7 +35,7 @@ returns-in_default-clause-causes g c = λ i.
 
 pub returns-in_default-clause-disk : goal.returns-in_default-clause-disk
 returns-in_default-clause-disk g c =
-    let v = known_disk g.D.Disk c.args.disk.now in
+    let v = g.D.Disk.known c.args.disk.now in
     subst (λ e. DiskCauses v v e) (sym c.out_of_memory.ensures.end) (out-disk v)
 
 pub returns-in-Ok-begin-clause-ran : goal.returns-in-Ok-begin-clause-ran
@@ -47,11 +48,11 @@ returns-in-Ok-begin-clause-ran g c = λ i.
     let ka = known_clock g.K.Clock c.play_file-end.new.clock in
     let o = known_output g.O.Sink c.args.output.now in
     let oa = known_output g.O.Sink c.play_file-end.new.output in
-    let v = known_disk g.D.Disk c.args.disk.now in
-    let m = known_disk g.D.Disk c.begin.new.disk in
-    let w = known_disk g.D.Disk c.play_file-end.new.disk in
+    let v = g.D.Disk.known c.args.disk.now in
+    let m = g.D.Disk.known c.begin.new.disk in
+    let w = g.D.Disk.known c.play_file-end.new.disk in
     committed-ran view source_view c.args.file c.args.curator c.in-Ok-begin.session i f fa k ka o oa v m w c.play_file-end.result
-    c.in-Ok-begin.ensures.goes_on.1 (λ known. known) (λ known. subst (BegunOn view source_view c.args.curator v m) c.in-Ok-begin.is (c.begin.ensures.begun known)) c.begin.ensures.leaves
+    c.in-Ok-begin.ensures.goes_on.1 (still c.in-Ok-begin.ensures.cause.same) (λ known. subst (BegunOn view source_view c.args.curator v m) c.in-Ok-begin.is (c.begin.ensures.begun known)) c.begin.ensures.leaves
     (subst (λ n. RanScript view source_view c.in-Ok-begin.session n (world f k o) (world fa ka oa) m w c.play_file-end.result) c.as_str.ensures c.play_file-end.ensures.ran)
 
 pub returns-in-Ok-begin-clause-causes : goal.returns-in-Ok-begin-clause-causes
@@ -61,8 +62,10 @@ returns-in-Ok-begin-clause-causes g c = λ i.
 
 pub returns-in-Ok-begin-clause-disk : goal.returns-in-Ok-begin-clause-disk
 returns-in-Ok-begin-clause-disk g c =
-    let w = known_disk g.D.Disk c.play_file-end.new.disk in
-    subst (λ n. Accounts (λ e. e ≡ how.Disk) n w.counts.faults (result_of c.play_file-end.result)) c.in-Ok-begin.ensures.cause.steady c.play_file-end.ensures.disk
+    let v = g.D.Disk.known c.args.disk.now in
+    let m = g.D.Disk.known c.begin.new.disk in
+    let w = g.D.Disk.known c.play_file-end.new.disk in
+    disk-then v m w c.play_file-end.result c.in-Ok-begin.ensures.cause c.play_file-end.ensures.disk
 
 pub returns-clause-ran : goal.returns-clause-ran
 returns-clause-ran g c = λ i.
@@ -72,8 +75,8 @@ returns-clause-ran g c = λ i.
     let k = known_clock g.K.Clock c.args.clock.now in
     let o = known_output g.O.Sink c.args.output.now in
     let p = known_output g.O.Sink c.stopped.new.output in
-    let v = known_disk g.D.Disk c.args.disk.now in
-    let m = known_disk g.D.Disk c.begin.new.disk in
+    let v = g.D.Disk.known c.args.disk.now in
+    let m = g.D.Disk.known c.begin.new.disk in
     let stop = c.in-Err.stop in
     let kind = c.in-Err.ensures.kinds in
     let early = stop-early o p stop kind c.stopped.ensures.wrote in
@@ -92,7 +95,7 @@ returns-clause-causes g c = λ i.
 
 pub returns-clause-disk : goal.returns-clause-disk
 returns-clause-disk g c =
-    let v = known_disk g.D.Disk c.args.disk.now in
-    let m = known_disk g.D.Disk c.begin.new.disk in
+    let v = g.D.Disk.known c.args.disk.now in
+    let m = g.D.Disk.known c.begin.new.disk in
     let a = c.in-Err.ensures.cause in
-    subst (λ e. DiskCauses v m e) (sym c.stopped.ensures.end) (stop-disk v m c.in-Err.stop c.in-Err.ensures.kinds a.later a.blamed)
+    subst (λ e. DiskCauses v m e) (sym c.stopped.ensures.end) (stop-disk v m c.in-Err.stop c.in-Err.ensures.kinds a)

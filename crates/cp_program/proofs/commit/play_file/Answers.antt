@@ -2,7 +2,6 @@ use Rattle.std.proofs.Common.{◌≤◌, ◌+◌, length, IfOk, None, sym, subst
 use Rattle.cp_reply.specs.Lines.{lines}
 use Rattle.cp_reply.specs.declared.reply.Reply.{Reply}
 use Rattle.cp_workspace.specs.declared.limits.TheConstants.{FILE_MAX}
-use Rattle.cp_workspace.specs.Disks.{known_disk}
 use Rattle.cp_workspace.specs.Files.{known_files}
 use Rattle.cp_workspace.proofs.ReadCounts.{some-then}
 use Rattle.cp_interpreter.specs.Job.{is_refusal}
@@ -23,7 +22,7 @@ pub returns-in-Ok-Ok-clause-ran : goal.returns-in-Ok-Ok-clause-ran
 returns-in-Ok-Ok-clause-ran g c =
     let name = c.args.file.now in
     script-ran g.R.TreeRep.contents g.S.TreeRep.contents c.args.session.now name (known_files g.F.Files c.args.files.now) (known_files g.F.Files c.read_script.new.files) (known_clock g.K.Clock c.args.clock.now) (known_output g.O.Sink c.args.output.now)
-    (known_disk g.D.Disk c.args.disk.now) c.turns.result c.in-Ok-Ok.script c.turns.new.input (known_files g.F.Files c.turns.new.files) (known_clock g.K.Clock c.turns.new.clock) (known_output g.O.Sink c.turns.new.output) (known_disk g.D.Disk c.turns.new.disk)
+    (g.D.Disk.known c.args.disk.now) c.turns.result c.in-Ok-Ok.script c.turns.new.input (known_files g.F.Files c.turns.new.files) (known_clock g.K.Clock c.turns.new.clock) (known_output g.O.Sink c.turns.new.output) (g.D.Disk.known c.turns.new.disk)
     c.read_script.ensures.read c.turns.ensures.ran c.in-Ok-Ok.ensures.used.same c.turns.ensures.read
     (subst (λ r. IfOk r (λ s. length s.left ≤ FILE_MAX + length commit_text)) c.in-Ok-Ok.field-0-is c.in-Ok-Ok.ensures.short)
     (λ t w. subst (GivesScript (script_of (t name))) c.in-Ok-Ok.field-0-is (c.in-Ok-Ok.ensures.gives t w)) c.turns.ensures.causes.input
@@ -44,7 +43,7 @@ returns-in-Ok-Err-clause-ran g c =
     let p = known_output g.O.Sink c.end_with.new.output in
     let P : Reply → Type 0 = λ r. SaidLine (lines r) (is_refusal r) o p c.end_with.result in
     script-refused g.R.TreeRep.contents g.S.TreeRep.contents c.args.session.now name (known_files g.F.Files c.args.files.now) (known_files g.F.Files c.read_script.new.files) (known_clock g.K.Clock c.args.clock.now) o
-    (known_disk g.D.Disk c.args.disk.now) c.end_with.result p c.in-Ok-Err.why c.read_script.ensures.read
+    (g.D.Disk.known c.args.disk.now) c.end_with.result p c.in-Ok-Err.why c.read_script.ensures.read
     (λ t w. subst (GivesScript (script_of (t name))) c.in-Ok-Err.field-0-is (c.in-Ok-Err.ensures.gives t w)) (subst P c.refused.ensures c.end_with.ensures.said)
 
 pub returns-in-Ok-Err-clause-causes : goal.returns-in-Ok-Err-clause-causes
@@ -60,13 +59,13 @@ returns-in-Ok-Err-clause-disk g c =
     let o = known_output g.O.Sink c.args.output.now in
     let p = known_output g.O.Sink c.end_with.new.output in
     let P : Reply → Type 0 = λ r. SaidLine (lines r) (is_refusal r) o p c.end_with.result in
-    said-disk (refused_script c.in-Ok-Err.why) o p (known_disk g.D.Disk c.args.disk.now) c.end_with.result (subst P c.refused.ensures c.end_with.ensures.said)
+    said-disk (refused_script c.in-Ok-Err.why) o p (g.D.Disk.known c.args.disk.now) c.end_with.result (subst P c.refused.ensures c.end_with.ensures.said)
 
 pub returns-in-Err-clause-ran : goal.returns-in-Err-clause-ran
 returns-in-Err-clause-ran g c =
     let f = known_files g.F.Files c.args.files.now in
     let fb = known_files g.F.Files c.read_script.new.files in
-    let v = known_disk g.D.Disk c.args.disk.now in
+    let v = g.D.Disk.known c.args.disk.now in
     let b = known_world g.F.Files g.K.Clock g.O.Sink c.args.files.now c.args.clock.now c.args.output.now in
     let a = known_world g.F.Files g.K.Clock g.O.Sink c.read_script.new.files c.args.clock.now c.stopped.new.output in
     subst (λ e. RanScript g.R.TreeRep.contents g.S.TreeRep.contents c.args.session.now c.args.file.now b a v v e) (sym c.stopped.ensures.end)
@@ -85,5 +84,5 @@ returns-in-Err-clause-causes g c =
 
 pub returns-in-Err-clause-disk : goal.returns-in-Err-clause-disk
 returns-in-Err-clause-disk g c =
-    let v = known_disk g.D.Disk c.args.disk.now in
+    let v = g.D.Disk.known c.args.disk.now in
     subst (λ e. DiskCauses v v e) (sym c.stopped.ensures.end) (disk-still v (end_of_stop c.from.result) (early-no-disk c.in-Err.fault c.from.result c.from.ensures))

@@ -1,5 +1,4 @@
 use Rattle.std.proofs.Common.{sym, subst}
-use Rattle.cp_workspace.specs.Disks.{known_disk}
 use Rattle.cp_workspace.specs.Files.{known_files}
 use Rattle.cp_scratch.specs.Starts.{start_given, start_reads}
 use Rattle.cp_interpreter.specs.Outside.{known_output, Outside}
@@ -14,8 +13,8 @@ returns-in-Ok-clause-made g c = λ i k.
     let h = known_files g.F.Files c.make.new.files in
     let o = known_output g.O.Sink c.args.output.now in
     let p = known_output g.O.Sink c.end_with.new.output in
-    let v = known_disk g.D.Disk c.args.disk.now in
-    let w = known_disk g.D.Disk c.make.new.disk in
+    let v = g.D.Disk.known c.args.disk.now in
+    let w = g.D.Disk.known c.make.new.disk in
     let n = start_reads c.args.start in
     made-said c.args.kind (λ t. start_given t c.args.start) n i k f h o p v w c.in-Ok.reply c.end_with.result
     (subst (StoreMade c.args.kind (λ t. start_given t c.args.start) n f h v w) c.in-Ok.is c.make.ensures.made) c.end_with.ensures.said
@@ -26,8 +25,8 @@ returns-in-Err-clause-made g c = λ i k.
     let h = known_files g.F.Files c.make.new.files in
     let o = known_output g.O.Sink c.args.output.now in
     let p = known_output g.O.Sink c.stopped.new.output in
-    let v = known_disk g.D.Disk c.args.disk.now in
-    let w = known_disk g.D.Disk c.make.new.disk in
+    let v = g.D.Disk.known c.args.disk.now in
+    let w = g.D.Disk.known c.make.new.disk in
     let n = start_reads c.args.start in
     let b : Outside = record { input = i; files = f; clock = k; output = o } in
     let a : Outside = record { input = i; files = h; clock = k; output = p } in

@@ -1,6 +1,5 @@
 use Rattle.std.proofs.Common.{sym, subst}
 use Rattle.cp_reply.specs.Lines.{lines}
-use Rattle.cp_workspace.specs.Disks.{known_disk}
 use Rattle.cp_workspace.specs.Files.{known_files, UsesFiles}
 use Rattle.cp_interpreter.specs.Alone.{Loaded}
 use Rattle.cp_interpreter.specs.Begins.{LoadedAs}
@@ -18,8 +17,8 @@ returns-in-Ok-clause-ran g c = λ i k.
     let h = known_files g.F.Files c.reply_to_load.new.files in
     let o = known_output g.O.Sink c.args.output.now in
     let p = known_output g.O.Sink c.end_with.new.output in
-    let v = known_disk g.D.Disk c.args.disk.now in
-    let w = known_disk g.D.Disk c.reply_to_load.new.disk in
+    let v = g.D.Disk.known c.args.disk.now in
+    let w = g.D.Disk.known c.reply_to_load.new.disk in
     load-said i f h k o p c.args.source v w c.in-Ok.reply c.end_with.result (subst (LoadedAs c.args.source f h v w) c.in-Ok.is c.reply_to_load.ensures.loaded) c.end_with.ensures.said
 
 pub returns-in-Ok-clause-causes : goal.returns-in-Ok-clause-causes
@@ -30,8 +29,8 @@ returns-in-Ok-clause-causes g c = λ i k.
 
 pub returns-in-Ok-clause-disk : goal.returns-in-Ok-clause-disk
 returns-in-Ok-clause-disk g c =
-    disk-said (known_disk g.D.Disk c.args.disk.now) (known_disk g.D.Disk c.reply_to_load.new.disk) (lines c.in-Ok.reply) (is_refusal c.in-Ok.reply)
-    (known_output g.O.Sink c.args.output.now) (known_output g.O.Sink c.end_with.new.output) c.end_with.result c.in-Ok.ensures.cause.steady c.end_with.ensures.said
+    disk-said (g.D.Disk.known c.args.disk.now) (g.D.Disk.known c.reply_to_load.new.disk) (lines c.in-Ok.reply) (is_refusal c.in-Ok.reply)
+    (known_output g.O.Sink c.args.output.now) (known_output g.O.Sink c.end_with.new.output) c.end_with.result c.in-Ok.ensures.cause.same c.in-Ok.ensures.cause.account.steady c.end_with.ensures.said
 
 pub returns-in-Err-clause-ran : goal.returns-in-Err-clause-ran
 returns-in-Err-clause-ran g c = λ i k.
@@ -39,8 +38,8 @@ returns-in-Err-clause-ran g c = λ i k.
     let h = known_files g.F.Files c.reply_to_load.new.files in
     let o = known_output g.O.Sink c.args.output.now in
     let p = known_output g.O.Sink c.stopped.new.output in
-    let v = known_disk g.D.Disk c.args.disk.now in
-    let w = known_disk g.D.Disk c.reply_to_load.new.disk in
+    let v = g.D.Disk.known c.args.disk.now in
+    let w = g.D.Disk.known c.reply_to_load.new.disk in
     let b : Outside = record { input = i; files = f; clock = k; output = o } in
     let a : Outside = record { input = i; files = h; clock = k; output = p } in
     subst (λ e. Loaded c.args.source b a v w e) (sym c.stopped.ensures.end)
@@ -59,7 +58,7 @@ returns-in-Err-clause-causes g c = λ i k.
 
 pub returns-in-Err-clause-disk : goal.returns-in-Err-clause-disk
 returns-in-Err-clause-disk g c =
-    let v = known_disk g.D.Disk c.args.disk.now in
-    let w = known_disk g.D.Disk c.reply_to_load.new.disk in
+    let v = g.D.Disk.known c.args.disk.now in
+    let w = g.D.Disk.known c.reply_to_load.new.disk in
     let cause = c.in-Err.ensures.cause in
-    subst (λ e. DiskCauses v w e) (sym c.stopped.ensures.end) (disk-stopped v w c.in-Err.stop c.in-Err.ensures.loaded.kinds cause.later cause.blamed)
+    subst (λ e. DiskCauses v w e) (sym c.stopped.ensures.end) (disk-stopped v w c.in-Err.stop c.in-Err.ensures.loaded.kinds cause)

@@ -1,6 +1,6 @@
 use Rattle.std.proofs.Common.{Err, ap, subst}
 use Rattle.std.proofs.lemmas.Result.{err_from_is_err_and}
-use Rattle.cp_workspace.specs.Disks.{known_disk}
+use Rattle.cp_disk.proofs.Composing.{still}
 use Rattle.cp_workspace.specs.Files.{known_files}
 use Rattle.cp_interpreter.proofs.LoadedAlone.{loaded-not, loaded-said, loaded-stopped}
 use Rattle.cp_program.proofs.load.reply_to_load.Goals as goal
@@ -8,15 +8,15 @@ use Rattle.cp_program.proofs.load.reply_to_load.Goals as goal
 pub returns-in_ok-reply-in-Ok-clause-loaded : goal.returns-in_ok-reply-in-Ok-clause-loaded
 returns-in_ok-reply-in-Ok-clause-loaded g c =
     loaded-said g.R.TreeRep.contents g.S.TreeRep.contents c.args.source
-    (known_files g.F.Files c.args.files.now) (known_files g.F.Files c.load-reply.new.files) (known_disk g.D.Disk c.args.disk.now) (known_disk g.D.Disk c.open_workspace.new.disk) (known_disk g.D.Disk c.load-reply.new.disk)
-    c.in-Ok.workspace c.load-reply.new.self (λ known. known) c.open_workspace.ensures.rests c.in-Ok.ensures.opened
+    (known_files g.F.Files c.args.files.now) (known_files g.F.Files c.load-reply.new.files) (g.D.Disk.known c.args.disk.now) (g.D.Disk.known c.open_workspace.new.disk) (g.D.Disk.known c.load-reply.new.disk)
+    c.in-Ok.workspace c.load-reply.new.self (still c.in-Ok.ensures.cause.same) c.open_workspace.ensures.rests c.in-Ok.ensures.opened
     c.in_ok-reply-in-Ok.field-0 c.in_ok-reply-in-Ok.ensures.turned c.in_ok-reply-in-Ok.ensures.reads
 
 pub returns-in-Err-clause-loaded : goal.returns-in-Err-clause-loaded
 returns-in-Err-clause-loaded g c =
     let f = known_files g.F.Files c.args.files.now in
-    let v = known_disk g.D.Disk c.args.disk.now in
-    let m = known_disk g.D.Disk c.open_workspace.new.disk in
+    let v = g.D.Disk.known c.args.disk.now in
+    let m = g.D.Disk.known c.open_workspace.new.disk in
     loaded-not g.R.TreeRep.contents g.S.TreeRep.contents c.args.source f f v m m c.in-Err.stop c.in-Err.ensures.kinds c.open_workspace.ensures.rests c.in-Err.ensures.opened
 
 pub returns-in_err-reply-in-Ok-clause-loaded : goal.returns-in_err-reply-in-Ok-clause-loaded
@@ -25,11 +25,11 @@ returns-in_err-reply-in-Ok-clause-loaded g c =
     let source_view = g.S.TreeRep.contents in
     let f = known_files g.F.Files c.args.files.now in
     let h = known_files g.F.Files c.load-reply.new.files in
-    let v = known_disk g.D.Disk c.args.disk.now in
-    let m = known_disk g.D.Disk c.open_workspace.new.disk in
-    let w = known_disk g.D.Disk c.load-reply.new.disk in
+    let v = g.D.Disk.known c.args.disk.now in
+    let m = g.D.Disk.known c.open_workspace.new.disk in
+    let w = g.D.Disk.known c.load-reply.new.disk in
     let met = c.in_err-reply-in-Ok.ensures in
     let e = c.in_err-reply-in-Ok.field-0.0 in
     let p = err_from_is_err_and c.from_residual.result c.from_residual.ensures.1 in
-    rw p.1 (loaded-stopped view source_view c.args.source f h v m w c.in-Ok.workspace c.load-reply.new.self (λ known. known) c.open_workspace.ensures.rests c.in-Ok.ensures.opened
-    e p.0 p.2 met.turned met.reads (λ is z image. subst (λ d. (g.D.Disk.view d).images z) (met.untouched (ap (λ y. Err y) is)) image) (λ is. met.kinds (ap (λ y. Err y) is)))
+    rw p.1 (loaded-stopped view source_view c.args.source f h v m w c.in-Ok.workspace c.load-reply.new.self (still c.in-Ok.ensures.cause.same) c.open_workspace.ensures.rests c.in-Ok.ensures.opened
+    e p.0 p.2 met.turned met.reads (λ is z image. subst (λ d. (g.D.Disk.known d).view.images z) (met.untouched (ap (λ y. Err y) is)) image) (λ is. met.kinds (ap (λ y. Err y) is)))

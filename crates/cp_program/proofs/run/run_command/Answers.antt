@@ -1,42 +1,41 @@
 use Rattle.std.proofs.Common.{sym, subst}
 use Rattle.cp_workspace.specs.Files.{known_files}
-use Rattle.cp_workspace.specs.Disks.{known_disk}
 use Rattle.cp_words.specs.declared.command.Command.{Command}
 use Rattle.cp_interpreter.specs.Outside.{known_input, known_clock, known_outside}
 use Rattle.cp_program.specs.Calls.{DidCommand}
-use Rattle.cp_program.proofs.Called.{too-short}
+use Rattle.cp_program.proofs.Called.{too-long}
 use Rattle.cp_program.proofs.run.run_command.Goals as goal
 
 pub returns-in-Scratch-clause-ran : goal.returns-in-Scratch-clause-ran
 returns-in-Scratch-clause-ran g c =
     let before = known_outside g.F.Files g.K.Clock g.I.Source g.O.Sink c.args.files.now c.args.clock.now c.args.input.now c.args.output.now in
     let now = known_outside g.F.Files g.K.Clock g.I.Source g.O.Sink c.scratch.new.files c.scratch.new.clock c.scratch.new.input c.scratch.new.output in
-    let v = known_disk g.D.Disk c.args.disk.now in
-    subst (λ (a : Command). DidCommand a before now v v c.scratch.result) (sym c.in-Scratch.is) c.scratch.ensures.ran
+    let v = g.D.Disk.known c.args.disk.now in
+    subst (λ (a : Command). DidCommand a before now v v c.scratch.result) (sym c.in-Scratch.is) (c.scratch.ensures.ran, c.scratch.ensures.disk)
 
 pub returns-in-Scratch-clause-short : goal.returns-in-Scratch-clause-short
-returns-in-Scratch-clause-short g c = λ h s. too-short (g.I.Source.left c.args.input.now) (g.I.Source.left c.scratch.new.input) c.scratch.ensures.ran.taken c.scratch.result c.scratch.ensures.ran.took c.scratch.ensures.ran.too_much h s
+returns-in-Scratch-clause-short g c = too-long (g.I.Source.given c.args.input.now) (g.I.Source.given c.scratch.new.input) c.scratch.ensures.ran.taken c.scratch.result c.scratch.ensures.ran.counted c.scratch.ensures.ran.too_much
 
 pub returns-in-Init-clause-ran : goal.returns-in-Init-clause-ran
 returns-in-Init-clause-ran g c =
     let before = known_outside g.F.Files g.K.Clock g.I.Source g.O.Sink c.args.files.now c.args.clock.now c.args.input.now c.args.output.now in
     let now = known_outside g.F.Files g.K.Clock g.I.Source g.O.Sink c.init.new.files c.args.clock.now c.args.input.now c.init.new.output in
-    let v = known_disk g.D.Disk c.args.disk.now in
-    let w = known_disk g.D.Disk c.init.new.disk in
-    subst (λ (a : Command). DidCommand a before now v w c.init.result) (sym c.in-Init.is) (c.init.ensures.made (known_input g.I.Source c.args.input.now) (known_clock g.K.Clock c.args.clock.now))
+    let v = g.D.Disk.known c.args.disk.now in
+    let w = g.D.Disk.known c.init.new.disk in
+    subst (λ (a : Command). DidCommand a before now v w c.init.result) (sym c.in-Init.is) (c.init.ensures.made (known_input g.I.Source c.args.input.now) (known_clock g.K.Clock c.args.clock.now), c.init.ensures.short)
 
 pub returns-in-Init-clause-causes : goal.returns-in-Init-clause-causes
 returns-in-Init-clause-causes g c = c.init.ensures.causes (known_input g.I.Source c.args.input.now) (known_clock g.K.Clock c.args.clock.now)
 
 pub returns-in-Run-clause-short : goal.returns-in-Run-clause-short
-returns-in-Run-clause-short g c = λ h s. too-short (g.I.Source.left c.args.input.now) (g.I.Source.left c.run.new.input) c.run.ensures.ran.taken c.run.result c.run.ensures.ran.took c.run.ensures.ran.too_much h s
+returns-in-Run-clause-short g c = too-long (g.I.Source.given c.args.input.now) (g.I.Source.given c.run.new.input) c.run.ensures.ran.taken c.run.result c.run.ensures.ran.counted c.run.ensures.ran.too_much
 
 pub returns-in-Commit-clause-ran : goal.returns-in-Commit-clause-ran
 returns-in-Commit-clause-ran g c =
     let before = known_outside g.F.Files g.K.Clock g.I.Source g.O.Sink c.args.files.now c.args.clock.now c.args.input.now c.args.output.now in
     let now = known_outside g.F.Files g.K.Clock g.I.Source g.O.Sink c.commit.new.files c.commit.new.clock c.args.input.now c.commit.new.output in
-    let v = known_disk g.D.Disk c.args.disk.now in
-    let w = known_disk g.D.Disk c.commit.new.disk in
+    let v = g.D.Disk.known c.args.disk.now in
+    let w = g.D.Disk.known c.commit.new.disk in
     subst (λ (a : Command). DidCommand a before now v w c.commit.result) (sym c.in-Commit.is) (c.commit.ensures.ran (known_input g.I.Source c.args.input.now))
 
 pub returns-in-Commit-clause-causes : goal.returns-in-Commit-clause-causes
@@ -46,8 +45,8 @@ pub returns-in-Load-clause-ran : goal.returns-in-Load-clause-ran
 returns-in-Load-clause-ran g c =
     let before = known_outside g.F.Files g.K.Clock g.I.Source g.O.Sink c.args.files.now c.args.clock.now c.args.input.now c.args.output.now in
     let now = known_outside g.F.Files g.K.Clock g.I.Source g.O.Sink c.load.new.files c.args.clock.now c.args.input.now c.load.new.output in
-    let v = known_disk g.D.Disk c.args.disk.now in
-    let w = known_disk g.D.Disk c.load.new.disk in
+    let v = g.D.Disk.known c.args.disk.now in
+    let w = g.D.Disk.known c.load.new.disk in
     subst (λ (a : Command). DidCommand a before now v w c.load.result) (sym c.in-Load.is) (c.load.ensures.ran (known_input g.I.Source c.args.input.now) (known_clock g.K.Clock c.args.clock.now))
 
 pub returns-in-Load-clause-causes : goal.returns-in-Load-clause-causes
@@ -57,8 +56,8 @@ pub returns-in-Ask-clause-ran : goal.returns-in-Ask-clause-ran
 returns-in-Ask-clause-ran g c =
     let before = known_outside g.F.Files g.K.Clock g.I.Source g.O.Sink c.args.files.now c.args.clock.now c.args.input.now c.args.output.now in
     let now = known_outside g.F.Files g.K.Clock g.I.Source g.O.Sink c.args.files.now c.args.clock.now c.args.input.now c.ask.new.output in
-    let v = known_disk g.D.Disk c.args.disk.now in
-    let w = known_disk g.D.Disk c.ask.new.disk in
+    let v = g.D.Disk.known c.args.disk.now in
+    let w = g.D.Disk.known c.ask.new.disk in
     subst (λ (a : Command). DidCommand a before now v w c.ask.result) (sym c.in-Ask.is) (c.ask.ensures.ran (known_input g.I.Source c.args.input.now) (known_files g.F.Files c.args.files.now) (known_clock g.K.Clock c.args.clock.now))
 
 pub returns-in-Ask-clause-causes : goal.returns-in-Ask-clause-causes
@@ -68,8 +67,8 @@ pub returns-in-Show-clause-ran : goal.returns-in-Show-clause-ran
 returns-in-Show-clause-ran g c =
     let before = known_outside g.F.Files g.K.Clock g.I.Source g.O.Sink c.args.files.now c.args.clock.now c.args.input.now c.args.output.now in
     let now = known_outside g.F.Files g.K.Clock g.I.Source g.O.Sink c.args.files.now c.args.clock.now c.args.input.now c.show.new.output in
-    let v = known_disk g.D.Disk c.args.disk.now in
-    let w = known_disk g.D.Disk c.show.new.disk in
+    let v = g.D.Disk.known c.args.disk.now in
+    let w = g.D.Disk.known c.show.new.disk in
     subst (λ (a : Command). DidCommand a before now v w c.show.result) (sym c.in-Show.is) (c.show.ensures.ran (known_input g.I.Source c.args.input.now) (known_files g.F.Files c.args.files.now) (known_clock g.K.Clock c.args.clock.now))
 
 pub returns-in-Show-clause-causes : goal.returns-in-Show-clause-causes
@@ -79,8 +78,8 @@ pub returns-in-Log-clause-ran : goal.returns-in-Log-clause-ran
 returns-in-Log-clause-ran g c =
     let before = known_outside g.F.Files g.K.Clock g.I.Source g.O.Sink c.args.files.now c.args.clock.now c.args.input.now c.args.output.now in
     let now = known_outside g.F.Files g.K.Clock g.I.Source g.O.Sink c.args.files.now c.args.clock.now c.args.input.now c.list_commits.new.output in
-    let v = known_disk g.D.Disk c.args.disk.now in
-    let w = known_disk g.D.Disk c.list_commits.new.disk in
+    let v = g.D.Disk.known c.args.disk.now in
+    let w = g.D.Disk.known c.list_commits.new.disk in
     subst (λ (a : Command). DidCommand a before now v w c.list_commits.result) (sym c.in-Log.is) (c.list_commits.ensures.ran (known_input g.I.Source c.args.input.now) (known_files g.F.Files c.args.files.now) (known_clock g.K.Clock c.args.clock.now))
 
 pub returns-in-Log-clause-causes : goal.returns-in-Log-clause-causes
@@ -90,24 +89,24 @@ pub returns-in-Verify-clause-ran : goal.returns-in-Verify-clause-ran
 returns-in-Verify-clause-ran g c =
     let before = known_outside g.F.Files g.K.Clock g.I.Source g.O.Sink c.args.files.now c.args.clock.now c.args.input.now c.args.output.now in
     let now = known_outside g.F.Files g.K.Clock g.I.Source g.O.Sink c.args.files.now c.args.clock.now c.args.input.now c.verify_records.new.output in
-    let v = known_disk g.D.Disk c.args.disk.now in
-    let w = known_disk g.D.Disk c.verify_records.new.disk in
+    let v = g.D.Disk.known c.args.disk.now in
+    let w = g.D.Disk.known c.verify_records.new.disk in
     subst (λ (a : Command). DidCommand a before now v w c.verify_records.result) (sym c.in-Verify.is) (c.verify_records.ensures.ran (known_input g.I.Source c.args.input.now) (known_files g.F.Files c.args.files.now) (known_clock g.K.Clock c.args.clock.now))
 
 pub returns-in-Verify-clause-causes : goal.returns-in-Verify-clause-causes
 returns-in-Verify-clause-causes g c = c.verify_records.ensures.causes (known_input g.I.Source c.args.input.now) (known_files g.F.Files c.args.files.now) (known_clock g.K.Clock c.args.clock.now)
 
 pub returns-in-Commit-clause-short : goal.returns-in-Commit-clause-short
-returns-in-Commit-clause-short g c = λ h s. (c.commit.ensures.ran (known_input g.I.Source c.args.input.now)).short h
+returns-in-Commit-clause-short g c = λ h. absurd ((c.commit.ensures.ran (known_input g.I.Source c.args.input.now)).short h)
 
 pub returns-in-Load-clause-short : goal.returns-in-Load-clause-short
-returns-in-Load-clause-short g c = λ h s. (c.load.ensures.ran (known_input g.I.Source c.args.input.now) (known_clock g.K.Clock c.args.clock.now)).short h
+returns-in-Load-clause-short g c = λ h. absurd ((c.load.ensures.ran (known_input g.I.Source c.args.input.now) (known_clock g.K.Clock c.args.clock.now)).short h)
 
 pub returns-in-Generate-clause-ran : goal.returns-in-Generate-clause-ran
 returns-in-Generate-clause-ran g c =
     let before = known_outside g.F.Files g.K.Clock g.I.Source g.O.Sink c.args.files.now c.args.clock.now c.args.input.now c.args.output.now in
     let now = known_outside g.F.Files g.K.Clock g.I.Source g.O.Sink c.args.files.now c.args.clock.now c.args.input.now c.generate.new.output in
-    let v = known_disk g.D.Disk c.args.disk.now in
+    let v = g.D.Disk.known c.args.disk.now in
     subst (λ (a : Command). DidCommand a before now v v c.generate.result) (sym c.in-Generate.is) (c.generate.ensures.ran (known_input g.I.Source c.args.input.now) (known_files g.F.Files c.args.files.now) (known_clock g.K.Clock c.args.clock.now))
 
 pub returns-in-Generate-clause-causes : goal.returns-in-Generate-clause-causes

@@ -1,5 +1,4 @@
 use Rattle.std.proofs.Common.{sym, ◌∙◌}
-use Rattle.cp_workspace.specs.Disks.{known_disk}
 use Rattle.cp_interpreter.specs.Outside.{known_outside}
 use Rattle.cp_program.proofs.Called.{called}
 use Rattle.cp_program.proofs.run.run_cpdb.Goals as goal
@@ -11,4 +10,4 @@ returns-clause-call g c =
     rw (fits)
     (called c.in-Some.command (known_outside g.F.Files g.K.Clock g.I.Source g.O.Sink c.args.files.now c.args.clock.now c.args.input.now c.args.output.now)
     (known_outside g.F.Files g.K.Clock g.I.Source g.O.Sink c.run_command-end.new.files c.run_command-end.new.clock c.run_command-end.new.input c.run_command-end.new.output)
-    (known_disk g.D.Disk c.args.disk.now) (known_disk g.D.Disk c.run_command-end.new.disk) c.run_command-end.result _ c.status_of-2.ensures ran.ran ran.causes ran.disk ran.short)
+    (g.D.Disk.known c.args.disk.now) (g.D.Disk.known c.run_command-end.new.disk) c.run_command-end.result _ c.status_of-2.ensures ran.ran ran.causes ran.disk ran.short)

@@ -1,11 +1,10 @@
 use Rattle.std.proofs.Common.{inl, inr, refl, false, true}
 use Rattle.cp_db.proofs.Keeping.{stands-same}
-use Rattle.cp_workspace.specs.Disks.{known_disk}
 use Rattle.cp_interpreter.proofs.Opened.{none-migrated, unspent}
 use Rattle.cp_program.proofs.store.migrate.Goals as goal
 
 pub returns-then-version-eq2-clause-migrated : goal.returns-then-version-eq2-clause-migrated
-returns-then-version-eq2-clause-migrated g c = none-migrated g.R.TreeRep.contents g.S.TreeRep.contents c.args.db (known_disk g.D.Disk c.args.disk.now)
+returns-then-version-eq2-clause-migrated g c = none-migrated g.R.TreeRep.contents g.S.TreeRep.contents c.args.db (g.D.Disk.known c.args.disk.now)
 
 pub returns-in-Ok-clause-migrated : goal.returns-in-Ok-clause-migrated
 returns-in-Ok-clause-migrated g c = λ h z known k. (c.in-Ok.ensures.crash known h k, (stands-same g.R.TreeRep.contents g.S.TreeRep.contents c.args.db _ c.in-Ok.ensures.same true h z, c.in-Ok.ensures.kept known true h k, c.in-Ok.ensures.end))

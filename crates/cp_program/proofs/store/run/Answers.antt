@@ -1,8 +1,9 @@
 use Rattle.std.proofs.Common.{◌≡◌, Err, inr, refl, sym, subst}
 use Rattle.std.specs.Prelude.{IsTrue}
+use Rattle.cp_program.proofs.Answered.{disk-then}
+use Rattle.cp_disk.proofs.Composing.{still}
 use Rattle.cp_outside.specs.Causes.{Accounts}
 use Rattle.cp_workspace.specs.Files.{known_files}
-use Rattle.cp_workspace.specs.Disks.{known_disk}
 use Rattle.cp_interpreter.specs.Outside.{Outside, known_input, known_clock, known_output, known_outside}
 use Rattle.cp_interpreter.specs.Begins.{BegunOn}
 use Rattle.cp_interpreter.specs.Story.{RanOn, HasCauses, DiskCauses, result_of}
@@ -18,11 +19,11 @@ returns-in_default-clause-ran g c =
     let k = known_clock g.K.Clock c.args.clock.now in
     let o = known_output g.O.Sink c.args.output.now in
     let p = known_output g.O.Sink c.out_of_memory.new.output in
-    let v = known_disk g.D.Disk c.args.disk.now in
+    let v = g.D.Disk.known c.args.disk.now in
     let b : Outside = record { input = i; files = f; clock = k; output = o } in
     let a : Outside = record { input = i; files = f; clock = k; output = p } in
     subst (λ e. RanOn c.args.curator b a v v e) (sym c.out_of_memory.ensures.end)
-    (ran-early-on c.args.curator i f k o p v v how.Memory (inr (inr refl)) c.out_of_memory.ensures.wrote (λ known at h. absurd (cc)) (λ known never. same-rests v.view) (λ known h store. rests-leave h v v (same-rests v.view)))
+    (ran-early-on c.args.curator i f k o p v v how.Memory (inr (inr refl)) c.out_of_memory.ensures.wrote (λ known at h. absurd (cc)) (λ known never. same-rests v.view) (λ known h store. rests-leave h v v store (same-rests v.view)))
 
 pub returns-in_default-clause-causes : goal.returns-in_default-clause-causes
 returns-in_default-clause-causes g c =
@@ -37,26 +38,27 @@ returns-in_default-clause-causes g c =
 
 pub returns-in_default-clause-disk : goal.returns-in_default-clause-disk
 returns-in_default-clause-disk g c =
-    let v = known_disk g.D.Disk c.args.disk.now in
+    let v = g.D.Disk.known c.args.disk.now in
     subst (λ e. DiskCauses v v e) (sym c.out_of_memory.ensures.end) (out-disk v)
 
 pub returns-in-Ok-begin-clause-ran : goal.returns-in-Ok-begin-clause-ran
 returns-in-Ok-begin-clause-ran g c =
     let view = g.R.TreeRep.contents in
     let source_view = g.S.TreeRep.contents in
-    let v = known_disk g.D.Disk c.args.disk.now in
-    let m = known_disk g.D.Disk c.begin.new.disk in
-    let w = known_disk g.D.Disk c.turns-end.new.disk in
+    let v = g.D.Disk.known c.args.disk.now in
+    let m = g.D.Disk.known c.begin.new.disk in
+    let w = g.D.Disk.known c.turns-end.new.disk in
     ran-on view source_view c.args.curator c.in-Ok-begin.session
     (known_outside g.F.Files g.K.Clock g.I.Source g.O.Sink c.args.files.now c.args.clock.now c.args.input.now c.args.output.now)
     (known_outside g.F.Files g.K.Clock g.I.Source g.O.Sink c.turns-end.new.files c.turns-end.new.clock c.turns-end.new.input c.turns-end.new.output) v m w c.turns-end.result
-    c.in-Ok-begin.ensures.goes_on.1 (λ known. known) (λ known. subst (BegunOn view source_view c.args.curator v m) c.in-Ok-begin.is (c.begin.ensures.begun known)) c.begin.ensures.leaves c.turns-end.ensures.ran
+    c.in-Ok-begin.ensures.goes_on.1 (still c.in-Ok-begin.ensures.cause.same) (λ known. subst (BegunOn view source_view c.args.curator v m) c.in-Ok-begin.is (c.begin.ensures.begun known)) c.begin.ensures.leaves c.turns-end.ensures.ran
 
 pub returns-in-Ok-begin-clause-disk : goal.returns-in-Ok-begin-clause-disk
 returns-in-Ok-begin-clause-disk g c =
-    let v = known_disk g.D.Disk c.args.disk.now in
-    let w = known_disk g.D.Disk c.turns-end.new.disk in
-    subst (λ n. Accounts (λ e. e ≡ how.Disk) n w.counts.faults (result_of c.turns-end.result)) c.in-Ok-begin.ensures.cause.steady c.turns-end.ensures.disk
+    let v = g.D.Disk.known c.args.disk.now in
+    let m = g.D.Disk.known c.begin.new.disk in
+    let w = g.D.Disk.known c.turns-end.new.disk in
+    disk-then v m w c.turns-end.result c.in-Ok-begin.ensures.cause c.turns-end.ensures.disk
 
 pub returns-clause-ran : goal.returns-clause-ran
 returns-clause-ran g c =
@@ -67,8 +69,8 @@ returns-clause-ran g c =
     let k = known_clock g.K.Clock c.args.clock.now in
     let o = known_output g.O.Sink c.args.output.now in
     let p = known_output g.O.Sink c.stopped.new.output in
-    let v = known_disk g.D.Disk c.args.disk.now in
-    let m = known_disk g.D.Disk c.begin.new.disk in
+    let v = g.D.Disk.known c.args.disk.now in
+    let m = g.D.Disk.known c.begin.new.disk in
     let stop = c.in-Err.stop in
     let kind = c.in-Err.ensures.kinds in
     let early = stop-early o p stop kind c.stopped.ensures.wrote in
@@ -92,7 +94,7 @@ returns-clause-causes g c =
 
 pub returns-clause-disk : goal.returns-clause-disk
 returns-clause-disk g c =
-    let v = known_disk g.D.Disk c.args.disk.now in
-    let m = known_disk g.D.Disk c.begin.new.disk in
+    let v = g.D.Disk.known c.args.disk.now in
+    let m = g.D.Disk.known c.begin.new.disk in
     let a = c.in-Err.ensures.cause in
-    subst (λ e. DiskCauses v m e) (sym c.stopped.ensures.end) (stop-disk v m c.in-Err.stop c.in-Err.ensures.kinds a.later a.blamed)
+    subst (λ e. DiskCauses v m e) (sym c.stopped.ensures.end) (stop-disk v m c.in-Err.stop c.in-Err.ensures.kinds a)

@@ -1,5 +1,5 @@
-use Rattle.std.proofs.Common.{◌≡◌, ◌≤◌, length, take}
+use Rattle.cp_verify.proofs.Comparing.{AgreeSoFar}
 use Rattle.cp_verify.proofs.verification.first_difference.Given as goal
 
 abbrev pub invariant-loop-n : goal.invariant-loop-n
-invariant-loop-n l = record { within : l.n ≤ length l.fn.expected; same : take l.n l.fn.stored ≡ take l.n l.fn.expected }
+invariant-loop-n l = AgreeSoFar l.fn.stored l.fn.expected l.n l.ours l.theirs

@@ -1,6 +1,6 @@
 use Rattle.std.proofs.Common.{subst, sym, Ok, Err, true, arith}
 use Rattle.std.proofs.lemmas.Result.{err_from_is_err_and}
-use Rattle.cp_disk.specs.Views.{Keeps}
+use Rattle.cp_disk.specs.Views.{ViewKeeps}
 use Rattle.cp_db.specs.Writing.{HasCommitted, IsBeforeOrCommitted}
 use Rattle.cp_db.proofs.WritingTransactions.{made-cases, made-going, made-some, told-unfinished, told-unwritten, crash-unwritten}
 use Rattle.cp_db.proofs.database.Db.add_commit.Goals as goal
@@ -35,7 +35,7 @@ returns-in_err-add_step-clause-committed g c = λ p come s z.
 pub returns-in_err-add_step-clause-crash : goal.returns-in_err-add_step-clause-crash
 returns-in_err-add_step-clause-crash g c = λ known p come h z k.
     made-cases g.R.TreeRep.contents g.S.TreeRep.contents c.args.self.now c.args.transaction c.commit_limit.result c.in_ok-step.step (omega (arith, c.commit_limit.ensures)) (λ k ss t n p x. c.in_ok-step.ensures k ss t n p x)
-    (λ q. Keeps (IsBeforeOrCommitted h c.args.stamp q) (g.D.Disk.view c.args.disk.now) (g.D.Disk.view c.add_step.new.disk)) (λ ops made. c.add_step.ensures.crash known ops made h z k) p come z.state z.holds
+    (λ q. ViewKeeps (IsBeforeOrCommitted h c.args.stamp q) (g.D.Disk.known c.args.disk.now).view (g.D.Disk.known c.add_step.new.disk).view) (λ ops made. c.add_step.ensures.crash known ops made h z k) p come z.state z.holds
 
 pub returns-clause-committed : goal.returns-clause-committed
 returns-clause-committed g c = λ p come s z.
@@ -53,7 +53,7 @@ returns-clause-kept g c = λ known ops come h z k.
 pub returns-clause-crash : goal.returns-clause-crash
 returns-clause-crash g c = λ known p come h z k.
     made-cases g.R.TreeRep.contents g.S.TreeRep.contents c.args.self.now c.args.transaction c.commit_limit.result c.in_ok-step.step (omega (arith, c.commit_limit.ensures)) (λ k ss t n p x. c.in_ok-step.ensures k ss t n p x)
-    (λ q. Keeps (IsBeforeOrCommitted h c.args.stamp q) (g.D.Disk.view c.args.disk.now) (g.D.Disk.view c.add_step.new.disk)) (λ ops made. c.add_step.ensures.crash known ops made h z k) p come z.state z.holds
+    (λ q. ViewKeeps (IsBeforeOrCommitted h c.args.stamp q) (g.D.Disk.known c.args.disk.now).view (g.D.Disk.known c.add_step.new.disk).view) (λ ops made. c.add_step.ensures.crash known ops made h z k) p come z.state z.holds
 
 pub returns-in_err-add_step-clause-room : goal.returns-in_err-add_step-clause-room
 returns-in_err-add_step-clause-room g c = λ ops come s z full.

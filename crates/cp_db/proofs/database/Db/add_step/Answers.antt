@@ -44,7 +44,7 @@ keep_records-kept-requires-clause-next g c =
     let s = c.requires.stands.0 in
     let z = c.requires.stands.1 in
     let made = c.requires.made.1 s z in
-    rw (c.records.ensures)
+    rw (c.stamped_records.ensures c.args.stamp c.args.step.ops c.args.step.rows refl)
     (records-next g.R.TreeRep.contents s c.args.stamp c.requires.made.0 c.args.step made.0 made.1 g.S.TreeRep.contents c.args.self.now.committed z.committed)
 
 pub returns-in_err-kept-clause-crash : goal.returns-in_err-kept-clause-crash
@@ -66,7 +66,7 @@ returns-clause-committed g c = λ ops made s z.
     let size = step-size view s c.args.stamp ops c.args.step is.0 is.1 c.in-Ok.body.items c.in-Ok.ensures.0 c.in-Ok.ensures.1 c.in-Ok.ensures.2 in
     let counted : c.len.result ≡ commit_size s c.args.stamp ops = omega (arith, c.len.ensures, c.in-Ok.body.ok, size) in
     let kept : HasKept c.args.self.now.committed c.keep_records-kept.new.self c.args.step.tids c.args.step.rows =
-    subst (HasKept c.args.self.now.committed c.keep_records-kept.new.self c.args.step.tids) c.records.ensures c.in_ok-kept.ensures.kept in
+    subst (HasKept c.args.self.now.committed c.keep_records-kept.new.self c.args.step.tids) (c.stamped_records.ensures c.args.stamp c.args.step.ops c.args.step.rows refl) c.in_ok-kept.ensures.kept in
     let same = ap (λ d. d.committed) c.append.ensures.same in (
       ap (has_room (end_in c.args.self.now)) (sym counted) ∙ sym c.has_room.ensures ∙ c.if-not-has_room.false,
       (

@@ -1,5 +1,6 @@
 use Rattle.std.proofs.Common.{◌≡◌, ◌∙◌, true, [], ◌∷◌, ap, sym, subst, length, List, ℕ, refl, arith, Err}
 use Rattle.std.proofs.lemmas.Result.{err_from_is_err_and}
+use Rattle.cp_disk.proofs.Composing.{still}
 use Rattle.cp_model.specs.History.{start}
 use Rattle.cp_journal.specs.Frames.{entry}
 use Rattle.cp_frame.specs.Items.{Tell}
@@ -14,26 +15,26 @@ pub returns-in_err-journal-clause-crash : goal.returns-in_err-journal-clause-cra
 returns-in_err-journal-clause-crash g c = λ known.
     let tree = g.R.TreeRep.contents c.args.tree in
     let told = subst (λ (b : List ℕ). Tell true 2 (entry b ∷ []) (start c.args.kind tree ∷ [])) (sym c.deref.ensures.value) c.in_ok-body.ensures.told in
-    crash-started c.args.kind tree c.deref.result.now told _ _ _ (c.vacant.ensures.rests known) (c.create.ensures.crash known)
+    crash-started c.args.kind tree c.deref.result.now told _ _ _ (c.vacant.ensures.rests known) (c.create.ensures.crash (still c.vacant.ensures.cause.same known))
 
 pub returns-in_err-journal-clause-memory : goal.returns-in_err-journal-clause-memory
 returns-in_err-journal-clause-memory g c = λ known memory.
     let told = err_from_is_err_and c.from_residual-in_err-journal.result c.from_residual-in_err-journal.ensures.1 in
     let same : Err told.0 ≡ Err init.Memory = sym told.1 ∙ memory in
     let wanted : told.0 ≡ init.Memory = cc in
-    memory-started (Err c.in_err-journal.field-0.0) c.in_err-journal.field-0.0 told.0 refl told.2 wanted c.in_err-journal.ensures.kinds g.D.Disk.view (g.D.Disk.view c.args.disk.now) c.vacant.new.disk c.create.new.disk _ _ _
+    memory-started (Err c.in_err-journal.field-0.0) c.in_err-journal.field-0.0 told.0 refl told.2 wanted c.in_err-journal.ensures.kinds (λ d. (g.D.Disk.known d).view) (g.D.Disk.known c.args.disk.now).view c.vacant.new.disk c.create.new.disk _ _ _
     (c.vacant.ensures.rests known) c.vacant.ensures.wants c.in_err-journal.ensures.memory
 
 pub returns-clause-stands : goal.returns-clause-stands
 returns-clause-stands g c = λ right.
     stands-started g.R.TreeRep.contents g.S.TreeRep.contents right c.args.kind (g.R.TreeRep.contents c.args.tree) (g.met.R.TreeRep.is_tree c.args.tree) _
-    (record { committed = c.in_ok-committed.ensures.keeps; whole = c.in_ok-journal.ensures.usable.0; usable = c.in_ok-journal.ensures.usable.1; idle = c.in_ok-journal.ensures.idle }) c.in_ok-committed.ensures.none
+    (record { committed = c.start-committed.ensures.keeps; whole = c.in_ok-journal.ensures.usable.0; usable = c.in_ok-journal.ensures.usable.1; idle = c.in_ok-journal.ensures.idle }) c.start-committed.ensures.none
 
 pub returns-clause-kept : goal.returns-clause-kept
 returns-clause-kept g c = λ known.
     let tree = g.R.TreeRep.contents c.args.tree in
     let told = subst (λ (b : List ℕ). Tell true 2 (entry b ∷ []) (start c.args.kind tree ∷ [])) (sym c.deref.ensures.value) c.in_ok-body.ensures.told in
-    kept-started c.args.kind tree c.deref.result.now told _ (g.D.Disk.view c.create.new.disk) refl (c.in_ok-journal.ensures.described known)
+    kept-started c.args.kind tree c.deref.result.now told _ (g.D.Disk.known c.create.new.disk).view refl (c.in_ok-journal.ensures.described known)
 
 pub returns-clause-made : goal.returns-clause-made
 returns-clause-made g c = (refl, refl, omega (arith, c.in_ok-journal.ensures.next, ap length c.deref.ensures.value, c.in_ok-body.ensures.size))
@@ -42,4 +43,4 @@ pub returns-clause-crash : goal.returns-clause-crash
 returns-clause-crash g c = λ known.
     let tree = g.R.TreeRep.contents c.args.tree in
     let told = subst (λ (b : List ℕ). Tell true 2 (entry b ∷ []) (start c.args.kind tree ∷ [])) (sym c.deref.ensures.value) c.in_ok-body.ensures.told in
-    crash-started c.args.kind tree c.deref.result.now told _ _ _ (c.vacant.ensures.rests known) (c.create.ensures.crash known)
+    crash-started c.args.kind tree c.deref.result.now told _ _ _ (c.vacant.ensures.rests known) (c.create.ensures.crash (still c.vacant.ensures.cause.same known))

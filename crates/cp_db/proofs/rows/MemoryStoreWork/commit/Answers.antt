@@ -1,9 +1,5 @@
-use Rattle.std.proofs.Common.{◌≡◌, ◌∙◌, ◌+◌, ◌++◌, List, refl, sym, ap, subst}
-use Rattle.cp_model.specs.Changes.{AreNext}
-use Rattle.cp_model.specs.declared.record.Record.{Record}
+use Rattle.std.proofs.Common.{◌+◌, refl, sym}
 use Rattle.cp_operation.specs.Loaded.{sources_in}
-use Rattle.cp_db.specs.Committed.{ReplaysCommit}
-use Rattle.cp_db.specs.declared.work.CommitAt.{CommitAt}
 use Rattle.cp_db.proofs.TakingCommits.{replays-same}
 use Rattle.cp_db.proofs.TakingLists.{records-next}
 use Rattle.cp_db.proofs.Walking.{rows-commit}
@@ -11,18 +7,16 @@ use Rattle.cp_db.proofs.rows.MemoryStoreWork.commit.Goals as goal
 
 pub returns-in_default-clause-replayed : goal.returns-in_default-clause-replayed
 returns-in_default-clause-replayed g c =
-    replays-same (sources_in g.S.TreeRep.contents c.args.sources.now) (g.R.TreeRep.contents c.args.tree.now) (g.R.TreeRep.contents c.replay_commit.new.tree) c.args.commit.ops c.args.commit.records refl refl c.in_default.is
-    (subst (λ (k : CommitAt). ReplaysCommit (sources_in g.S.TreeRep.contents c.args.sources.now) (g.R.TreeRep.contents c.args.tree.now) (g.R.TreeRep.contents c.replay_commit.new.tree) c.args.kind c.args.last k.ops k.records c.in_ok-replayed.replayed) c.commit.view_is c.in_ok-replayed.ensures.replayed)
+    replays-same (sources_in g.S.TreeRep.contents c.args.sources.now) (g.R.TreeRep.contents c.args.tree.now) (g.R.TreeRep.contents c.replay_commit.new.tree) c.args.commit.ops c.args.commit.records refl refl c.in_default.is c.in_ok-replayed.ensures.replayed
 
-pub absorb-requires-clause-next : goal.absorb-requires-clause-next
-absorb-requires-clause-next g c =
+pub absorb_packed-requires-clause-next : goal.absorb_packed-requires-clause-next
+absorb_packed-requires-clause-next g c =
     let upto = c.args.self.now.rows.upto in
     let tids = c.in-Some.tids in
-    let is = replays-same (sources_in g.S.TreeRep.contents c.args.sources.now) (g.R.TreeRep.contents c.args.tree.now) (g.R.TreeRep.contents c.replay_commit.new.tree) c.args.commit.ops c.args.commit.records refl (sym c.requires.fits.1) c.in-Some.is
-    (subst (λ (k : CommitAt). ReplaysCommit (sources_in g.S.TreeRep.contents c.args.sources.now) (g.R.TreeRep.contents c.args.tree.now) (g.R.TreeRep.contents c.replay_commit.new.tree) c.args.kind c.args.last k.ops k.records c.in_ok-replayed.replayed) c.commit.view_is c.in_ok-replayed.ensures.replayed) in
-    subst (AreNext upto (upto + tids)) (sym (c.deref.ensures.value ∙ ap (λ (k : CommitAt). k.records) c.commit.view_is)) (records-next c.requires.sound.0 c.args.commit.ops upto (upto + tids) c.args.commit.records c.requires.sound.1 is.between)
+    let is = replays-same (sources_in g.S.TreeRep.contents c.args.sources.now) (g.R.TreeRep.contents c.args.tree.now) (g.R.TreeRep.contents c.replay_commit.new.tree) c.args.commit.ops c.args.commit.records refl (sym c.requires.fits.1) c.in-Some.is c.in_ok-replayed.ensures.replayed in
+    records-next c.requires.sound.0 c.args.commit.ops upto (upto + tids) c.args.commit.records c.requires.sound.1 is.between
 
 pub returns-in-Ok-clause-done : goal.returns-in-Ok-clause-done
 returns-in-Ok-clause-done g c = λ first place items s x done at.
-    rows-commit c.args.self.now.rows.list c.absorb.new.self.rows.list first place items s x c.args.commit c.args.kind c.args.last (sources_in g.S.TreeRep.contents c.args.sources.now) (g.R.TreeRep.contents c.args.tree.now) done at
-    (sym (c.in-Ok.ensures.rows c.args.self.now.rows.list refl) ∙ ap (λ (rs : List Record). c.args.self.now.rows.list ++ rs) (c.deref.ensures.value ∙ ap (λ (k : CommitAt). k.records) c.commit.view_is))
+    rows-commit c.args.self.now.rows.list c.absorb_packed.new.self.rows.list first place items s x c.args.commit c.args.kind c.args.last (sources_in g.S.TreeRep.contents c.args.sources.now) (g.R.TreeRep.contents c.args.tree.now) done at
+    (sym (c.in-Ok.ensures.rows c.args.self.now.rows.list refl))

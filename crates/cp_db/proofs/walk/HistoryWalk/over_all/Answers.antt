@@ -1,5 +1,6 @@
 use Rattle.std.proofs.Common.{◌≡◌, ◌∙◌, ◌≤◌, List, ℕ, length, sym, subst, arith}
 use Rattle.std.proofs.lemmas.Result.{err_from_is_err_and}
+use Rattle.cp_disk.proofs.Composing.{still}
 use Rattle.cp_journal.specs.Journals.{Lists}
 use Rattle.cp_db.specs.Walk.{TellsPassedAs}
 use Rattle.cp_db.proofs.OpeningFrames.{listed_length}
@@ -28,7 +29,7 @@ returns-in_err-go_on-clause-passed g c = λ known fs lists.
     let now = subst (λ (b : List ℕ). Lists c.args.from fs c.args.journal.now b) (sym (c.in_ok-start.ensures.rests known).content) lists in
     let came = come_first view source_view g.W.Work.fits g.W.Work.done c.args.version c.args.from fs c.in_ok-start.start c.in_ok-walk.walk (c.in_ok-start.ensures.started known c.args.version fs lists) c.in_ok-walk.ensures.reached c.in_ok-walk.ensures.done in
     passed (TellsPassedAs view source_view g.W.Work.fits g.W.Work.done c.args.version c.args.from fs) c.from_residual-in_err-go_on.result fault (err_from_is_err_and c.from_residual-in_err-go_on.result c.from_residual-in_err-go_on.ensures.1)
-    (tells_on view source_view g.W.Work.fits g.W.Work.done c.args.version c.args.from fs c.go_on.new.self fault (c.in_err-go_on.ensures.passed known _ c.args.from fs now came))
+    (tells_on view source_view g.W.Work.fits g.W.Work.done c.args.version c.args.from fs c.go_on.new.self fault (c.in_err-go_on.ensures.passed (still c.in_ok-start.ensures.cause.same known) _ c.args.from fs now came))
 
 pub returns-clause-passed : goal.returns-clause-passed
 returns-clause-passed g c = λ known fs lists.
@@ -37,7 +38,7 @@ returns-clause-passed g c = λ known fs lists.
     let now = subst (λ (b : List ℕ). Lists c.args.from fs c.args.journal.now b) (sym (c.in_ok-start.ensures.rests known).content) lists in
     let came = come_first view source_view g.W.Work.fits g.W.Work.done c.args.version c.args.from fs c.in_ok-start.start c.in_ok-walk.walk (c.in_ok-start.ensures.started known c.args.version fs lists) c.in_ok-walk.ensures.reached c.in_ok-walk.ensures.done in
     let some = c.in_ok-start.ensures.some in
-    (omega (arith, listed_length c.args.from fs c.args.journal.now _ lists, some), c.in_ok-go_on.ensures.passed known _ c.args.from fs now came)
+    (omega (arith, listed_length c.args.from fs c.args.journal.now _ lists, some), c.in_ok-go_on.ensures.passed (still c.in_ok-start.ensures.cause.same known) _ c.args.from fs now came)
 
 pub returns-clause-reached : goal.returns-clause-reached
 returns-clause-reached g c =

@@ -4,8 +4,8 @@ use Rattle.cp_disk.proofs.memory_disk.MemDiskDisk.cut.Goals as goal
 
 pub returns-then-fails_now-clause-cause : goal.returns-then-fails_now-clause-cause
 returns-then-fails_now-clause-cause c =
-    rw (← c.self.view_is) (counted_failure _ _ c.fails_now.ensures.later (c.fails_now.ensures.fault c.if-fails_now.true) refl)
+    rw (← c.self.view_is) (counted_failure _ _ refl c.fails_now.ensures.later (c.fails_now.ensures.fault c.if-fails_now.true) refl)
 
 pub returns-clause-cause : goal.returns-clause-cause
 returns-clause-cause c =
-    rw (← c.self.view_is) (counted_sure c.cut.result _ _ c.cut.ensures.sure (c.fails_now.ensures.none c.if-fails_now.false) c.cut.ensures.cause.wants)
+    rw (← c.self.view_is) (counted_sure c.cut.result _ _ refl c.cut.ensures.sure (c.fails_now.ensures.none c.if-fails_now.false) c.cut.ensures.cause.wants)

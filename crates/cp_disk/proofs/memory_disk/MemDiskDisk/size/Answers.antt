@@ -4,4 +4,4 @@ use Rattle.cp_disk.proofs.memory_disk.MemDiskDisk.size.Goals as goal
 
 pub returns-then-fails_now-clause-cause : goal.returns-then-fails_now-clause-cause
 returns-then-fails_now-clause-cause c =
-    rw (← c.self.view_is) (counted_failure _ _ c.fails_now.ensures.later (c.fails_now.ensures.fault c.if-fails_now.true) refl)
+    rw (← c.self.view_is) (counted_failure _ _ refl c.fails_now.ensures.later (c.fails_now.ensures.fault c.if-fails_now.true) refl)

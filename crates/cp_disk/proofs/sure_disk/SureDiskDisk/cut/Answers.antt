@@ -11,4 +11,4 @@ returns-clause-was_cut c = rw (← c.self.view_is) (cut_next _ _ _ c.self.invari
 
 pub returns-then-is_err-clause-cause : goal.returns-then-is_err-clause-cause
 returns-then-is_err-clause-cause c =
-    rw (← c.self.view_is) (counted_want _ _ refl c.saturating_add-self-inside.ensures (search rules))
+    rw (← c.self.view_is) (counted_want _ _ refl refl c.saturating_add-self-inside.ensures (search rules))

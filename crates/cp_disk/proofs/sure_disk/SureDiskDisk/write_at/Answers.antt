@@ -15,4 +15,4 @@ returns-clause-wrote c =
 
 pub returns-then-is_err-clause-cause : goal.returns-then-is_err-clause-cause
 returns-then-is_err-clause-cause c =
-    rw (← c.self.view_is) (counted_want _ _ refl c.saturating_add-self-inside.ensures (search rules))
+    rw (← c.self.view_is) (counted_want _ _ refl refl c.saturating_add-self-inside.ensures (search rules))

@@ -1,7 +1,7 @@
 use Rattle.std.proofs.Common.{◌+◌, take, drop, get_or, Ok, Err, sym, subst, arith}
 use Rattle.std.proofs.lemmas.List.{take_more, take_all}
 use Rattle.std.proofs.lemmas.Result.{err_from_is_err_and}
-use Rattle.cp_workspace.specs.Disks.{known_disk}
+use Rattle.cp_disk.proofs.Composing.{still}
 use Rattle.cp_interpreter.specs.Outside.{known_world}
 use Rattle.cp_interpreter.specs.Turns.{Uses, WasFed}
 use Rattle.cp_interpreter.proofs.Blame.{uses-none, uses-then}
@@ -12,9 +12,9 @@ pub loop-byte-init : goal.loop-byte-init
 loop-byte-init g c =
     let a = known_world g.F.Files g.K.Clock g.O.Sink c.args.files.now c.args.clock.now c.args.output.now in
     record {
-      went = fed-none g.R.TreeRep.contents g.S.TreeRep.contents c.args.self.now a (known_disk g.D.Disk c.args.disk.now);
+      went = fed-none g.R.TreeRep.contents g.S.TreeRep.contents c.args.self.now a (g.D.Disk.known c.args.disk.now);
       stays = c.requires.goes_on;
-      uses = uses-none a (known_disk g.D.Disk c.args.disk.now);
+      uses = uses-none a (g.D.Disk.known c.args.disk.now);
     }
 
 pub loop-byte-preserved : goal.loop-byte-preserved
@@ -25,14 +25,14 @@ loop-byte-preserved g c =
     let b = known_world g.F.Files g.K.Clock g.O.Sink c.args.files.now c.args.clock.now c.args.output.now in
     let m = known_world g.F.Files g.K.Clock g.O.Sink l.files l.clock l.output in
     let a = known_world g.F.Files g.K.Clock g.O.Sink n.files n.clock n.output in
-    let v = known_disk g.D.Disk c.args.disk.now in
-    let u = known_disk g.D.Disk l.disk in
-    let w = known_disk g.D.Disk n.disk in
+    let v = g.D.Disk.known c.args.disk.now in
+    let u = g.D.Disk.known l.disk in
+    let w = g.D.Disk.known n.disk in
     let first = l.invariant.uses in
     let next = c.in_ok-push.ensures.uses in
     record {
       went = subst (λ ys. WasFed g.R.TreeRep.contents g.S.TreeRep.contents ys c.args.self.now n.self b a v w (Ok tt)) (sym (take_more xs l.byte-index 0 (omega arith)))
-          (fed-then g.R.TreeRep.contents g.S.TreeRep.contents (take l.byte-index xs) (get_or xs l.byte-index 0) c.args.self.now l.self n.self b m a v u w l.invariant.went first.read next.read first.files.same (λ k. k) c.in_ok-push.ensures.went);
+          (fed-then g.R.TreeRep.contents g.S.TreeRep.contents (take l.byte-index xs) (get_or xs l.byte-index 0) c.args.self.now l.self n.self b m a v u w l.invariant.went first.read next.read first.files.same (still first.disk.same) c.in_ok-push.ensures.went);
       stays = c.in_ok-push.ensures.stays;
       uses = uses-then b m a v u w (Ok tt) first next;
     }
@@ -48,15 +48,15 @@ returns-in_err-push-clause-went g c =
     let b = known_world g.F.Files g.K.Clock g.O.Sink c.args.files.now c.args.clock.now c.args.output.now in
     let m = known_world g.F.Files g.K.Clock g.O.Sink l.files l.clock l.output in
     let a = known_world g.F.Files g.K.Clock g.O.Sink n.files n.clock n.output in
-    let v = known_disk g.D.Disk c.args.disk.now in
-    let u = known_disk g.D.Disk l.disk in
-    let w = known_disk g.D.Disk n.disk in
+    let v = g.D.Disk.known c.args.disk.now in
+    let u = g.D.Disk.known l.disk in
+    let w = g.D.Disk.known n.disk in
     let e = c.in_err-push.field-0.0 in
     let first = l.invariant.uses in
     let next = c.in_err-push.ensures.uses in
     let whole : WasFed g.R.TreeRep.contents g.S.TreeRep.contents xs c.args.self.now n.self b a v w (Err e) =
     subst (λ ys. WasFed g.R.TreeRep.contents g.S.TreeRep.contents ys c.args.self.now n.self b a v w (Err e)) (sym (split_at xs l.byte-index (omega arith)))
-    (fed-until g.R.TreeRep.contents g.S.TreeRep.contents (take l.byte-index xs) (get_or xs l.byte-index 0) c.args.self.now l.self n.self b m a v u w l.invariant.went first.read next.read first.files.same (λ k. k) (drop (l.byte-index + 1) xs) e c.in_err-push.ensures.went) in
+    (fed-until g.R.TreeRep.contents g.S.TreeRep.contents (take l.byte-index xs) (get_or xs l.byte-index 0) c.args.self.now l.self n.self b m a v u w l.invariant.went first.read next.read first.files.same (still first.disk.same) (drop (l.byte-index + 1) xs) e c.in_err-push.ensures.went) in
     let p = err_from_is_err_and c.from_residual.result c.from_residual.ensures.1 in rw (p.1, p.2) whole
 
 pub returns-in_err-push-clause-uses : goal.returns-in_err-push-clause-uses
@@ -66,9 +66,9 @@ returns-in_err-push-clause-uses g c =
     let b = known_world g.F.Files g.K.Clock g.O.Sink c.args.files.now c.args.clock.now c.args.output.now in
     let m = known_world g.F.Files g.K.Clock g.O.Sink l.files l.clock l.output in
     let a = known_world g.F.Files g.K.Clock g.O.Sink n.files n.clock n.output in
-    let v = known_disk g.D.Disk c.args.disk.now in
-    let u = known_disk g.D.Disk l.disk in
-    let w = known_disk g.D.Disk n.disk in
+    let v = g.D.Disk.known c.args.disk.now in
+    let u = g.D.Disk.known l.disk in
+    let w = g.D.Disk.known n.disk in
     let e = c.in_err-push.field-0.0 in
     let whole : Uses b a v w (Err e) = uses-then b m a v u w (Err e) l.invariant.uses c.in_err-push.ensures.uses in
     let p = err_from_is_err_and c.from_residual.result c.from_residual.ensures.1 in rw (p.1, p.2) whole
@@ -79,5 +79,5 @@ returns-clause-went g c =
     let l = c.loop-byte in
     subst (λ ys. WasFed g.R.TreeRep.contents g.S.TreeRep.contents ys c.args.self.now l.self
     (known_world g.F.Files g.K.Clock g.O.Sink c.args.files.now c.args.clock.now c.args.output.now) (known_world g.F.Files g.K.Clock g.O.Sink l.files l.clock l.output)
-    (known_disk g.D.Disk c.args.disk.now) (known_disk g.D.Disk l.disk) (Ok tt)) (take_all l.byte-index xs (omega (arith, c.loop-byte-test.false)))
+    (g.D.Disk.known c.args.disk.now) (g.D.Disk.known l.disk) (Ok tt)) (take_all l.byte-index xs (omega (arith, c.loop-byte-test.false)))
     l.invariant.went

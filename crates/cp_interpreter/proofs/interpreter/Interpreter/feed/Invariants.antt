@@ -1,5 +1,4 @@
 use Rattle.std.proofs.Common.{take, Ok}
-use Rattle.cp_workspace.specs.Disks.{known_disk}
 use Rattle.cp_interpreter.specs.Outside.{known_world}
 use Rattle.cp_interpreter.specs.Turns.{MayGoOn, WasFed, Uses}
 use Rattle.cp_interpreter.proofs.interpreter.Interpreter.feed.Given as goal
@@ -8,8 +7,8 @@ abbrev pub invariant-loop-byte : goal.invariant-loop-byte
 invariant-loop-byte g l = record {
   went : WasFed g.R.TreeRep.contents g.S.TreeRep.contents (take l.byte-index l.piece) l.initial.self l.self
       (known_world g.F.Files g.K.Clock g.O.Sink l.initial.files l.initial.clock l.initial.output) (known_world g.F.Files g.K.Clock g.O.Sink l.files l.clock l.output)
-      (known_disk g.D.Disk l.initial.disk) (known_disk g.D.Disk l.disk) (Ok tt);
-  stays : MayGoOn g.R.TreeRep.contents g.S.TreeRep.contents (known_disk g.D.Disk l.disk) l.self;
+      (g.D.Disk.known l.initial.disk) (g.D.Disk.known l.disk) (Ok tt);
+  stays : MayGoOn g.R.TreeRep.contents g.S.TreeRep.contents (g.D.Disk.known l.disk) l.self;
   uses : Uses (known_world g.F.Files g.K.Clock g.O.Sink l.initial.files l.initial.clock l.initial.output) (known_world g.F.Files g.K.Clock g.O.Sink l.files l.clock l.output)
-      (known_disk g.D.Disk l.initial.disk) (known_disk g.D.Disk l.disk) (Ok tt);
+      (g.D.Disk.known l.initial.disk) (g.D.Disk.known l.disk) (Ok tt);
 }

@@ -1,14 +1,13 @@
 use Rattle.std.proofs.Common.{refl}
 use Rattle.std.proofs.lemmas.Result.{err_from_is_err_and}
 use Rattle.std.specs.Option.{option_to_list}
-use Rattle.cp_workspace.specs.Disks.{known_disk}
 use Rattle.cp_interpreter.specs.Outside.{known_world}
 use Rattle.cp_interpreter.proofs.Plays.{after_cutter, goes_on-byte, pushed, unpushed}
 use Rattle.cp_interpreter.proofs.interpreter.Interpreter.push.Goals as goal
 
 pub run-requires : goal.run-requires
 run-requires g c = record {
-  goes_on = goes_on-byte g.R.TreeRep.contents g.S.TreeRep.contents (known_disk g.D.Disk c.args.disk.now) c.args.byte c.args.self.now (after_cutter c.args.self.now c.push.new.self) c.requires.goes_on c.in_ok-cut.ensures.ok.1 refl;
+  goes_on = goes_on-byte g.R.TreeRep.contents g.S.TreeRep.contents (g.D.Disk.known c.args.disk.now) c.args.byte c.args.self.now (after_cutter c.args.self.now c.push.new.self) c.requires.goes_on c.in_ok-cut.ensures.ok.1 refl;
 }
 
 pub returns-clause-went : goal.returns-clause-went
@@ -18,10 +17,10 @@ returns-clause-went g c =
     let n = c.run.new in
     pushed g.R.TreeRep.contents g.S.TreeRep.contents c.args.byte (option_to_list c.in_ok-cut.cut) old (after_cutter old c.push.new.self) n.self
     (known_world g.F.Files g.K.Clock g.O.Sink c.args.files.now c.args.clock.now c.args.output.now) (known_world g.F.Files g.K.Clock g.O.Sink n.files n.clock n.output)
-    (known_disk g.D.Disk c.args.disk.now) (known_disk g.D.Disk n.disk) c.run.result met.0 met.1 refl refl c.run.ensures.went
+    (g.D.Disk.known c.args.disk.now) (g.D.Disk.known n.disk) c.run.result met.0 met.1 refl refl c.run.ensures.went
 
 pub returns-in_err-cut-clause-went : goal.returns-in_err-cut-clause-went
 returns-in_err-cut-clause-went g c =
     let old = c.args.self.now in
     let p = err_from_is_err_and c.from_residual.result c.from_residual.ensures.1 in
-    rw p.1 (unpushed g.R.TreeRep.contents g.S.TreeRep.contents c.args.byte old (after_cutter old c.push.new.self) (known_world g.F.Files g.K.Clock g.O.Sink c.args.files.now c.args.clock.now c.args.output.now) (known_disk g.D.Disk c.args.disk.now) p.0 p.2)
+    rw p.1 (unpushed g.R.TreeRep.contents g.S.TreeRep.contents c.args.byte old (after_cutter old c.push.new.self) (known_world g.F.Files g.K.Clock g.O.Sink c.args.files.now c.args.clock.now c.args.output.now) (g.D.Disk.known c.args.disk.now) p.0 p.2)

@@ -3,11 +3,11 @@ use Rattle.std.proofs.KnownBytes.{Appends-nil}
 use Rattle.std.proofs.lemmas.Result.{err_from_is_err_and}
 use Rattle.std.specs.Option.{option_to_list}
 use Rattle.std.specs.declared.option.Option.{Option}
+use Rattle.cp_disk.proofs.Composing.{still}
 use Rattle.cp_lang.specs.declared.cut.Cut.{Cut}
 use Rattle.cp_reply.specs.declared.reply.Reply.{Reply}
 use Rattle.cp_reply.specs.Session.{turn}
 use Rattle.cp_workspace.specs.Texts.{setting}
-use Rattle.cp_workspace.specs.Disks.{known_disk}
 use Rattle.cp_workspace.specs.Files.{IsTable}
 use Rattle.cp_workspace.specs.Workspaces.{HasTurned}
 use Rattle.cp_interpreter.specs.Outside.{known_world}
@@ -21,7 +21,7 @@ returns-in_default-clause-went g c =
     let source_view = g.S.TreeRep.contents in
     let k = c.args.self.now in
     let a = known_world g.F.Files g.K.Clock g.O.Sink c.args.files.now c.args.clock.now c.args.output.now in
-    let v = known_disk g.D.Disk c.args.disk.now in
+    let v = g.D.Disk.known c.args.disk.now in
     let P : Option Cut → Type 0 = λ o. Went view source_view (λ t s. cuts_play t s (option_to_list o)) (λ t s. after_cuts t s (option_to_list o)) k k a a v v (Ok tt) in
     subst P (sym c.in_default.is) (went-none view source_view k a v)
 
@@ -34,13 +34,13 @@ returns-in-Some-2-clause-went g c =
     let n = c.reply_to.new in
     let b = known_world g.F.Files g.K.Clock g.O.Sink c.args.files.now c.args.clock.now c.args.output.now in
     let a = known_world g.F.Files g.K.Clock g.O.Sink n.files n.clock c.say.new.output in
-    let v = known_disk g.D.Disk c.args.disk.now in
-    let w = known_disk g.D.Disk n.disk in
+    let v = g.D.Disk.known c.args.disk.now in
+    let w = g.D.Disk.known n.disk in
     let cut = c.in-Some.cut in
     let r = c.in-Some-2.reply in
     let T : Option Reply → Type 0 = λ o. HasTurned view source_view (λ (z : Option Reply). z) (λ t terms s. turn (setting t terms) s cut) (λ t. IsTable t b.files a.files) old.workspace mid.workspace v w b.clock.left a.clock.left (Ok o) in
     let P : Option Cut → Type 0 = λ o. Went view source_view (λ t s. cuts_play t s (option_to_list o)) (λ t s. after_cuts t s (option_to_list o)) old c.say.new.self b a v w c.say.result in
-    subst P (sym c.in-Some.is) (went-said view source_view cut r old mid c.say.new.self b a v w c.say.result (subst T c.in-Some-2.is c.in_ok-reply.ensures.turned) c.in_ok-reply.ensures.reads (λ k. k) refl refl
+    subst P (sym c.in-Some.is) (went-said view source_view cut r old mid c.say.new.self b a v w c.say.result (subst T c.in-Some-2.is c.in_ok-reply.ensures.turned) c.in_ok-reply.ensures.reads (λ k. still (sym c.in_ok-reply.ensures.disk.same) k) refl refl
     c.say.ensures.went c.say.ensures.held c.say.ensures.workspace c.say.ensures.refused)
 
 pub returns-in-None-clause-went : goal.returns-in-None-clause-went
@@ -52,12 +52,12 @@ returns-in-None-clause-went g c =
     let new = after_reply old n.self in
     let b = known_world g.F.Files g.K.Clock g.O.Sink c.args.files.now c.args.clock.now c.args.output.now in
     let a = known_world g.F.Files g.K.Clock g.O.Sink n.files n.clock c.args.output.now in
-    let v = known_disk g.D.Disk c.args.disk.now in
-    let w = known_disk g.D.Disk n.disk in
+    let v = g.D.Disk.known c.args.disk.now in
+    let w = g.D.Disk.known n.disk in
     let cut = c.in-Some.cut in
     let T : Option Reply → Type 0 = λ o. HasTurned view source_view (λ (z : Option Reply). z) (λ t terms s. turn (setting t terms) s cut) (λ t. IsTable t b.files a.files) old.workspace new.workspace v w b.clock.left a.clock.left (Ok o) in
     let P : Option Cut → Type 0 = λ o. Went view source_view (λ t s. cuts_play t s (option_to_list o)) (λ t s. after_cuts t s (option_to_list o)) old new b a v w (Ok tt) in
-    subst P (sym c.in-Some.is) (went-silent view source_view cut old new b a v w (subst T c.in-None.is c.in_ok-reply.ensures.turned) c.in_ok-reply.ensures.reads (λ k. k) (Appends-nil b.output.contents) refl refl)
+    subst P (sym c.in-Some.is) (went-silent view source_view cut old new b a v w (subst T c.in-None.is c.in_ok-reply.ensures.turned) c.in_ok-reply.ensures.reads (λ k. still (sym c.in_ok-reply.ensures.disk.same) k) (Appends-nil b.output.contents) refl refl)
 
 pub returns-in_err-reply-clause-went : goal.returns-in_err-reply-clause-went
 returns-in_err-reply-clause-went g c =
@@ -68,12 +68,12 @@ returns-in_err-reply-clause-went g c =
     let new = after_reply old n.self in
     let b = known_world g.F.Files g.K.Clock g.O.Sink c.args.files.now c.args.clock.now c.args.output.now in
     let a = known_world g.F.Files g.K.Clock g.O.Sink n.files n.clock c.args.output.now in
-    let v = known_disk g.D.Disk c.args.disk.now in
-    let w = known_disk g.D.Disk n.disk in
+    let v = g.D.Disk.known c.args.disk.now in
+    let w = g.D.Disk.known n.disk in
     let cut = c.in-Some.cut in
     let met = c.in_err-reply.ensures in
     let e = c.in_err-reply.field-0.0 in
     let p = err_from_is_err_and c.from_residual.result c.from_residual.ensures.1 in
     let P : Option Cut → Type 0 = λ o. Went view source_view (λ t s. cuts_play t s (option_to_list o)) (λ t s. after_cuts t s (option_to_list o)) old new b a v w (Err p.0) in
-    rw p.1 (subst P (sym c.in-Some.is) (went-stopped_early view source_view cut old new b a v w e p.0 met.turned met.reads (λ k. k) p.2
-    (λ is z image. subst (λ d. (g.D.Disk.view d).images z) (met.same (ap (λ y. Err y) is)) image) (λ is z image. subst (λ d. (g.D.Disk.view d).images z) (met.untouched (ap (λ y. Err y) is)) image) (Appends-nil b.output.contents)))
+    rw p.1 (subst P (sym c.in-Some.is) (went-stopped_early view source_view cut old new b a v w e p.0 met.turned met.reads (λ k. still (sym met.disk.same) k) p.2
+    (λ is z image. subst (λ d. (g.D.Disk.known d).view.images z) (met.same (ap (λ y. Err y) is)) image) (λ is z image. subst (λ d. (g.D.Disk.known d).view.images z) (met.untouched (ap (λ y. Err y) is)) image) (Appends-nil b.output.contents)))

@@ -36,19 +36,19 @@ pub returns-in_err-bytes-clause-kinds : goal.returns-in_err-bytes-clause-kinds
 returns-in_err-bytes-clause-kinds g c = memory_kinds c.from_residual.result c.from_residual.ensures.1
 
 pub returns-in_err-bytes-clause-cause : goal.returns-in_err-bytes-clause-cause
-returns-in_err-bytes-clause-cause g c = memory_accounts c.from_residual.result _ _ refl c.from_residual.ensures.1
+returns-in_err-bytes-clause-cause g c = memory_accounts c.from_residual.result _ _ refl refl c.from_residual.ensures.1
 
 pub returns-in_err-journal-clause-kinds : goal.returns-in_err-journal-clause-kinds
 returns-in_err-journal-clause-kinds g c = memory_kinds c.from_residual-in_err-journal.result c.from_residual-in_err-journal.ensures.1
 
 pub returns-in_err-journal-clause-cause : goal.returns-in_err-journal-clause-cause
-returns-in_err-journal-clause-cause g c = memory_accounts c.from_residual-in_err-journal.result _ _ refl c.from_residual-in_err-journal.ensures.1
+returns-in_err-journal-clause-cause g c = memory_accounts c.from_residual-in_err-journal.result _ _ refl refl c.from_residual-in_err-journal.ensures.1
 
 pub returns-in_err-put_store-clause-kinds : goal.returns-in_err-put_store-clause-kinds
 returns-in_err-put_store-clause-kinds g c = disk_kinds c.from_residual-in_err-put_store.result c.in_err-put_store.field-0.0 c.from_residual-in_err-put_store.ensures.1
 
 pub returns-in_err-put_store-clause-cause : goal.returns-in_err-put_store-clause-cause
-returns-in_err-put_store-clause-cause g c = disk_accounts c.from_residual-in_err-put_store.result _ _ _ c.in_err-put_store.field-0.0 refl c.in_err-put_store.ensures.cause c.from_residual-in_err-put_store.ensures.1
+returns-in_err-put_store-clause-cause g c = disk_accounts c.from_residual-in_err-put_store.result _ _ _ c.in_err-put_store.field-0.0 refl refl c.in_err-put_store.ensures.cause c.from_residual-in_err-put_store.ensures.1
 
 pub returns-in_err-put_store-clause-memory : goal.returns-in_err-put_store-clause-memory
 returns-in_err-put_store-clause-memory g c = λ is. inr (disk_wants c.from_residual-in_err-put_store.result _ _ c.in_err-put_store.field-0.0 c.in_err-put_store.ensures.cause c.from_residual-in_err-put_store.ensures.1 is)

@@ -6,4 +6,4 @@ pub returns-in_err-is_vacant-clause-kinds : goal.returns-in_err-is_vacant-clause
 returns-in_err-is_vacant-clause-kinds g c = disk_kinds c.from_residual.result c.in_err-is_vacant.field-0.0 c.from_residual.ensures.1
 
 pub returns-in_err-is_vacant-clause-cause : goal.returns-in_err-is_vacant-clause-cause
-returns-in_err-is_vacant-clause-cause g c = disk_accounts c.from_residual.result _ _ _ c.in_err-is_vacant.field-0.0 refl c.in_err-is_vacant.ensures.cause c.from_residual.ensures.1
+returns-in_err-is_vacant-clause-cause g c = disk_accounts c.from_residual.result _ _ _ c.in_err-is_vacant.field-0.0 refl refl c.in_err-is_vacant.ensures.cause c.from_residual.ensures.1

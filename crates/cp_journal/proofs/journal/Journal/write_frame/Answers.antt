@@ -25,13 +25,13 @@ pub returns-in_err-bytes-clause-kinds : goal.returns-in_err-bytes-clause-kinds
 returns-in_err-bytes-clause-kinds g c = memory_kinds c.from_residual.result c.from_residual.ensures.1
 
 pub returns-in_err-bytes-clause-cause : goal.returns-in_err-bytes-clause-cause
-returns-in_err-bytes-clause-cause g c = memory_accounts c.from_residual.result _ _ refl c.from_residual.ensures.1
+returns-in_err-bytes-clause-cause g c = memory_accounts c.from_residual.result _ _ refl refl c.from_residual.ensures.1
 
 pub returns-in_err-put_frame-clause-kinds : goal.returns-in_err-put_frame-clause-kinds
 returns-in_err-put_frame-clause-kinds g c = disk_kinds c.from_residual-in_err-put_frame.result c.in_err-put_frame.field-0.0 c.from_residual-in_err-put_frame.ensures.1
 
 pub returns-in_err-put_frame-clause-cause : goal.returns-in_err-put_frame-clause-cause
-returns-in_err-put_frame-clause-cause g c = disk_accounts c.from_residual-in_err-put_frame.result _ _ _ c.in_err-put_frame.field-0.0 refl c.in_err-put_frame.ensures.cause c.from_residual-in_err-put_frame.ensures.1
+returns-in_err-put_frame-clause-cause g c = disk_accounts c.from_residual-in_err-put_frame.result _ _ _ c.in_err-put_frame.field-0.0 refl refl c.in_err-put_frame.ensures.cause c.from_residual-in_err-put_frame.ensures.1
 
 pub returns-in_err-put_frame-clause-memory : goal.returns-in_err-put_frame-clause-memory
 returns-in_err-put_frame-clause-memory g c = λ is. inr (disk_wants c.from_residual-in_err-put_frame.result _ _ c.in_err-put_frame.field-0.0 c.in_err-put_frame.ensures.cause c.from_residual-in_err-put_frame.ensures.1 is)

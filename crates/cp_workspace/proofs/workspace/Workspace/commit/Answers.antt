@@ -1,6 +1,5 @@
 use Rattle.std.proofs.Common.{[], refl, sym, subst, ◌∙◌}
 use Rattle.cp_workspace.specs.Texts.{setting}
-use Rattle.cp_workspace.specs.Disks.{known_disk}
 use Rattle.cp_workspace.specs.Workspaces.{IsBegun}
 use Rattle.cp_workspace.proofs.Committing.{turns-nothing, turns-unfinished, going-come}
 use Rattle.cp_workspace.proofs.workspace.Workspace.commit.Goals as goal
@@ -12,7 +11,7 @@ returns-in_default-clause-turned g c = record {
   turns = λ files known terms s rest z e.
       rw (c.refused_commit.ensures)
       (turns-nothing g.R.TreeRep.contents g.S.TreeRep.contents terms c.args.self.now (record c.args.self.now { transaction = c.take.new.self }) s z refl refl c.take.ensures.after
-      (setting files terms) (known_disk g.D.Disk c.args.disk.now) rest (sym c.take.ensures.value ∙ c.in_default.is) e);
+      (setting files terms) (g.D.Disk.known c.args.disk.now) rest (sym c.take.ensures.value ∙ c.in_default.is) e);
 }
 
 pub commit_going-requires-clause-going : goal.commit_going-requires-clause-going
@@ -29,5 +28,5 @@ returns-in-Failed-clause-turned g c = record {
   turns = λ files known terms s rest z e.
       rw (c.refused_commit-in-Failed.ensures)
       (turns-unfinished g.R.TreeRep.contents g.S.TreeRep.contents terms c.args.self.now (record c.args.self.now { transaction = c.take.new.self }) s z refl refl c.take.ensures.after
-      c.in-Some.transaction (sym c.take.ensures.value ∙ c.in-Some.is) (setting files terms) c.in-Failed.number _ (known_disk g.D.Disk c.args.disk.now) rest (λ k ss t n p h. c.in-Failed.ensures k ss t n p h) e);
+      c.in-Some.transaction (sym c.take.ensures.value ∙ c.in-Some.is) (setting files terms) c.in-Failed.number _ (g.D.Disk.known c.args.disk.now) rest (λ k ss t n p h. c.in-Failed.ensures k ss t n p h) e);
 }

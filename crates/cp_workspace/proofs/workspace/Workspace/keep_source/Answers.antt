@@ -3,7 +3,6 @@ use Rattle.std.specs.declared.option.Option.TheVariants.{Some}
 use Rattle.std.proofs.lemmas.Result.{err_from_is_err_and}
 use Rattle.cp_db.specs.Writing.{HasLoaded}
 use Rattle.cp_workspace.specs.declared.fault.WorkspaceFault.TheVariants as failed
-use Rattle.cp_workspace.specs.Disks.{known_disk}
 use Rattle.cp_workspace.proofs.Standing.{turns-failed-still, workspace-added, usable-shut}
 use Rattle.cp_workspace.proofs.Loading.{can-load, turns-loaded, turns-no_room, turns-unloaded, kept-unspent}
 use Rattle.cp_workspace.proofs.workspace.Workspace.keep_source.Goals as goal
@@ -11,7 +10,7 @@ use Rattle.cp_workspace.proofs.workspace.Workspace.keep_source.Goals as goal
 pub returns-in_err-loaded-clause-turned : goal.returns-in_err-loaded-clause-turned
 returns-in_err-loaded-clause-turned g c = λ files terms s z.
     let p = err_from_is_err_and c.from_residual.result c.from_residual.ensures.1 in
-    turns-failed-still g.R.TreeRep.contents g.S.TreeRep.contents (λ r. Some r) terms _ s s.moments c.args.self.now c.args.self.now (known_disk g.D.Disk c.args.disk.now) c.from_residual.result (p.0, p.1)
+    turns-failed-still g.R.TreeRep.contents g.S.TreeRep.contents (λ r. Some r) terms _ s s.moments c.args.self.now c.args.self.now (g.D.Disk.known c.args.disk.now) c.from_residual.result (p.0, p.1)
 
 pub load-requires-clause-can : goal.load-requires-clause-can
 load-requires-clause-can g c =

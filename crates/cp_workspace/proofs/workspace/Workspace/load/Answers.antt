@@ -8,7 +8,6 @@ use Rattle.cp_reply.specs.declared.reply.Of.TheVariants as of
 use Rattle.cp_reply.specs.declared.reply.Reply.TheVariants as reply
 use Rattle.cp_reply.specs.Session.{says, turn_of}
 use Rattle.cp_workspace.specs.Texts.{setting}
-use Rattle.cp_workspace.specs.Disks.{known_disk}
 use Rattle.cp_workspace.specs.Faults.{IsFileFault}
 use Rattle.cp_workspace.specs.Files.{known_files}
 use Rattle.cp_workspace.specs.Loads.{load_reads}
@@ -23,7 +22,7 @@ use Rattle.cp_workspace.proofs.workspace.Workspace.load.Goals as goal
 pub returns-in_err-why-clause-turned : goal.returns-in_err-why-clause-turned
 returns-in_err-why-clause-turned g c = λ files told terms s z.
     let p = err_from_is_err_and c.from_residual.result c.from_residual.ensures.1 in
-    turns-failed-still g.R.TreeRep.contents g.S.TreeRep.contents (λ r. Some r) terms (turn_of (setting files terms) s (says (stmt.Load c.args.load))) s s.moments c.args.self.now c.args.self.now (known_disk g.D.Disk c.args.disk.now) c.from_residual.result (p.0, p.1)
+    turns-failed-still g.R.TreeRep.contents g.S.TreeRep.contents (λ r. Some r) terms (turn_of (setting files terms) s (says (stmt.Load c.args.load))) s s.moments c.args.self.now c.args.self.now (g.D.Disk.known c.args.disk.now) c.from_residual.result (p.0, p.1)
 
 pub returns-in_err-why-clause-reads : goal.returns-in_err-why-clause-reads
 returns-in_err-why-clause-reads g c = λ terms s z.
@@ -35,7 +34,7 @@ pub returns-in-Some-clause-turned : goal.returns-in-Some-clause-turned
 returns-in-Some-clause-turned g c = λ files told terms s z.
     let view = g.R.TreeRep.contents in
     let source_view = g.S.TreeRep.contents in
-    let v = known_disk g.D.Disk c.args.disk.now in
+    let v = g.D.Disk.known c.args.disk.now in
     rw (c.refused_load.ensures)
     (subst (λ (x : Load). TurnsAs view source_view (λ r. Some r) terms (turn_of (setting files terms) s (says (stmt.Load x))) s s.moments c.args.self.now c.args.self.now v v (Ok (reply.Refused of.Load c.in-Some.why))) c.load.view_is
     (turns-not_loaded view source_view terms files c.args.self.now s z _ c.in-Some.why v (sym c.in-Some.is ∙ c.in_ok-why.ensures.why terms s z)))
@@ -48,7 +47,7 @@ returns-in-Some-clause-reads g c = λ terms s z.
 pub returns-in_err-tree-clause-turned : goal.returns-in_err-tree-clause-turned
 returns-in_err-tree-clause-turned g c = λ files told terms s z.
     let p = err_from_is_err_and c.from_residual-in_err-tree.result c.from_residual-in_err-tree.ensures.1 in
-    turns-failed-still g.R.TreeRep.contents g.S.TreeRep.contents (λ r. Some r) terms (turn_of (setting files terms) s (says (stmt.Load c.args.load))) s s.moments c.args.self.now c.args.self.now (known_disk g.D.Disk c.args.disk.now) c.from_residual-in_err-tree.result (p.0, p.1)
+    turns-failed-still g.R.TreeRep.contents g.S.TreeRep.contents (λ r. Some r) terms (turn_of (setting files terms) s (says (stmt.Load c.args.load))) s s.moments c.args.self.now c.args.self.now (g.D.Disk.known c.args.disk.now) c.from_residual-in_err-tree.result (p.0, p.1)
 
 pub returns-in_err-tree-clause-reads : goal.returns-in_err-tree-clause-reads
 returns-in_err-tree-clause-reads g c = λ terms s z.
@@ -60,8 +59,8 @@ pub returns-in-Ok-clause-turned : goal.returns-in-Ok-clause-turned
 returns-in-Ok-clause-turned g c = λ files told terms s z.
     let view = g.R.TreeRep.contents in
     let source_view = g.S.TreeRep.contents in
-    let v = known_disk g.D.Disk c.args.disk.now in
-    let w = known_disk g.D.Disk c.keep_source.new.disk in
+    let v = g.D.Disk.known c.args.disk.now in
+    let w = g.D.Disk.known c.keep_source.new.disk in
     subst (λ (x : Load). TurnsAs view source_view (λ r. Some r) terms (turn_of (setting files terms) s (says (stmt.Load x))) s s.moments c.args.self.now c.keep_source.new.self v w c.keep_source.result) c.load.view_is
     (turns-given view source_view terms files c.args.self.now s z _ c.keep_source.new.self v w (source_view c.in-Ok.tree) c.keep_source.result (sym c.in_default.is ∙ c.in_ok-why.ensures.why terms s z)
     (given-tree source_view _ c.in-Ok.tree (rw (sym c.as_str.ensures.value, sym c.in-Ok.is) (c.in_ok-tree.ensures.gives files told)))
@@ -77,7 +76,7 @@ pub returns-in-Err-clause-turned : goal.returns-in-Err-clause-turned
 returns-in-Err-clause-turned g c = λ files told terms s z.
     let view = g.R.TreeRep.contents in
     let source_view = g.S.TreeRep.contents in
-    let v = known_disk g.D.Disk c.args.disk.now in
+    let v = g.D.Disk.known c.args.disk.now in
     rw (c.refused_load-in-Err.ensures)
     (subst (λ (x : Load). TurnsAs view source_view (λ r. Some r) terms (turn_of (setting files terms) s (says (stmt.Load x))) s s.moments c.args.self.now c.args.self.now v v (Ok (reply.Refused of.Load c.in-Err.why))) c.load.view_is
     (turns-withheld view source_view terms files c.args.self.now s z _ c.in-Err.why v (sym c.in_default.is ∙ c.in_ok-why.ensures.why terms s z)

@@ -4,7 +4,6 @@ use Rattle.std.specs.declared.option.Option.TheVariants.{Some}
 use Rattle.cp_lang.specs.declared.cut.Cut.{Cut}
 use Rattle.cp_reply.specs.declared.reply.Why.TheVariants as why
 use Rattle.cp_reply.specs.Session.{Session, turn, turn_of, not_read}
-use Rattle.cp_workspace.specs.Disks.{known_disk}
 use Rattle.cp_workspace.specs.Texts.{Terms, setting, reading}
 use Rattle.cp_workspace.specs.Loads.{text_reads, cut_reads}
 use Rattle.cp_workspace.specs.Files.{known_files, IsTable, Reads}
@@ -20,8 +19,8 @@ returns-in-Text-clause-turned g c =
     let source_view = g.S.TreeRep.contents in
     let before = known_files g.F.Files c.args.files.now in
     let after = known_files g.F.Files c.run_text.new.files in
-    let v = known_disk g.D.Disk c.args.disk.now in
-    let w = known_disk g.D.Disk c.run_text.new.disk in
+    let v = g.D.Disk.known c.args.disk.now in
+    let w = g.D.Disk.known c.run_text.new.disk in
     let clock = g.K.Clock.left c.args.clock.now in
     let told = g.K.Clock.left c.run_text.new.clock in
     let P : Cut → Type 0 = λ x. HasTurned view source_view (λ r. r) (λ t terms s. turn (setting t terms) s x) (λ t. IsTable t before after) c.args.self.now c.run_text.new.self v w clock told c.run_text.result in
@@ -44,7 +43,7 @@ returns-in_ok-refuse-in-TooLong-clause-turned g c =
     let old = c.args.self.now in
     let new = c.refuse.new.self in
     let b = known_files g.F.Files c.args.files.now in
-    let v = known_disk g.D.Disk c.args.disk.now in
+    let v = g.D.Disk.known c.args.disk.now in
     let clock = g.K.Clock.left c.args.clock.now in
     let r = Some c.in_ok-refuse-in-TooLong.field-0 in
     let P : Cut → Type 0 = λ x. HasTurned view source_view (λ r. r) (λ t terms s. turn (setting t terms) s x) (λ t. IsTable t b b) old new v v clock clock (Ok r) in
@@ -53,14 +52,14 @@ returns-in_ok-refuse-in-TooLong-clause-turned g c =
 
 pub returns-in_ok-refuse-in-TooLong-clause-stays : goal.returns-in_ok-refuse-in-TooLong-clause-stays
 returns-in_ok-refuse-in-TooLong-clause-stays g c =
-    usable-kept g.R.TreeRep.contents g.S.TreeRep.contents c.args.self.now c.refuse.new.self (known_disk g.D.Disk c.args.disk.now) (file-same c.args.self.now.db c.refuse.new.self.db c.in_ok-refuse-in-TooLong.ensures.same) c.requires.usable c.in_ok-refuse-in-TooLong.ensures.stays
+    usable-kept g.R.TreeRep.contents g.S.TreeRep.contents c.args.self.now c.refuse.new.self (g.D.Disk.known c.args.disk.now) (file-same c.args.self.now.db c.refuse.new.self.db c.in_ok-refuse-in-TooLong.ensures.same) c.requires.usable c.in_ok-refuse-in-TooLong.ensures.stays
 
 pub returns-in_err-refuse-in-TooLong-clause-turned : goal.returns-in_err-refuse-in-TooLong-clause-turned
 returns-in_err-refuse-in-TooLong-clause-turned g c =
     let b = known_files g.F.Files c.args.files.now in
     let r = c.from_residual.result in
     let p = err_from_is_err_and r c.from_residual.ensures.1 in
-    turned-failed g.R.TreeRep.contents g.S.TreeRep.contents (λ t terms s. turn (setting t terms) s c.args.cut) c.args.self.now c.refuse.new.self (known_disk g.D.Disk c.args.disk.now) (λ r. r) (λ t. IsTable t b b) (g.K.Clock.left c.args.clock.now) r p.0 p.1
+    turned-failed g.R.TreeRep.contents g.S.TreeRep.contents (λ t terms s. turn (setting t terms) s c.args.cut) c.args.self.now c.refuse.new.self (g.D.Disk.known c.args.disk.now) (λ r. r) (λ t. IsTable t b b) (g.K.Clock.left c.args.clock.now) r p.0 p.1
 
 pub returns-in_ok-refuse-in-Unfinished-clause-turned : goal.returns-in_ok-refuse-in-Unfinished-clause-turned
 unfolding turn
@@ -70,7 +69,7 @@ returns-in_ok-refuse-in-Unfinished-clause-turned g c =
     let old = c.args.self.now in
     let new = c.refuse-in-Unfinished.new.self in
     let b = known_files g.F.Files c.args.files.now in
-    let v = known_disk g.D.Disk c.args.disk.now in
+    let v = g.D.Disk.known c.args.disk.now in
     let clock = g.K.Clock.left c.args.clock.now in
     let r = Some c.in_ok-refuse-in-Unfinished.field-0 in
     let P : Cut → Type 0 = λ x. HasTurned view source_view (λ r. r) (λ t terms s. turn (setting t terms) s x) (λ t. IsTable t b b) old new v v clock clock (Ok r) in
@@ -79,11 +78,11 @@ returns-in_ok-refuse-in-Unfinished-clause-turned g c =
 
 pub returns-in_ok-refuse-in-Unfinished-clause-stays : goal.returns-in_ok-refuse-in-Unfinished-clause-stays
 returns-in_ok-refuse-in-Unfinished-clause-stays g c =
-    usable-kept g.R.TreeRep.contents g.S.TreeRep.contents c.args.self.now c.refuse-in-Unfinished.new.self (known_disk g.D.Disk c.args.disk.now) (file-same c.args.self.now.db c.refuse-in-Unfinished.new.self.db c.in_ok-refuse-in-Unfinished.ensures.same) c.requires.usable c.in_ok-refuse-in-Unfinished.ensures.stays
+    usable-kept g.R.TreeRep.contents g.S.TreeRep.contents c.args.self.now c.refuse-in-Unfinished.new.self (g.D.Disk.known c.args.disk.now) (file-same c.args.self.now.db c.refuse-in-Unfinished.new.self.db c.in_ok-refuse-in-Unfinished.ensures.same) c.requires.usable c.in_ok-refuse-in-Unfinished.ensures.stays
 
 pub returns-in_err-refuse-in-Unfinished-clause-turned : goal.returns-in_err-refuse-in-Unfinished-clause-turned
 returns-in_err-refuse-in-Unfinished-clause-turned g c =
     let b = known_files g.F.Files c.args.files.now in
     let r = c.from_residual-in_err-refuse-in-Unfinished.result in
     let p = err_from_is_err_and r c.from_residual-in_err-refuse-in-Unfinished.ensures.1 in
-    turned-failed g.R.TreeRep.contents g.S.TreeRep.contents (λ t terms s. turn (setting t terms) s c.args.cut) c.args.self.now c.refuse-in-Unfinished.new.self (known_disk g.D.Disk c.args.disk.now) (λ r. r) (λ t. IsTable t b b) (g.K.Clock.left c.args.clock.now) r p.0 p.1
+    turned-failed g.R.TreeRep.contents g.S.TreeRep.contents (λ t terms s. turn (setting t terms) s c.args.cut) c.args.self.now c.refuse-in-Unfinished.new.self (g.D.Disk.known c.args.disk.now) (λ r. r) (λ t. IsTable t b b) (g.K.Clock.left c.args.clock.now) r p.0 p.1

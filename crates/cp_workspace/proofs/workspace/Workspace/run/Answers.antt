@@ -4,7 +4,6 @@ use Rattle.std.specs.declared.option.Option.TheVariants.{Some}
 use Rattle.cp_lang.specs.declared.syntax_tree.Stmt.TheVariants as stmt
 use Rattle.cp_model.specs.History.{replay}
 use Rattle.cp_reply.specs.Session.{says, turn_of}
-use Rattle.cp_workspace.specs.Disks.{known_disk}
 use Rattle.cp_workspace.specs.Texts.{setting}
 use Rattle.cp_workspace.specs.Files.{known_files, HasRead, IsTable, Reads}
 use Rattle.cp_workspace.specs.Loads.{load_reads, statement_reads}
@@ -19,7 +18,7 @@ returns-in_ok-operate-in-Op-clause-turned g c =
     let view = g.R.TreeRep.contents in
     let source_view = g.S.TreeRep.contents in
     let old = c.args.self.now in
-    let v = known_disk g.D.Disk c.args.disk.now in
+    let v = g.D.Disk.known c.args.disk.now in
     let b = known_files g.F.Files c.args.files.now in
     let clock = g.K.Clock.left c.args.clock.now in
     ran-quiet view source_view old c.operate.new.self v (λ t. IsTable t b b) clock (Ok c.in_ok-operate-in-Op.field-0) c.args.statement (stmt.Op c.in-Op.op) c.in-Op.is (file-same old.db c.operate.new.self.db c.in_ok-operate-in-Op.ensures.same)
@@ -30,7 +29,7 @@ returns-in_ok-operate-in-Op-clause-stays g c =
     let view = g.R.TreeRep.contents in
     let source_view = g.S.TreeRep.contents in
     let old = c.args.self.now in
-    let v = known_disk g.D.Disk c.args.disk.now in
+    let v = g.D.Disk.known c.args.disk.now in
     let b = known_files g.F.Files c.args.files.now in
     let clock = g.K.Clock.left c.args.clock.now in
     usable-kept view source_view old c.operate.new.self v (file-same old.db c.operate.new.self.db c.in_ok-operate-in-Op.ensures.same) c.requires.usable c.in_ok-operate-in-Op.ensures.stays
@@ -40,7 +39,7 @@ returns-in_err-operate-in-Op-clause-turned g c =
     let view = g.R.TreeRep.contents in
     let source_view = g.S.TreeRep.contents in
     let old = c.args.self.now in
-    let v = known_disk g.D.Disk c.args.disk.now in
+    let v = g.D.Disk.known c.args.disk.now in
     let b = known_files g.F.Files c.args.files.now in
     let clock = g.K.Clock.left c.args.clock.now in
     let p = err_from_is_err_and c.from_residual.result c.from_residual.ensures.1 in
@@ -51,7 +50,7 @@ returns-in_ok-ask-in-Ask-clause-turned g c =
     let view = g.R.TreeRep.contents in
     let source_view = g.S.TreeRep.contents in
     let old = c.args.self.now in
-    let v = known_disk g.D.Disk c.args.disk.now in
+    let v = g.D.Disk.known c.args.disk.now in
     let b = known_files g.F.Files c.args.files.now in
     let clock = g.K.Clock.left c.args.clock.now in
     ran-quiet view source_view old c.ask.new.self v (λ t. IsTable t b b) clock (Ok (Some c.in_ok-ask-in-Ask.field-0)) c.args.statement (stmt.Ask c.in-Ask.query) c.in-Ask.is (c.in_ok-ask-in-Ask.ensures.file)
@@ -62,7 +61,7 @@ returns-in_ok-ask-in-Ask-clause-stays g c =
     let view = g.R.TreeRep.contents in
     let source_view = g.S.TreeRep.contents in
     let old = c.args.self.now in
-    let v = known_disk g.D.Disk c.args.disk.now in
+    let v = g.D.Disk.known c.args.disk.now in
     let b = known_files g.F.Files c.args.files.now in
     let clock = g.K.Clock.left c.args.clock.now in
     usable-kept view source_view old c.ask.new.self v (c.in_ok-ask-in-Ask.ensures.file) c.requires.usable c.in_ok-ask-in-Ask.ensures.stays
@@ -72,7 +71,7 @@ returns-in_err-ask-in-Ask-clause-turned g c =
     let view = g.R.TreeRep.contents in
     let source_view = g.S.TreeRep.contents in
     let old = c.args.self.now in
-    let v = known_disk g.D.Disk c.args.disk.now in
+    let v = g.D.Disk.known c.args.disk.now in
     let b = known_files g.F.Files c.args.files.now in
     let clock = g.K.Clock.left c.args.clock.now in
     let p = err_from_is_err_and c.from_residual-in_err-ask-in-Ask.result c.from_residual-in_err-ask-in-Ask.ensures.1 in
@@ -83,7 +82,7 @@ returns-in_ok-show-in-Show-clause-turned g c =
     let view = g.R.TreeRep.contents in
     let source_view = g.S.TreeRep.contents in
     let old = c.args.self.now in
-    let v = known_disk g.D.Disk c.args.disk.now in
+    let v = g.D.Disk.known c.args.disk.now in
     let b = known_files g.F.Files c.args.files.now in
     let clock = g.K.Clock.left c.args.clock.now in
     ran-quiet view source_view old c.args.self.now v (λ t. IsTable t b b) clock (Ok (Some c.in_ok-show-in-Show.field-0)) c.args.statement (stmt.Show c.in-Show.place) c.in-Show.is (file-same old.db old.db refl)
@@ -94,7 +93,7 @@ returns-in_err-show-in-Show-clause-turned g c =
     let view = g.R.TreeRep.contents in
     let source_view = g.S.TreeRep.contents in
     let old = c.args.self.now in
-    let v = known_disk g.D.Disk c.args.disk.now in
+    let v = g.D.Disk.known c.args.disk.now in
     let b = known_files g.F.Files c.args.files.now in
     let clock = g.K.Clock.left c.args.clock.now in
     let p = err_from_is_err_and c.from_residual-in_err-show-in-Show.result c.from_residual-in_err-show-in-Show.ensures.1 in
@@ -105,7 +104,7 @@ returns-in-Abort-clause-turned g c =
     let view = g.R.TreeRep.contents in
     let source_view = g.S.TreeRep.contents in
     let old = c.args.self.now in
-    let v = known_disk g.D.Disk c.args.disk.now in
+    let v = g.D.Disk.known c.args.disk.now in
     let b = known_files g.F.Files c.args.files.now in
     let clock = g.K.Clock.left c.args.clock.now in
     ran-quiet view source_view old c.abort.new.self v (λ t. IsTable t b b) clock (Ok (Some c.abort.result)) c.args.statement stmt.Abort c.in-Abort.is (file-same old.db c.abort.new.self.db c.abort.ensures.same)
@@ -116,7 +115,7 @@ returns-in-Abort-clause-stays g c =
     let view = g.R.TreeRep.contents in
     let source_view = g.S.TreeRep.contents in
     let old = c.args.self.now in
-    let v = known_disk g.D.Disk c.args.disk.now in
+    let v = g.D.Disk.known c.args.disk.now in
     let b = known_files g.F.Files c.args.files.now in
     let clock = g.K.Clock.left c.args.clock.now in
     usable-kept view source_view old c.abort.new.self v (file-same old.db c.abort.new.self.db c.abort.ensures.same) c.requires.usable c.abort.ensures.stays
@@ -126,10 +125,10 @@ returns-in_ok-commit-in-Commit-clause-turned g c =
     let view = g.R.TreeRep.contents in
     let source_view = g.S.TreeRep.contents in
     let old = c.args.self.now in
-    let v = known_disk g.D.Disk c.args.disk.now in
+    let v = g.D.Disk.known c.args.disk.now in
     let b = known_files g.F.Files c.args.files.now in
     let clock = g.K.Clock.left c.args.clock.now in
-    let w = known_disk g.D.Disk c.commit.new.disk in
+    let w = g.D.Disk.known c.commit.new.disk in
     let after = g.K.Clock.left c.commit.new.clock in
     let r = c.in_ok-commit-in-Commit.field-0 in
     subst (λ x. HasTurned view source_view (λ r. r) (λ t terms s. turn_of (setting t terms) s (says x)) (λ t. IsTable t b b) old c.commit.new.self v w clock after (Ok (Some r))) (sym c.in-Commit.is)
@@ -140,10 +139,10 @@ returns-in_err-commit-in-Commit-clause-turned g c =
     let view = g.R.TreeRep.contents in
     let source_view = g.S.TreeRep.contents in
     let old = c.args.self.now in
-    let v = known_disk g.D.Disk c.args.disk.now in
+    let v = g.D.Disk.known c.args.disk.now in
     let b = known_files g.F.Files c.args.files.now in
     let clock = g.K.Clock.left c.args.clock.now in
-    let w = known_disk g.D.Disk c.commit.new.disk in
+    let w = g.D.Disk.known c.commit.new.disk in
     let after = g.K.Clock.left c.commit.new.clock in
     let r = c.from_residual-in_err-commit-in-Commit.result in
     let p = err_from_is_err_and r c.from_residual-in_err-commit-in-Commit.ensures.1 in
@@ -155,10 +154,10 @@ returns-in_ok-load-in-Load-clause-turned g c =
     let view = g.R.TreeRep.contents in
     let source_view = g.S.TreeRep.contents in
     let old = c.args.self.now in
-    let v = known_disk g.D.Disk c.args.disk.now in
+    let v = g.D.Disk.known c.args.disk.now in
     let b = known_files g.F.Files c.args.files.now in
     let clock = g.K.Clock.left c.args.clock.now in
-    let w = known_disk g.D.Disk c.load.new.disk in
+    let w = g.D.Disk.known c.load.new.disk in
     let a = known_files g.F.Files c.load.new.files in
     let load = c.in-Load.load in
     let r = c.in_ok-load-in-Load.field-0 in
@@ -171,10 +170,10 @@ returns-in_err-load-in-Load-clause-turned g c =
     let view = g.R.TreeRep.contents in
     let source_view = g.S.TreeRep.contents in
     let old = c.args.self.now in
-    let v = known_disk g.D.Disk c.args.disk.now in
+    let v = g.D.Disk.known c.args.disk.now in
     let b = known_files g.F.Files c.args.files.now in
     let clock = g.K.Clock.left c.args.clock.now in
-    let w = known_disk g.D.Disk c.load.new.disk in
+    let w = g.D.Disk.known c.load.new.disk in
     let a = known_files g.F.Files c.load.new.files in
     let load = c.in-Load.load in
     let r = c.from_residual-in_err-load-in-Load.result in

@@ -3,7 +3,6 @@ use Rattle.std.proofs.lemmas.Result.{err_from_is_err_and}
 use Rattle.std.specs.Prelude.{Ok}
 use Rattle.std.specs.declared.option.Option.TheVariants.{Some}
 use Rattle.cp_reply.specs.Session.{turn_of, not_read}
-use Rattle.cp_workspace.specs.Disks.{known_disk}
 use Rattle.cp_workspace.specs.Texts.{SaysAs, setting, reading}
 use Rattle.cp_workspace.specs.Files.{known_files, IsTable}
 use Rattle.cp_workspace.specs.Workspaces.{HasTurned}
@@ -22,7 +21,7 @@ returns-in_ok-refuse-in-Err-clause-turned g c =
     let source_view = g.S.TreeRep.contents in
     let old = c.args.self.now in
     let new = c.refuse.new.self in
-    let v = known_disk g.D.Disk c.args.disk.now in
+    let v = g.D.Disk.known c.args.disk.now in
     let b = known_files g.F.Files c.args.files.now in
     let clock = g.K.Clock.left c.args.clock.now in
     let reads = subst (SaysAs c.args.text.now) c.in-Err.is c.in_ok-statement.ensures in
@@ -33,18 +32,18 @@ returns-in_ok-refuse-in-Err-clause-turned g c =
 
 pub returns-in_ok-refuse-in-Err-clause-stays : goal.returns-in_ok-refuse-in-Err-clause-stays
 returns-in_ok-refuse-in-Err-clause-stays g c =
-    usable-kept g.R.TreeRep.contents g.S.TreeRep.contents c.args.self.now c.refuse.new.self (known_disk g.D.Disk c.args.disk.now) (file-same c.args.self.now.db c.refuse.new.self.db c.in_ok-refuse-in-Err.ensures.same) c.requires.usable c.in_ok-refuse-in-Err.ensures.stays
+    usable-kept g.R.TreeRep.contents g.S.TreeRep.contents c.args.self.now c.refuse.new.self (g.D.Disk.known c.args.disk.now) (file-same c.args.self.now.db c.refuse.new.self.db c.in_ok-refuse-in-Err.ensures.same) c.requires.usable c.in_ok-refuse-in-Err.ensures.stays
 
 pub returns-in_err-refuse-in-Err-clause-turned : goal.returns-in_err-refuse-in-Err-clause-turned
 returns-in_err-refuse-in-Err-clause-turned g c =
     let b = known_files g.F.Files c.args.files.now in
     let r = c.from_residual-in_err-refuse-in-Err.result in
     let p = err_from_is_err_and r c.from_residual-in_err-refuse-in-Err.ensures.1 in
-    turned-failed g.R.TreeRep.contents g.S.TreeRep.contents (λ t terms s. turn_of (setting t terms) s (reading c.args.text.now)) c.args.self.now c.refuse.new.self (known_disk g.D.Disk c.args.disk.now) (λ r. r) (λ t. IsTable t b b) (g.K.Clock.left c.args.clock.now) r p.0 p.1
+    turned-failed g.R.TreeRep.contents g.S.TreeRep.contents (λ t terms s. turn_of (setting t terms) s (reading c.args.text.now)) c.args.self.now c.refuse.new.self (g.D.Disk.known c.args.disk.now) (λ r. r) (λ t. IsTable t b b) (g.K.Clock.left c.args.clock.now) r p.0 p.1
 
 pub returns-in_err-statement-clause-turned : goal.returns-in_err-statement-clause-turned
 returns-in_err-statement-clause-turned g c =
     let b = known_files g.F.Files c.args.files.now in
     let r = c.from_residual.result in
     let p = err_from_is_err_and r c.from_residual.ensures.1 in
-    turned-failed g.R.TreeRep.contents g.S.TreeRep.contents (λ t terms s. turn_of (setting t terms) s (reading c.args.text.now)) c.args.self.now c.args.self.now (known_disk g.D.Disk c.args.disk.now) (λ r. r) (λ t. IsTable t b b) (g.K.Clock.left c.args.clock.now) r p.0 p.1
+    turned-failed g.R.TreeRep.contents g.S.TreeRep.contents (λ t terms s. turn_of (setting t terms) s (reading c.args.text.now)) c.args.self.now c.args.self.now (g.D.Disk.known c.args.disk.now) (λ r. r) (λ t. IsTable t b b) (g.K.Clock.left c.args.clock.now) r p.0 p.1
