@@ -83,5 +83,5 @@ def copy_of(store: Name) -> Iterator[str]:
         except FileNotFoundError:
             raise Ended(f"there is no file {os.fspath(store)}", 6) from None
         except OSError as error:
-            raise Ended(f"{os.fspath(store)} can't be copied: {error.strerror}", 5) from None
+            raise Ended(f"{os.fspath(store)} can't be copied: {error.strerror or 'it is no file'}", 5) from None
         yield copy

@@ -17,7 +17,7 @@ from .calls import Name, copy_of, log
 from .past import Content, content_of, size_of, tree_of
 from .replies import Commit, Ended, Refused, read_show
 from .session import Session
-from .spelling import Place, SpellingError, Tree, tree_text, walk
+from .spelling import Place, SpellingError, Tree, quoted, tree_text, walk
 from .storefile import Load, entries_of
 
 __all__ = ["Commits", "Failure", "Reading", "counted", "date_of", "file_told", "moment_of", "opening", "place_in_t", "place_of",
@@ -61,6 +61,8 @@ def run(name: str, tool: Callable[[List[str]], int]) -> NoReturn:
 def _text_of(error: Exception) -> str:
     if isinstance(error, OSError):
         return f"{'writing failed' if error.filename is None else error.filename}: {error.strerror}"
+    if isinstance(error, Refused) and error.line.startswith("refused: "):
+        return error.line[len("refused: "):]
     return str(error)
 
 
@@ -116,7 +118,16 @@ def place_of(text: str) -> Place:
     try:
         return Place.read(text)
     except SpellingError as error:
-        raise Failure(str(error), 2) from None
+        raise Failure(f"{error}{_hint_for(text)}", 2) from None
+
+
+def _hint_for(text: str) -> str:
+    """How a text that spells no place has to be written, where it is the raw text of one."""
+    try:
+        place = Place.read(quoted(text))
+    except SpellingError:
+        return ""
+    return f"; in quotation marks, {place}, it is one"
 
 
 def place_in_t(text: str) -> Place:
