@@ -97,7 +97,7 @@ def reading(store: Name) -> Iterator[Reading]:
         try:
             session = Session.run(copy)
         except Ended as error:
-            raise Failure(f"{os.fspath(store)}: {error}", error.status) from None
+            raise _refusal_of(store, error) from None
         with session:
             yield Reading(copy, session)
 
@@ -109,8 +109,15 @@ def opening(store: Name) -> "Iterator[Tuple[str, Commits]]":
         try:
             commits = Commits(copy)
         except Ended as error:
-            raise Failure(f"{os.fspath(store)}: {error}", error.status) from None
+            raise _refusal_of(store, error) from None
         yield copy, commits
+
+
+def _refusal_of(store: Name, error: Ended) -> Failure:
+    """Why a store doesn't open; where it begins as one, that a part of it may still open."""
+    broken = re.fullmatch(r"error: not a store at [1-9]\d*", error.line)
+    hint = "; `cpdb rescue` copies what still opens" if broken else ""
+    return Failure(f"{os.fspath(store)}: {error}{hint}", error.status)
 
 
 def place_of(text: str) -> Place:
