@@ -17,7 +17,7 @@ class Browser:
     """A headless Chromium, told what to do through its pipe."""
 
     def __init__(self, program):
-        self.folder = tempfile.TemporaryDirectory(prefix="cpdb-browser-")
+        self.folder = tempfile.mkdtemp(prefix="cpdb-browser-")
         inward, self.to = os.pipe()
         self.come, outward = os.pipe()
 
@@ -25,7 +25,7 @@ class Browser:
             os.dup2(os.dup(inward), 3)
             os.dup2(os.dup(outward), 4)
 
-        self.process = subprocess.Popen([program, "--headless=new", "--no-sandbox", "--disable-gpu", "--remote-debugging-pipe", f"--user-data-dir={self.folder.name}",
+        self.process = subprocess.Popen([program, "--headless=new", "--no-sandbox", "--disable-gpu", "--remote-debugging-pipe", f"--user-data-dir={self.folder}",
                                        "about:blank"], close_fds=False, preexec_fn=take_pipes, stdout=subprocess.DEVNULL, stderr=subprocess.DEVNULL)
         os.close(inward)
         os.close(outward)
@@ -92,4 +92,5 @@ class Browser:
     def close(self):
         self.process.terminate()
         self.process.wait()
-        self.folder.cleanup()
+        # Processes that the browser began may write for a moment more.
+        shutil.rmtree(self.folder, ignore_errors=True)
