@@ -10,7 +10,7 @@ _cpdb_options() {
     json) echo --arrays --base= --csv --key= --prov --provenance ;;
     ls) echo --full --long --places --recursive ;;
     outdated) echo --all --by= --format= --new ;;
-    prepare) echo --at= --encoding= --escape= --from= --header= --ins= --key= --quote= --ragged= --repeated= --separator= --verbose ;;
+    prepare) echo --at= --comment= --encoding= --escape= --from= --header= --ins= --key= --quote= --ragged= --repeated= --separator= --verbose ;;
     rescue) echo --statements= ;;
     revert) echo --anyway ;;
     shell) echo --read ;;

@@ -9,7 +9,7 @@ function __cpdb_at
         if test $skip = 1
             set skip 0
         else if string match -q -- '-*' $word
-            contains -- $word --against --at --base --below --by --encoding --escape --format --from --header --ins --key --only --quote --ragged --repeated --separator --since --statements --until
+            contains -- $word --against --at --base --below --by --comment --encoding --escape --format --from --header --ins --key --only --quote --ragged --repeated --separator --since --statements --until
             and set skip 1
         else
             set at (math $at + 1)
@@ -130,6 +130,7 @@ complete -c cpdb -n '__cpdb_is outdated' -l format -x -a 'json csv' -d 'The form
 complete -c cpdb -n '__cpdb_is outdated' -l new -d 'Tell also what the newer file adds'
 
 complete -c cpdb -n '__cpdb_is prepare' -l at -x -d 'The value of the file that is taken'
+complete -c cpdb -n '__cpdb_is prepare' -l comment -x -d 'What begins a line that is a comment'
 complete -c cpdb -n '__cpdb_is prepare' -l encoding -x -d 'The encoding of the file'
 complete -c cpdb -n '__cpdb_is prepare' -l escape -x -d 'What stands before a character that means itself'
 complete -c cpdb -n '__cpdb_is prepare' -l from -x -a 'json csv' -d 'What the file has'
