@@ -14,7 +14,7 @@ use Rattle.cp_journal.specs.Holding.{IsLawful, Stands, Holds}
 use Rattle.cp_journal.specs.Journals.{JournalState, Describes}
 use Rattle.cp_journal.proofs.Places.{place}
 use Rattle.cp_journal.proofs.Standing.{describes}
-use Rattle.cp_journal.specs.NewStores.{header, header_rest, new_file, HasNoStore, IsVacant, StaysVacant, IsOldOrVacant, IsOldOrVacantOrNew}
+use Rattle.cp_journal.specs.NewStores.{header, header_rest, new_file, HasNoStore, IsVacant, StaysVacant, IsOldOrVacant, IsOldOrVacantOrNew, IsVacantOrNew, HasSettled, SettlesInto}
 use Rattle.cp_journal.proofs.Adding.{found, shorter_front, front_gate}
 
 -- two files with the same first bytes hold no store, or neither does
@@ -56,6 +56,40 @@ front_says c into size n is more len long bytes =
           let front : into ++ drop n zeros ≡ take 6 c = ap (λ (l : List ℕ). l ++ drop n zeros) (bytes ∙ ap (λ (k : ℕ). take k c) (long ∙ six)) ∙ ap (λ (k : ℕ). take 6 c ++ drop k zeros) six ∙ append-nil (take 6 c) in
           subst (λ (l : List ℕ). HasNoStore l ↔ IsVacant c) (sym front) (many_say c so))
     ]
+
+-- ---- since some moment
+
+-- a disk that leaves its content alone has settled
+pub settled_only : (P : List ℕ → Type 0) (v u : View) → ViewRests v u → Only v.content u.images → ((c : List ℕ) → u.since u.moment c → u.images c) → P v.content → HasSettled P v u
+settled_only P v u rests only now p = record {
+  moment = u.moment;
+  later = rests.later;
+  passed = omega arith;
+  only = λ c i. subst P (sym (only c (now c i))) p;
+}
+
+-- it stays so while nothing changes
+pub settled_rests : (P : List ℕ → Type 0) (v u w : View) → HasSettled P v u → ViewRests u w → HasSettled P v w
+settled_rests P v u w settled rests = record {
+  moment = settled.moment;
+  later = settled.later;
+  passed = omega (arith, settled.passed, rests.later);
+  only = λ c i. settled.only c (rests.since settled.moment c settled.passed i);
+}
+
+-- and while what a crash leaves has another property, or the same
+pub settled_then : (P Q R : List ℕ → Type 0) (v u w : View) → HasSettled P v u → ViewKeeps Q u w → ((c : List ℕ) → P c → R c) → ((c : List ℕ) → Q c → R c) → HasSettled R v w
+settled_then P Q R v u w settled keeps first second = record {
+  moment = settled.moment;
+  later = settled.later;
+  passed = omega (arith, settled.passed, keeps.later);
+  only = λ c i. ⊎_elim (λ old. first c (settled.only c old)) (λ new. second c new) (keeps.since settled.moment c settled.passed i);
+}
+
+-- a file of one byte at most stays vacant while its first byte is written
+pub gate_vacant : (u w : View) (content : List ℕ) → Only content u.images → length content ≤ 1 → ViewSteps (Torn 0 1) u w → ViewKeeps IsVacant u w
+gate_vacant u w content only short steps = keeps_steps IsVacant (Torn 0 1) u u w (keeps_none IsVacant u (λ c i. inl (omega (arith, ap length (only c i), short)))) steps
+    (λ d c i torn. inl (grind (arith, nat_tests, ap length (only d i), short, torn.no_longer)))
 
 pub vacant_front : (start : ℕ) (c0 c : List ℕ) → StaysVacant start c0 → take start c ≡ take start c0 → IsVacant c
 vacant_front start c0 c (inl one) same =
@@ -152,6 +186,17 @@ module _ (f : Frame) (ok : IsLawful f) where
         let a = keeps_wider (IsOldOrVacant v) (IsOldOrVacantOrNew v f) v w first (λ c h. ⊎_elim (λ o. inl o) (λ n. inr (inl n)) h) in
         let b = keeps_then (IsOldOrVacantOrNew v f) IsVacant v w x a second (λ c h. inr (inl h)) in
         keeps_steps (IsOldOrVacantOrNew v f) (Torn 0 1) v x y b third (λ d c im torn. inr (opened_crash x.content c long_x rest_x (subst (λ (l : List ℕ). Torn 0 1 l c) (only_x d im) torn)))
+
+    -- what a crash leaves from the first sync on
+    pub making_settles : HasSettled IsVacant v w → ViewKeeps IsVacant w x → ViewSteps (Torn 0 1) x y → HasSettled (IsVacantOrNew f) v y
+    making_settles first second third =
+        let vacant = settled_then IsVacant IsVacant IsVacant v w x first second (λ c h. h) (λ c h. h) in
+        let opens = keeps_steps (IsVacantOrNew f) (Torn 0 1) x x y (keeps_none (IsVacantOrNew f) x (λ c im. inl (vacant_image c im))) third
+        (λ d c im torn. opened_crash x.content c long_x rest_x (subst (λ (l : List ℕ). Torn 0 1 l c) (only_x d im) torn)) in
+        settled_then IsVacant (IsVacantOrNew f) (IsVacantOrNew f) v x y vacant opens (λ c h. inl h) (λ c h. h)
+      where
+        vacant_image : (c : List ℕ) → x.images c → IsVacant c
+        vacant_image c im = second.now c im
 
     pub made_file : y.content ≡ with_bytes x.content 0 (1 ∷ []) → y.content ≡ new_file f
     made_file made = made ∙ ap (λ (l : List ℕ). 1 ∷ l) rest_x

@@ -8,7 +8,7 @@ ghost use Rattle.cp_journal.specs.Frames.{Frame, entry, frames_of, after_gate};
 ghost use Rattle.cp_journal.specs.Holding.{HasFrames, IsAtRest, IsAdded, IsBeforeOrAfter, IsLawful, Holds, StandsWithOrWithout};
 ghost use Rattle.cp_journal.specs.Journals.{next_byte, Lists, entry_body, HasWalked, Describes, IsDiskFault};
 ghost use Rattle.cp_journal.specs.Headers.{HasHeader, header_in};
-ghost use Rattle.cp_journal.specs.NewStores.{IsVacant, header, new_file, IsOldOrVacantOrNew};
+ghost use Rattle.cp_journal.specs.NewStores.{IsVacant, IsVacantOrNew, SettlesInto, header, new_file, IsOldOrVacantOrNew};
 ghost use Rattle.cp_journal.specs.Upgrading.{upgraded, HasOtherVersion, SaysHeader, with_version, SaysInAVersion, StandsInAVersion};
 ghost use Rattle.cp_journal.specs.declared.frame.FrameAt.{FrameAt as frame_at};
 ghost use Rattle.cp_journal.specs.declared.header.Header.{Header as header_state};
@@ -85,6 +85,8 @@ impl Journal {
             IfOk result (λ j. Describes header (entry body.now ∷ []) j v)) }
         ensures durable { OnOk result (IfKnown (D.known disk.new) (λ v. IsDurable (new_file (entry body.now)) v)) }
         ensures crash { Keeps (IsOldOrVacantOrNew (D.known disk.old).view (entry body.now)) (D.known disk.old) (D.known disk.new) }
+        ensures settles { IfKnown (D.known disk.old) (λ v.
+            SettlesInto (IsVacantOrNew (entry body.now)) v (D.known disk.new).view) }
         ensures next { IfOk result (λ j. j.next ≡ HEADER_SIZE + FRAME_HEAD + length body.now) }
         ensures usable { IfOk result (λ j. (j.broken ≡ None) × (j.spent ≡ false)) }
         ensures idle { IfOk result (λ j. j.begun ≡ None) }

@@ -5,7 +5,7 @@ ghost use Rattle.cp_disk.specs.Views.{Only, IsDurable, ViewKeeps, IfKnown, IsSet
 ghost use Rattle.cp_disk.specs.Writes.{CutShort};
 ghost use Rattle.cp_journal.specs.Frames.{Frame, entry};
 ghost use Rattle.cp_journal.specs.Holding.{IsLawful};
-ghost use Rattle.cp_journal.specs.NewStores.{HasNoStore, IsVacant, StaysVacant, IsOldOrVacant, IsOldOrVacantOrNew, new_file};
+ghost use Rattle.cp_journal.specs.NewStores.{HasNoStore, HasSettled, IsVacant, IsVacantOrNew, StaysVacant, IsOldOrVacant, IsOldOrVacantOrNew, SettlesInto, new_file};
 
 use crate::calls::put;
 use crate::frame::{ENTRY, bytes_after_gate};
@@ -64,6 +64,9 @@ fn settle<D: Disk>(disk: &mut D) -> Result<Settled, DiskFault>
     ensures vacant { IfKnown (D.known disk.new) (λ v. IfOk result (λ o. StaysVacant o.start v.content
         × (o.size ≡ length v.content) × Only v.content v.images)) }
     ensures crash { Keeps (IsOldOrVacant (D.known disk.old).view) (D.known disk.old) (D.known disk.new) }
+    ensures settles { IfKnown (D.known disk.old) (λ v. SettlesInto IsVacant v (D.known disk.new).view) }
+    ensures settled { IfKnown (D.known disk.old) (λ v.
+        OnOk result (HasSettled IsVacant v (D.known disk.new).view)) }
     ensures cause { Counted (D.known disk.old) (D.known disk.new) result }
 {
     disk.sync()?;
@@ -119,6 +122,8 @@ pub(crate) fn put_store<D: Disk>(disk: &mut D, bytes: &[u8]) -> Result<(), DiskF
         → OnOk result (IsDurable (new_file f) v)) }
     ensures crash { IfKnown (D.known disk.old) (λ v. (f : Frame) → IsLawful f → bytes.now ≡ new_file f
         → ViewKeeps (IsOldOrVacantOrNew v f) v (D.known disk.new).view) }
+    ensures settles { IfKnown (D.known disk.old) (λ v. (f : Frame) → IsLawful f → bytes.now ≡ new_file f
+        → SettlesInto (IsVacantOrNew f) v (D.known disk.new).view) }
     ensures cause { Counted (D.known disk.old) (D.known disk.new) result }
 {
     let settled = settle(disk)?;

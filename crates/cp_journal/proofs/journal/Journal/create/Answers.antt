@@ -52,3 +52,15 @@ returns-in_err-put_store-clause-cause g c = disk_accounts c.from_residual-in_err
 
 pub returns-in_err-put_store-clause-memory : goal.returns-in_err-put_store-clause-memory
 returns-in_err-put_store-clause-memory g c = λ is. inr (disk_wants c.from_residual-in_err-put_store.result _ _ c.in_err-put_store.field-0.0 c.in_err-put_store.ensures.cause c.from_residual-in_err-put_store.ensures.1 is)
+
+pub returns-in_err-put_store-clause-settles : goal.returns-in_err-put_store-clause-settles
+returns-in_err-put_store-clause-settles g c = λ known.
+    let ok = lawful_entry c.args.body.now c.requires.short in
+    let bytes = c.deref.ensures.value ∙ c.in_ok-bytes.ensures in
+    c.put_store.ensures.settles known _ ok bytes
+
+pub returns-clause-settles : goal.returns-clause-settles
+returns-clause-settles g c = λ known.
+    let ok = lawful_entry c.args.body.now c.requires.short in
+    let bytes = c.deref.ensures.value ∙ c.in_ok-bytes.ensures in
+    c.put_store.ensures.settles known _ ok bytes
