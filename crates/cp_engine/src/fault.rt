@@ -25,7 +25,7 @@ pub enum FinishFault {
     /// It had failed at the operation of this number.
     #[error("the transaction has failed")]
     Failed(u32, Cause),
-    /// The bytes of its commit are more than the limit.
+    /// The bytes of its commit are more than the limit, or than an entry may have.
     #[error("the transaction is too large")]
     TooLarge,
     #[error("out of memory")]

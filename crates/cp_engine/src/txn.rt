@@ -1,4 +1,4 @@
-ghost use Rattle.std.specs.Prelude.{◌≡◌, ◌==◌, ◌≤◌, ◌<◌, ◌+◌, ◌^◌, ◌⊎◌, ℕ, List, Ok, Err, [], ◌∷◌, ◌++◌, length, if◌then◌else◌, IfOk, IfErr, OnOk, OnErr};
+ghost use Rattle.std.specs.Prelude.{◌≡◌, ◌==◌, ◌≤◌, ◌<◌, ◌+◌, ◌^◌, ◌⊎◌, ℕ, min, List, Ok, Err, [], ◌∷◌, ◌++◌, length, if◌then◌else◌, IfOk, IfErr, OnOk, OnErr};
 ghost use Rattle.std.specs.declared.option.Option.TheVariants.{None, Some};
 ghost use Rattle.cp_model.specs.Laws.{AreSources};
 ghost use Rattle.cp_model.specs.Tree.{Tree, Source, refusal, tree_after};
@@ -202,14 +202,14 @@ impl<R: TreeRep> Txn<R> {
         }
     }
 
-    /// Ends the transaction with what it makes, whose bytes in a commit are at most `limit`. The transaction is given up
-    /// where it makes nothing. Costs the places of its operations; in the kinds t and ht also what the overlay's net effect
-    /// costs.
+    /// Ends the transaction with what it makes, whose bytes in a commit are at most `limit`, and in any case at most those
+    /// of an entry. The transaction is given up where it makes nothing. Costs the places of its operations; in the kinds t
+    /// and ht also what the overlay's net effect costs.
     pub fn finish(mut self, alloc: Global, limit: u64) -> Result<Step<R>, FinishFault>
-        requires within { limit ≤ ENTRY_MAX }
-        ensures { (k : KindValue) (ss : List Source) (t : Tree) (n : ℕ) (p : Progress) → Stands R.contents self k ss t n p → Finishes R.contents k ss t n p limit result }
+        ensures { (k : KindValue) (ss : List Source) (t : Tree) (n : ℕ) (p : Progress) → Stands R.contents self k ss t n p
+            → Finishes R.contents k ss t n p (min limit ENTRY_MAX) result }
     {
-        match self.packed(alloc, limit) {
+        match self.packed(alloc, limit.min(ENTRY_MAX)) {
             Ok(rows) => Ok(self.into_step(rows)),
             Err(fault) => {
                 drop(self);
