@@ -3,6 +3,9 @@ mod Answering
 mod Steps
 mod Asking
 mod Stepwise
+mod MarkedRows
+mod RecordsRise
+mod RisingRows
 mod Noting
 mod TidSets
 mod Quiet

@@ -5,5 +5,6 @@ pub mod Following
 pub mod Laws
 pub mod Legs
 pub mod Kept
+pub mod Rows
 pub mod Hops
 pub mod Bounds
