@@ -1,10 +1,9 @@
 -- What the touched places cover.
-use Rattle.std.specs.Prelude.{ℕ, suc, ◌+◌, ◌-◌, ◌≡◌, ◌<◌, ◌||◌, ◌⊎◌, Bool, true, false, cond, List, [], ◌∷◌, ◌++◌, length, take, fold, is_some, refl, if◌then◌else◌}
-use Rattle.std.proofs.Common.{sym, ap, subst, ◌∙◌, arith, get_or, inl, inr, add-one, Ok, Err}
+use Rattle.std.specs.Prelude.{ℕ, suc, ◌+◌, ◌-◌, ◌≡◌, ◌||◌, ◌⊎◌, Bool, true, false, cond, List, [], ◌∷◌, ◌++◌, length, map, take, fold, is_some, nat_lt, refl, if◌then◌else◌}
+use Rattle.std.proofs.Common.{sym, ap, subst, ◌∙◌, arith, get_or, inl, inr, add-one}
+use Rattle.std.proofs.lemmas.List.Folds.{list_any_kept, list_any_more}
 use Rattle.std.proofs.lemmas.Option.{slice_get_within, get_or_from_slice_get}
 use Rattle.std.proofs.Math.Seq.{take-suc}
-use Rattle.std.specs.Result.{OnOk, OnErr}
-use Rattle.std.specs.declared.result.Result.{Result}
 use Rattle.std.specs.List.Sorted.{IsSorted}
 use Rattle.std.specs.List.{AllByRecursion, slice_get}
 use Rattle.std.specs.Ordering.{is_lt, is_eq, ordering_then, ordering_reverse}
@@ -13,10 +12,11 @@ use Rattle.std.specs.declared.cmp.Ordering.TheVariants.{Less, Equal, Greater}
 use Rattle.std.specs.declared.option.Option.{Option}
 use Rattle.std.specs.declared.option.Option.TheVariants.{None, Some}
 use Rattle.std.specs.Cmp.Lexicographic.{nat_list_eq_equiv, nat_list_cmp_total, texts_ties}
-use Rattle.cp_path.specs.PathOrder.{path_total}
+use Rattle.cp_path.specs.PathOrder.{path_eq_equiv, path_total}
+use Rattle.cp_path.specs.declared.limits.TheConstants.{LABELS_MAX}
 use Rattle.cp_path.specs.Text.{text_cmp}
 use Rattle.cp_path.proofs.Same.{text_eq-same, path_same}
-use Rattle.cp_model.specs.Place.{Label, Path, label_eq, path_cmp, strip, starts_with, child}
+use Rattle.cp_model.specs.Place.{Label, Path, label_eq, path_eq, path_cmp, strip, starts_with, child}
 use Rattle.cp_model.specs.Keyed as keyed
 use Rattle.cp_model.specs.Keyed.{look}
 use Rattle.cp_model.specs.Literals.{literal_rows}
@@ -32,7 +32,7 @@ use Rattle.cp_model.proofs.Strips.{strip-append, strip-itself}
 use Rattle.cp_operation.specs.Passed.{AllAccepted, tree_until}
 use Rattle.cp_archive.specs.Laws.{TouchedPlacesCover}
 use Rattle.cp_archive.specs.Topmost.{IsUpTo, AreInOrder, is_below_last, kept_with}
-use Rattle.cp_archive.specs.Touching.{IsApart, AreApart, is_covered, Covers, touched_by, AreTouched}
+use Rattle.cp_archive.specs.Touching.{IsApart, AreApart, AreAmong, is_among, is_covered, Covers, child_within, looked_at, touched_by, AreTouched}
 
 -- ---- prefixes
 
@@ -211,28 +211,39 @@ below-last [] q h = absurd (cc)
 below-last (k ∷ []) q h = or_first (starts_with q k) false h
 below-last (k ∷ l ∷ ks) q h = or_second (starts_with q k) (is_covered (l ∷ ks) q) (below-last (l ∷ ks) q h)
 
--- ---- one place more
+-- ---- where operations are looked at
 
-above_by : {E : Type 0} (r : Result (Unit {0}) E) (p q : Path) (a : Label) → OnOk r (q ≡ p ++ a ∷ []) → OnErr r (q ≡ p) → starts_with (child p a) q ≡ true
-above_by (Ok x) p q a ok err = ap (starts_with (child p a)) ok ∙ own-place (child p a)
-above_by (Err e) p q a ok err = ap (starts_with (child p a)) err ∙ starts_with-strip (child p a) p ∙ ap is_some (strip-append p (a ∷ []))
+-- the place at a label, or the one above it, lies at or above the place at the label
+within_above : (p : Path) (a : Label) → starts_with (child p a) (child_within p a) ≡ true
+within_above p a = elim (nat_lt (length p) LABELS_MAX) as (λ b. starts_with (child p a) (if b then child p a else p) ≡ true) [
+  | true ↦ own-place (child p a)
+  | false ↦ starts_with-strip (child p a) p ∙ ap is_some (strip-append p (a ∷ []))
+]
 
--- the place itself, or the one above it, is at or above the place
-pub at-or-above : {E : Type 0} (r : Result (Unit {0}) E) (p q : Path) (a : Label) (place : Path) (label : Label) → p ≡ place → a ≡ label → OnOk r (q ≡ p ++ a ∷ []) → OnErr r (q ≡ p) → starts_with (child place label) q ≡ true
-at-or-above r p q a place label e l ok err = ap (λ x. starts_with (child x label) q) (sym e) ∙ ap (λ x. starts_with (child p x) q) (sym l) ∙ above_by r p q a ok err
+-- an operation is looked at at or above the place that it touches
+looked_above : (op : Op) → starts_with (touched_by op) (looked_at op) ≡ true
+looked_above (Ins p a l) = within_above p.path a
+looked_above (Del a p) = within_above p.path a
+looked_above (Copy q p) = own-place p.path
 
-touched_all : (ops : List Op) (ps : List Path) (p : Path) → AreTouched ops ps → AreTouched ops (ps ++ p ∷ [])
-touched_all [] ps p h = tt
-touched_all (op ∷ ops) ps p h = (covered-more ps p (touched_by op) h.0, touched_all ops ps p h.1)
+touched_front : (ops : List Op) (p : Path) (ps : List Path) → AreTouched ops ps → AreTouched ops (p ∷ ps)
+touched_front [] p ps h = tt
+touched_front (op ∷ ops) p ps h = (or_second (starts_with (touched_by op) p) (is_covered ps (touched_by op)) h.0, touched_front ops p ps h.1)
 
-touched_last : (ops : List Op) (op : Op) (ps : List Path) → AreTouched ops ps → is_covered ps (touched_by op) ≡ true → AreTouched (ops ++ op ∷ []) ps
-touched_last [] op ps h c = (c, tt)
-touched_last (o ∷ ops) op ps h c = (h.0, touched_last ops op ps h.1 c)
+-- so each operation touches one of these places, or below it
+pub looked-touched : (ops : List Op) → AreTouched ops (map looked_at ops)
+looked-touched [] = tt
+looked-touched (op ∷ ops) = (
+  or_first (starts_with (touched_by op) (looked_at op)) (is_covered (map looked_at ops) (touched_by op)) (looked_above op),
+  touched_front ops (looked_at op) (map looked_at ops) (looked-touched ops),
+)
 
--- one operation more
-pub touched-more : (ops : List Op) (i : ℕ) (d : Op) (ps : List Path) (p : Path) → i < length ops → AreTouched (take i ops) ps → starts_with (touched_by (get_or ops i d)) p ≡ true → AreTouched (take (i + 1) ops) (ps ++ p ∷ [])
-touched-more ops i d ps p l h s =
-    subst (λ os. AreTouched os (ps ++ p ∷ [])) (sym (ap (λ n. take n ops) (add-one i) ∙ take-suc ops i d l)) (touched_last (take i ops) (get_or ops i d) (ps ++ p ∷ []) (touched_all (take i ops) ps p h) (covered-last ps p (touched_by (get_or ops i d)) s))
+-- places among these are among others that have the same
+pub among-same : (ps rs qs : List Path) → ((p : Path) → is_among ps p ≡ is_among rs p) → AreAmong ps qs → AreAmong rs qs
+among-same ps rs [] f h = tt
+among-same ps rs (q ∷ qs) f h = (sym (f q) ∙ h.0, among-same ps rs qs f h.1)
+
+-- ---- the topmost places
 
 not_less_trans : (p q r : Path) → IsUpTo p q → IsUpTo q r → IsUpTo p r
 not_less_trans p q r a b = by (path_cmp q p) refl
@@ -268,10 +279,11 @@ any_last (k ∷ ps) q p h = elim (or_true (starts_with p k) (is_covered (ps ++ q
   | inr a ↦ elim (any_last ps q p a) [ inl b ↦ inl (or_second (starts_with p k) (is_covered ps p) b) | inr b ↦ inr b ]
 ]
 
--- those that are kept of the first places lie apart, come no later than the next, and cover them
+-- those that are kept of the first places are among them, lie apart, come no later than the next, and cover them
 pub record IsTop (all ks : List Path) (i : ℕ) : Type 0 where
   pub apart : AreApart ks
   pub order : AreInOrder ks
+  pub among : AreAmong (take i all) ks
   pub next : (p : Path) → slice_get all i ≡ Some p → AllByRecursion (λ k. IsUpTo k p) ks
   pub covers : (p : Path) → is_covered (take i all) p ≡ true → is_covered ks p ≡ true
 
@@ -290,11 +302,19 @@ module _ (all ks : List Path) (i : ℕ) (q : Path) (sorted : IsSorted path_cmp a
     | inr a ↦ covered-below ls q p c a
   ]
 
+  among_next : (ls : List Path) → AreAmong (take i all) ls → AreAmong (take (i + 1) all) ls
+  among_next [] a = tt
+  among_next (l ∷ ls) a = (list_any_kept (path_eq l) all i a.0, among_next ls a.1)
+
+  among_own : is_among (take (i + 1) all) q ≡ true
+  among_own = list_any_more (path_eq q) all i q (slice_get_within all i q at) ∙ or_second (is_among (take i all) q) (path_eq q (get_or all i q)) (ap (path_eq q) (get_or_from_slice_get all i q q at) ∙ path_eq_equiv.refl q)
+
   top_by : (b : Bool) → is_below_last ks q ≡ b → IsTop all (if b then ks else ks ++ q ∷ []) (i + 1)
-  top_by true e = record { apart = h.apart; order = h.order; next = λ p n. up-to-next q p ks (after p n) (h.next q at); covers = covers_more ks (λ p c. c) (below-last ks q e) }
+  top_by true e = record { apart = h.apart; order = h.order; among = among_next ks h.among; next = λ p n. up-to-next q p ks (after p n) (h.next q at); covers = covers_more ks (λ p c. c) (below-last ks q e) }
   top_by false e = record {
     apart = apart-more ks q h.apart h.order (h.next q at) e;
     order = order-more ks q h.order (h.next q at);
+    among = all-more (λ k. is_among (take (i + 1) all) k ≡ true) ks q (among_next ks h.among) among_own;
     next = λ p n. up-to-next q p (ks ++ q ∷ []) (after p n) (all-more (λ k. IsUpTo k q) ks q (h.next q at) (up-to-own q));
     covers = covers_more (ks ++ q ∷ []) (λ p c. covered-more ks q p c) (covered-last ks q q (own-place q));
   }
@@ -305,7 +325,7 @@ module _ (all ks : List Path) (i : ℕ) (q : Path) (sorted : IsSorted path_cmp a
 
 -- before the first place
 pub top-none : (all : List Path) → IsTop all [] 0
-top-none all = record { apart = tt; order = tt; next = λ p e. tt; covers = λ p e. e }
+top-none all = record { apart = tt; order = tt; among = tt; next = λ p e. tt; covers = λ p e. e }
 
 -- the last of the places is the one that counts
 pub below-last-is : (ks : List Path) (q k : Path) → slice_get ks (length ks - 1) ≡ Some k → starts_with q k ≡ is_below_last ks q

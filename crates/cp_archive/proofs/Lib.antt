@@ -6,6 +6,7 @@ mod Differing
 mod Finding
 mod Following
 mod Forgetting
+pub mod HistoryTrees
 mod Listing
 mod Noted
 mod PhaseLemmas

@@ -5,4 +5,5 @@ pub mod Notes
 pub mod Touching
 pub mod Topmost
 pub mod Differences
+pub mod Histories
 pub mod Laws

@@ -1,7 +1,8 @@
 -- The places that a step touched, and what it left there.
-use Rattle.std.specs.Prelude.{◌≡◌, Bool, true, false, List, [], ◌∷◌, map}
+use Rattle.std.specs.Prelude.{◌≡◌, Bool, true, false, List, [], ◌∷◌, map, length, nat_lt, if◌then◌else◌}
 use Rattle.std.specs.List.{list_any, AllByRecursion}
-use Rattle.cp_model.specs.Place.{Path, child, starts_with}
+use Rattle.cp_path.specs.declared.limits.TheConstants.{LABELS_MAX}
+use Rattle.cp_model.specs.Place.{Label, Path, child, path_eq, starts_with}
 use Rattle.cp_model.specs.declared.op.Op.{Op}
 use Rattle.cp_model.specs.declared.op.Op.TheVariants.{Ins, Del, Copy}
 use Rattle.cp_model.specs.Keyed.{get}
@@ -37,6 +38,24 @@ touched_by (Copy q p) = p.path
 -- the place of each operation lies at or below one of these
 abbrev pub AreTouched : List Op → List Path → Type 0
 AreTouched ops ps = AllByRecursion (λ op. is_covered ps (touched_by op) ≡ true) ops
+
+-- the place at a label, or the one above it, where a label more would be too many
+abbrev pub child_within : Path → Label → Path
+child_within p a = if nat_lt (length p) LABELS_MAX then child p a else p
+
+-- the place at which an operation is looked at: the one that it touches, or the one above it, where a label more would be too many
+abbrev pub looked_at : Op → Path
+looked_at (Ins p a l) = child_within p.path a
+looked_at (Del a p) = child_within p.path a
+looked_at (Copy q p) = p.path
+
+-- p is one of the places
+abbrev pub is_among : List Path → Path → Bool
+is_among ps p = list_any (path_eq p) ps
+
+-- each of these is one of the places
+abbrev pub AreAmong : List Path → List Path → Type 0
+AreAmong ps qs = AllByRecursion (λ q. is_among ps q ≡ true) qs
 
 -- the places
 abbrev pub places_of : List Touched → List Path

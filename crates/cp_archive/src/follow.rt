@@ -1,18 +1,19 @@
 //! The versions of a history, one step after another.
-ghost use Rattle.std.specs.Prelude.{◌≡◌, ◌<◌, ◌^◌, ◌++◌, ◌∷◌, ◌↔◌, [], true, false, IsTrue, length, map, IfOk, OnOk, OnErr};
+ghost use Rattle.std.specs.Prelude.{◌≡◌, ◌+◌, ◌<◌, ◌^◌, ◌++◌, ◌∷◌, ◌↔◌, [], true, false, IsTrue, length, map, IfOk, OnOk, OnErr};
 ghost use Rattle.cp_model.specs.History.{AreWritten};
 ghost use Rattle.cp_model.specs.Subtrees.{below};
 ghost use Rattle.cp_operation.specs.Loaded.{sources_in};
 ghost use Rattle.cp_operation.specs.Passed.{AllAccepted, tree_until};
 ghost use Rattle.cp_tree.specs.Rows.{entry_row};
 ghost use Rattle.cp_archive.specs.Touching.{touched_before, with_after};
+ghost use Rattle.cp_archive.specs.Histories.{trees_alone, trees_of_steps};
 ghost use Rattle.cp_archive.specs.Trees.{newest};
 
 use crate::archive::Archive;
 use crate::places::touched_places;
 use crate::touched::Touched;
 use cp_engine::replay;
-use cp_model::{Op, RowList};
+use cp_model::{Kind, Op, RowList};
 use cp_operation::Sources;
 use cp_path::Path;
 use cp_tree::TreeRep;
@@ -117,5 +118,55 @@ impl Archive {
         add_rows_after(alloc, tree, touched.as_mut_slice())?;
         self.add_step(alloc, touched.as_slice())?;
         Ok(true)
+    }
+
+    /// Replays operations each as a step of its own, as long as they are accepted; says whether all were. Costs as `replay_step` for
+    /// each. Where one isn't accepted, and after an error, what the archive and the tree hold isn't said.
+    fn replay_each<R: TreeRep, S: TreeRep>(
+        &mut self,
+        alloc: Global,
+        tree: &mut R,
+        sources: &Sources<S>,
+        ops: &[Op],
+    ) -> Result<bool, AllocError>
+        requires few { length self.old + length ops.now < 2 ^ 63 }
+        requires newest { newest self.old ≡ R.contents tree.old }
+        requires written { AreWritten ops.now }
+        ensures accepted { IfOk result (λ b. IsTrue b ↔ AllAccepted (sources_in S.contents sources.now) (R.contents tree.old) ops.now) }
+        ensures tree { IfOk result (λ b. IsTrue b → R.contents tree.new ≡ tree_until (sources_in S.contents sources.now) (R.contents tree.old) ops.now) }
+        ensures added { IfOk result (λ b. IsTrue b → self.new ≡ self.old ++ trees_alone (sources_in S.contents sources.now) (R.contents tree.old) ops.now) }
+        ensures newest { IfOk result (λ b. IsTrue b → newest self.new ≡ R.contents tree.new) }
+    {
+        for op in ops {
+            if !self.replay_step(alloc, tree, sources, std::slice::from_ref(op))? {
+                return Ok(false);
+            }
+        }
+        Ok(true)
+    }
+
+    /// Replays the operations of a commit in a store of this kind, and adds the version after each of its steps; says whether all were
+    /// accepted. Costs as `replay_step` for each step. Where one isn't accepted, and after an error, what the archive and the tree hold
+    /// isn't said.
+    pub fn replay_commit<R: TreeRep, S: TreeRep>(
+        &mut self,
+        alloc: Global,
+        kind: Kind,
+        tree: &mut R,
+        sources: &Sources<S>,
+        ops: &[Op],
+    ) -> Result<bool, AllocError>
+        requires few { length self.old + length ops.now < 2 ^ 63 }
+        requires newest { newest self.old ≡ R.contents tree.old }
+        requires written { AreWritten ops.now }
+        ensures accepted { IfOk result (λ b. IsTrue b ↔ AllAccepted (sources_in S.contents sources.now) (R.contents tree.old) ops.now) }
+        ensures tree { IfOk result (λ b. IsTrue b → R.contents tree.new ≡ tree_until (sources_in S.contents sources.now) (R.contents tree.old) ops.now) }
+        ensures added { IfOk result (λ b. IsTrue b → self.new ≡ self.old ++ trees_of_steps kind (sources_in S.contents sources.now) (R.contents tree.old) ops.now) }
+        ensures newest { IfOk result (λ b. IsTrue b → newest self.new ≡ R.contents tree.new) }
+    {
+        match kind {
+            Kind::N | Kind::H => self.replay_each(alloc, tree, sources, ops),
+            Kind::T | Kind::HT => self.replay_step(alloc, tree, sources, ops),
+        }
     }
 }

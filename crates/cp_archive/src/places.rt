@@ -1,28 +1,27 @@
 //! The places that a step touches.
-ghost use Rattle.std.specs.Prelude.{◌≡◌, true, List, IfOk, OnOk};
+ghost use Rattle.std.specs.Prelude.{◌≡◌, true, List, map, IfOk, OnOk};
 ghost use Rattle.std.specs.List.Sorted.{IsSorted};
-ghost use Rattle.cp_model.specs.Place.{Path as PathValue, child, path_cmp, starts_with};
-ghost use Rattle.cp_archive.specs.Topmost.{is_below_last, kept_with};
-ghost use Rattle.cp_archive.specs.Touching.{AreApart, AreTouched, is_covered, touched_by};
+ghost use Rattle.cp_model.specs.Place.{Path as PathValue, path_cmp};
+ghost use Rattle.cp_archive.specs.Topmost.{AreInOrder, is_below_last, kept_with};
+ghost use Rattle.cp_archive.specs.Touching.{AreAmong, AreApart, AreTouched, child_within, is_covered, looked_at};
 
 use cp_model::Op;
-use cp_path::{Label, Path, PathFault};
+use cp_path::{LABELS_MAX, Label, Path};
 use std::alloc::{AllocError, Global};
 
 /// The place at the label, or the one above it, where a label more would be too many.
 fn at_label(place: &Path, label: &Label) -> Result<Path, AllocError>
-    ensures { IfOk result (λ p. starts_with (child place.now label.now) p ≡ true) }
+    ensures { IfOk result (λ p. p ≡ child_within place.now label.now) }
 {
-    let mut path = place.clone()?;
-    match path.push(label.clone()?) {
-        Err(PathFault::Memory) => Err(AllocError),
-        _ => Ok(path),
+    if place.labels().len() < LABELS_MAX {
+        return place.child(label);
     }
+    place.clone()
 }
 
-/// A place at or above the one that an operation touches.
+/// The place that an operation touches, or the one above it, where a label more would be too many.
 fn touched_place(op: &Op) -> Result<Path, AllocError>
-    ensures { IfOk result (λ p. starts_with (touched_by op.now) p ≡ true) }
+    ensures { IfOk result (λ p. p ≡ looked_at op.now) }
 {
     match op {
         Op::Ins { into, label, .. } => at_label(&into.path, label),
@@ -31,9 +30,9 @@ fn touched_place(op: &Op) -> Result<Path, AllocError>
     }
 }
 
-/// Lists such a place for each operation.
+/// Lists that place of each operation.
 fn places_of(alloc: Global, ops: &[Op]) -> Result<Vec<Path>, AllocError>
-    ensures { IfOk result (λ v. AreTouched ops.now v.items) }
+    ensures { IfOk result (λ v. v.items ≡ map looked_at ops.now) }
 {
     let mut places = Vec::new(alloc);
     for op in ops {
@@ -67,6 +66,8 @@ fn keep(kept: &mut Vec<Path>, place: &Path) -> Result<(), AllocError>
 fn topmost(alloc: Global, places: &[Path]) -> Result<Vec<Path>, AllocError>
     requires { IsSorted path_cmp places.now }
     ensures apart { IfOk result (λ v. AreApart v.items) }
+    ensures order { IfOk result (λ v. AreInOrder v.items) }
+    ensures among { IfOk result (λ v. AreAmong places.now v.items) }
     ensures covers { IfOk result (λ v. (p : PathValue) → is_covered places.now p ≡ true → is_covered v.items p ≡ true) }
 {
     let mut kept = Vec::new(alloc);
@@ -76,10 +77,12 @@ fn topmost(alloc: Global, places: &[Path]) -> Result<Vec<Path>, AllocError>
     Ok(kept)
 }
 
-/// Finds the places that a step of these operations touches, in order, none of them at or below another. Costs their number with
-/// its logarithm, and their bytes.
+/// Finds the places that a step of these operations touches, in order: those of the operations that lie below no other. Where a
+/// label more would be too many, the place above stands for it. Costs their number with its logarithm, and their bytes.
 pub fn touched_places(alloc: Global, ops: &[Op]) -> Result<Vec<Path>, AllocError>
     ensures apart { IfOk result (λ v. AreApart v.items) }
+    ensures order { IfOk result (λ v. AreInOrder v.items) }
+    ensures among { IfOk result (λ v. AreAmong (map looked_at ops.now) v.items) }
     ensures touched { IfOk result (λ v. AreTouched ops.now v.items) }
 {
     let mut places = places_of(alloc, ops)?;

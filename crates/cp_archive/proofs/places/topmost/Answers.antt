@@ -2,7 +2,7 @@ use Rattle.std.proofs.Common.{subst, sym, ap, ◌∙◌}
 use Rattle.std.specs.declared.option.Option.TheVariants.{Some}
 use Rattle.std.proofs.lemmas.List.{take_all}
 use Rattle.std.proofs.lemmas.Option.{slice_get-get_or}
-use Rattle.cp_archive.specs.Touching.{is_covered}
+use Rattle.cp_archive.specs.Touching.{AreAmong, is_covered}
 use Rattle.cp_archive.proofs.Covering.{IsTop, top-none, top-more}
 use Rattle.cp_archive.proofs.places.topmost.Goals as goal
 
@@ -17,6 +17,12 @@ loop-place-preserved c =
 
 pub returns-clause-apart : goal.returns-clause-apart
 returns-clause-apart c = c.loop-place.invariant.apart
+
+pub returns-clause-order : goal.returns-clause-order
+returns-clause-order c = c.loop-place.invariant.order
+
+pub returns-clause-among : goal.returns-clause-among
+returns-clause-among c = subst (λ ps. AreAmong ps c.loop-place.kept.items) (take_all c.loop-place.place-index c.args.places.now c.loop-place-test.false) c.loop-place.invariant.among
 
 pub returns-clause-covers : goal.returns-clause-covers
 returns-clause-covers c = λ p e. c.loop-place.invariant.covers p (ap (λ ps. is_covered ps p) (take_all c.loop-place.place-index c.args.places.now c.loop-place-test.false) ∙ e)
