@@ -10,11 +10,11 @@ use Rattle.cp_lang.specs.Grammar.{statement_reading}
 use Rattle.cp_lang.specs.declared.syntax_tree.Stmt.{Stmt}
 use Rattle.cp_lang.specs.declared.syntax_tree.Stmt.TheVariants as stmt
 use Rattle.cp_lang.specs.declared.syntax_tree.StmtFault.{StmtFault}
-use Rattle.cp_words.specs.Operands.{is_operand, kind_named, curator_by, form_by, number_of, count_in, count_of}
-use Rattle.cp_words.specs.Commands.{start_by, load_by, generate_by, asked_in, asked_where_read, scratch_of, init_of, run_of, commit_of, load_of, query_of, generate_of, log_of, verify_of, row_of, command_of, IsWrittenCommand}
+use Rattle.cp_words.specs.Operands.{is_operand, kind_named, curator_by, form_by, number_of, count_in, count_of, place_of}
+use Rattle.cp_words.specs.Commands.{start_by, load_by, generate_by, asked_in, asked_where_read, scratch_of, init_of, run_of, commit_of, load_of, query_of, generate_of, log_of, verify_of, uses_of, row_of, command_of, IsWrittenCommand}
 use Rattle.cp_words.specs.declared.limits.TheConstants.{COUNT_MAX}
 use Rattle.cp_words.specs.declared.command.Command.{Command}
-use Rattle.cp_words.specs.declared.command.Command.TheVariants.{Scratch, Init, Run, Commit, Load, Generate}
+use Rattle.cp_words.specs.declared.command.Command.TheVariants.{Scratch, Init, Run, Commit, Load, Generate, Uses}
 
 abbrev pub AreWritten : Option Command → Type 0
 AreWritten o = IfSome o IsWrittenCommand
@@ -126,6 +126,12 @@ verify_written [] = tt
 verify_written (a ∷ []) = tt
 verify_written (a ∷ b ∷ ws) = tt
 
+uses_written : (ws : List (List ℕ)) → AreWritten (uses_of ws)
+uses_written [] = tt
+uses_written (a ∷ []) = tt
+uses_written (a ∷ b ∷ []) = mapped (λ q. Uses q) (place_of b) (λ _. tt)
+uses_written (a ∷ b ∷ c ∷ ws) = tt
+
 row_written : (ws : List (List ℕ)) → AreWritten (row_of ws)
 row_written [] = tt
 row_written (w ∷ ws) =
@@ -133,7 +139,8 @@ row_written (w ∷ ws) =
     (either (bytes_eq (codes "run") w) _ _ (run_written ws) (either (bytes_eq (codes "commit") w) _ _ (commit_written ws)
     (either (bytes_eq (codes "load") w) _ _ (load_written ws) (either (bytes_eq (codes "query") w) _ _ (query_written ws)
     (either (bytes_eq (codes "gen") w) _ _ (generate_written ws) (either (bytes_eq (codes "log") w) _ _ (log_written ws)
-    (either (bytes_eq (codes "verify") w) _ _ (verify_written ws) tt))))))))
+    (either (bytes_eq (codes "verify") w) _ _ (verify_written ws)
+    (either (bytes_eq (codes "uses") w) _ _ (uses_written ws) tt)))))))))
 
 pub command_written : (ws : List (List ℕ)) → AreWritten (command_of ws)
 command_written [] = tt

@@ -7,12 +7,12 @@ use Rattle.cp_lang.specs.Written.{IsWrittenStmt}
 use Rattle.cp_lang.specs.declared.syntax_tree.Stmt.{Stmt}
 use Rattle.cp_lang.specs.declared.syntax_tree.Stmt.TheVariants as stmt
 use Rattle.cp_lang.specs.declared.syntax_tree.StmtFault.{StmtFault}
-use Rattle.cp_words.specs.Operands.{is_operand, kind_named, curator_by, source_name, form_by, number_of, count_of}
+use Rattle.cp_words.specs.Operands.{is_operand, kind_named, curator_by, source_name, form_by, number_of, count_of, place_of}
 use Rattle.cp_words.specs.declared.limits.TheConstants.{COUNT_MAX}
 use Rattle.cp_words.specs.declared.command.Start.{Start}
 use Rattle.cp_words.specs.declared.command.Start.TheVariants.{Alone, TreeIn}
 use Rattle.cp_words.specs.declared.command.Command.{Command}
-use Rattle.cp_words.specs.declared.command.Command.TheVariants.{Scratch, Init, Run, Commit, Load, Ask, Show, Generate, Log, Verify}
+use Rattle.cp_words.specs.declared.command.Command.TheVariants.{Scratch, Init, Run, Commit, Load, Ask, Show, Generate, Log, Verify, Uses}
 
 -- ---- what the operands of a command ask for
 
@@ -61,6 +61,10 @@ query_by statement = asked_where_read (statement_reading statement)
 abbrev pub generate_by : List ℕ → List ℕ → List ℕ → Option Command
 generate_by seed count kind =
     option_and_then (λ s. option_and_then (λ n. option_map (λ k. Generate s n k) (kind_named kind)) (count_of count)) (number_of seed)
+
+-- the places that use the one that the word spells
+abbrev pub uses_by : List ℕ → Option Command
+uses_by place = option_map Uses (place_of place)
 
 -- ---- the rows
 
@@ -114,6 +118,11 @@ abbrev pub verify_of : List (List ℕ) → Option Command
 verify_of (store ∷ []) = Some Verify
 verify_of operands = None
 
+-- `uses STORE PLACE`
+abbrev pub uses_of : List (List ℕ) → Option Command
+uses_of (store ∷ place ∷ []) = uses_by place
+uses_of operands = None
+
 -- the command, and what its operands ask for
 abbrev pub row_of : List (List ℕ) → Option Command
 row_of [] = None
@@ -127,6 +136,7 @@ row_of (command ∷ operands) =
     else if bytes_eq (codes "gen") command then generate_of operands
     else if bytes_eq (codes "log") command then log_of operands
     else if bytes_eq (codes "verify") command then verify_of operands
+    else if bytes_eq (codes "uses") command then uses_of operands
     else None
 
 -- what the words ask for, the program's name first, if they fit a row and none after that name is empty or begins with `-`

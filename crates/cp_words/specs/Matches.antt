@@ -2,7 +2,7 @@
 use Rattle.std.specs.Prelude.{List, Option, Some, None, option_and_then, codes, if◌then◌else◌}
 use Rattle.std.specs.Str.{bytes_eq}
 use Rattle.clap.specs.Words.{Row, Text, first_of}
-use Rattle.cp_words.specs.Commands.{scratch_by, init_by, run_by, commit_by, load_by, query_by, generate_by}
+use Rattle.cp_words.specs.Commands.{scratch_by, init_by, run_by, commit_by, load_by, query_by, generate_by, uses_by}
 use Rattle.cp_words.specs.declared.command.Command.{Command}
 use Rattle.cp_words.specs.declared.command.Command.TheVariants.{Log, Verify}
 
@@ -49,6 +49,10 @@ log_from rows = Some Log
 abbrev pub verify_from : List Row → Option Command
 verify_from rows = Some Verify
 
+-- the operands of `uses`
+abbrev pub uses_from : List Row → Option Command
+uses_from rows = with_operand (codes "PLACE") rows uses_by
+
 -- the command that was found, and its operands
 abbrev pub command_from : Option (Text × List Row) → Option Command
 command_from None = None
@@ -62,4 +66,5 @@ command_from (Some p) =
     else if bytes_eq p.0 (codes "gen") then generate_from p.1
     else if bytes_eq p.0 (codes "log") then log_from p.1
     else if bytes_eq p.0 (codes "verify") then verify_from p.1
+    else if bytes_eq p.0 (codes "uses") then uses_from p.1
     else None

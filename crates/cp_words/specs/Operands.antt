@@ -4,8 +4,9 @@ use Rattle.std.specs.Str.{bytes_eq}
 use Rattle.cp_path.specs.declared.limits.TheConstants.{LABEL_MAX}
 use Rattle.cp_path.specs.Place.{Label, label_eq, target}
 use Rattle.cp_path.specs.Text.{is_name}
-use Rattle.cp_spelling.specs.Words.{value_reading}
+use Rattle.cp_spelling.specs.Words.{place_reading, value_reading}
 use Rattle.cp_path.specs.declared.fault.PathFault.{PathFault}
+use Rattle.cp_path.specs.declared.loc.Loc.{Loc}
 use Rattle.cp_path.specs.declared.value.Value.{Value}
 use Rattle.cp_path.specs.declared.value.Value.TheVariants.{Whole}
 use Rattle.cp_model.specs.declared.kind.Kind.{Kind}
@@ -70,3 +71,12 @@ count_in n = if nat_le 1 n && nat_le n COUNT_MAX then Some n else None
 -- the number of statements that the word spells
 abbrev pub count_of : List ℕ → Option ℕ
 count_of w = option_and_then count_in (number_of w)
+
+-- the place, where a word was read as one
+abbrev pub place_in : Result Loc PathFault → Option Loc
+place_in (Ok q) = Some q
+place_in r = None
+
+-- the place that the word spells
+abbrev pub place_of : List ℕ → Option Loc
+place_of w = place_in (place_reading w)

@@ -50,6 +50,10 @@ log_app = with_wanted (codes "STORE") (new_app (codes "log"))
 abbrev pub verify_app : App
 verify_app = with_wanted (codes "STORE") (new_app (codes "verify"))
 
+-- `uses STORE PLACE`
+abbrev pub uses_app : App
+uses_app = with_wanted (codes "PLACE") (with_wanted (codes "STORE") (new_app (codes "uses")))
+
 -- a program with one more command
 abbrev pub with_command : App → App → App
 with_command a b = with_subcommand a b.top
@@ -78,7 +82,7 @@ with_sessions a = with_command (with_command (with_command (with_command a scrat
 
 -- a program with the other commands
 abbrev pub with_others : App → App
-with_others a = with_command (with_command (with_command (with_command (with_command a load_app) query_app) generate_app) log_app) verify_app
+with_others a = with_command (with_command (with_command (with_command (with_command (with_command a load_app) query_app) generate_app) log_app) verify_app) uses_app
 
 -- the program with all commands
 abbrev pub whole : App

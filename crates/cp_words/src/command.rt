@@ -34,4 +34,6 @@ pub enum Command {
     Log,
     /// Whether the records of the store are those that its operations make.
     Verify,
+    /// The places of the store that use this one.
+    Uses(Loc),
 }

@@ -5,8 +5,8 @@ ghost use Rattle.cp_words.specs.Operands as form;
 
 use crate::limits::COUNT_MAX;
 use cp_model::{Form, Kind};
-use cp_path::{Label, Name, PathFault, Value};
-use cp_spelling::read_value;
+use cp_path::{Label, Loc, Name, PathFault, Value};
+use cp_spelling::{read_place, read_value};
 use std::alloc::{AllocError, Global};
 
 /// Whether the word isn't empty and doesn't begin with `-`.
@@ -144,5 +144,16 @@ pub(crate) fn count_of(alloc: Global, word: &str) -> Result<Option<u32>, AllocEr
     match number_of(alloc, word)? {
         Some(count) if 1 <= count && count <= COUNT_MAX as u64 => Ok(Some(count as u32)),
         _ => Ok(None),
+    }
+}
+
+/// The place that the word spells.
+pub(crate) fn place_of(alloc: Global, word: &str) -> Result<Option<Loc>, AllocError>
+    ensures { IfOk result (λ o. o ≡ form.place_of word.now) }
+{
+    match read_place(alloc, word) {
+        Ok(place) => Ok(Some(place)),
+        Err(PathFault::Memory) => Err(AllocError),
+        Err(_) => Ok(None),
     }
 }

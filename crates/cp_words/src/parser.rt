@@ -19,7 +19,7 @@ struct Row<'a> {
 }
 
 /// All commands.
-static ROWS: [Row<'static>; 9] = [
+static ROWS: [Row<'static>; 10] = [
     Row {
         name: "scratch",
         operands: &[("KIND", true), ("JSON", false)],
@@ -61,6 +61,10 @@ static ROWS: [Row<'static>; 9] = [
     Row {
         name: "verify",
         operands: &[("STORE", true)],
+    },
+    Row {
+        name: "uses",
+        operands: &[("STORE", true), ("PLACE", true)],
     },
 ];
 

@@ -3,7 +3,7 @@ ghost use Rattle.std.specs.Prelude.{◌≡◌, IfOk, option_map};
 ghost use Rattle.cp_words.specs.Commands as row;
 
 use crate::command::{Command, Start};
-use crate::operand::{count_of, curator_by, form_by, kind_named, number_of, source_name};
+use crate::operand::{count_of, curator_by, form_by, kind_named, number_of, place_of, source_name};
 use cp_lang::{Load, Stmt, StmtFault, parse};
 use cp_path::Text;
 use std::alloc::{AllocError, Global};
@@ -135,6 +135,16 @@ pub(crate) fn generate_by(
     };
     match kind_named(kind) {
         Some(kind) => Ok(Some(Command::Generate { seed, count, kind })),
+        None => Ok(None),
+    }
+}
+
+/// `uses STORE PLACE`
+pub(crate) fn uses_by(alloc: Global, place: &str) -> Result<Option<Command>, AllocError>
+    ensures { IfOk result (λ o. o ≡ row.uses_by place.now) }
+{
+    match place_of(alloc, place)? {
+        Some(place) => Ok(Some(Command::Uses(place))),
         None => Ok(None),
     }
 }

@@ -7,7 +7,7 @@ ghost use Rattle.cp_words.specs.Matches as found;
 use crate::command::Command;
 use crate::operand::are_operands;
 use crate::parser::parser;
-use crate::row::{commit_by, generate_by, init_by, load_by, query_by, run_by, scratch_by};
+use crate::row::{commit_by, generate_by, init_by, load_by, query_by, run_by, scratch_by, uses_by};
 use clap::ArgMatches;
 use clap::error::ErrorKind;
 use std::alloc::{AllocError, Global};
@@ -92,6 +92,15 @@ fn generate(alloc: Global, matches: &ArgMatches<'_>) -> Result<Option<Command>, 
     }
 }
 
+fn uses(alloc: Global, matches: &ArgMatches<'_>) -> Result<Option<Command>, AllocError>
+    ensures { IfOk result (λ o. o ≡ found.uses_from (rows_of (found_of matches.now))) }
+{
+    match operand(matches, "PLACE") {
+        Some(place) => uses_by(alloc, place),
+        None => Ok(None),
+    }
+}
+
 /// What the command that was found asks for, with its operands.
 fn command_in(alloc: Global, matches: &ArgMatches<'_>) -> Result<Option<Command>, AllocError>
     ensures { IfOk result (λ o. o ≡ found.command_from (subcommand_rows_of matches.now)) }
@@ -109,6 +118,7 @@ fn command_in(alloc: Global, matches: &ArgMatches<'_>) -> Result<Option<Command>
         "gen" => generate(alloc, operands),
         "log" => Ok(Some(Command::Log)),
         "verify" => Ok(Some(Command::Verify)),
+        "uses" => uses(alloc, operands),
         _ => Ok(None),
     }
 }
