@@ -4,7 +4,9 @@ use Rattle.std.proofs.Math.Seq.{take-length}
 use Rattle.std.specs.List.{flat_map}
 use Rattle.cp_model.specs.declared.answer.Trace.{Trace}
 use Rattle.cp_model.specs.Trees.{between}
-use Rattle.cp_reply.specs.Lines.{tids_text, segment_text, end_text, trace_text}
+use Rattle.cp_path.specs.Spelling.{place_text}
+use Rattle.cp_path.specs.declared.loc.Loc.{Loc}
+use Rattle.cp_reply.specs.Lines.{tids_text, places_text, segment_text, end_text, trace_text}
 
 -- behind the first piece, each has the text before it
 pub between_first : {X : Type 0} (s : List ℕ) (f : X → List ℕ) (x : X) (xs : List X) → between s (map f (x ∷ xs)) ≡ f x ++ flat_map (λ y. s ++ f y) xs
@@ -30,3 +32,17 @@ tids_of (t ∷ ts) some = between_first (codes " ") decimal t ts ∙ ap (λ us. 
 
 pub trace_of : (t : Trace) → trace_text t ≡ flat_map (λ s. segment_text s ++ codes " < ") t.segments ++ end_text t.end
 trace_of t = between_last (codes " < ") segment_text t.segments (end_text t.end)
+
+-- where there are places, each stands behind a space
+pub places_of : (qs : List Loc) → 1 ≤ length qs → codes " " ++ places_text qs ≡ flat_map (λ q. codes " " ++ place_text q) qs
+places_of [] some = absurd (omega arith)
+places_of (q ∷ qs) some = ap (λ w. codes " " ++ w) (between_first (codes " ") place_text q qs) ∙ sym (append_assoc (codes " ") (place_text q) (flat_map (λ r. codes " " ++ place_text r) qs))
+
+-- where there is none, the word stands there
+pub no_places : (qs : List Loc) → length qs ≡ 0 → codes " " ++ places_text qs ≡ codes " none"
+no_places [] none = refl
+no_places (q ∷ qs) none = absurd (omega (arith, none))
+
+-- a line's front, and what stands behind it
+pub uses_front : (p w : List ℕ) → (codes "uses " ++ (p ++ codes ":")) ++ (codes " " ++ w) ≡ codes "uses " ++ (p ++ (codes ": " ++ w))
+uses_front p w = ap (λ t. codes "uses " ++ t) (append_assoc p (codes ":") (codes " " ++ w))

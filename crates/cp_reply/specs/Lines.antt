@@ -78,6 +78,11 @@ abbrev pub tids_text : List ℕ → List ℕ
 tids_text [] = codes "none"
 tids_text (t ∷ ts) = between (codes " ") (map decimal (t ∷ ts))
 
+-- the places with a space between
+abbrev pub places_text : List Loc → List ℕ
+places_text [] = codes "none"
+places_text (q ∷ qs) = between (codes " ") (map place_text (q ∷ qs))
+
 -- one number, or the first and the last
 abbrev pub range_text : ℕ → ℕ → List ℕ
 range_text low high = if low == high then decimal low else decimal low ++ (codes ".." ++ decimal high)
@@ -225,4 +230,5 @@ lines (reply.Verified v) = line (verdict_text v)
 lines (reply.Logged commits) = flat_map (λ c. line (commit_text c)) commits ++ line (codes "log: " ++ decimal (length commits))
 lines (reply.Gen s places born copies) =
     line (stats_text s) ++ line (codes "gen: places " ++ (decimal places ++ (codes ", born " ++ (decimal born ++ (codes ", copies " ++ decimal copies)))))
+lines (reply.Uses q qs) = line (codes "uses " ++ (place_text q ++ (codes ": " ++ places_text qs)))
 lines (reply.Refused o w) = line (refused_front o ++ why_text o w)

@@ -6,6 +6,7 @@
 
 mod answer;
 mod examples;
+mod places;
 mod record;
 mod refusal;
 mod reply;
@@ -15,5 +16,5 @@ mod write;
 
 pub use examples::worked_examples;
 pub use record::record_text;
-pub use reply::{Of, Reply, Why};
+pub use reply::{Of, PlaceList, Reply, Why};
 pub use write::lines;

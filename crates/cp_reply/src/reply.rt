@@ -1,5 +1,6 @@
 use cp_model::{Answer, Kind, LogList, Query, RowList, Stats, Verdict};
 use cp_path::{Label, Loc, Name, PathFault};
+use std::marker::Model;
 
 /// What is refused: it names the front of the line.
 #[derive(Clone, Copy)]
@@ -56,6 +57,21 @@ pub enum Why {
     StoreExists,
 }
 
+/// Places, in order and each once.
+#[derive(Drop)]
+pub struct PlaceList {
+    pub items: Vec<Loc>,
+}
+
+impl Model for PlaceList {
+    ghost use Rattle.std.specs.Prelude.{List};
+    ghost use Rattle.cp_path.specs.declared.loc.Loc.{Loc};
+
+    ghost Value = { List Loc };
+
+    ghost view = { λ a. a.items.items };
+}
+
 /// A reply, which is a line or several.
 #[derive(Drop)]
 pub enum Reply {
@@ -99,6 +115,11 @@ pub enum Reply {
         places: u32,
         born: u32,
         copies: u64,
+    },
+    /// The places that use this one.
+    Uses {
+        place: Loc,
+        places: PlaceList,
     },
     Refused {
         of: Of,

@@ -5,6 +5,7 @@ ghost use Rattle.cp_reply.specs.Front.{Begins};
 ghost use Rattle.cp_reply.specs.Lines.{line, lines, answer_lines, query_text, record_text, commit_text, range_text, kind_text, refused_front, why_text, stats_text};
 
 use crate::answer::{from_text, query_text, tid_or_none, tids_text, trace_text};
+use crate::places::uses_text;
 use crate::record::{commit_text, range_text, record_text, stats_text, verdict_text};
 use crate::refusal::why_text;
 use crate::reply::{Of, Reply, Why};
@@ -259,6 +260,7 @@ pub fn lines(alloc: Global, reply: &Reply, out: &mut Vec<u8>) -> Result<(), Allo
             born,
             copies,
         } => put_summary(alloc, stats, *places, *born, *copies, out),
+        Reply::Uses { place, places } => put_made(uses_text(alloc, place, &places.items), out),
         Reply::Refused { of, why } => put_made(refused(alloc, *of, why), out),
     }
 }

@@ -1,5 +1,6 @@
-use Rattle.std.proofs.Common.{◌++◌, ap, sym, ◌∙◌}
-use Rattle.cp_reply.specs.Lines.{lines}
+use Rattle.std.proofs.Common.{◌≡◌, ◌++◌, ap, codes, sym, ◌∙◌}
+use Rattle.cp_path.specs.Spelling.{place_text}
+use Rattle.cp_reply.specs.Lines.{line, lines, places_text}
 use Rattle.cp_reply.proofs.Front.{on_ok}
 use Rattle.cp_reply.proofs.write.lines.Goals as goal
 
@@ -22,3 +23,16 @@ returns-in-Aborted-clause-ok c = on_ok c.put_made-in-Aborted.result _ _ (λ put.
 pub returns-in-Checkpoint-clause-ok : goal.returns-in-Checkpoint-clause-ok
 unfolding lines
 returns-in-Checkpoint-clause-ok c = on_ok c.put_made-in-Checkpoint.result _ _ (λ put. put _ c.checkpoint.ensures ∙ ap (λ r. c.args.out.now.items ++ lines r) (sym c.in-Checkpoint.is)) c.put_made-in-Checkpoint.ensures.ok
+
+pub returns-in-Uses-clause-ok : goal.returns-in-Uses-clause-ok
+unfolding lines
+returns-in-Uses-clause-ok c =
+    let a = c.deref-in-Uses.ensures.value in
+    let b = c.places.view_is in
+    let same : c.deref-in-Uses.result.now ≡ c.in-Uses.places = cc in
+    on_ok c.put_made-in-Uses.result _ _
+    (λ put.
+    put _ c.uses_text.ensures
+    ∙ ap (λ qs. c.args.out.now.items ++ line (codes "uses " ++ (place_text c.in-Uses.place ++ (codes ": " ++ places_text qs)))) same
+    ∙ ap (λ r. c.args.out.now.items ++ lines r) (sym c.in-Uses.is))
+    c.put_made-in-Uses.ensures.ok
