@@ -8,7 +8,6 @@ mod index;
 mod landing;
 mod noting;
 mod onward;
-mod places;
 mod reached;
 mod renewals;
 mod source;
@@ -18,7 +17,6 @@ mod stay;
 mod users;
 
 pub use index::UseIndex;
-pub use places::PlaceList;
 pub use reached::Reached;
 pub use stated::laws;
-pub use users::uses;
+pub use users::{users_of, uses};

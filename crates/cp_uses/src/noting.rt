@@ -12,7 +12,6 @@ ghost use Rattle.cp_uses.specs.Stays.{IsKnown};
 ghost use Rattle.cp_uses.specs.Users.{is_among, place_cmp};
 
 use crate::current::is_current;
-use crate::places::PlaceList;
 use crate::reached::Reached;
 use crate::stay::Stay;
 use cp_path::Loc;
@@ -53,13 +52,13 @@ pub(crate) fn note_current<P: ProvStore, R: TreeRep>(
 }
 
 /// Lists places, in order.
-pub(crate) fn list_places(alloc: Global, users: &BTreeSet<Loc>) -> Result<PlaceList, AllocError>
-    ensures all { IfOk result (λ v. v ≡ users.now.keys) }
-    ensures order { IfOk result (λ v. IsStrictlySortedBy place_cmp v) }
+pub(crate) fn list_places(alloc: Global, users: &BTreeSet<Loc>) -> Result<Vec<Loc>, AllocError>
+    ensures all { IfOk result (λ v. v.items ≡ users.now.keys) }
+    ensures order { IfOk result (λ v. IsStrictlySortedBy place_cmp v.items) }
 {
     let mut items = Vec::with_capacity(alloc, users.len())?;
     for place in users {
         items.push(place.clone()?)?;
     }
-    Ok(PlaceList { items })
+    Ok(items)
 }

@@ -1,6 +1,7 @@
 //! The places whose trace passes through a place.
 ghost use Rattle.std.specs.Prelude.{IfOk, OnOk};
 ghost use Rattle.cp_model.specs.History.{State};
+ghost use Rattle.cp_query.specs.Asked.{IsStateOf};
 ghost use Rattle.cp_store.specs.Calls.{Asks};
 ghost use Rattle.cp_store.specs.Counts.{calls_in, counted};
 ghost use Rattle.cp_store.specs.Questions.{BlamesDisk};
@@ -10,10 +11,10 @@ use crate::closing::close;
 use crate::front::Front;
 use crate::index::UseIndex;
 use crate::noting::list_places;
-use crate::places::PlaceList;
 use crate::reached::Reached;
 use crate::renewals::renew;
 use cp_path::Loc;
+use cp_query::records;
 use cp_store::{Counted, ProvStore, StoreFault};
 use cp_tree::TreeRep;
 use std::alloc::Global;
@@ -31,9 +32,9 @@ pub fn uses<P: ProvStore, R: TreeRep>(
     store: &mut Counted<P>,
     tree: &R,
     place: &Loc,
-) -> Result<PlaceList, StoreFault>
+) -> Result<Vec<Loc>, StoreFault>
     ensures users { (s : State) → AreOf (counted P.ProvStore) R.TreeRep index.now store.old tree.now s
-        → IfOk result (λ places. AreUsers s place.now places) }
+        → IfOk result (λ places. AreUsers s place.now places.items) }
     ensures calls { (s : State) → AreOf (counted P.ProvStore) R.TreeRep index.now store.old tree.now s
         → OnOk result (IsServed s place.now (calls_in store.old) (calls_in store.new)) }
     ensures asks { Asks (counted P.ProvStore) BlamesDisk store.old store.new result }
@@ -49,4 +50,21 @@ pub fn uses<P: ProvStore, R: TreeRep>(
     let mut users = BTreeSet::new(alloc);
     close(alloc, index, store, kind, tree, &mut front, &mut users)?;
     Ok(list_places(alloc, &users)?)
+}
+
+/// The places of the tree whose trace passes through this one, in order, where the store keeps the rows of the tree's history.
+/// Costs the listing of all records and their index, and what `uses` costs.
+pub fn users_of<P: ProvStore, R: TreeRep>(
+    alloc: Global,
+    mut store: P,
+    tree: &R,
+    place: &Loc,
+) -> Result<Vec<Loc>, StoreFault>
+    ensures users { (s : State) → IsStateOf P.ProvStore R.TreeRep store tree.now s
+        → IfOk result (λ places. AreUsers s place.now places.items) }
+{
+    let rows = records(alloc, &mut store, None)?;
+    let index = UseIndex::new(alloc, &rows.items)?;
+    let mut counted = Counted::new(store);
+    uses(alloc, &index, &mut counted, tree, place)
 }

@@ -18,8 +18,8 @@ returns-clause-users g c = λ s h.
     closes-all s _ _ _ c.args.index.now c.args.place.now c.in_ok-start.start c.new-front.result.found.items c.add.new.self.found.items c.renew.new.front.found.items all
     c.new-front.ensures.found c.in_ok-add.ensures.found c.in_ok-start.ensures.cases (c.in_ok-renew.ensures.found s.rows h.state.keeps) (c.in_ok-close.ensures.closed s.rows keeps)
     (sym is.kind) (c.kind-kind.ensures ∙ sym is.kind) (sym is.now) h.rows in
-    users-are is.history s is.legal is.replayed c.args.place.now all closes c.in_ok-list_places.field-0 c.in_ok-list_places.ensures.order
-    (noted-all s _ _ _ all c.new-users.result.keys c.close.new.users.keys c.in_ok-list_places.field-0 c.new-users.ensures.empty c.in_ok-list_places.ensures.all
+    users-are is.history s is.legal is.replayed c.args.place.now all closes c.in_ok-list_places.field-0.items c.in_ok-list_places.ensures.order
+    (noted-all s _ _ _ all c.new-users.result.keys c.close.new.users.keys c.in_ok-list_places.field-0.items c.new-users.ensures.empty c.in_ok-list_places.ensures.all
     (c.kind-kind.ensures ∙ sym is.kind) (one.last ∙ sym is.now) (sym is.tree) (c.in_ok-close.ensures.users s.rows keeps))
 
 pub returns-clause-calls : goal.returns-clause-calls
