@@ -9,6 +9,7 @@ pub mod OpeningStores
 pub mod Walking
 mod WalkingFrames
 mod Logging
+mod Archiving
 mod WritingStanding
 mod WritingFrames
 mod WritingLoads

@@ -77,9 +77,9 @@ rows-commit rs more first place items s x c kind last ss t found is added =
 
 -- ---- the start
 
-module _ {R S W : Type 0} (view : R → Tree) (source_view : S → Tree) (Fits : W → Kind → ℕ → Type 0) where
+module _ {R S W : Type 0} (view : R → Tree) (source_view : S → Tree) (Fits : W → Kind → ℕ → Tree → Type 0) where
   -- a walk that begins has the start alone
-  pub reached-first : (w : HistoryWalk R S W) (i : Item) → IsStartOf i w.kind (view w.tree) → IsTree (view w.tree) → sources_in source_view w.sources ≡ [] → w.last ≡ 0 → w.commits ≡ 0 → Fits w.work w.kind w.last → HasReached view source_view Fits None w (i ∷ [])
+  pub reached-first : (w : HistoryWalk R S W) (i : Item) → IsStartOf i w.kind (view w.tree) → IsTree (view w.tree) → sources_in source_view w.sources ≡ [] → w.last ≡ 0 → w.commits ≡ 0 → Fits w.work w.kind w.last (view w.tree) → HasReached view source_view Fits None w (i ∷ [])
   reached-first w i is tree none last counted fits = record {
     records = [];
     taken = record {
@@ -97,14 +97,14 @@ pub begun-first : (i : Item) (k : Kind) (t : Tree) → IsStartOf i k t → IsBeg
 unfolding start_state
 begun-first i k t is = record { begins = (is.can, is.leads); of_kind = refl; after = refl; tree = tree_of-aged t }
 
-module _ {R S W : Type 0} (view : R → Tree) (source_view : S → Tree) (Fits : W → Kind → ℕ → Type 0) (first : Option State) (w : HistoryWalk R S W) (items : List Item) (g : HasReached view source_view Fits first w items) where
+module _ {R S W : Type 0} (view : R → Tree) (source_view : S → Tree) (Fits : W → Kind → ℕ → Tree → Type 0) (first : Option State) (w : HistoryWalk R S W) (items : List Item) (g : HasReached view source_view Fits first w items) where
   abbrev pub state_of : State
   state_of = g.taken.state
 
   -- ---- a checkpoint
 
   -- a checkpoint adds nothing
-  pub checkpoint-reached : (body : List ℕ) (k : W) → Fits k w.kind w.last → HasReached view source_view Fits first (record w { work = k }) (items ++ a_checkpoint body ∷ [])
+  pub checkpoint-reached : (body : List ℕ) (k : W) → Fits k w.kind w.last (view w.tree) → HasReached view source_view Fits first (record w { work = k }) (items ++ a_checkpoint body ∷ [])
   checkpoint-reached body k fits = record {
     records = g.records;
     taken = checkpoint_taken view source_view first (committed_of w g.records) items g.taken body;
@@ -122,7 +122,7 @@ module _ {R S W : Type 0} (view : R → Tree) (source_view : S → Tree) (Fits :
   module _ (n : HistoryWalk R S W) (x : WrittenEntry) where
     -- a source that was loaded is in the history of the walk, or may not follow
     pub reaches-source : (name : List ℕ) (l : Literal) (b : Bool) → IsEntry (entry.Load name l) x → IsSoundSource name l → LoadsSource (sources_in source_view w.sources) (sources_in source_view n.sources) name l b
-        → n.tree ≡ w.tree → n.kind ≡ w.kind → n.last ≡ w.last → n.commits ≡ w.commits → Fits n.work n.kind n.last → CanReach view source_view Fits first items x n b
+        → n.tree ≡ w.tree → n.kind ≡ w.kind → n.last ≡ w.last → n.commits ≡ w.commits → Fits n.work n.kind n.last (view n.tree) → CanReach view source_view Fits first items x n b
     reaches-source name l true is sound loads tree kind last counted fits = record {
       records = g.records;
       taken = taken-source view source_view first (committed_of w g.records) (committed_of n g.records) items g.taken name l x is sound loads tree (λ j. record { kind = kind j; rows = record { list = g.records; upto = last j } }) counted;
@@ -137,7 +137,7 @@ module _ {R S W : Type 0} (view : R → Tree) (source_view : S → Tree) (Fits :
 
       -- and has been reached where it has been, without its records
       pub reached-commit : (u : R) (trees : Bool) (tids : ℕ) → IsSoundBatch trees os rs → IsReplayed (sources_in source_view w.sources) (view w.tree) (view u) w.kind w.last os rs tids
-          → n.tree ≡ u → n.sources ≡ w.sources → n.kind ≡ w.kind → n.last ≡ w.last + tids → n.commits ≡ w.commits + 1 → n.last ≤ TIDS_MAX → Fits n.work n.kind n.last → HasReached view source_view Fits first n (items ++ an_entry x ∷ [])
+          → n.tree ≡ u → n.sources ≡ w.sources → n.kind ≡ w.kind → n.last ≡ w.last + tids → n.commits ≡ w.commits + 1 → n.last ≤ TIDS_MAX → Fits n.work n.kind n.last (view n.tree) → HasReached view source_view Fits first n (items ++ an_entry x ∷ [])
       reached-commit u trees tids sound is tree sources kind last counted few fits =
           let old = committed_of w g.records in
           let new = committed_of n (g.records ++ rs) in
@@ -176,8 +176,8 @@ passed-load name l (stamped r b) at place same is = absurd is
 -- ---- an opening
 
 -- the rows of an opening go on in this kind, after this Tid
-abbrev pub RowsFit : KindRows → Kind → ℕ → Type 0
-RowsFit rows kind last = (rows.kind ≡ kind) × (rows.rows.upto ≡ last)
+abbrev pub RowsFit : KindRows → Kind → ℕ → Tree → Type 0
+RowsFit rows kind last tree = (rows.kind ≡ kind) × (rows.rows.upto ≡ last)
 
 -- and are the records of the items
 abbrev pub RowsDone : KindRows → Option State → (ℕ → ℕ) → List Item → Type 0

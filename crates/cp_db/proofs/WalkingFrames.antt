@@ -50,7 +50,7 @@ placed_at from (f ∷ fs) (suc n) at is =
 pub listed_place : (from : ℕ) (fs : List Frame) (j : JournalState) (c : List ℕ) → Lists from fs j c → (n : ℕ) (at : FrameAt) → slice_get j.frames n ≡ Some at → at.at ≡ frame_place from fs n
 listed_place from fs j c lists n at is = placed_at from fs n at (ap (λ (l : List FrameAt). slice_get l n) (sym lists.frames) ∙ is)
 
-module _ {R S W : Type 0} (view : R → Tree) (source_view : S → Tree) (Fits : W → Kind → ℕ → Type 0) (Done : W → Option State → (ℕ → ℕ) → List Item → Type 0) where
+module _ {R S W : Type 0} (view : R → Tree) (source_view : S → Tree) (Fits : W → Kind → ℕ → Tree → Type 0) (Done : W → Option State → (ℕ → ℕ) → List Item → Type 0) where
   module _ (first : Option State) (v : ℕ) where
     -- the entry that a frame spells has been passed
     pub passed_here : (f : Frame) (place : ℕ → ℕ) (items : List Item) (new : HistoryWalk R S W) (w : WrittenEntry) → f.tag ≡ ENTRY → Reads entry_format f.body w [] → IsOfVersion v w → HasReached view source_view Fits first new (items ++ an_entry w ∷ []) → Done new.work first place (items ++ an_entry w ∷ [])

@@ -13,14 +13,14 @@ use Rattle.cp_model.specs.Tree.{Tree, IsTree}
 use Rattle.cp_model.specs.History.{Entry, CanFollow, IsLiteral, replay, start_state}
 use Rattle.cp_model.specs.History as history
 use Rattle.cp_disk.specs.Views.{View, ViewKeeps, ViewRests}
-use Rattle.cp_disk.proofs.Composing.{keeps_none, keeps_rests, keeps_then}
+use Rattle.cp_disk.proofs.Composing.{keeps_none, keeps_rests, keeps_then, rests_then}
 use Rattle.cp_format.specs.Formats.{Reads}
 use Rattle.cp_frame.specs.Entries.{IsEntry, WrittenEntry, start, load, commit, stamped, entry_format, written_entry}
 use Rattle.cp_frame.specs.Trees.{rows_of}
 use Rattle.cp_frame.specs.declared.entry.Entry.TheVariants as frame
 use Rattle.cp_journal.specs.Frames.{entry}
 use Rattle.cp_journal.specs.Journals.{Describes}
-use Rattle.cp_journal.specs.NewStores.{IsOldOrVacantOrNew, header}
+use Rattle.cp_journal.specs.NewStores.{IsOldOrVacantOrNew, IsVacantOrNew, SettlesInto, header}
 use Rattle.cp_journal.specs.declared.fault.JournalFault.{JournalFault}
 use Rattle.cp_journal.specs.declared.fault.JournalFault.TheVariants as journal
 use Rattle.cp_journal.specs.declared.limits.TheConstants.{BODY_MAX}
@@ -31,7 +31,7 @@ use Rattle.cp_frame.proofs.Measures.{start-measured, start-short}
 use Rattle.cp_frame.proofs.Standing.{tell-first}
 use Rattle.cp_db.specs.Committed.{LeadsTo}
 use Rattle.cp_db.specs.Databases.{HoldsState, IsKept, Stands}
-use Rattle.cp_db.specs.Writing.{IsOldOrVacantOrStart}
+use Rattle.cp_db.specs.Writing.{IsOldOrVacantOrStart, IsVacantOrStart}
 use Rattle.cp_db.specs.declared.database.Db.{Db}
 use Rattle.cp_db.specs.declared.fault.InitFault.{InitFault}
 use Rattle.cp_db.specs.declared.fault.InitFault.TheVariants as init
@@ -123,6 +123,17 @@ module _ (k : Kind) (t : Tree) (body : List ℕ) (told : Tell true 2 (entry body
       (keeps_rests (IsOldOrVacantOrStart v k t) v v w (keeps_none (IsOldOrVacantOrStart v k t) v (λ c i. inl i)) rests)
       made
       (λ c h. ⊎_elim (λ i. inl (rests.images c i)) (λ n. ⊎_elim (λ vacant. inr (inl vacant)) (λ stands. inr (inr (store-stands 2 header (entry body ∷ []) (history.start k t ∷ []) c new-head (omega arith) told stands))) n) h)
+
+  -- from the first sync on it leaves a vacant file or the new store
+  pub settles-started : (v w x : View) → ViewRests v w → SettlesInto (IsVacantOrNew (entry body)) w x → SettlesInto (IsVacantOrStart k t) v x
+  settles-started v w x rests made = ⊎_elim
+      (λ still. inl (rests_then v w x rests still))
+      (λ settled. inr (record {
+        moment = settled.moment;
+        later = omega (arith, rests.later, settled.later);
+        passed = settled.passed;
+        only = λ c i. ⊎_elim (λ vacant. inl vacant) (λ stands. inr (store-stands 2 header (entry body ∷ []) (history.start k t ∷ []) c new-head (omega arith) told stands)) (settled.only c i);
+      })) made
 
 -- ---- want of memory
 

@@ -1,7 +1,10 @@
 -- A transaction is finished on a database: what it makes, or why it makes nothing.
 use Rattle.std.proofs.Common.{◌≡◌, ℕ, ◌+◌, ◌≤◌, ◌<◌, Bool, true, false, List, length, Ok, Err, refl, sym, subst, arith}
+use Rattle.std.proofs.Math.Nat.{min-eq_left}
+use Rattle.std.specs.Prelude.{min, Result}
 use Rattle.std.proofs.lemmas.Bool.Decides.{nat_tests}
 use Rattle.cp_model.specs.declared.kind.Kind.{Kind}
+use Rattle.cp_model.specs.declared.limits.TheConstants.{ENTRY_MAX}
 use Rattle.cp_model.specs.declared.op.Op.{Op}
 use Rattle.cp_model.specs.declared.refusal.Cause.{Cause}
 use Rattle.cp_model.specs.declared.stamp.Stamp.{Stamp}
@@ -37,6 +40,14 @@ TellsFinish f e = (f ≡ finish.Empty → e ≡ fault.Empty) × (f ≡ finish.To
 -- and those of a call that writes
 abbrev pub TellsWrite : WriteFault → CommitFault → Type 0
 TellsWrite f e = (f ≡ write.Disk → e ≡ fault.Disk) × (f ≡ write.Memory → e ≡ fault.Memory) × (f ≡ write.TooLarge → e ≡ fault.TooLarge)
+
+-- what a stamp leaves is within the limit of an entry, so that a transaction is finished within it
+pub within-left : {R : Type 0} (view : R → Tree) (x : Txn R) (limit : ℕ) (r : Stamp) (result : Result (Step R) FinishFault) → limit + 9 + length r.curator ≡ BODY_MAX
+    → ((k : Kind) (ss : List Source) (t : Tree) (n : ℕ) (p : txn.Progress) → txn.Stands view x k ss t n p → txn.Finishes view k ss t n p (min limit ENTRY_MAX) result)
+    → (k : Kind) (ss : List Source) (t : Tree) (n : ℕ) (p : txn.Progress) → txn.Stands view x k ss t n p → txn.Finishes view k ss t n p limit result
+within-left view x limit r result is f k ss t n p h =
+    let few : limit ≤ ENTRY_MAX = omega (arith, is) in
+    subst (λ (most : ℕ). txn.Finishes view k ss t n p most result) (min-eq_left few) (f k ss t n p h)
 
 module _ {R S : Type 0} (view : R → Tree) (source_view : S → Tree) (d : Db R S) (x : Txn R) (limit : ℕ) where
   -- the transaction gives this step, however far it has come

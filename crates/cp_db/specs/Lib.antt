@@ -5,3 +5,4 @@ pub mod Writing
 pub mod Work
 pub mod Walk
 pub mod Log
+pub mod Archives

@@ -28,23 +28,23 @@ committed_of w rs =
     record { tree = w.tree; sources = w.sources; store = record { kind = w.kind; rows = record { list = rs; upto = w.last } }; commits = w.commits }
 
 -- an opening that has taken these items, from the first state on, has what the walk keeps
-pub record HasReached {R S W : Type 0} (view : R → Tree) (source_view : S → Tree) (Fits : W → Kind → ℕ → Type 0) (first : Option State) (w : HistoryWalk R S W) (items : List Item) : Type 0 where
+pub record HasReached {R S W : Type 0} (view : R → Tree) (source_view : S → Tree) (Fits : W → Kind → ℕ → Tree → Type 0) (first : Option State) (w : HistoryWalk R S W) (items : List Item) : Type 0 where
   pub records : List Record
   pub taken : HasTaken view source_view first (committed_of w records) items
-  pub fits : Fits w.work w.kind w.last
+  pub fits : Fits w.work w.kind w.last (view w.tree)
 
 -- the walk has reached the end of these items, and done its work on them; this is the offset of each
-pub record HasPassed {R S W : Type 0} (view : R → Tree) (source_view : S → Tree) (Fits : W → Kind → ℕ → Type 0) (Done : W → Option State → (ℕ → ℕ) → List Item → Type 0) (first : Option State) (place : ℕ → ℕ) (w : HistoryWalk R S W) (items : List Item) : Type 0 where
+pub record HasPassed {R S W : Type 0} (view : R → Tree) (source_view : S → Tree) (Fits : W → Kind → ℕ → Tree → Type 0) (Done : W → Option State → (ℕ → ℕ) → List Item → Type 0) (first : Option State) (place : ℕ → ℕ) (w : HistoryWalk R S W) (items : List Item) : Type 0 where
   pub reached : HasReached view source_view Fits first w items
   pub done : Done w.work first place items
 
 -- the entry may follow these items and the walk has reached its end, or it may not
-abbrev pub CanReach : {R S W : Type 0} → (R → Tree) → (S → Tree) → (W → Kind → ℕ → Type 0) → Option State → List Item → WrittenEntry → HistoryWalk R S W → Bool → Type 0
+abbrev pub CanReach : {R S W : Type 0} → (R → Tree) → (S → Tree) → (W → Kind → ℕ → Tree → Type 0) → Option State → List Item → WrittenEntry → HistoryWalk R S W → Bool → Type 0
 CanReach view source_view Fits first items w new true = HasReached view source_view Fits first new (items ++ an_entry w ∷ [])
 CanReach view source_view Fits first items w new false = CanStand false (fold after_item first items) (an_entry w) → ⊥
 
 -- the walk has passed what the frame holds after these items, or that may not follow them
-abbrev pub PassesFrameAs : {R S W : Type 0} → (R → Tree) → (S → Tree) → (W → Kind → ℕ → Type 0) → (W → Option State → (ℕ → ℕ) → List Item → Type 0) → Option State → (ℕ → ℕ) → ℕ → Frame → List Item → HistoryWalk R S W → Result ⊤ OpenFault → Type 0
+abbrev pub PassesFrameAs : {R S W : Type 0} → (R → Tree) → (S → Tree) → (W → Kind → ℕ → Tree → Type 0) → (W → Option State → (ℕ → ℕ) → List Item → Type 0) → Option State → (ℕ → ℕ) → ℕ → Frame → List Item → HistoryWalk R S W → Result ⊤ OpenFault → Type 0
 PassesFrameAs view source_view Fits Done first place version f items new (Ok x) = (i : Item) × IsHeld version f i × HasPassed view source_view Fits Done first place new (items ++ i ∷ [])
 PassesFrameAs view source_view Fits Done first place version f items new (Err e) = RefusesAs version f (fold after_item first items) (place (length items)) e
 
@@ -53,21 +53,21 @@ abbrev pub frame_place : ℕ → List Frame → ℕ → ℕ
 frame_place from fs n = from + length (spelled_all (take n fs))
 
 -- from the first state on the walk has passed what the first so many frames hold
-pub record HasCome {R S W : Type 0} (view : R → Tree) (source_view : S → Tree) (Fits : W → Kind → ℕ → Type 0) (Done : W → Option State → (ℕ → ℕ) → List Item → Type 0) (first : Option State) (version from : ℕ) (fs : List Frame) (count : ℕ) (w : HistoryWalk R S W) : Type 0 where
+pub record HasCome {R S W : Type 0} (view : R → Tree) (source_view : S → Tree) (Fits : W → Kind → ℕ → Tree → Type 0) (Done : W → Option State → (ℕ → ℕ) → List Item → Type 0) (first : Option State) (version from : ℕ) (fs : List Frame) (count : ℕ) (w : HistoryWalk R S W) : Type 0 where
   pub items : List Item
   pub counted : length items ≡ count
   pub held : AreHeld version (take count fs) items
   pub passed : HasPassed view source_view Fits Done first (frame_place from fs) w items
 
 -- it has passed what all frames hold; or a frame stops it
-abbrev pub GoesOnAs : {R S W : Type 0} → (R → Tree) → (S → Tree) → (W → Kind → ℕ → Type 0) → (W → Option State → (ℕ → ℕ) → List Item → Type 0) → Option State → ℕ → ℕ → List Frame → HistoryWalk R S W → Result ⊤ OpenFault → Type 0
+abbrev pub GoesOnAs : {R S W : Type 0} → (R → Tree) → (S → Tree) → (W → Kind → ℕ → Tree → Type 0) → (W → Option State → (ℕ → ℕ) → List Item → Type 0) → Option State → ℕ → ℕ → List Frame → HistoryWalk R S W → Result ⊤ OpenFault → Type 0
 GoesOnAs view source_view Fits Done first version from fs new (Ok x) = HasCome view source_view Fits Done first version from fs (length fs) new
 GoesOnAs view source_view Fits Done first version from fs new (Err (NoStore at)) = StopsAtFrame from version first fs at
 GoesOnAs view source_view Fits Done first version from fs new (Err Disk) = ⊤
 GoesOnAs view source_view Fits Done first version from fs new (Err Memory) = ⊤
 
 -- from the beginning it has passed what all frames hold, of which there is one; or there is none, or a frame stops it
-abbrev pub TellsPassedAs : {R S W : Type 0} → (R → Tree) → (S → Tree) → (W → Kind → ℕ → Type 0) → (W → Option State → (ℕ → ℕ) → List Item → Type 0) → ℕ → ℕ → List Frame → Result (HistoryWalk R S W) OpenFault → Type 0
+abbrev pub TellsPassedAs : {R S W : Type 0} → (R → Tree) → (S → Tree) → (W → Kind → ℕ → Tree → Type 0) → (W → Option State → (ℕ → ℕ) → List Item → Type 0) → ℕ → ℕ → List Frame → Result (HistoryWalk R S W) OpenFault → Type 0
 TellsPassedAs view source_view Fits Done version from fs (Ok w) = (1 ≤ length fs) × HasCome view source_view Fits Done None version from fs (length fs) w
 TellsPassedAs view source_view Fits Done version from fs (Err (NoStore at)) = ((fs ≡ []) × (at ≡ from)) ⊎ StopsAtFrame from version None fs at
 TellsPassedAs view source_view Fits Done version from fs (Err Disk) = ⊤

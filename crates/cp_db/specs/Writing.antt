@@ -1,9 +1,12 @@
 -- What the calls that write do.
-use Rattle.std.specs.Prelude.{ℕ, ◌≡◌, ◌⊎◌, ◌+◌, ◌≤◌, ◌++◌, true, false, List, [], ◌∷◌, length, Result, Ok, Err, ⊤}
-use Rattle.cp_model.specs.Tree.{Tree}
+use Rattle.std.specs.Prelude.{ℕ, ◌≡◌, ◌⊎◌, ◌+◌, ◌≤◌, ◌==◌, ◌++◌, true, false, List, [], ◌∷◌, length, is_some, if◌then◌else◌, Result, Ok, Err, ⊤}
+use Rattle.std.specs.declared.option.Option.{Option}
+use Rattle.std.specs.declared.option.Option.TheVariants.{None, Some}
+use Rattle.cp_model.specs.Tree.{Tree, source}
 use Rattle.cp_model.specs.Past.{tree_of}
 use Rattle.cp_model.specs.History.{Entry, start, load, commit, State, CanCommit, after_commit, after_load, steps_of}
 use Rattle.cp_model.specs.declared.kind.Kind.{Kind}
+use Rattle.cp_model.specs.declared.limits.TheConstants.{SOURCES_MAX}
 use Rattle.cp_model.specs.declared.op.Op.{Op}
 use Rattle.cp_model.specs.declared.stamp.Stamp.{Stamp}
 use Rattle.cp_disk.specs.Views.{View}
@@ -20,6 +23,8 @@ use Rattle.cp_db.specs.declared.database.Db.{Db}
 use Rattle.cp_db.specs.declared.database.Tids.{Tids}
 use Rattle.cp_db.specs.declared.fault.InitFault.{InitFault}
 use Rattle.cp_db.specs.declared.fault.InitFault.TheVariants as init
+use Rattle.cp_db.specs.declared.fault.LoadFault.{LoadFault}
+use Rattle.cp_db.specs.declared.fault.LoadFault.TheVariants as load_fault
 use Rattle.cp_db.specs.declared.fault.WriteFault.{WriteFault}
 use Rattle.cp_db.specs.declared.fault.WriteFault.TheVariants as write
 use Rattle.cp_db.specs.declared.fault.CommitFault.{CommitFault}
@@ -34,6 +39,9 @@ IsInitDisk e = e ≡ init.Disk
 abbrev pub IsWriteDisk : WriteFault → Type 0
 IsWriteDisk e = e ≡ write.Disk
 
+abbrev pub IsLoadDisk : LoadFault → Type 0
+IsLoadDisk e = e ≡ load_fault.Disk
+
 abbrev pub IsCommitDisk : CommitFault → Type 0
 IsCommitDisk e = e ≡ fault.Disk
 
@@ -42,6 +50,10 @@ IsCommitDisk e = e ≡ fault.Disk
 -- the file that a crash leaves of a new store: one that it could leave before, a vacant one, or the store with its start alone
 abbrev pub IsOldOrVacantOrStart : View → Kind → Tree → List ℕ → Type 0
 IsOldOrVacantOrStart v k t c = v.images c ⊎ (IsVacant c ⊎ StandsFor (start k t ∷ []) c)
+
+-- the file is vacant, or a new store with its start alone
+abbrev pub IsVacantOrStart : Kind → Tree → List ℕ → Type 0
+IsVacantOrStart k t c = IsVacant c ⊎ StandsFor (start k t ∷ []) c
 
 -- ---- one entry more
 
@@ -53,13 +65,24 @@ pub record HasAdded {R S : Type 0} (view : R → Tree) (source_view : S → Tree
   pub leads : (h : List Entry) → LeadsTo h s → LeadsTo (h ++ e ∷ []) z
   pub end : end_in new ≡ end_in old + FRAME_HEAD + size
 
--- the source is added, unless there is no room for it
-abbrev pub HasLoaded : {R S : Type 0} → (R → Tree) → (S → Tree) → Db R S → State → List ℕ → Tree → Db R S → Result ⊤ WriteFault → Type 0
+-- why no source of this name is added, whatever its tree: one is there, or else as many are there as may be
+abbrev pub in_the_way : State → List ℕ → Option LoadFault
+in_the_way s n =
+    if is_some (source s.sources n) then Some load_fault.SourceThere
+    else if length s.sources == SOURCES_MAX then Some load_fault.TooManySources
+    else None
+
+-- The source is added, unless something is in its way or there is no room for it. What is in its way is told before anything else.
+abbrev pub HasLoaded : {R S : Type 0} → (R → Tree) → (S → Tree) → Db R S → State → List ℕ → Tree → Db R S → Result ⊤ LoadFault → Type 0
 HasLoaded view source_view old s n t new (Ok x) =
-    (has_room (end_in old) (load_size n t) ≡ true) × HasAdded view source_view old s (load n t) (after_load s n t) (load_size n t) new
-HasLoaded view source_view old s n t new (Err write.TooLarge) = (has_room (end_in old) (load_size n t) ≡ false) × (new ≡ old)
-HasLoaded view source_view old s n t new (Err write.Disk) = ⊤
-HasLoaded view source_view old s n t new (Err write.Memory) = ⊤
+    (in_the_way s n ≡ None) × (has_room (end_in old) (load_size n t) ≡ true)
+    × HasAdded view source_view old s (load n t) (after_load s n t) (load_size n t) new
+HasLoaded view source_view old s n t new (Err load_fault.SourceThere) = (in_the_way s n ≡ Some load_fault.SourceThere) × (new ≡ old)
+HasLoaded view source_view old s n t new (Err load_fault.TooManySources) = (in_the_way s n ≡ Some load_fault.TooManySources) × (new ≡ old)
+HasLoaded view source_view old s n t new (Err load_fault.TooLarge) =
+    (in_the_way s n ≡ None) × (has_room (end_in old) (load_size n t) ≡ false) × (new ≡ old)
+HasLoaded view source_view old s n t new (Err load_fault.Disk) = in_the_way s n ≡ None
+HasLoaded view source_view old s n t new (Err load_fault.Memory) = in_the_way s n ≡ None
 
 -- the bytes of a commit's entry
 abbrev pub commit_size : State → Stamp → List Op → ℕ

@@ -1,10 +1,11 @@
-ghost use Rattle.std.specs.Prelude.{◌≡◌, [], List, true, IfOk, IsErrOf};
+ghost use Rattle.std.specs.Prelude.{◌≡◌, ◌↔◌, [], List, true, IfOk, IsErrOf};
 ghost use Rattle.cp_model.specs.Past.{tree_of};
 ghost use Rattle.cp_model.specs.History.{Entry, State};
 ghost use Rattle.cp_operation.specs.Loaded.{sources_in};
 ghost use Rattle.cp_engine.specs.Transactions.{going};
-ghost use Rattle.cp_query.specs.Asked.{AnswersTo};
-ghost use Rattle.cp_query.specs.declared.fault.QueryFault.TheVariants.{Disk};
+ghost use Rattle.cp_query.specs.Asked.{AnswersTo, lacks_place};
+ghost use Rattle.cp_query.specs.Rows.{RecordsRise};
+ghost use Rattle.cp_query.specs.declared.fault.QueryFault.TheVariants.{Disk, NoPlace};
 ghost use Rattle.cp_db.specs.Databases.{HoldsState, HoldsSame, Stands, IsDatabase, HasCome, IsSameFile, is_spent, version_in};
 
 use crate::committed::Committed;
@@ -91,11 +92,15 @@ impl<R: TreeRep, S: TreeRep> Db<R, S> {
         self.spent
     }
 
-    /// Answers a query on the committed state, without a read of the disk. Costs as the query.
+    /// Answers a query on the committed state, without a read of the disk. Whatever the records say, `NoPlace` comes exactly
+    /// where the place isn't in the tree. Costs as the query.
     pub fn query(&mut self, alloc: Global, query: &Query) -> Result<Answer, QueryFault>
         requires stands { IsDatabase R.contents S.contents self.old }
         ensures answer { (h : List Entry) (z : Stands R.contents S.contents true self.old h)
             → AnswersTo z.state query.now result }
+        ensures place { (s : State) → HoldsState R.contents S.contents self.old s
+            → IsErrOf result NoPlace ↔ (lacks_place (tree_of s.tree) query.now ≡ true) }
+        ensures order { IfOk result RecordsRise }
         ensures same { HoldsSame R.contents S.contents self.old self.new }
         ensures disk { IsErrOf result Disk → ⊥ }
         ensures file { IsSameFile self.old self.new }

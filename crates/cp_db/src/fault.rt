@@ -31,9 +31,28 @@ pub enum OpenFault {
     Memory,
 }
 
-/// Why a source wasn't kept, or a file not made one of version 2.
+/// Why an entry wasn't added, or a file not made one of version 2.
 #[derive(Clone, Copy, Debug, Drop, Error)]
 pub enum WriteFault {
+    /// The entry is over its limit, or the file would be. Nothing has changed.
+    #[error("too large")]
+    TooLarge,
+    /// The disk failed; its count of faults has risen.
+    #[error("the disk failed")]
+    Disk,
+    #[error("out of memory")]
+    Memory,
+}
+
+/// Why a source wasn't kept.
+#[derive(Clone, Copy, Debug, Drop, Error)]
+pub enum LoadFault {
+    /// A source of this name is there. Nothing has changed.
+    #[error("a source of this name is there")]
+    SourceThere,
+    /// As many sources are there as may be. Nothing has changed.
+    #[error("too many sources")]
+    TooManySources,
     /// The entry is over its limit, or the file would be. Nothing has changed.
     #[error("too large")]
     TooLarge,
@@ -96,6 +115,17 @@ impl From<AllocError> for WriteFault {
     }
 }
 
+impl From<AllocError> for LoadFault {
+    ghost use Rattle.std.specs.Prelude.{◌≡◌};
+    ghost use Rattle.cp_db.specs.declared.fault.LoadFault.TheVariants.{Memory};
+
+    ghost from_gives = { λ _ e. e ≡ Memory };
+
+    fn from(_refused: AllocError) -> LoadFault {
+        LoadFault::Memory
+    }
+}
+
 /// What the journal has no reason to answer here is read as want of memory.
 impl From<JournalFault> for InitFault {
     ghost use Rattle.std.specs.Prelude.{◌≡◌};
@@ -144,6 +174,23 @@ impl From<JournalFault> for WriteFault {
             JournalFault::Disk => WriteFault::Disk,
             JournalFault::TooLarge => WriteFault::TooLarge,
             _ => WriteFault::Memory,
+        }
+    }
+}
+
+impl From<WriteFault> for LoadFault {
+    ghost use Rattle.std.specs.Prelude.{◌≡◌};
+    ghost use Rattle.cp_db.specs.declared.fault.WriteFault.TheVariants as write;
+    ghost use Rattle.cp_db.specs.declared.fault.LoadFault.TheVariants.{TooLarge, Disk, Memory};
+
+    ghost from_gives = { λ f e. (f ≡ write.Disk → e ≡ Disk) × (f ≡ write.Memory → e ≡ Memory)
+        × (f ≡ write.TooLarge → e ≡ TooLarge) };
+
+    fn from(fault: WriteFault) -> LoadFault {
+        match fault {
+            WriteFault::TooLarge => LoadFault::TooLarge,
+            WriteFault::Disk => LoadFault::Disk,
+            WriteFault::Memory => LoadFault::Memory,
         }
     }
 }

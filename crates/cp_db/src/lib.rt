@@ -5,22 +5,26 @@
 //! before it, or that with its one entry more.
 #![tactic(auto)]
 
+mod archive;
 mod committed;
 mod database;
 mod fault;
 mod limits;
 mod log;
 mod opening;
+mod parts;
 mod rows;
 mod start;
 mod walk;
 mod work;
 mod writing;
 
+pub use archive::{Kept, archive_of};
 pub use committed::tids_lie_between;
 pub use database::{Db, Tids};
-pub use fault::{CommitFault, InitFault, OpenFault, WriteFault};
+pub use fault::{CommitFault, InitFault, LoadFault, OpenFault, WriteFault};
 pub use limits::TIDS_MAX;
 pub use log::log_of;
+pub use parts::Parts;
 pub use walk::work_over;
 pub use work::{CommitAt, Passed, Work};

@@ -46,7 +46,7 @@ struct Logging {
 
 /// A walk that lists commits adds a line for each.
 impl Work for Logging {
-    ghost fits = { λ work kind last. ⊤ };
+    ghost fits = { λ work kind last tree. ⊤ };
 
     ghost done = { λ work first place items. first ≡ None → work.lines ≡ log_of (flat_map entries_in items) };
 

@@ -13,7 +13,7 @@ use std::alloc::{AllocError, Global};
 
 /// A walk that opens a file keeps the records of each commit, as they are packed in its entry.
 impl Work for MemoryStore {
-    ghost fits = { λ rows kind last. (rows.kind ≡ kind) × (rows.rows.upto ≡ last) };
+    ghost fits = { λ rows kind last tree. (rows.kind ≡ kind) × (rows.rows.upto ≡ last) };
 
     ghost done = { λ rows first place items. rows.rows.list ≡ flat_map records_in items };
 

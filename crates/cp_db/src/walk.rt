@@ -285,10 +285,10 @@ impl<R: TreeRep, S: TreeRep> HistoryWalk<R, S, MemoryStore> {
     /// What the walk leads to, with the rows that were kept on the way.
     pub(crate) fn into_committed(self) -> Committed<R, S>
         ensures keeps { (first : OptionValue State) (items : List Item)
-            (g : HasReached R.contents S.contents (λ rows kind last. (rows.kind ≡ kind) × (rows.rows.upto ≡ last)) first self items)
+            (g : HasReached R.contents S.contents (λ rows kind last tree. (rows.kind ≡ kind) × (rows.rows.upto ≡ last)) first self items)
             → KeepsState R.contents S.contents result g.taken.state }
         ensures taken { (first : OptionValue State) (place : ℕ → ℕ) (items : List Item)
-            → HasPassed R.contents S.contents (λ rows kind last. (rows.kind ≡ kind) × (rows.rows.upto ≡ last))
+            → HasPassed R.contents S.contents (λ rows kind last tree. (rows.kind ≡ kind) × (rows.rows.upto ≡ last))
             (λ rows first place items. rows.rows.list ≡ flat_map records_in items) first place self items
             → HasTaken R.contents S.contents first result items }
     {

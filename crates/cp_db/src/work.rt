@@ -4,6 +4,7 @@ ghost use Rattle.std.specs.declared.option.Option.{Option as OptionValue};
 ghost use Rattle.std.specs.declared.option.Option.TheVariants.{Some};
 ghost use Rattle.cp_model.specs.History.{State};
 ghost use Rattle.cp_model.specs.Laws.{AreSources};
+ghost use Rattle.cp_model.specs.Tree.{Tree as TreeValue};
 ghost use Rattle.cp_model.specs.declared.kind.Kind.{Kind as KindValue};
 ghost use Rattle.cp_frame.specs.Entries.{WrittenEntry};
 ghost use Rattle.cp_frame.specs.Items.{Item, AllStand, CanStand, after_item, an_entry};
@@ -37,15 +38,15 @@ pub enum Passed {
 
 /// Work that a walk over a history does at each commit. It is told where the walk begins, and what else it goes past.
 pub trait Work: Drop {
-    /// It may go on in this kind, after this Tid.
-    ghost fits: { Self → KindValue → ℕ → Type 0 };
+    /// It may go on in this kind, after this Tid, from this tree.
+    ghost fits: { Self → KindValue → ℕ → TreeValue → Type 0 };
 
     /// It has been done of these items, which come after this state, or are the first; this is the offset of each.
     ghost done: { Self → OptionValue State → (ℕ → ℕ) → List Item → Type 0 };
 
     /// What is done where a walk begins, in a state of this kind with this last Tid and this tree.
     fn begin<R: TreeRep>(alloc: Global, kind: Kind, last: u64, tree: &R) -> Result<Self, AllocError>
-        ensures fits { IfOk result (λ w. fits w kind last) }
+        ensures fits { IfOk result (λ w. fits w kind last (R.contents tree.now)) }
         ensures done { IfOk result (λ w. (first : OptionValue State) (place : ℕ → ℕ) (items : List Item) (s : State)
             → IsBegun first items s kind last (R.contents tree.now) → done w first place items) };
 
@@ -63,10 +64,11 @@ pub trait Work: Drop {
         requires few { last ≤ TIDS_MAX }
         requires sound { (trees : Bool) × IsSoundBatch trees commit.ops commit.records }
         requires sources { AreSources (sources_in S.contents sources.now) }
-        requires fits { fits self.old kind last }
+        requires fits { fits self.old kind last (R.contents tree.old) }
         ensures replayed { IfOk result (ReplaysCommit (sources_in S.contents sources.now)
             (R.contents tree.old) (R.contents tree.new) kind last commit.ops commit.records) }
-        ensures fits { IfOk result (λ o. IfSome o (λ tids. fits self.new kind (last + tids))) }
+        ensures fits { IfOk result (λ o. IfSome o (λ tids.
+            fits self.new kind (last + tids) (R.contents tree.new))) }
         ensures done { (first : OptionValue State) (place : ℕ → ℕ) (items : List Item) (s : State) (x : WrittenEntry)
             → done self.old first place items
             → IsAtCommit first place items s x commit kind last (sources_in S.contents sources.now) (R.contents tree.old)
@@ -74,7 +76,8 @@ pub trait Work: Drop {
 
     /// Goes past an item that is no commit.
     fn pass(&mut self, passed: Passed)
-        ensures fits { (kind : KindValue) (last : ℕ) → fits self.old kind last → fits self.new kind last }
+        ensures fits { (kind : KindValue) (last : ℕ) (tree : TreeValue)
+            → fits self.old kind last tree → fits self.new kind last tree }
         ensures done { (first : OptionValue State) (place : ℕ → ℕ) (items : List Item) (i : Item) (s : State)
             → done self.old first place items → AllStand false first items → fold after_item first items ≡ Some s
             → CanStand false (Some s) i → IsPassed passed (place (length items)) i

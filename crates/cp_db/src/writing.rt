@@ -2,7 +2,7 @@
 ghost use Rattle.std.specs.Prelude.{◌≡◌, ◌≤◌, ◌+◌, ◌++◌, ◌∷◌, ◌⊎◌, ◌↔◌, [], true, false, Bool, IsTrue, IsErrOf, IsOk, List, ℕ, length, IfOk, OnOk};
 ghost use Rattle.std.specs.declared.option.Option.TheVariants.{None};
 ghost use Rattle.cp_outside.specs.Causes.{Rose};
-ghost use Rattle.cp_model.specs.History.{Entry as HistoryEntry, State, CanLoad, IsLiteral, start, load, commit};
+ghost use Rattle.cp_model.specs.History.{Entry as HistoryEntry, State, IsLiteral, IsSource, start, load, commit};
 ghost use Rattle.cp_model.specs.Keyed.{from_entries};
 ghost use Rattle.cp_model.specs.Literals.{literal_rows};
 ghost use Rattle.cp_model.specs.declared.literal.Literal.{Literal as LiteralValue};
@@ -14,7 +14,7 @@ ghost use Rattle.cp_disk.specs.Views.{ViewRests, ViewKeeps, IfKnown, IsSettled, 
 ghost use Rattle.cp_journal.specs.Frames.{Frame, entry};
 ghost use Rattle.cp_journal.specs.Holding.{Holds, StandsWithOrWithout as HasFrameOrNot};
 ghost use Rattle.cp_journal.specs.Journals.{Describes};
-ghost use Rattle.cp_journal.specs.NewStores.{IsVacant};
+ghost use Rattle.cp_journal.specs.NewStores.{IsVacant, SettlesInto};
 ghost use Rattle.cp_engine.specs.Transactions.{Progress, going};
 ghost use Rattle.cp_format.specs.Formats.{Reads};
 ghost use Rattle.cp_frame.specs.Entries.{WrittenEntry, IsEntry, entry_format};
@@ -23,16 +23,16 @@ ghost use Rattle.cp_frame.specs.Items.{Tell};
 ghost use Rattle.cp_frame.specs.Stands.{StandsFor, StandsWithOrWithout};
 ghost use Rattle.cp_frame.specs.Sizes.{has_room, load_size, start_size};
 ghost use Rattle.cp_db.specs.Databases.{HoldsState, HoldsSame, Stands, IsDatabase, IsReady, IsKept, HasCome, end_in, is_spent, version_in};
-ghost use Rattle.cp_db.specs.Writing.{commit_size, HasCommitted, HasLoaded, HasMade, HasStepped, IsBeforeOrCommitted, IsCommitDisk, IsInitDisk, IsOldOrVacantOrStart, IsWriteDisk};
+ghost use Rattle.cp_db.specs.Writing.{commit_size, HasCommitted, HasLoaded, HasMade, HasStepped, IsBeforeOrCommitted, IsCommitDisk, IsInitDisk, IsLoadDisk, IsOldOrVacantOrStart, IsVacantOrStart, IsWriteDisk, in_the_way};
 
 use crate::committed::Committed;
 use crate::database::{Db, Tids};
-use crate::fault::{CommitFault, InitFault, WriteFault};
+use crate::fault::{CommitFault, InitFault, LoadFault, WriteFault};
 use cp_disk::{DISK_MAX, Disk};
 use cp_engine::{Step, Txn};
 use cp_frame::{Entry, entry_bytes};
 use cp_journal::{BODY_MAX, FRAME_HEAD, HEADER_SIZE, Journal};
-use cp_model::{Kind, Stamp};
+use cp_model::{Kind, SOURCES_MAX, Stamp};
 use cp_path::Name;
 use cp_record::PackedRecords;
 use cp_store::ProvStore;
@@ -64,7 +64,7 @@ fn start_bytes<R: TreeRep>(alloc: Global, kind: Kind, tree: &R) -> Result<Vec<u8
 
 /// The bytes of the entry that loads this tree as a source under this name. Costs the tree.
 fn load_bytes<S: TreeRep>(alloc: Global, name: &Name, tree: &S) -> Result<Vec<u8>, AllocError>
-    requires { (s : State) × CanLoad s name.now (S.contents tree.now) }
+    requires { IsSource name.now (S.contents tree.now) }
     ensures spells { IfOk result (λ v. (l : LiteralValue) × (w : WrittenEntry) × IsLiteral (literal_rows l)
         × (from_entries (literal_rows l) ≡ S.contents tree.now) × IsEntry (LoadEntry name.now l) w
         × Reads entry_format v.items w []) }
@@ -114,6 +114,8 @@ impl<R: TreeRep, S: TreeRep> Db<R, S> {
             → (IsVacant v.content → ⊥) × ViewRests v (D.known disk.new).view) }
         ensures durable { OnOk result (IsSettled (D.known disk.new)) }
         ensures crash { Keeps (IsOldOrVacantOrStart (D.known disk.old).view kind (R.contents tree)) (D.known disk.old) (D.known disk.new) }
+        ensures settles { IfKnown (D.known disk.old) (λ v.
+            SettlesInto (IsVacantOrStart kind (R.contents tree)) v (D.known disk.new).view) }
         ensures cause { UsesDisk IsInitDisk (D.known disk.old) (D.known disk.new) result }
         ensures memory { IfKnown (D.known disk.old) (λ v. IsErrOf result InitFault.Memory
             → ViewRests v (D.known disk.new).view
@@ -141,22 +143,38 @@ impl<R: TreeRep, S: TreeRep> Db<R, S> {
         size <= BODY_MAX && self.journal.next() <= DISK_MAX - FRAME_HEAD - 1 - size as u64
     }
 
-    /// Loads a tree as a source under a name that isn't loaded, while fewer than 32 sources are. Takes its memory before it
-    /// writes. Costs the tree, and two writes and two syncs.
+    /// Why no source of this name is added, whatever its tree. Takes no memory.
+    fn in_the_way(&self, name: &Name) -> Option<LoadFault>
+        ensures { (s : State) → HoldsState R.contents S.contents self.now s
+            → result ≡ in_the_way s name.now }
+    {
+        let sources = &self.committed.sources;
+        if sources.get(name).is_some() {
+            return Some(LoadFault::SourceThere);
+        }
+        if sources.len() == SOURCES_MAX {
+            return Some(LoadFault::TooManySources);
+        }
+        None
+    }
+
+    /// Loads a tree as a source. What is in its way is told before anything else: `SourceThere` where a source of that
+    /// name is there, and else `TooManySources` where as many are there as may be. Takes its memory before it writes.
+    /// Costs the tree, and two writes and two syncs.
     ///
-    /// A crash at any moment leaves the history before, or that with the source. `TooLarge` changes nothing. After `Disk`
-    /// and `Memory` the database is spent.
+    /// A crash at any moment leaves the history before, or that with the source. `SourceThere`, `TooManySources` and
+    /// `TooLarge` change nothing. After `Disk` and `Memory` the database is spent.
     pub fn load<D: Disk>(
         &mut self,
         alloc: Global,
         disk: &mut D,
         name: Name,
         tree: S,
-    ) -> Result<(), WriteFault>
+    ) -> Result<(), LoadFault>
         requires usable { is_spent self.old ≡ false }
         requires stands { IsDatabase R.contents S.contents self.old }
         requires ready { IfKnown (D.known disk.old) (λ v. IsReady self.old v) }
-        requires can { (s : State) → HoldsState R.contents S.contents self.old s → CanLoad s name (S.contents tree) }
+        requires source { IsSource name (S.contents tree) }
         ensures loaded { (s : State) → HoldsState R.contents S.contents self.old s
             → HasLoaded R.contents S.contents self.old s name (S.contents tree) self.new result }
         ensures kept { IfKnown (D.known disk.old) (λ v. (h : List HistoryEntry)
@@ -169,20 +187,25 @@ impl<R: TreeRep, S: TreeRep> Db<R, S> {
         ensures ready { OnOk result (IfKnown (D.known disk.new) (λ v. IsReady self.new v)) }
         ensures durable { OnOk result (IsSettled (D.known disk.new)) }
         ensures version { version_in self.new ≡ version_in self.old }
-        ensures unchanged { IsErrOf result WriteFault.TooLarge → disk.new ≡ disk.old }
-        ensures spent { IsTrue (is_spent self.new) ↔ (IsErrOf result WriteFault.Disk ⊎ IsErrOf result WriteFault.Memory) }
-        ensures cause { UsesDisk IsWriteDisk (D.known disk.old) (D.known disk.new) result }
-        ensures memory { IsErrOf result WriteFault.Memory → (disk.new ≡ disk.old)
+        ensures unchanged { ¬ (IsOk result) → ¬ (IsErrOf result LoadFault.Disk)
+            → ¬ (IsErrOf result LoadFault.Memory) → disk.new ≡ disk.old }
+        ensures spent { IsTrue (is_spent self.new)
+            ↔ (IsErrOf result LoadFault.Disk ⊎ IsErrOf result LoadFault.Memory) }
+        ensures cause { UsesDisk IsLoadDisk (D.known disk.old) (D.known disk.new) result }
+        ensures memory { IsErrOf result LoadFault.Memory → (disk.new ≡ disk.old)
             ⊎ Rose (D.known disk.old).counts.wants (D.known disk.new).counts.wants }
         ensures reads { (D.known disk.new).counts.reads ≡ (D.known disk.old).counts.reads }
     {
         match self.add_source(alloc, disk, name, tree) {
-            Ok(()) => Ok(()),
-            Err(WriteFault::TooLarge) => Err(WriteFault::TooLarge),
-            Err(fault) => {
+            Err(LoadFault::Disk) => {
                 self.spent = true;
-                Err(fault)
+                Err(LoadFault::Disk)
             }
+            Err(LoadFault::Memory) => {
+                self.spent = true;
+                Err(LoadFault::Memory)
+            }
+            loaded => loaded,
         }
     }
 
@@ -311,17 +334,17 @@ impl<R: TreeRep, S: TreeRep> Db<R, S> {
         Ok(())
     }
 
-    /// Adds a source, and its entry.
+    /// Adds a source, and its entry, unless something is in its way.
     fn add_source<D: Disk>(
         &mut self,
         alloc: Global,
         disk: &mut D,
         name: Name,
         tree: S,
-    ) -> Result<(), WriteFault>
+    ) -> Result<(), LoadFault>
         requires stands { IsDatabase R.contents S.contents self.old }
         requires ready { IfKnown (D.known disk.old) (λ v. IsReady self.old v) }
-        requires can { (s : State) → HoldsState R.contents S.contents self.old s → CanLoad s name (S.contents tree) }
+        requires source { IsSource name (S.contents tree) }
         ensures loaded { (s : State) → HoldsState R.contents S.contents self.old s
             → HasLoaded R.contents S.contents self.old s name (S.contents tree) self.new result }
         ensures kept { IfKnown (D.known disk.old) (λ v. (h : List HistoryEntry)
@@ -335,15 +358,19 @@ impl<R: TreeRep, S: TreeRep> Db<R, S> {
         ensures durable { OnOk result (IsSettled (D.known disk.new)) }
         ensures version { version_in self.new ≡ version_in self.old }
         ensures spent { is_spent self.new ≡ is_spent self.old }
-        ensures unchanged { IsErrOf result WriteFault.TooLarge → disk.new ≡ disk.old }
-        ensures cause { UsesDisk IsWriteDisk (D.known disk.old) (D.known disk.new) result }
-        ensures memory { IsErrOf result WriteFault.Memory → (disk.new ≡ disk.old)
+        ensures unchanged { ¬ (IsOk result) → ¬ (IsErrOf result LoadFault.Disk)
+            → ¬ (IsErrOf result LoadFault.Memory) → disk.new ≡ disk.old }
+        ensures cause { UsesDisk IsLoadDisk (D.known disk.old) (D.known disk.new) result }
+        ensures memory { IsErrOf result LoadFault.Memory → (disk.new ≡ disk.old)
             ⊎ Rose (D.known disk.old).counts.wants (D.known disk.new).counts.wants }
         ensures reads { (D.known disk.new).counts.reads ≡ (D.known disk.old).counts.reads }
     {
+        if let Some(fault) = self.in_the_way(&name) {
+            return Err(fault);
+        }
         let body = load_bytes(alloc, &name, &tree)?;
         if !self.has_room(body.len()) {
-            return Err(WriteFault::TooLarge);
+            return Err(LoadFault::TooLarge);
         }
         self.committed.sources.add(name, tree)?;
         self.append(alloc, disk, &body)?;

@@ -121,7 +121,7 @@ struct Verifying {
 
 /// A walk that verifies compares the records of each commit with those that its operations make.
 impl Work for Verifying {
-    ghost fits = { λ work kind last. ⊤ };
+    ghost fits = { λ work kind last tree. ⊤ };
 
     ghost done = { λ work first place items. first ≡ None → IsVerdict place items work.verdict };
 

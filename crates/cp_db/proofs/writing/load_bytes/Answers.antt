@@ -9,7 +9,7 @@ use Rattle.cp_db.proofs.writing.load_bytes.Goals as goal
 pub entry_bytes-body-requires : goal.entry_bytes-body-requires
 entry_bytes-body-requires g c =
     subst (λ (m : List ℕ). IsSoundEntry (frame.Load m c.in_ok-literal.literal)) (sym c.in_ok-clone.ensures.cases)
-    (load-sound c.args.name.now c.in_ok-literal.literal (g.S.TreeRep.contents c.args.tree.now) c.in_ok-literal.ensures.literal c.in_ok-literal.ensures.tree c.requires.0 c.requires.1)
+    (load-sound c.args.name.now c.in_ok-literal.literal (g.S.TreeRep.contents c.args.tree.now) c.in_ok-literal.ensures.literal c.in_ok-literal.ensures.tree c.requires)
 
 pub returns : goal.returns
 returns g c =

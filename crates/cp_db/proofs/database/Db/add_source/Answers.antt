@@ -7,13 +7,16 @@ use Rattle.cp_db.specs.Databases.{end_in}
 use Rattle.cp_frame.specs.Sizes.{has_room, load_size}
 use Rattle.cp_db.proofs.WritingFrames.{crash-none, crash-added, kept-added}
 use Rattle.cp_db.proofs.Taking.{keeps-loaded}
-use Rattle.cp_db.proofs.WritingLoads.{load-few, load-leads, load-new, load-next}
+use Rattle.cp_db.proofs.WritingLoads.{can-load, load-few, load-leads, load-new, load-next, loaded-not}
 use Rattle.cp_db.proofs.WritingStanding.{holds-appended, rows-appended}
 use Rattle.cp_db.proofs.database.Db.add_source.Goals as goal
 
-pub load_bytes-requires : goal.load_bytes-requires
-load_bytes-requires g c =
-    (c.requires.stands.0, c.requires.can c.requires.stands.0 c.requires.stands.1)
+pub returns-in-Some-clause-loaded : goal.returns-in-Some-clause-loaded
+returns-in-Some-clause-loaded g c = λ s z.
+    loaded-not g.R.TreeRep.contents g.S.TreeRep.contents c.args.self.now c.args.name (g.S.TreeRep.contents c.args.tree) s c.in-Some.fault (sym c.in-Some.is ∙ c.in_the_way.ensures s z)
+
+pub returns-in-Some-clause-crash : goal.returns-in-Some-clause-crash
+returns-in-Some-clause-crash g c = λ known h z k. crash-none c.args.self.now h _ k _
 
 pub returns-in_err-body-clause-crash : goal.returns-in_err-body-clause-crash
 returns-in_err-body-clause-crash g c = λ known h z k. crash-none c.args.self.now h _ k _
@@ -21,7 +24,7 @@ returns-in_err-body-clause-crash g c = λ known h z k. crash-none c.args.self.no
 pub returns-then-not-has_room-clause-loaded : goal.returns-then-not-has_room-clause-loaded
 returns-then-not-has_room-clause-loaded g c = λ s z.
     let counted : c.len.result ≡ load_size c.args.name (g.S.TreeRep.contents c.args.tree) = omega (arith, c.len.ensures, c.in_ok-body.body.ok, c.in_ok-body.ensures.size) in
-    (ap (has_room (end_in c.args.self.now)) (sym counted) ∙ sym c.has_room.ensures ∙ c.if-not-has_room.true, refl)
+    (sym (c.in_the_way.ensures s z) ∙ c.in_default.is, ap (has_room (end_in c.args.self.now)) (sym counted) ∙ sym c.has_room.ensures ∙ c.if-not-has_room.true, refl)
 
 pub returns-then-not-has_room-clause-crash : goal.returns-then-not-has_room-clause-crash
 returns-then-not-has_room-clause-crash g c = λ known h z k. crash-none c.args.self.now h _ k _
@@ -30,13 +33,13 @@ pub add-requires-clause-new : goal.add-requires-clause-new
 add-requires-clause-new g c =
     let s = c.requires.stands.0 in
     let z = c.requires.stands.1 in
-    load-new g.R.TreeRep.contents g.S.TreeRep.contents c.args.self.now.committed s z.committed c.args.name (g.S.TreeRep.contents c.args.tree) (c.requires.can s z)
+    load-new g.R.TreeRep.contents g.S.TreeRep.contents c.args.self.now.committed s z.committed c.args.name (g.S.TreeRep.contents c.args.tree) (can-load g.R.TreeRep.contents g.S.TreeRep.contents c.args.self.now c.args.name (g.S.TreeRep.contents c.args.tree) c.in_the_way.result c.requires.source c.in_default.is c.in_the_way.ensures s z)
 
 pub add-requires-clause-few : goal.add-requires-clause-few
 add-requires-clause-few g c =
     let s = c.requires.stands.0 in
     let z = c.requires.stands.1 in
-    load-few g.R.TreeRep.contents g.S.TreeRep.contents c.args.self.now.committed s z.committed c.args.name (g.S.TreeRep.contents c.args.tree) (c.requires.can s z)
+    load-few g.R.TreeRep.contents g.S.TreeRep.contents c.args.self.now.committed s z.committed c.args.name (g.S.TreeRep.contents c.args.tree) (can-load g.R.TreeRep.contents g.S.TreeRep.contents c.args.self.now c.args.name (g.S.TreeRep.contents c.args.tree) c.in_the_way.result c.requires.source c.in_default.is c.in_the_way.ensures s z)
 
 pub returns-in_err-add-clause-crash : goal.returns-in_err-add-clause-crash
 returns-in_err-add-clause-crash g c = λ known h z k. crash-none c.args.self.now h _ k _
@@ -46,17 +49,18 @@ returns-in_err-append-clause-crash g c = λ known h z k.
     let s = c.in_ok-body.ensures.spells in
     let body = c.deref.result.now in
     let read : Reads entry_format body s.1 [] = subst (λ (b : List ℕ). Reads entry_format b s.1 []) (sym c.deref.ensures.value) s.5 in
-    let next = load-next c.args.name s.0 (g.S.TreeRep.contents c.args.tree) s.2 s.3 c.args.self.now.version h z.state body s.1 z.led.replayed (c.requires.can z.state z.holds) s.4 read in
+    let next = load-next c.args.name s.0 (g.S.TreeRep.contents c.args.tree) s.2 s.3 c.args.self.now.version h z.state body s.1 z.led.replayed (can-load g.R.TreeRep.contents g.S.TreeRep.contents c.args.self.now c.args.name (g.S.TreeRep.contents c.args.tree) c.in_the_way.result c.requires.source c.in_default.is c.in_the_way.ensures z.state z.holds) s.4 read in
     crash-added c.args.self.now.version h _ body next c.args.self.now _ _ refl k (c.append.ensures.crash known)
 
 pub returns-clause-loaded : goal.returns-clause-loaded
 returns-clause-loaded g c = λ s z.
     let view = g.R.TreeRep.contents in
     let source_view = g.S.TreeRep.contents in
-    let can = c.requires.can s z in
+    let can = can-load g.R.TreeRep.contents g.S.TreeRep.contents c.args.self.now c.args.name (g.S.TreeRep.contents c.args.tree) c.in_the_way.result c.requires.source c.in_default.is c.in_the_way.ensures s z in
     let same = ap (λ d. d.committed) c.append.ensures.same in
     let size = c.in_ok-body.ensures.size in
     let counted : c.len.result ≡ load_size c.args.name (g.S.TreeRep.contents c.args.tree) = omega (arith, c.len.ensures, c.in_ok-body.body.ok, size) in (
+      sym (c.in_the_way.ensures s z) ∙ c.in_default.is,
       ap (has_room (end_in c.args.self.now)) (sym counted) ∙ sym c.has_room.ensures ∙ c.if-not-has_room.false,
       record {
         holds = holds-appended view source_view c.append.new.self _ (after_load s c.args.name (source_view c.args.tree)) same c.append.ensures.whole c.in_ok-append.ensures.usable c.append.ensures.idle
@@ -72,7 +76,7 @@ returns-clause-kept g c = λ known h z k.
     let s = c.in_ok-body.ensures.spells in
     let body = c.deref.result.now in
     let read : Reads entry_format body s.1 [] = subst (λ (b : List ℕ). Reads entry_format b s.1 []) (sym c.deref.ensures.value) s.5 in
-    let next = load-next c.args.name s.0 (g.S.TreeRep.contents c.args.tree) s.2 s.3 c.args.self.now.version h z.state body s.1 z.led.replayed (c.requires.can z.state z.holds) s.4 read in
+    let next = load-next c.args.name s.0 (g.S.TreeRep.contents c.args.tree) s.2 s.3 c.args.self.now.version h z.state body s.1 z.led.replayed (can-load g.R.TreeRep.contents g.S.TreeRep.contents c.args.self.now c.args.name (g.S.TreeRep.contents c.args.tree) c.in_the_way.result c.requires.source c.in_default.is c.in_the_way.ensures z.state z.holds) s.4 read in
     kept-added c.args.self.now.version h _ body next c.args.self.now _ _ refl k c.append.new.self (ap (λ d. d.version) c.append.ensures.same) (c.in_ok-append.ensures.described known)
 
 pub returns-clause-crash : goal.returns-clause-crash
@@ -80,7 +84,7 @@ returns-clause-crash g c = λ known h z k.
     let s = c.in_ok-body.ensures.spells in
     let body = c.deref.result.now in
     let read : Reads entry_format body s.1 [] = subst (λ (b : List ℕ). Reads entry_format b s.1 []) (sym c.deref.ensures.value) s.5 in
-    let next = load-next c.args.name s.0 (g.S.TreeRep.contents c.args.tree) s.2 s.3 c.args.self.now.version h z.state body s.1 z.led.replayed (c.requires.can z.state z.holds) s.4 read in
+    let next = load-next c.args.name s.0 (g.S.TreeRep.contents c.args.tree) s.2 s.3 c.args.self.now.version h z.state body s.1 z.led.replayed (can-load g.R.TreeRep.contents g.S.TreeRep.contents c.args.self.now c.args.name (g.S.TreeRep.contents c.args.tree) c.in_the_way.result c.requires.source c.in_default.is c.in_the_way.ensures z.state z.holds) s.4 read in
     crash-added c.args.self.now.version h _ body next c.args.self.now _ _ refl k (c.append.ensures.crash known)
 
 pub returns-in_err-append-clause-room : goal.returns-in_err-append-clause-room

@@ -5,7 +5,7 @@ use Rattle.cp_model.specs.History.{start}
 use Rattle.cp_journal.specs.Frames.{entry}
 use Rattle.cp_frame.specs.Items.{Tell}
 use Rattle.cp_db.specs.declared.fault.InitFault.TheVariants as init
-use Rattle.cp_db.proofs.WritingStarts.{kept-started, crash-started, memory-started, stands-started}
+use Rattle.cp_db.proofs.WritingStarts.{kept-started, crash-started, settles-started, memory-started, stands-started}
 use Rattle.cp_db.proofs.database.Db.init.Goals as goal
 
 pub create-requires-clause-short : goal.create-requires-clause-short
@@ -44,3 +44,15 @@ returns-clause-crash g c = λ known.
     let tree = g.R.TreeRep.contents c.args.tree in
     let told = subst (λ (b : List ℕ). Tell true 2 (entry b ∷ []) (start c.args.kind tree ∷ [])) (sym c.deref.ensures.value) c.in_ok-body.ensures.told in
     crash-started c.args.kind tree c.deref.result.now told _ _ _ (c.vacant.ensures.rests known) (c.create.ensures.crash (still c.vacant.ensures.cause.same known))
+
+pub returns-in_err-journal-clause-settles : goal.returns-in_err-journal-clause-settles
+returns-in_err-journal-clause-settles g c = λ known.
+    let tree = g.R.TreeRep.contents c.args.tree in
+    let told = subst (λ (b : List ℕ). Tell true 2 (entry b ∷ []) (start c.args.kind tree ∷ [])) (sym c.deref.ensures.value) c.in_ok-body.ensures.told in
+    settles-started c.args.kind tree c.deref.result.now told _ _ _ (c.vacant.ensures.rests known) (c.create.ensures.settles (still c.vacant.ensures.cause.same known))
+
+pub returns-clause-settles : goal.returns-clause-settles
+returns-clause-settles g c = λ known.
+    let tree = g.R.TreeRep.contents c.args.tree in
+    let told = subst (λ (b : List ℕ). Tell true 2 (entry b ∷ []) (start c.args.kind tree ∷ [])) (sym c.deref.ensures.value) c.in_ok-body.ensures.told in
+    settles-started c.args.kind tree c.deref.result.now told _ _ _ (c.vacant.ensures.rests known) (c.create.ensures.settles (still c.vacant.ensures.cause.same known))

@@ -13,7 +13,7 @@ pub returns-in_ok-loaded-in-Load-clause-reached : goal.returns-in_ok-loaded-in-L
 returns-in_ok-loaded-in-Load-clause-reached g c = λ first items w reached is.
     let here = c.args.self.now in
     reaches-source g.R.TreeRep.contents g.S.TreeRep.contents g.W.Work.fits first here items reached (record here { sources = c.load_source-loaded.new.sources; work = c.pass.new.self }) w c.in-Load.name c.in-Load.tree c.in_ok-loaded-in-Load.loaded
-    (subst (λ e. IsEntry e w) c.in-Load.is is) (subst IsSoundEntry c.in-Load.is c.requires.sound) c.in_ok-loaded-in-Load.ensures.loaded refl refl refl refl (c.pass.ensures.fits here.kind here.last reached.fits)
+    (subst (λ e. IsEntry e w) c.in-Load.is is) (subst IsSoundEntry c.in-Load.is c.requires.sound) c.in_ok-loaded-in-Load.ensures.loaded refl refl refl refl (c.pass.ensures.fits here.kind here.last (g.R.TreeRep.contents here.tree) reached.fits)
 
 pub returns-in_ok-loaded-in-Load-clause-found : goal.returns-in_ok-loaded-in-Load-clause-found
 returns-in_ok-loaded-in-Load-clause-found g c = λ first place items w passed at is yes.

@@ -20,7 +20,7 @@ returns-clause-reached g c = λ first items w reached holds.
     let here = c.args.self.now in
     let is = replays-same _ _ (g.R.TreeRep.contents c.commit.new.tree) c.args.commit.ops c.args.commit.records refl refl c.in-Some.is c.in_ok-replayed.ensures.replayed in
     let few = c.if-self-tids-gt-TIDS_MAX.false in
-    let fits = subst (λ o. IfSome o (λ tids. g.W.Work.fits c.commit.new.self here.kind (here.last + tids))) c.in-Some.is c.in_ok-replayed.ensures.fits in
+    let fits = subst (λ o. IfSome o (λ tids. g.W.Work.fits c.commit.new.self here.kind (here.last + tids) (g.R.TreeRep.contents c.commit.new.tree))) c.in-Some.is c.in_ok-replayed.ensures.fits in
     reached-commit g.R.TreeRep.contents g.S.TreeRep.contents g.W.Work.fits first here items reached _ w c.args.commit.ops c.args.commit.records holds c.commit.new.tree c.requires.sound.0 c.in-Some.tids
     c.requires.sound.1 is refl refl refl refl refl (omega (arith, few)) fits
 

@@ -18,7 +18,7 @@ returns-then-frame-ne-ENTRY-clause-added g c = λ known from fs f first items li
       a_checkpoint f.body,
       checkpoint_is f (lawful_at fs c.args.n f lists.lawful here) other,
       record {
-        reached = checkpoint-reached view source_view g.W.Work.fits first w items t.reached f.body c.pass.new.self (c.pass.ensures.fits w.kind w.last t.reached.fits);
+        reached = checkpoint-reached view source_view g.W.Work.fits first w items t.reached f.body c.pass.new.self (c.pass.ensures.fits w.kind w.last (view w.tree) t.reached.fits);
         done = c.pass.ensures.done first (frame_place from fs) items (a_checkpoint f.body) taken.state t.done taken.stand taken.replayed refl at;
       },
     )
@@ -26,7 +26,7 @@ returns-then-frame-ne-ENTRY-clause-added g c = λ known from fs f first items li
 pub returns-then-frame-ne-ENTRY-clause-reached : goal.returns-then-frame-ne-ENTRY-clause-reached
 returns-then-frame-ne-ENTRY-clause-reached g c = λ first items t.
     let w = c.args.self.now in
-    (_, checkpoint-reached g.R.TreeRep.contents g.S.TreeRep.contents g.W.Work.fits first w items t [] c.pass.new.self (c.pass.ensures.fits w.kind w.last t.fits))
+    (_, checkpoint-reached g.R.TreeRep.contents g.S.TreeRep.contents g.W.Work.fits first w items t [] c.pass.new.self (c.pass.ensures.fits w.kind w.last (g.R.TreeRep.contents w.tree) t.fits))
 
 pub returns-clause-added : goal.returns-clause-added
 returns-clause-added g c = λ known from fs f first items lists here count t.
