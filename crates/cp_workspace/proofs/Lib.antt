@@ -4,7 +4,7 @@ mod Operating
 mod Committing
 mod Answering
 mod Loading
-mod Blaming
 mod Fetched
 pub mod Readings
 pub mod ReadCounts
+pub mod Spent

@@ -1,17 +1,15 @@
 -- Sources: what is loaded, and what isn't.
 use Rattle.cp_model.specs.declared.limits.TheConstants.{SOURCES_MAX}
-use Rattle.std.specs.Prelude.{ℕ, ◌≡◌, ◌==◌, ◌⊎◌, ◌+◌, ◌≤◌, Bool, true, false, IsTrue, not, List, [], ◌∷◌, ◌++◌, length, is_some, refl, if◌then◌else◌, Result, Ok, Err}
+use Rattle.std.specs.Prelude.{ℕ, ◌≡◌, ◌==◌, ◌⊎◌, ◌+◌, ◌≤◌, Bool, true, false, IsTrue, not, List, [], ◌∷◌, ◌++◌, length, is_some, refl, if◌then◌else◌, Result, Ok, Err, IsErrOf}
 use Rattle.std.proofs.Common.{inl, inr, sym, ap, subst, ◌∙◌, arith}
 use Rattle.std.proofs.lemmas.Bool.Decides.{nat_tests}
 use Rattle.std.specs.Option.{option_map}
 use Rattle.std.specs.declared.option.Option.{Option}
 use Rattle.std.specs.declared.option.Option.TheVariants.{None, Some}
 use Rattle.cp_outside.specs.FileReads.{FileTable}
-use Rattle.cp_path.specs.Text.{is_name}
-use Rattle.cp_model.specs.Place.{label_eq, target}
 use Rattle.cp_model.specs.Keyed.{len}
-use Rattle.cp_model.specs.Tree.{Tree, IsTree, Source, source}
-use Rattle.cp_model.specs.History.{State, after_load, replay, load, CanLoad}
+use Rattle.cp_model.specs.Tree.{Tree, Source, source}
+use Rattle.cp_model.specs.History.{State, after_load, replay, load}
 use Rattle.cp_model.proofs.Accepted.{none_is}
 use Rattle.cp_lang.specs.declared.syntax_tree.Load.{Load}
 use Rattle.cp_lang.specs.declared.syntax_tree.Stmt.TheVariants as stmt
@@ -27,11 +25,11 @@ use Rattle.cp_engine.specs.declared.txn.Txn.{Txn}
 use Rattle.cp_frame.specs.Stands.{StandsWithOrWithout}
 use Rattle.cp_frame.specs.Sizes.{has_room, load_size}
 use Rattle.cp_db.specs.Databases.{HoldsState, IsKept, end_in}
-use Rattle.cp_db.specs.Writing.{HasLoaded}
+use Rattle.cp_db.specs.Writing.{HasLoaded, in_the_way}
 use Rattle.cp_db.specs.declared.database.Db.{Db}
-use Rattle.cp_db.specs.declared.fault.WriteFault.TheVariants as fault
+use Rattle.cp_db.specs.declared.fault.LoadFault.{LoadFault}
+use Rattle.cp_db.specs.declared.fault.LoadFault.TheVariants as fault
 use Rattle.cp_workspace.specs.Fetching.{fetch}
-use Rattle.cp_workspace.specs.Fetched.{FitsUnder}
 use Rattle.cp_workspace.specs.Texts.{Terms, setting}
 use Rattle.cp_workspace.specs.Disks.{LeavesEither}
 use Rattle.cp_workspace.specs.Loads.{why_not_loaded, load_reads, reads_unless}
@@ -115,14 +113,9 @@ module _ {R S : Type 0} (view : R → Tree) (source_view : S → Tree) (d : Work
 
 -- ---- what is loaded
 
--- the source may be loaded on whatever state the database holds
-pub can-load : {R S : Type 0} (view : R → Tree) (source_view : S → Tree) (d : Workspace R S) (name : List ℕ) (u : Tree) → MayLoad view source_view d name → is_name name ≡ true → label_eq name target ≡ false → IsTree u → FitsUnder name u
-    → (s : State) → HoldsState view source_view d.db s → CanLoad s name u
-can-load view source_view d name u may named other tree fits s z = record {
-  loadable = record { name = named; other = other; tree = tree; places = fits };
-  fresh = may.fresh s z;
-  few = may.few s z;
-}
+-- nothing is in the way of the source on whatever state the database holds
+pub none-in-the-way : {R S : Type 0} (view : R → Tree) (source_view : S → Tree) (d : Workspace R S) (name : List ℕ) → MayLoad view source_view d name → (s : State) → HoldsState view source_view d.db s → in_the_way s name ≡ None
+none-in-the-way view source_view d name may s z = let few = may.few s z in rw (may.fresh s z, not_all_taken (length s.sources) (λ h. omega (arith, few, h))) refl
 
 module _ {R S D : Type 0} (view : R → Tree) (source_view : S → Tree) (g : disk.Ghosts D) (terms : Terms) (files : FileTable) (d m : Workspace R S) (s : Session) (z : Stands view source_view terms d s) (k l : D) (name : List ℕ) (u : Tree) (none : d.transaction ≡ None) where
   abbrev c : Setting
@@ -155,10 +148,10 @@ module _ {R S D : Type 0} (view : R → Tree) (source_view : S → Tree) (g : di
       → (IsTrue v.known → IsKept true d.db s.history v.view → ViewKeeps (StandsWithOrWithout s.history (load name u)) v.view w.view)
       → TurnsAs view source_view (λ r. Some r) terms the_turn s s.moments d m v w (Ok (reply.Loaded loaded nodes))
   turns-loaded loaded nodes named counted signed same is kept crash =
-      subst (λ (t : Turn). TurnsAs view source_view (λ r. Some r) terms t s s.moments d m v w (Ok (reply.Loaded loaded nodes))) (sym (turn_if true is.0)) (record {
+      subst (λ (t : Turn). TurnsAs view source_view (λ r. Some r) terms t s s.moments d m v w (Ok (reply.Loaded loaded nodes))) (sym (turn_if true is.1)) (record {
         turned = (
           ap (λ (n : List ℕ). Some (reply.Loaded n nodes)) named ∙ ap (λ (i : ℕ). Some (reply.Loaded name i)) counted,
-          stands-added view source_view terms d m s z (load name u) (after_load z.db.state name u) (load_size name u) s.opened s.moments is.1 refl signed
+          stands-added view source_view terms d m s z (load name u) (after_load z.db.state name u) (load_size name u) s.opened s.moments is.2 refl signed
               (subst (λ y. Opens view source_view m.db y s.opened) (sym (same ∙ none)) opens_none),
         );
         asked = refl;
@@ -194,6 +187,16 @@ module _ {R S D : Type 0} (view : R → Tree) (source_view : S → Tree) (g : di
 -- a source that was kept spends nothing
 pub kept-unspent : (b : Bool) (u : Unit {0}) → (IsTrue b → (Ok u ≡ Err fault.Disk) ⊎ (Ok u ≡ Err fault.Memory)) → IsTrue b → ⊥
 kept-unspent b u f h = elim (f h) [ inl e ↦ absurd (cc) | inr e ↦ absurd (cc) ]
+
+-- what is too large is no other fault
+pub large-not-disk : {T : Type 0} (e : LoadFault) → e ≡ fault.TooLarge → IsErrOf {T = T} (Err e) fault.Disk → ⊥
+large-not-disk e is h = cc
+
+pub large-not-memory : {T : Type 0} (e : LoadFault) → e ≡ fault.TooLarge → IsErrOf {T = T} (Err e) fault.Memory → ⊥
+large-not-memory e is h = cc
+
+pub false-not-true : false ≡ true → ⊥
+false-not-true h = cc
 
 -- ---- turns
 

@@ -4,10 +4,10 @@ use Rattle.std.specs.declared.option.Option.TheVariants.{Some}
 use Rattle.cp_outside.specs.Causes.{one_more}
 use Rattle.cp_outside.specs.FileReads.{FileTable}
 use Rattle.std.proofs.Common.{Result, Ok, Err, subst}
-use Rattle.cp_workspace.specs.Files.{KnownFiles, more, HasRead, HasReadSome, ReadNone, IsTable, ReadsBefore, Reads}
+use Rattle.cp_workspace.specs.Files.{KnownFiles, more, HasRead, HasReadSome, ReadNone, IsTable, ReadsOrNone}
 
 -- so many reads, and then others
-more-more : (n k j : ℕ) → more (more n k) j ≡ more n (k + j)
+pub more-more : (n k j : ℕ) → more (more n k) j ≡ more n (k + j)
 more-more n k zero = let none : k ≡ k + 0 = omega arith in ap (more n) none
 more-more n k (suc j) = let next : suc (k + j) ≡ k + suc j = omega arith in ap one_more (more-more n k j) ∙ ap (more n) next
 
@@ -50,28 +50,7 @@ module _ (b m a : KnownFiles) (x : HasReadSome b m) (y : HasReadSome m a) where
 pub table-read : (t : FileTable) (b a : KnownFiles) → HasRead b a 1 → IsTable t b a → b.found ≡ Some t
 table-read t b a read w = elim w [ inl known ↦ known | inr none ↦ absurd (omega (arith, read, none.0, none.1)) ]
 
--- reads that are counted are some number
-pub some-read : {T E : Type 0} (Blames : E → Type 0) (n : ℕ) (b a : KnownFiles) (result : Result T E) → Reads Blames n b a result → HasReadSome b a
-some-read Blames n b a (Ok x) r = (n, r)
-some-read Blames n b a (Err e) r = r.some
-
--- none is some number
-pub none-read : (b : KnownFiles) → HasReadSome b b
-none-read b = (0, refl)
-
--- where no file is blamed
-pub unblamed-read : {T E : Type 0} (Blames : E → Type 0) (n : ℕ) (b a : KnownFiles) (result : Result T E) → HasReadSome b a → (y : E) × (result ≡ Err y) × (Blames y → ⊥) → Reads Blames n b a result
-unblamed-read Blames n b a result k p = subst (Reads Blames n b a) (sym p.1) (record { some = k; blamed = λ h. absurd (p.2 h) })
-
--- an error is passed on
-pub err-read : {T E : Type 0} (Blames : E → Type 0) (n : ℕ) (b a : KnownFiles) (e : E) (result : Result T E) → ReadsBefore Blames n b a e → (y : E) × (result ≡ Err y) × (y ≡ e) → Reads Blames n b a result
-err-read Blames n b a e result r p = subst (Reads Blames n b a) (sym (p.1 ∙ ap (λ z. Err z) p.2)) r
-
--- where the one file was read that was to be
-pub one-reads : {T E : Type 0} (Blames : E → Type 0) (n : ℕ) (b a : KnownFiles) (result : Result T E) → n ≡ 1 → HasRead b a 1 → Reads Blames n b a result
-one-reads Blames n b a (Ok x) one read = subst (HasRead b a) (sym one) read
-one-reads Blames n b a (Err e) one read = record { some = (1, read); blamed = λ h. (one, read) }
-
--- where none was to be read, and none was
-pub zero-reads : (n : ℕ) (b : KnownFiles) → n ≡ 0 → HasRead b b n
-zero-reads n b none = subst (HasRead b b) (sym none) refl
+-- they were, whatever the call gave
+pub reads-all : {T E : Type 0} (n : ℕ) (b a : KnownFiles) (result : Result T E) → HasRead b a n → ReadsOrNone n b a result
+reads-all n b a (Ok x) read = read
+reads-all n b a (Err e) read = inr read

@@ -44,12 +44,17 @@ pub record UsesFiles {T E : Type 0} (Blames : E → Type 0) (before now : KnownF
   pub same : now.found ≡ before.found
   pub account : Accounts Blames before.faults now.faults result
 
--- So many files were to be read by a call that gave this error: where a file is blamed it was the one; else some number was read.
+-- So many files were to be read by a call that gave this error: they were, or none was. Where a file is blamed it was the one that was to be read.
 pub record ReadsBefore {E : Type 0} (Blames : E → Type 0) (n : ℕ) (before now : KnownFiles) (error : E) : Type 0 where
-  pub some : HasReadSome before now
+  pub either : HasRead before now 0 ⊎ HasRead before now n
   pub blamed : Blames error → (n ≡ 1) × HasRead before now 1
 
 -- So many files were read, or were to be read where the call gave an error.
 abbrev pub Reads : {T E : Type 0} → (E → Type 0) → ℕ → KnownFiles → KnownFiles → Result T E → Type 0
 Reads Blames n before now (Ok x) = HasRead before now n
 Reads Blames n before now (Err e) = ReadsBefore Blames n before now e
+
+-- So many files were read; or none, where the call gave an error.
+abbrev pub ReadsOrNone : {T E : Type 0} → ℕ → KnownFiles → KnownFiles → Result T E → Type 0
+ReadsOrNone n before now (Ok x) = HasRead before now n
+ReadsOrNone n before now (Err e) = HasRead before now 0 ⊎ HasRead before now n

@@ -2,7 +2,10 @@ pub mod Fetching
 pub mod Fetched
 pub mod Texts
 pub mod Files
+pub mod Clocks
 pub mod Disks
 pub mod Loads
+pub mod Commits
+pub mod Spending
 pub mod Faults
 pub mod Workspaces

@@ -7,7 +7,10 @@ ghost use Rattle.cp_db.specs.Databases as database;
 ghost use Rattle.cp_db.specs.Databases.{IsDatabase, is_spent, version_in};
 ghost use Rattle.cp_workspace.specs.Texts.{Terms, setting};
 ghost use Rattle.cp_workspace.specs.Loads.{statement_reads};
-ghost use Rattle.cp_workspace.specs.Files.{known_files, HasReadSome, IsTable, Reads, UsesFiles};
+ghost use Rattle.cp_workspace.specs.Clocks.{known_clock};
+ghost use Rattle.cp_workspace.specs.Commits.{statement_asks};
+ghost use Rattle.cp_workspace.specs.Files.{known_files, HasReadSome, IsTable, UsesFiles};
+ghost use Rattle.cp_workspace.specs.Spending.{Spends};
 ghost use Rattle.cp_workspace.specs.Faults.{IsFileFault, IsDiskFault, IsClockFault};
 ghost use Rattle.cp_workspace.specs.Workspaces.{Stands, IsWorkspace, IsUsable, HasStamps, HasTurned, IsWrittenStmt, db_in, end_now, opened_session};
 
@@ -100,8 +103,9 @@ impl<R: TreeRep, S: TreeRep> Workspace<R, S> {
             (D.known disk.old) (D.known disk.new) (K.left clock.old) (K.left clock.new) result }
         ensures stays { OnOk result (IsUsable R.contents S.contents (D.known disk.new) self.new) }
         ensures version { OnOk result (version_in (db_in self.new) ≡ version_in (db_in self.old)) }
-        ensures reads { (terms : Terms) (s : Session) → Stands R.contents S.contents terms self.old s
-            → Reads IsFileFault (statement_reads s statement) (known_files F.Files files.old) (known_files F.Files files.new) result }
+        ensures spent { (terms : Terms) (s : Session) → Stands R.contents S.contents terms self.old s
+            → Spends (statement_reads s statement) (statement_asks s statement) (known_files F.Files files.old) (known_files F.Files files.new)
+            (known_clock K.Clock clock.old) (known_clock K.Clock clock.new) result }
         ensures read { HasReadSome (known_files F.Files files.old) (known_files F.Files files.new) }
         ensures used { UsesFiles IsFileFault (known_files F.Files files.old) (known_files F.Files files.new) result }
         ensures disk { UsesDisk IsDiskFault (D.known disk.old) (D.known disk.new) result }

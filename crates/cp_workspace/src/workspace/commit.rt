@@ -8,7 +8,11 @@ ghost use Rattle.cp_model.specs.declared.op.Op.{Op as OpValue};
 ghost use Rattle.cp_db.specs.Databases.{HasCome, version_in};
 ghost use Rattle.cp_reply.specs.Session.{Session, says, turn_of};
 ghost use Rattle.cp_workspace.specs.Texts.{Terms, setting};
+ghost use Rattle.cp_workspace.specs.Clocks.{known_clock};
+ghost use Rattle.cp_workspace.specs.Commits.{commit_asks};
 ghost use Rattle.cp_workspace.specs.Faults.{IsDiskFault, IsClockFault};
+ghost use Rattle.cp_workspace.specs.Files.{KnownFiles};
+ghost use Rattle.cp_workspace.specs.Spending.{Spends};
 ghost use Rattle.cp_workspace.specs.Workspaces.{Stands, IsWorkspace, IsUsable, HasStamps, HasTurned, Turned, db_in, holding};
 
 use crate::fault::WorkspaceFault;
@@ -43,6 +47,7 @@ impl<R: TreeRep, S: TreeRep> Workspace<R, S> {
         ensures version { version_in (db_in self.new) ≡ version_in (db_in self.old) }
         ensures disk { UsesDisk IsDiskFault (D.known disk.old) (D.known disk.new) result }
         ensures clock { Accounts IsClockFault (K.faults clock.old) (K.faults clock.new) result }
+        ensures spent { (f : KnownFiles) → Spends 0 1 f f (known_clock K.Clock clock.old) (known_clock K.Clock clock.new) result }
         ensures kinds { IsErrOf result WorkspaceFault.File → ⊥ }
         ensures untouched { IsErrOf result WorkspaceFault.Clock → disk.new ≡ disk.old }
     {
@@ -81,6 +86,8 @@ impl<R: TreeRep, S: TreeRep> Workspace<R, S> {
         ensures version { version_in (db_in self.new) ≡ version_in (db_in self.old) }
         ensures disk { UsesDisk IsDiskFault (D.known disk.old) (D.known disk.new) result }
         ensures clock { Accounts IsClockFault (K.faults clock.old) (K.faults clock.new) result }
+        ensures spent { (terms : Terms) (s : Session) → Stands R.contents S.contents terms self.old s → (f : KnownFiles)
+            → Spends 0 (commit_asks s.opened) f f (known_clock K.Clock clock.old) (known_clock K.Clock clock.new) result }
         ensures kinds { IsErrOf result WorkspaceFault.File → ⊥ }
         ensures untouched { IsErrOf result WorkspaceFault.Clock → disk.new ≡ disk.old }
     {

@@ -9,15 +9,17 @@ ghost use Rattle.cp_reply.specs.Session.{Session, gives, load_fetched, says, tur
 ghost use Rattle.cp_workspace.specs.Fetched.{FitsUnder};
 ghost use Rattle.cp_workspace.specs.Texts.{Terms, setting};
 ghost use Rattle.cp_workspace.specs.Loads.{why_not_loaded, statement_reads};
+ghost use Rattle.cp_workspace.specs.Clocks.{KnownClock};
 ghost use Rattle.cp_workspace.specs.Faults.{IsFileFault, IsDiskFault};
-ghost use Rattle.cp_workspace.specs.Files.{known_files, HasReadSome, IsTable, Reads, UsesFiles};
+ghost use Rattle.cp_workspace.specs.Files.{known_files, HasReadSome, IsTable, UsesFiles};
+ghost use Rattle.cp_workspace.specs.Spending.{Spends};
 ghost use Rattle.cp_workspace.specs.Workspaces.{Stands, IsWorkspace, IsUsable, MayLoad, TurnsAs, db_in};
 
 use crate::fault::WorkspaceFault;
 use crate::source_file::fetch;
 use crate::workspace::Workspace;
 use crate::workspace::refusal::refused_load;
-use cp_db::WriteFault;
+use cp_db::LoadFault;
 use cp_disk::Disk;
 use cp_lang::{Load, Stmt};
 use cp_model::SOURCES_MAX;
@@ -57,9 +59,11 @@ impl<R: TreeRep, S: TreeRep> Workspace<R, S> {
                 name: loaded,
                 nodes,
             }),
-            Err(WriteFault::TooLarge) => Ok(refused_load(Why::StoreTooLarge)),
-            Err(WriteFault::Disk) => Err(WorkspaceFault::Disk),
-            Err(WriteFault::Memory) => Err(WorkspaceFault::Memory),
+            Err(LoadFault::SourceThere) => unreachable!(),
+            Err(LoadFault::TooManySources) => unreachable!(),
+            Err(LoadFault::TooLarge) => Ok(refused_load(Why::StoreTooLarge)),
+            Err(LoadFault::Disk) => Err(WorkspaceFault::Disk),
+            Err(LoadFault::Memory) => Err(WorkspaceFault::Memory),
         }
     }
 
@@ -102,8 +106,8 @@ impl<R: TreeRep, S: TreeRep> Workspace<R, S> {
             (D.known disk.old) (D.known disk.new) result }
         ensures stays { OnOk result (IsUsable R.contents S.contents (D.known disk.new) self.new) }
         ensures version { version_in (db_in self.new) ≡ version_in (db_in self.old) }
-        ensures reads { (terms : Terms) (s : Session) → Stands R.contents S.contents terms self.old s
-            → Reads IsFileFault (statement_reads s (Stmt.Load load)) (known_files F.Files files.old) (known_files F.Files files.new) result }
+        ensures spent { (terms : Terms) (s : Session) → Stands R.contents S.contents terms self.old s → (k : KnownClock)
+            → Spends (statement_reads s (Stmt.Load load)) 0 (known_files F.Files files.old) (known_files F.Files files.new) k k result }
         ensures read { HasReadSome (known_files F.Files files.old) (known_files F.Files files.new) }
         ensures used { UsesFiles IsFileFault (known_files F.Files files.old) (known_files F.Files files.new) result }
         ensures disk { UsesDisk IsDiskFault (D.known disk.old) (D.known disk.new) result }

@@ -6,7 +6,10 @@ ghost use Rattle.cp_outside.specs.Causes.{Accounts};
 ghost use Rattle.cp_reply.specs.Session.{Session, turn, turn_of, not_read};
 ghost use Rattle.cp_workspace.specs.Texts.{Terms, setting, reading};
 ghost use Rattle.cp_workspace.specs.Loads.{text_reads, cut_reads};
-ghost use Rattle.cp_workspace.specs.Files.{known_files, HasReadSome, IsTable, Reads, UsesFiles};
+ghost use Rattle.cp_workspace.specs.Clocks.{known_clock};
+ghost use Rattle.cp_workspace.specs.Commits.{text_asks, cut_asks};
+ghost use Rattle.cp_workspace.specs.Files.{known_files, HasReadSome, IsTable, UsesFiles};
+ghost use Rattle.cp_workspace.specs.Spending.{Spends};
 ghost use Rattle.cp_workspace.specs.Faults.{IsFileFault, IsDiskFault, IsClockFault};
 ghost use Rattle.cp_workspace.specs.Workspaces.{Stands, IsWorkspace, IsUsable, HasStamps, HasTurned, Turned};
 
@@ -55,8 +58,9 @@ impl<R: TreeRep, S: TreeRep> Workspace<R, S> {
             (D.known disk.old) (D.known disk.new) (K.left clock.old) (K.left clock.new) result }
         ensures stays { OnOk result (IsUsable R.contents S.contents (D.known disk.new) self.new) }
         ensures stamps { OnOk result (HasStamps self.new) }
-        ensures reads { (terms : Terms) (s : Session) → Stands R.contents S.contents terms self.old s
-            → Reads IsFileFault (text_reads s (reading text.now)) (known_files F.Files files.old) (known_files F.Files files.new) result }
+        ensures spent { (terms : Terms) (s : Session) → Stands R.contents S.contents terms self.old s
+            → Spends (text_reads s (reading text.now)) (text_asks s (reading text.now)) (known_files F.Files files.old) (known_files F.Files files.new)
+            (known_clock K.Clock clock.old) (known_clock K.Clock clock.new) result }
         ensures read { HasReadSome (known_files F.Files files.old) (known_files F.Files files.new) }
         ensures used { UsesFiles IsFileFault (known_files F.Files files.old) (known_files F.Files files.new) result }
         ensures disk { UsesDisk IsDiskFault (D.known disk.old) (D.known disk.new) result }
@@ -90,8 +94,9 @@ impl<R: TreeRep, S: TreeRep> Workspace<R, S> {
             (D.known disk.old) (D.known disk.new) (K.left clock.old) (K.left clock.new) result }
         ensures stays { OnOk result (IsUsable R.contents S.contents (D.known disk.new) self.new) }
         ensures stamps { OnOk result (HasStamps self.new) }
-        ensures reads { (terms : Terms) (s : Session) → Stands R.contents S.contents terms self.old s
-            → Reads IsFileFault (cut_reads s cut) (known_files F.Files files.old) (known_files F.Files files.new) result }
+        ensures spent { (terms : Terms) (s : Session) → Stands R.contents S.contents terms self.old s
+            → Spends (cut_reads s cut) (cut_asks s cut) (known_files F.Files files.old) (known_files F.Files files.new)
+            (known_clock K.Clock clock.old) (known_clock K.Clock clock.new) result }
         ensures read { HasReadSome (known_files F.Files files.old) (known_files F.Files files.new) }
         ensures used { UsesFiles IsFileFault (known_files F.Files files.old) (known_files F.Files files.new) result }
         ensures disk { UsesDisk IsDiskFault (D.known disk.old) (D.known disk.new) result }

@@ -1,7 +1,10 @@
-use Rattle.std.proofs.Common.{[], refl, sym, subst, ◌∙◌}
+use Rattle.std.proofs.Common.{[], ℕ, refl, sym, subst, ◌∙◌}
 use Rattle.cp_workspace.specs.Texts.{setting}
 use Rattle.cp_workspace.specs.Workspaces.{IsBegun}
+use Rattle.cp_workspace.specs.Clocks.{known_clock}
+use Rattle.cp_workspace.specs.Spending.{Spends}
 use Rattle.cp_workspace.proofs.Committing.{turns-nothing, turns-unfinished, going-come}
+use Rattle.cp_workspace.proofs.Spent.{asks-none, asks-failed, asks-going, spent-as, spent-none}
 use Rattle.cp_workspace.proofs.workspace.Workspace.commit.Goals as goal
 
 pub returns-in_default-clause-turned : goal.returns-in_default-clause-turned
@@ -30,3 +33,18 @@ returns-in-Failed-clause-turned g c = record {
       (turns-unfinished g.R.TreeRep.contents g.S.TreeRep.contents terms c.args.self.now (record c.args.self.now { transaction = c.take.new.self }) s z refl refl c.take.ensures.after
       c.in-Some.transaction (sym c.take.ensures.value ∙ c.in-Some.is) (setting files terms) c.in-Failed.number _ (g.D.Disk.known c.args.disk.now) rest (λ k ss t n p h. c.in-Failed.ensures k ss t n p h) e);
 }
+
+pub returns-in_default-clause-spent : goal.returns-in_default-clause-spent
+returns-in_default-clause-spent g c = λ terms s z f.
+    let k = known_clock g.K.Clock c.args.clock.now in
+    spent-as f f k k 0 0 0 _ refl (asks-none g.R.TreeRep.contents g.S.TreeRep.contents terms c.args.self.now s z (sym c.take.ensures.value ∙ c.in_default.is)) (spent-none f k)
+
+pub returns-in-Going-clause-spent : goal.returns-in-Going-clause-spent
+returns-in-Going-clause-spent g c = λ terms s z f.
+    let P : ℕ → Type 0 = λ n. Spends 0 n f f (known_clock g.K.Clock c.args.clock.now) (known_clock g.K.Clock c.commit_going.new.clock) c.commit_going.result in
+    subst P (sym (asks-going g.R.TreeRep.contents g.S.TreeRep.contents terms c.args.self.now s z c.in-Some.transaction (sym c.take.ensures.value ∙ c.in-Some.is) c.in-Going.field-0 (λ k ss t n p h. c.in-Going.ensures k ss t n p h))) (c.commit_going.ensures.spent f)
+
+pub returns-in-Failed-clause-spent : goal.returns-in-Failed-clause-spent
+returns-in-Failed-clause-spent g c = λ terms s z f.
+    let k = known_clock g.K.Clock c.args.clock.now in
+    spent-as f f k k 0 0 0 _ refl (asks-failed g.R.TreeRep.contents g.S.TreeRep.contents terms c.args.self.now s z c.in-Some.transaction (sym c.take.ensures.value ∙ c.in-Some.is) c.in-Failed.number _ (λ k ss t n p h. c.in-Failed.ensures k ss t n p h)) (spent-none f k)

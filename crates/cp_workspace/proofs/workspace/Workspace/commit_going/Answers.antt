@@ -1,4 +1,4 @@
-use Rattle.std.proofs.Common.{true, false, [], ◌∷◌, refl, subst, Ok, Err}
+use Rattle.std.proofs.Common.{true, false, [], ◌∷◌, inr, refl, subst, Ok, Err}
 use Rattle.std.specs.declared.option.Option.TheVariants.{Some}
 use Rattle.std.proofs.lemmas.Result.{err_from_is_err_and}
 use Rattle.cp_model.specs.declared.stamp.Stamp.{Stamp}
@@ -6,6 +6,8 @@ use Rattle.cp_outside.proofs.Telling.{told-one}
 use Rattle.cp_engine.specs.Transactions as txn
 use Rattle.cp_db.specs.Writing.{HasCommitted}
 use Rattle.cp_workspace.specs.declared.fault.WorkspaceFault.TheVariants as failed
+use Rattle.cp_workspace.specs.Clocks.{known_clock}
+use Rattle.cp_workspace.proofs.Spent.{spends-nothing, spends-passed}
 use Rattle.cp_workspace.proofs.Standing.{turns-failed-still, workspace-added, usable-shut}
 use Rattle.cp_workspace.proofs.Committing.{turns-committed, turns-too_large, turns-uncommitted, turns-empty, made-unspent, at-plain, too_large-plain, empty-plain}
 use Rattle.cp_workspace.proofs.workspace.Workspace.commit_going.Goals as goal
@@ -129,3 +131,26 @@ returns-in-Err-Memory-clause-turned g c =
           turns-uncommitted g.R.TreeRep.contents g.S.TreeRep.contents g.D.Disk terms files c.args.self.now (record c.args.self.now { db = c.commit.new.self }) c.args.transaction s z c.args.disk.now c.commit.new.disk (record { curator = c.in_ok-curator.curator; moment = c.in_ok-moment.moment }) rest c.in_ok-curator.ensures.cases e
           (Err failed.Memory) (failed.Memory, refl) (λ known p come held. c.commit.ensures.crash known p come s.history z.db held) (λ ops come none. c.commit.ensures.room ops come z.db.state z.db.holds none);
     }
+
+pub returns-in_err-curator-clause-spent : goal.returns-in_err-curator-clause-spent
+returns-in_err-curator-clause-spent g c = λ f. spends-nothing 0 1 f (known_clock g.K.Clock c.args.clock.now) c.from_residual.result (err_from_is_err_and c.from_residual.result c.from_residual.ensures.1)
+
+pub returns-in_err-moment-clause-spent : goal.returns-in_err-moment-clause-spent
+returns-in_err-moment-clause-spent g c = λ f.
+    let r = c.from_residual-in_err-moment.result in
+    spends-passed (Unit {0}) 0 1 f f (known_clock g.K.Clock c.args.clock.now) (known_clock g.K.Clock c.now.new.self) failed.Clock r (refl, record { read = refl; asked = c.now.ensures.counted }) (err_from_is_err_and r c.from_residual-in_err-moment.ensures.1)
+
+pub returns-in-Ok-clause-spent : goal.returns-in-Ok-clause-spent
+returns-in-Ok-clause-spent g c = λ f. record { read = refl; asked = c.now.ensures.counted }
+
+pub returns-in-Err-TooLarge-clause-spent : goal.returns-in-Err-TooLarge-clause-spent
+returns-in-Err-TooLarge-clause-spent g c = λ f. record { read = refl; asked = c.now.ensures.counted }
+
+pub returns-in-Err-Empty-clause-spent : goal.returns-in-Err-Empty-clause-spent
+returns-in-Err-Empty-clause-spent g c = λ f. record { read = refl; asked = c.now.ensures.counted }
+
+pub returns-in-Err-Disk-clause-spent : goal.returns-in-Err-Disk-clause-spent
+returns-in-Err-Disk-clause-spent g c = λ f. (refl, record { read = refl; asked = c.now.ensures.counted })
+
+pub returns-in-Err-Memory-clause-spent : goal.returns-in-Err-Memory-clause-spent
+returns-in-Err-Memory-clause-spent g c = λ f. inr (record { read = refl; asked = c.now.ensures.counted })

@@ -8,14 +8,12 @@ use Rattle.cp_reply.specs.declared.reply.Of.TheVariants as of
 use Rattle.cp_reply.specs.declared.reply.Reply.TheVariants as reply
 use Rattle.cp_reply.specs.Session.{says, turn_of}
 use Rattle.cp_workspace.specs.Texts.{setting}
-use Rattle.cp_workspace.specs.Faults.{IsFileFault}
 use Rattle.cp_workspace.specs.Files.{known_files}
 use Rattle.cp_workspace.specs.Loads.{load_reads}
 use Rattle.cp_workspace.specs.Workspaces.{TurnsAs}
-use Rattle.cp_workspace.proofs.Blaming.{memory-no-file}
 use Rattle.cp_workspace.proofs.Fetched.{given-tree, given-why}
 use Rattle.cp_workspace.proofs.Loading.{turns-not_loaded, turns-withheld, turns-given, reads-unless}
-use Rattle.cp_workspace.proofs.ReadCounts.{none-read, unblamed-read, one-reads, zero-reads}
+use Rattle.cp_workspace.proofs.Spent.{spends-nothing, spends-file, spends-failed, spends-unread}
 use Rattle.cp_workspace.proofs.Standing.{turns-failed-still}
 use Rattle.cp_workspace.proofs.workspace.Workspace.load.Goals as goal
 
@@ -24,11 +22,9 @@ returns-in_err-why-clause-turned g c = λ files told terms s z.
     let p = err_from_is_err_and c.from_residual.result c.from_residual.ensures.1 in
     turns-failed-still g.R.TreeRep.contents g.S.TreeRep.contents (λ r. Some r) terms (turn_of (setting files terms) s (says (stmt.Load c.args.load))) s s.moments c.args.self.now c.args.self.now (g.D.Disk.known c.args.disk.now) c.from_residual.result (p.0, p.1)
 
-pub returns-in_err-why-clause-reads : goal.returns-in_err-why-clause-reads
-returns-in_err-why-clause-reads g c = λ terms s z.
-    let b = known_files g.F.Files c.args.files.now in
-    let p = err_from_is_err_and c.from_residual.result c.from_residual.ensures.1 in
-    unblamed-read IsFileFault _ b b c.from_residual.result (none-read b) (p.0, p.1, memory-no-file p.0 p.2)
+pub returns-in_err-why-clause-spent : goal.returns-in_err-why-clause-spent
+returns-in_err-why-clause-spent g c = λ terms s z k.
+    spends-nothing _ 0 (known_files g.F.Files c.args.files.now) k c.from_residual.result (err_from_is_err_and c.from_residual.result c.from_residual.ensures.1)
 
 pub returns-in-Some-clause-turned : goal.returns-in-Some-clause-turned
 returns-in-Some-clause-turned g c = λ files told terms s z.
@@ -39,9 +35,9 @@ returns-in-Some-clause-turned g c = λ files told terms s z.
     (subst (λ (x : Load). TurnsAs view source_view (λ r. Some r) terms (turn_of (setting files terms) s (says (stmt.Load x))) s s.moments c.args.self.now c.args.self.now v v (Ok (reply.Refused of.Load c.in-Some.why))) c.load.view_is
     (turns-not_loaded view source_view terms files c.args.self.now s z _ c.in-Some.why v (sym c.in-Some.is ∙ c.in_ok-why.ensures.why terms s z)))
 
-pub returns-in-Some-clause-reads : goal.returns-in-Some-clause-reads
-returns-in-Some-clause-reads g c = λ terms s z.
-    zero-reads _ (known_files g.F.Files c.args.files.now)
+pub returns-in-Some-clause-spent : goal.returns-in-Some-clause-spent
+returns-in-Some-clause-spent g c = λ terms s z k.
+    spends-unread _ (known_files g.F.Files c.args.files.now) k
     (subst (λ (x : Load). load_reads s (replay s.history) x.name ≡ 0) c.load.view_is (reads-unless g.R.TreeRep.contents g.S.TreeRep.contents c.args.self.now _ terms s z (Some c.in-Some.why) (sym c.in-Some.is ∙ c.in_ok-why.ensures.why terms s z)))
 
 pub returns-in_err-tree-clause-turned : goal.returns-in_err-tree-clause-turned
@@ -49,11 +45,11 @@ returns-in_err-tree-clause-turned g c = λ files told terms s z.
     let p = err_from_is_err_and c.from_residual-in_err-tree.result c.from_residual-in_err-tree.ensures.1 in
     turns-failed-still g.R.TreeRep.contents g.S.TreeRep.contents (λ r. Some r) terms (turn_of (setting files terms) s (says (stmt.Load c.args.load))) s s.moments c.args.self.now c.args.self.now (g.D.Disk.known c.args.disk.now) c.from_residual-in_err-tree.result (p.0, p.1)
 
-pub returns-in_err-tree-clause-reads : goal.returns-in_err-tree-clause-reads
-returns-in_err-tree-clause-reads g c = λ terms s z.
-    one-reads IsFileFault _ (known_files g.F.Files c.args.files.now) (known_files g.F.Files c.fetch.new.files) c.from_residual-in_err-tree.result
+pub returns-in_err-tree-clause-spent : goal.returns-in_err-tree-clause-spent
+returns-in_err-tree-clause-spent g c = λ terms s z k.
+    spends-failed _ (known_files g.F.Files c.args.files.now) (known_files g.F.Files c.fetch.new.files) k c.in_err-tree.field-0.0 c.from_residual-in_err-tree.result
     (subst (λ (x : Load). load_reads s (replay s.history) x.name ≡ 1) c.load.view_is (reads-unless g.R.TreeRep.contents g.S.TreeRep.contents c.args.self.now _ terms s z None (sym c.in_default.is ∙ c.in_ok-why.ensures.why terms s z)))
-    c.in_err-tree.ensures.read
+    c.in_err-tree.ensures.read (err_from_is_err_and c.from_residual-in_err-tree.result c.from_residual-in_err-tree.ensures.1)
 
 pub returns-in-Ok-clause-turned : goal.returns-in-Ok-clause-turned
 returns-in-Ok-clause-turned g c = λ files told terms s z.
@@ -66,11 +62,11 @@ returns-in-Ok-clause-turned g c = λ files told terms s z.
     (given-tree source_view _ c.in-Ok.tree (rw (sym c.as_str.ensures.value, sym c.in-Ok.is) (c.in_ok-tree.ensures.gives files told)))
     (c.keep_source.ensures.turned files terms s z))
 
-pub returns-in-Ok-clause-reads : goal.returns-in-Ok-clause-reads
-returns-in-Ok-clause-reads g c = λ terms s z.
-    one-reads IsFileFault _ (known_files g.F.Files c.args.files.now) (known_files g.F.Files c.fetch.new.files) c.keep_source.result
+pub returns-in-Ok-clause-spent : goal.returns-in-Ok-clause-spent
+returns-in-Ok-clause-spent g c = λ terms s z k.
+    spends-file _ (known_files g.F.Files c.args.files.now) (known_files g.F.Files c.fetch.new.files) k c.keep_source.result
     (subst (λ (x : Load). load_reads s (replay s.history) x.name ≡ 1) c.load.view_is (reads-unless g.R.TreeRep.contents g.S.TreeRep.contents c.args.self.now _ terms s z None (sym c.in_default.is ∙ c.in_ok-why.ensures.why terms s z)))
-    c.in_ok-tree.ensures.read
+    c.in_ok-tree.ensures.read c.keep_source.ensures.kinds.1
 
 pub returns-in-Err-clause-turned : goal.returns-in-Err-clause-turned
 returns-in-Err-clause-turned g c = λ files told terms s z.
@@ -82,8 +78,8 @@ returns-in-Err-clause-turned g c = λ files told terms s z.
     (turns-withheld view source_view terms files c.args.self.now s z _ c.in-Err.why v (sym c.in_default.is ∙ c.in_ok-why.ensures.why terms s z)
     (given-why source_view _ c.in-Err.why (rw (sym c.as_str.ensures.value, sym c.in-Err.is) (c.in_ok-tree.ensures.gives files told)))))
 
-pub returns-in-Err-clause-reads : goal.returns-in-Err-clause-reads
-returns-in-Err-clause-reads g c = λ terms s z.
-    one-reads IsFileFault _ (known_files g.F.Files c.args.files.now) (known_files g.F.Files c.fetch.new.files) (Ok c.refused_load-in-Err.result)
+pub returns-in-Err-clause-spent : goal.returns-in-Err-clause-spent
+returns-in-Err-clause-spent g c = λ terms s z k.
+    spends-file _ (known_files g.F.Files c.args.files.now) (known_files g.F.Files c.fetch.new.files) k (Ok c.refused_load-in-Err.result)
     (subst (λ (x : Load). load_reads s (replay s.history) x.name ≡ 1) c.load.view_is (reads-unless g.R.TreeRep.contents g.S.TreeRep.contents c.args.self.now _ terms s z None (sym c.in_default.is ∙ c.in_ok-why.ensures.why terms s z)))
-    c.in_ok-tree.ensures.read
+    c.in_ok-tree.ensures.read (λ h. absurd (cc))

@@ -6,9 +6,12 @@ use Rattle.cp_reply.specs.declared.reply.Why.TheVariants as why
 use Rattle.cp_reply.specs.Session.{Session, turn, turn_of, not_read}
 use Rattle.cp_workspace.specs.Texts.{Terms, setting, reading}
 use Rattle.cp_workspace.specs.Loads.{text_reads, cut_reads}
-use Rattle.cp_workspace.specs.Files.{known_files, IsTable, Reads}
-use Rattle.cp_workspace.specs.Faults.{IsFileFault}
+use Rattle.cp_workspace.specs.Files.{known_files, IsTable}
+use Rattle.cp_workspace.specs.Clocks.{known_clock}
+use Rattle.cp_workspace.specs.Commits.{text_asks, cut_asks}
+use Rattle.cp_workspace.specs.Spending.{HasSpent, Spends}
 use Rattle.cp_workspace.specs.Workspaces.{Stands, Turned, HasTurned}
+use Rattle.cp_workspace.proofs.Spent.{spent-none, spends-nothing}
 use Rattle.cp_workspace.proofs.Turning.{file-same, usable-kept, quiet-unread, turned-quiet, turned-failed}
 use Rattle.cp_workspace.proofs.workspace.Workspace.reply_to.Goals as goal
 
@@ -27,13 +30,39 @@ returns-in-Text-clause-turned g c =
     let Q : List ℕ → Type 0 = λ x. HasTurned view source_view (λ r. r) (λ t terms s. turn_of (setting t terms) s (reading x)) (λ t. IsTable t before after) c.args.self.now c.run_text.new.self v w clock told c.run_text.result in
     subst P (sym c.in-Text.is) (subst Q c.as_slice.ensures c.run_text.ensures.turned)
 
-pub returns-in-Text-clause-reads : goal.returns-in-Text-clause-reads
-returns-in-Text-clause-reads g c = λ terms s z.
+pub returns-in-Text-clause-spent : goal.returns-in-Text-clause-spent
+returns-in-Text-clause-spent g c = λ terms s z.
     let before = known_files g.F.Files c.args.files.now in
     let after = known_files g.F.Files c.run_text.new.files in
-    let P : Cut → Type 0 = λ x. Reads IsFileFault (cut_reads s x) before after c.run_text.result in
-    let Q : List ℕ → Type 0 = λ t. Reads IsFileFault (text_reads s (reading t)) before after c.run_text.result in
-    subst P (sym c.in-Text.is) (subst Q c.as_slice.ensures (c.run_text.ensures.reads terms s z))
+    let kb = known_clock g.K.Clock c.args.clock.now in
+    let ka = known_clock g.K.Clock c.run_text.new.clock in
+    let P : Cut → Type 0 = λ x. Spends (cut_reads s x) (cut_asks s x) before after kb ka c.run_text.result in
+    let Q : List ℕ → Type 0 = λ t. Spends (text_reads s (reading t)) (text_asks s (reading t)) before after kb ka c.run_text.result in
+    subst P (sym c.in-Text.is) (subst Q c.as_slice.ensures (c.run_text.ensures.spent terms s z))
+
+pub returns-in_ok-refuse-in-TooLong-clause-spent : goal.returns-in_ok-refuse-in-TooLong-clause-spent
+returns-in_ok-refuse-in-TooLong-clause-spent g c = λ terms s z.
+    let b = known_files g.F.Files c.args.files.now in
+    let k = known_clock g.K.Clock c.args.clock.now in
+    let P : Cut → Type 0 = λ x. HasSpent (cut_reads s x) (cut_asks s x) b b k k in
+    subst P (sym c.in-TooLong.is) (spent-none b k)
+
+pub returns-in_err-refuse-in-TooLong-clause-spent : goal.returns-in_err-refuse-in-TooLong-clause-spent
+returns-in_err-refuse-in-TooLong-clause-spent g c = λ terms s z.
+    let r = c.from_residual.result in
+    spends-nothing (cut_reads s c.args.cut) (cut_asks s c.args.cut) (known_files g.F.Files c.args.files.now) (known_clock g.K.Clock c.args.clock.now) r (err_from_is_err_and r c.from_residual.ensures.1)
+
+pub returns-in_ok-refuse-in-Unfinished-clause-spent : goal.returns-in_ok-refuse-in-Unfinished-clause-spent
+returns-in_ok-refuse-in-Unfinished-clause-spent g c = λ terms s z.
+    let b = known_files g.F.Files c.args.files.now in
+    let k = known_clock g.K.Clock c.args.clock.now in
+    let P : Cut → Type 0 = λ x. HasSpent (cut_reads s x) (cut_asks s x) b b k k in
+    subst P (sym c.in-Unfinished.is) (spent-none b k)
+
+pub returns-in_err-refuse-in-Unfinished-clause-spent : goal.returns-in_err-refuse-in-Unfinished-clause-spent
+returns-in_err-refuse-in-Unfinished-clause-spent g c = λ terms s z.
+    let r = c.from_residual-in_err-refuse-in-Unfinished.result in
+    spends-nothing (cut_reads s c.args.cut) (cut_asks s c.args.cut) (known_files g.F.Files c.args.files.now) (known_clock g.K.Clock c.args.clock.now) r (err_from_is_err_and r c.from_residual-in_err-refuse-in-Unfinished.ensures.1)
 
 pub returns-in_ok-refuse-in-TooLong-clause-turned : goal.returns-in_ok-refuse-in-TooLong-clause-turned
 unfolding turn

@@ -1,15 +1,19 @@
-use Rattle.std.proofs.Common.{◌≡◌, Ok, refl, sym, subst, ap}
+use Rattle.std.proofs.Common.{Ok, refl, sym, subst}
 use Rattle.std.proofs.lemmas.Result.{err_from_is_err_and}
 use Rattle.std.specs.declared.option.Option.TheVariants.{Some}
+use Rattle.cp_lang.specs.declared.syntax_tree.Stmt.{Stmt}
 use Rattle.cp_lang.specs.declared.syntax_tree.Stmt.TheVariants as stmt
 use Rattle.cp_model.specs.History.{replay}
+use Rattle.cp_reply.specs.declared.reply.Reply.{Reply}
 use Rattle.cp_reply.specs.Session.{says, turn_of}
 use Rattle.cp_workspace.specs.Texts.{setting}
-use Rattle.cp_workspace.specs.Files.{known_files, HasRead, IsTable, Reads}
-use Rattle.cp_workspace.specs.Loads.{load_reads, statement_reads}
-use Rattle.cp_workspace.specs.Faults.{IsFileFault}
+use Rattle.cp_workspace.specs.Clocks.{known_clock}
+use Rattle.cp_workspace.specs.Commits.{statement_asks}
+use Rattle.cp_workspace.specs.Files.{known_files, IsTable}
+use Rattle.cp_workspace.specs.Loads.{statement_reads}
+use Rattle.cp_workspace.specs.Spending.{HasSpent, Spends}
 use Rattle.cp_workspace.specs.Workspaces.{HasTurned}
-use Rattle.cp_workspace.proofs.ReadCounts.{err-read}
+use Rattle.cp_workspace.proofs.Spent.{spent-none, spends-nothing, spends-passed}
 use Rattle.cp_workspace.proofs.Turning.{file-same, usable-kept, quiet-op, quiet-abort, quiet-ask, quiet-show, ran-quiet, turned-failed, turned-untimed, turned-given, turned-passed}
 use Rattle.cp_workspace.proofs.workspace.Workspace.run.Goals as goal
 
@@ -182,17 +186,75 @@ returns-in_err-load-in-Load-clause-turned g c =
     subst (λ x. HasTurned view source_view (λ r. r) (λ t terms s. turn_of (setting t terms) s (says x)) (λ t. IsTable t b a) old c.load.new.self v w clock clock r) (sym c.in-Load.is)
     (turned-passed view source_view (λ r. Some r) (λ t terms s. turn_of (setting t terms) s (says (stmt.Load load))) (λ t. IsTable t b a) old c.load.new.self v w _ (λ r. r) (λ t. IsTable t b a) (λ t known. known) clock clock turned r p.0 p.1)
 
-pub returns-in_err-load-in-Load-clause-reads : goal.returns-in_err-load-in-Load-clause-reads
-returns-in_err-load-in-Load-clause-reads g c = λ terms s z.
+pub returns-in_ok-operate-in-Op-clause-spent : goal.returns-in_ok-operate-in-Op-clause-spent
+returns-in_ok-operate-in-Op-clause-spent g c = λ terms s z.
     let b = known_files g.F.Files c.args.files.now in
-    let a = known_files g.F.Files c.load.new.files in
-    let same : load_reads s (replay s.history) c.in-Load.load.name ≡ statement_reads s c.args.statement = ap (statement_reads s) (sym c.in-Load.is) in
-    subst (λ n. Reads IsFileFault n b a c.from_residual-in_err-load-in-Load.result) same
-    (err-read IsFileFault _ b a c.in_err-load-in-Load.field-0.0 c.from_residual-in_err-load-in-Load.result (c.in_err-load-in-Load.ensures.reads terms s z) (err_from_is_err_and c.from_residual-in_err-load-in-Load.result c.from_residual-in_err-load-in-Load.ensures.1))
+    let k = known_clock g.K.Clock c.args.clock.now in
+    let P : Stmt → Type 0 = λ x. HasSpent (statement_reads s x) (statement_asks s x) b b k k in
+    subst P (sym c.in-Op.is) (spent-none b k)
 
-pub returns-in_ok-load-in-Load-clause-reads : goal.returns-in_ok-load-in-Load-clause-reads
-returns-in_ok-load-in-Load-clause-reads g c = λ terms s z.
+pub returns-in_err-operate-in-Op-clause-spent : goal.returns-in_err-operate-in-Op-clause-spent
+returns-in_err-operate-in-Op-clause-spent g c = λ terms s z.
+    let r = c.from_residual.result in
+    spends-nothing (statement_reads s c.args.statement) (statement_asks s c.args.statement) (known_files g.F.Files c.args.files.now) (known_clock g.K.Clock c.args.clock.now) r (err_from_is_err_and r c.from_residual.ensures.1)
+
+pub returns-in_ok-ask-in-Ask-clause-spent : goal.returns-in_ok-ask-in-Ask-clause-spent
+returns-in_ok-ask-in-Ask-clause-spent g c = λ terms s z.
+    let b = known_files g.F.Files c.args.files.now in
+    let k = known_clock g.K.Clock c.args.clock.now in
+    let P : Stmt → Type 0 = λ x. HasSpent (statement_reads s x) (statement_asks s x) b b k k in
+    subst P (sym c.in-Ask.is) (spent-none b k)
+
+pub returns-in_err-ask-in-Ask-clause-spent : goal.returns-in_err-ask-in-Ask-clause-spent
+returns-in_err-ask-in-Ask-clause-spent g c = λ terms s z.
+    let r = c.from_residual-in_err-ask-in-Ask.result in
+    spends-nothing (statement_reads s c.args.statement) (statement_asks s c.args.statement) (known_files g.F.Files c.args.files.now) (known_clock g.K.Clock c.args.clock.now) r (err_from_is_err_and r c.from_residual-in_err-ask-in-Ask.ensures.1)
+
+pub returns-in_ok-show-in-Show-clause-spent : goal.returns-in_ok-show-in-Show-clause-spent
+returns-in_ok-show-in-Show-clause-spent g c = λ terms s z.
+    let b = known_files g.F.Files c.args.files.now in
+    let k = known_clock g.K.Clock c.args.clock.now in
+    let P : Stmt → Type 0 = λ x. HasSpent (statement_reads s x) (statement_asks s x) b b k k in
+    subst P (sym c.in-Show.is) (spent-none b k)
+
+pub returns-in_err-show-in-Show-clause-spent : goal.returns-in_err-show-in-Show-clause-spent
+returns-in_err-show-in-Show-clause-spent g c = λ terms s z.
+    let r = c.from_residual-in_err-show-in-Show.result in
+    spends-nothing (statement_reads s c.args.statement) (statement_asks s c.args.statement) (known_files g.F.Files c.args.files.now) (known_clock g.K.Clock c.args.clock.now) r (err_from_is_err_and r c.from_residual-in_err-show-in-Show.ensures.1)
+
+pub returns-in-Abort-clause-spent : goal.returns-in-Abort-clause-spent
+returns-in-Abort-clause-spent g c = λ terms s z.
+    let b = known_files g.F.Files c.args.files.now in
+    let k = known_clock g.K.Clock c.args.clock.now in
+    let P : Stmt → Type 0 = λ x. HasSpent (statement_reads s x) (statement_asks s x) b b k k in
+    subst P (sym c.in-Abort.is) (spent-none b k)
+
+pub returns-in_ok-commit-in-Commit-clause-spent : goal.returns-in_ok-commit-in-Commit-clause-spent
+returns-in_ok-commit-in-Commit-clause-spent g c = λ terms s z.
+    let b = known_files g.F.Files c.args.files.now in
+    let P : Stmt → Type 0 = λ x. HasSpent (statement_reads s x) (statement_asks s x) b b (known_clock g.K.Clock c.args.clock.now) (known_clock g.K.Clock c.commit.new.clock) in
+    subst P (sym c.in-Commit.is) (c.in_ok-commit-in-Commit.ensures.spent terms s z b)
+
+pub returns-in_err-commit-in-Commit-clause-spent : goal.returns-in_err-commit-in-Commit-clause-spent
+returns-in_err-commit-in-Commit-clause-spent g c = λ terms s z.
+    let b = known_files g.F.Files c.args.files.now in
+    let kb = known_clock g.K.Clock c.args.clock.now in
+    let ka = known_clock g.K.Clock c.commit.new.clock in
+    let r = c.from_residual-in_err-commit-in-Commit.result in
+    let P : Stmt → Type 0 = λ x. Spends (statement_reads s x) (statement_asks s x) b b kb ka r in
+    subst P (sym c.in-Commit.is) (spends-passed Reply _ _ b b kb ka c.in_err-commit-in-Commit.field-0.0 r (c.in_err-commit-in-Commit.ensures.spent terms s z b) (err_from_is_err_and r c.from_residual-in_err-commit-in-Commit.ensures.1))
+
+pub returns-in_ok-load-in-Load-clause-spent : goal.returns-in_ok-load-in-Load-clause-spent
+returns-in_ok-load-in-Load-clause-spent g c = λ terms s z.
+    let k = known_clock g.K.Clock c.args.clock.now in
+    let P : Stmt → Type 0 = λ x. HasSpent (statement_reads s x) (statement_asks s x) (known_files g.F.Files c.args.files.now) (known_files g.F.Files c.load.new.files) k k in
+    subst P (sym c.in-Load.is) (c.in_ok-load-in-Load.ensures.spent terms s z k)
+
+pub returns-in_err-load-in-Load-clause-spent : goal.returns-in_err-load-in-Load-clause-spent
+returns-in_err-load-in-Load-clause-spent g c = λ terms s z.
     let b = known_files g.F.Files c.args.files.now in
     let a = known_files g.F.Files c.load.new.files in
-    let same : load_reads s (replay s.history) c.in-Load.load.name ≡ statement_reads s c.args.statement = ap (statement_reads s) (sym c.in-Load.is) in
-    subst (HasRead b a) same (c.in_ok-load-in-Load.ensures.reads terms s z)
+    let k = known_clock g.K.Clock c.args.clock.now in
+    let r = c.from_residual-in_err-load-in-Load.result in
+    let P : Stmt → Type 0 = λ x. Spends (statement_reads s x) (statement_asks s x) b a k k r in
+    subst P (sym c.in-Load.is) (spends-passed Reply _ _ b a k k c.in_err-load-in-Load.field-0.0 r (c.in_err-load-in-Load.ensures.spent terms s z k) (err_from_is_err_and r c.from_residual-in_err-load-in-Load.ensures.1))

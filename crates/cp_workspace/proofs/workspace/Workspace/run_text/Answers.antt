@@ -5,15 +5,35 @@ use Rattle.std.specs.declared.option.Option.TheVariants.{Some}
 use Rattle.cp_reply.specs.Session.{turn_of, not_read}
 use Rattle.cp_workspace.specs.Texts.{SaysAs, setting, reading}
 use Rattle.cp_workspace.specs.Files.{known_files, IsTable}
+use Rattle.cp_workspace.specs.Clocks.{known_clock}
+use Rattle.cp_workspace.specs.Commits.{text_asks}
+use Rattle.cp_workspace.specs.Loads.{text_reads}
 use Rattle.cp_workspace.specs.Workspaces.{HasTurned}
+use Rattle.cp_workspace.proofs.Spent.{spent-none, spends-nothing}
 use Rattle.cp_workspace.proofs.Turning.{file-same, usable-kept, quiet-unread, turned-quiet, turned-failed}
 use Rattle.cp_workspace.proofs.workspace.Workspace.run_text.Goals as goal
 
 pub returns-in-Ok-clause-turned : goal.returns-in-Ok-clause-turned
 returns-in-Ok-clause-turned g c = let reads = subst (SaysAs c.args.text.now) c.in-Ok.is c.in_ok-statement.ensures in rw reads.0 c.run.ensures.turned
 
-pub returns-in-Ok-clause-reads : goal.returns-in-Ok-clause-reads
-returns-in-Ok-clause-reads g c = let says = subst (SaysAs c.args.text.now) c.in-Ok.is c.in_ok-statement.ensures in rw says.0 c.run.ensures.reads
+pub returns-in-Ok-clause-spent : goal.returns-in-Ok-clause-spent
+returns-in-Ok-clause-spent g c = let says = subst (SaysAs c.args.text.now) c.in-Ok.is c.in_ok-statement.ensures in rw says.0 c.run.ensures.spent
+
+pub returns-in_ok-refuse-in-Err-clause-spent : goal.returns-in_ok-refuse-in-Err-clause-spent
+returns-in_ok-refuse-in-Err-clause-spent g c = λ terms s z.
+    let b = known_files g.F.Files c.args.files.now in
+    let k = known_clock g.K.Clock c.args.clock.now in
+    let says = subst (SaysAs c.args.text.now) c.in-Err.is c.in_ok-statement.ensures in rw says (spent-none b k)
+
+pub returns-in_err-refuse-in-Err-clause-spent : goal.returns-in_err-refuse-in-Err-clause-spent
+returns-in_err-refuse-in-Err-clause-spent g c = λ terms s z.
+    let r = c.from_residual-in_err-refuse-in-Err.result in
+    spends-nothing (text_reads s (reading c.args.text.now)) (text_asks s (reading c.args.text.now)) (known_files g.F.Files c.args.files.now) (known_clock g.K.Clock c.args.clock.now) r (err_from_is_err_and r c.from_residual-in_err-refuse-in-Err.ensures.1)
+
+pub returns-in_err-statement-clause-spent : goal.returns-in_err-statement-clause-spent
+returns-in_err-statement-clause-spent g c = λ terms s z.
+    let r = c.from_residual.result in
+    spends-nothing (text_reads s (reading c.args.text.now)) (text_asks s (reading c.args.text.now)) (known_files g.F.Files c.args.files.now) (known_clock g.K.Clock c.args.clock.now) r (err_from_is_err_and r c.from_residual.ensures.1)
 
 pub returns-in_ok-refuse-in-Err-clause-turned : goal.returns-in_ok-refuse-in-Err-clause-turned
 returns-in_ok-refuse-in-Err-clause-turned g c =
