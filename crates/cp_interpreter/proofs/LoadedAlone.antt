@@ -1,7 +1,7 @@
 -- Workspaces that commit nothing, and sources that a call loads by itself.
 use Rattle.std.proofs.Common.{◌≡◌, ℕ, List, [], Bool, true, Ok, Err, inl, inr, refl, sym, ap, subst, ◌∙◌, arith}
 use Rattle.std.specs.Prelude.{IsTrue, Result, ◌⊎◌, ◌≤◌}
-use Rattle.std.specs.declared.option.Option.TheVariants.{Some}
+use Rattle.std.specs.declared.option.Option.TheVariants.{None, Some}
 use Rattle.cp_outside.specs.Causes.{Accounts, Rose}
 use Rattle.cp_outside.specs.FileReads.{FileTable}
 use Rattle.cp_model.specs.Tree.{Tree}
@@ -25,8 +25,8 @@ use Rattle.cp_reply.specs.Session.{Session, says, turn_of, session_after_stateme
 use Rattle.cp_workspace.specs.Texts.{Terms, setting}
 use Rattle.cp_workspace.specs.Loads.{statement_reads}
 use Rattle.cp_workspace.specs.Disks.{LeavesEither}
-use Rattle.cp_workspace.specs.Faults.{IsFileFault}
-use Rattle.cp_workspace.specs.Files.{KnownFiles, HasRead, IsTable, Reads, UsesFiles}
+use Rattle.cp_workspace.specs.Files.{KnownFiles, HasRead, IsTable, UsesFiles}
+use Rattle.cp_workspace.specs.Spending.{Spends}
 use Rattle.cp_workspace.specs.Workspaces.{Stands, HoldsFile, TurnsAs, db_in, end_now, opened_session}
 use Rattle.cp_workspace.specs.declared.fault.WorkspaceFault.{WorkspaceFault}
 use Rattle.cp_workspace.specs.declared.fault.WorkspaceFault.TheVariants as fails
@@ -132,8 +132,12 @@ module _ {R S : Type 0} (view : R → Tree) (source_view : S → Tree) (l : Load
         → TurnsAs view source_view (λ (y : Reply). Some y) terms (turn_of (setting t terms) s (says (stmt.Load l))) s s.moments old new m w r
 
     -- and read its file, or none
-    abbrev HasReads : Result Reply WorkspaceFault → Type 0
-    HasReads r = (terms : Terms) (s : Session) → Stands view source_view terms old s → Reads IsFileFault (statement_reads s (stmt.Load l)) f g r
+    -- a clock beside a load, which asks none
+    abbrev no_clock : KnownClock
+    no_clock = record { left = None; asked = 0; faults = 0 }
+
+    abbrev HasSpentAs : Result Reply WorkspaceFault → Type 0
+    HasSpentAs r = (terms : Terms) (s : Session) → Stands view source_view terms old s → (k : KnownClock) → Spends (statement_reads s (stmt.Load l)) 0 f g k k r
 
     module _ (known : IsTrue v.known) (files : FileTable) (t : IsTable files f g) (h : List Entry) (store : IsStore h v.view.content) where
       abbrev terms : Terms
@@ -161,24 +165,29 @@ module _ {R S : Type 0} (view : R → Tree) (source_view : S → Tree) (l : Load
         | inr after ↦ inr after
       ]
 
-      said : (y : Reply) → MadeTurn (Ok y) → HasReads (Ok y) → LoadGives report h f g w (Ok y)
+      said : (y : Reply) → MadeTurn (Ok y) → HasSpentAs (Ok y) → LoadGives report h f g w (Ok y)
       unfolding session_after_statements
       said y turned reads =
           let x = turned files t terms session here.0 in
           let r = statement-said files terms session (stmt.Load l) y x.turned.0 in
-          (r.0, r.1, reads terms session here.0, λ told c image. inl (kept-images (db_in new) report.history w.view (x.kept (same known) here.1) c image))
+          (r.0, r.1, (reads terms session here.0 no_clock).read, λ told c image. inl (kept-images (db_in new) report.history w.view (x.kept (same known) here.1) c image))
 
       stopped : (fault : WorkspaceFault) (stop : Stop) → (fault ≡ fails.File → stop ≡ File) × (fault ≡ fails.Disk → stop ≡ Disk) × (fault ≡ fails.Clock → stop ≡ Clock) × (fault ≡ fails.Memory → stop ≡ Memory)
-          → MadeTurn (Err fault) → HasReads (Err fault) → (fault ≡ fails.File → (c : List ℕ) → w.view.images c → m.view.images c) → (fault ≡ fails.Clock → ⊥) → LoadGives report h f g w (Err stop)
+          → MadeTurn (Err fault) → HasSpentAs (Err fault) → (fault ≡ fails.File → (c : List ℕ) → w.view.images c → m.view.images c) → (fault ≡ fails.Clock → ⊥) → LoadGives report h f g w (Err stop)
       stopped fails.File stop becomes turned reads still clock =
-          let x = (reads terms session here.0).blamed refl in
-          subst (λ z. LoadGives report h f g w (Err z)) (sym (becomes.0 refl)) (x.0, x.1, λ told c image. inl (kept-images (db_in old) h m.view here.1 c (still refl c image)))
-      stopped fails.Disk stop becomes turned reads still clock = subst (λ z. LoadGives report h f g w (Err z)) (sym (becomes.1 refl)) (λ told c image. (left (Err fails.Disk) turned).now c image)
+          let x = reads terms session here.0 no_clock in
+          subst (λ z. LoadGives report h f g w (Err z)) (sym (becomes.0 refl)) (x.0, subst (HasRead f g) x.0 x.1.read, λ told c image. inl (kept-images (db_in old) h m.view here.1 c (still refl c image)))
+      stopped fails.Disk stop becomes turned reads still clock =
+          let x = reads terms session here.0 no_clock in
+          let one : report.reads ≡ 1 = omega (arith, x.0) in
+          subst (λ z. LoadGives report h f g w (Err z)) (sym (becomes.1 refl)) (one, subst (HasRead f g) one x.1.read, λ told c image. (left (Err fails.Disk) turned).now c image)
       stopped fails.Clock stop becomes turned reads still clock = absurd (clock refl)
-      stopped fails.Memory stop becomes turned reads still clock = subst (λ z. LoadGives report h f g w (Err z)) (sym (becomes.3 refl)) (λ told c image. (left (Err fails.Memory) turned).now c image)
+      stopped fails.Memory stop becomes turned reads still clock =
+          subst (λ z. LoadGives report h f g w (Err z)) (sym (becomes.3 refl))
+          (elim (reads terms session here.0 no_clock) [ inl none ↦ inl none.read | inr all ↦ inr all.read ], λ told c image. (left (Err fails.Memory) turned).now c image)
 
     -- the load was replied to
-    pub loaded-said : (y : Reply) → MadeTurn (Ok y) → HasReads (Ok y) → LoadedAs l f g v w (Ok y)
+    pub loaded-said : (y : Reply) → MadeTurn (Ok y) → HasSpentAs (Ok y) → LoadedAs l f g v w (Ok y)
     loaded-said y turned reads = record {
       no_store = λ known at h. absurd (cc);
       unopened = λ known never. absurd (never (opened known).0);
@@ -190,7 +199,7 @@ module _ {R S : Type 0} (view : R → Tree) (source_view : S → Tree) (l : Load
 
     -- it stopped the call
     pub loaded-stopped : (fault : WorkspaceFault) (stop : Stop) → (fault ≡ fails.File → stop ≡ File) × (fault ≡ fails.Disk → stop ≡ Disk) × (fault ≡ fails.Clock → stop ≡ Clock) × (fault ≡ fails.Memory → stop ≡ Memory)
-        → MadeTurn (Err fault) → HasReads (Err fault) → (fault ≡ fails.File → (c : List ℕ) → w.view.images c → m.view.images c) → (fault ≡ fails.Clock → ⊥) → LoadedAs l f g v w (Err stop)
+        → MadeTurn (Err fault) → HasSpentAs (Err fault) → (fault ≡ fails.File → (c : List ℕ) → w.view.images c → m.view.images c) → (fault ≡ fails.Clock → ⊥) → LoadedAs l f g v w (Err stop)
     loaded-stopped fault stop becomes turned reads still clock = record {
       no_store = λ known at h. absurd (workspace-is (λ s. stopped-by Reply s ≡ Err (NoStore at) → ⊥) fault stop becomes clock (λ e. absurd (cc)) (λ e. absurd (cc)) (λ e. absurd (cc)) h);
       unopened = λ known never. absurd (never (opened known).0);
@@ -299,12 +308,12 @@ module _ (i : KnownInput) (f g : KnownFiles) (k : KnownClock) (o p : KnownOutput
     said-statement r h line flag how.Usage n x lines_is flag_is s = s
     said-statement r h line flag how.Input n x lines_is flag_is s = s
     said-statement r h line flag how.File n x lines_is flag_is s = absurd s
-    said-statement r h line flag how.Output n x lines_is flag_is s = (subst (λ z. StopsIn o p z) (sym lines_is) s, x)
+    said-statement r h line flag how.Output n x lines_is flag_is s = (subst (λ z. StopsIn o p z) (sym lines_is) s, n, x)
     said-statement r h line flag how.Disk n x lines_is flag_is s = absurd s
     said-statement r h line flag (how.NoStore at) n x lines_is flag_is s = s
     said-statement r h line flag how.Memory n x lines_is flag_is s = elim s [
-      | inl y ↦ inl (subst (λ z. StopsIn o p z) (sym lines_is) y, x)
-      | inr y ↦ inr (y, λ known c image. inr (either (x known c image)))
+      | inl y ↦ inl (subst (λ z. StopsIn o p z) (sym lines_is) y, n, x)
+      | inr y ↦ inr (y, inr n, λ known c image. inr (either (x known c image)))
     ]
       where
         either : {P : Type 0} → P ⊎ P → P
@@ -317,17 +326,17 @@ module _ (i : KnownInput) (f g : KnownFiles) (k : KnownClock) (o p : KnownOutput
     stop-statement r h Output x t = absurd x
     stop-statement r h Full x t = absurd x
     stop-statement r h File x t = (x.0, t, x.1, x.2)
-    stop-statement r h Disk x t = (t, x)
+    stop-statement r h Disk x t = (x.0, t, x.1, x.2)
     stop-statement r h (NoStore at) x t = absurd x
     stop-statement r h Clock x t = absurd x
-    stop-statement r h Memory x t = inr (t, x)
+    stop-statement r h Memory x t = inr (t, x.0, x.1)
 
     -- the store wasn't opened
     not-begun : (stop : Stop) → NotOpened f g v w (Err stop) → TellsStop o p stop → HasNotBegun [] [] b a (end_of_stop stop) × ViewRests v.view w.view
     not-begun stop n t =
         let same : n.stop ≡ stop = (let x = n.is in cc) in
         let early = stop-early o p stop (subst IsOpeningStop same n.opening) t in
-        (record { early = early.0; none_taken = refl; none_told = refl; files = n.files; wrote = early.1 }, n.rests)
+        (record { early = early.0; none_taken = refl; none_told = refl; files = n.files; clock = refl; wrote = early.1 }, n.rests)
 
     -- why it ended so
     none-stop : (stop : Stop) (at : ℕ) → end_of_stop stop ≡ how.NoStore at → stopped-by Reply stop ≡ Err (NoStore at)

@@ -7,8 +7,9 @@ use Rattle.cp_outside.specs.FileReads.{FileTable}
 use Rattle.cp_outside.specs.declared.files.FilesFault.{FilesFault}
 use Rattle.cp_outside.specs.declared.files.FilesFault.TheVariants as fails
 use Rattle.cp_disk.specs.Views.{View, ViewRests, ViewKeeps, KnownDisk}
-use Rattle.cp_journal.specs.NewStores.{IsVacant}
-use Rattle.cp_db.specs.Writing.{IsOldOrVacantOrStart}
+use Rattle.cp_journal.specs.NewStores.{IsVacant, SettlesInto}
+use Rattle.cp_db.specs.Writing.{IsOldOrVacantOrStart, IsVacantOrStart}
+use Rattle.cp_disk.proofs.Composing.{rests_then}
 use Rattle.cp_reply.specs.Lines.{lines}
 use Rattle.cp_reply.specs.declared.reply.Of.TheVariants as of
 use Rattle.cp_reply.specs.declared.reply.Why.{Why}
@@ -18,10 +19,11 @@ use Rattle.cp_reply.specs.declared.reply.Reply.TheVariants as reply
 use Rattle.cp_reply.specs.Session.{FetchedFile, gives, withholds}
 use Rattle.cp_workspace.specs.Faults.{IsFailedFile}
 use Rattle.cp_workspace.specs.Fetched.{Gives}
-use Rattle.cp_workspace.specs.Files.{KnownFiles, HasRead, IsTable, ReadsBefore, UsesFiles}
+use Rattle.cp_workspace.specs.Files.{KnownFiles, HasRead, IsTable, ReadsBefore, ReadsOrNone, UsesFiles}
+use Rattle.cp_workspace.proofs.ReadCounts.{reads-all}
 use Rattle.cp_interpreter.specs.Job.{is_refusal}
 use Rattle.cp_interpreter.specs.Outside.{KnownInput, KnownClock, KnownOutput, Outside}
-use Rattle.cp_interpreter.specs.Story.{LeavesStart, IsRunning, SaidLine, Made, MadeFrom, EndedEarly, FileOfStartFailed}
+use Rattle.cp_interpreter.specs.Story.{LeavesStart, IsRunning, SaidLine, Made, MadeFrom, EndedEarly, FileOfStartFailed, result_of}
 use Rattle.cp_interpreter.specs.Begins.{IsMakingStop, CreatedAs, MadeAs, StoreMade}
 use Rattle.cp_interpreter.specs.Turns.{IsFileStop, TellsStop, end_of_stop}
 use Rattle.cp_interpreter.specs.declared.end.End.{End}
@@ -33,7 +35,7 @@ use Rattle.cp_interpreter.specs.declared.stop.Stop.TheVariants.{Output, Full, Fi
 
 -- where it leaves what it could leave
 pub leaves-start : (k : Kind) (g : FetchedFile) (v w : View) → ViewRests v w → LeavesStart k g v w
-leaves-start k (gives t) v w r = record { later = r.later; since = λ s c le i. inl (r.since s c le i); now = λ c i. inl (r.images c i) }
+leaves-start k (gives t) v w r = (record { later = r.later; since = λ s c le i. inl (r.since s c le i); now = λ c i. inl (r.images c i) }, inl r)
 leaves-start k (withholds y) v w r = r
 
 -- and then what it leaves of a new store
@@ -46,6 +48,13 @@ start-then k t v m w r p = record {
   where
     old_then : (c : List ℕ) → IsOldOrVacantOrStart m k t c → IsOldOrVacantOrStart v k t c
     old_then c x = elim x [ inl old ↦ inl (r.images c old) | inr new ↦ inr new ]
+
+-- from some moment on
+settles-then : (k : Kind) (t : Tree) (v m w : View) → ViewRests v m → SettlesInto (IsVacantOrStart k t) m w → SettlesInto (IsVacantOrStart k t) v w
+settles-then k t v m w r s = elim s [
+  | inl still ↦ inl (rests_then v m w r still)
+  | inr settled ↦ inr (record { moment = settled.moment; later = omega (arith, r.later, settled.later); passed = settled.passed; only = settled.only })
+]
 
 -- ---- what was replied
 
@@ -66,6 +75,7 @@ module _ (k : Kind) (given : FileTable → FetchedFile) (reads : ℕ) (b a : Kno
   made-there never = record {
     exists = λ known no. (refl, rests known, refl);
     made = λ known vacant files t. absurd (never known vacant);
+    read = λ known vacant. absurd (never known vacant);
     stops = tt;
   }
 
@@ -74,6 +84,7 @@ module _ (k : Kind) (given : FileTable → FetchedFile) (reads : ℕ) (b a : Kno
   made-unknown stop s = record {
     exists = λ known no. (refl, rests known, s);
     made = λ known vacant files t. (making k (given files) reads b b m stop (making_of stop s) (no_file stop _ s), leaves-start k (given files) v.view m.view (rests known));
+    read = λ known vacant. inl refl;
     stops = making_of stop s;
   }
 
@@ -83,11 +94,13 @@ module _ (k : Kind) (given : FileTable → FetchedFile) (reads : ℕ) (b a : Kno
     made-unread fails.Failed stop becomes r = record {
       exists = λ known no. absurd (no (vacant known));
       made = λ known is files t. (making k (given files) reads b a m stop (inl (becomes.0 refl)) (λ e. r.blamed refl), leaves-start k (given files) v.view m.view (rests known));
+      read = λ known is. r.either;
       stops = inl (becomes.0 refl);
     }
     made-unread fails.Memory stop becomes r = record {
       exists = λ known no. absurd (no (vacant known));
       made = λ known is files t. (making k (given files) reads b a m stop (inr (inr (becomes.1 refl))) (no_file stop _ (inr (becomes.1 refl))), leaves-start k (given files) v.view m.view (rests known));
+      read = λ known is. r.either;
       stops = inr (inr (becomes.1 refl));
     }
 
@@ -96,28 +109,33 @@ module _ (k : Kind) (given : FileTable → FetchedFile) (reads : ℕ) (b a : Kno
     refused_as (withholds z) y view h = ap (λ u. reply.Refused of.Init u) h
 
     -- there is no start tree
-    pub made-refused : (y : Why) {R : Type 0} (view : R → Tree) → ((files : FileTable) → IsTable files b a → Gives view (given files) (Err y)) → StoreMade k given reads b a v m (Ok (reply.Refused of.Init y))
-    made-refused y view h = record {
+    pub made-refused : (y : Why) {R : Type 0} (view : R → Tree) → HasRead b a reads → ((files : FileTable) → IsTable files b a → Gives view (given files) (Err y)) → StoreMade k given reads b a v m (Ok (reply.Refused of.Init y))
+    made-refused y view read h = record {
       exists = λ known no. absurd (no (vacant known));
       made = λ known is files t. (refused_as (given files) y view (h files t), leaves-start k (given files) v.view m.view (rests known));
+      read = λ known is. read;
       stops = tt;
     }
 
-    module _ (w : KnownDisk) (r : Result Reply Stop) {R : Type 0} (view : R → Tree) (tree : R) (created : IsTrue v.known → CreatedAs k (view tree) w r) (crash : IsTrue v.known → ViewKeeps (IsOldOrVacantOrStart m.view k (view tree)) m.view w.view) where
+    module _ (w : KnownDisk) (r : Result Reply Stop) {R : Type 0} (view : R → Tree) (tree : R) (created : IsTrue v.known → CreatedAs k (view tree) w r) (crash : IsTrue v.known → ViewKeeps (IsOldOrVacantOrStart m.view k (view tree)) m.view w.view)
+        (settles : IsTrue v.known → SettlesInto (IsVacantOrStart k (view tree)) m.view w.view) where
       created_as : (g : FetchedFile) (q : Result Reply Stop) → Gives view g (Ok tree) → CreatedAs k (view tree) w q → MadeAs k g reads b a w q
       created_as (gives t) (Ok x) h d = subst (λ u. CreatedAs k u w (Ok x)) h d
       created_as (gives t) (Err stop) h d = (making_of stop d, no_file stop _ d)
       created_as (withholds z) q h d = absurd h
 
       leaves_as : (g : FetchedFile) → Gives view g (Ok tree) → IsTrue v.known → LeavesStart k g v.view w.view
-      leaves_as (gives t) h known = subst (λ u. ViewKeeps (IsOldOrVacantOrStart v.view k u) v.view w.view) h (start-then k (view tree) v.view m.view w.view (rests known) (crash known))
+      leaves_as (gives t) h known =
+          subst (λ u. ViewKeeps (IsOldOrVacantOrStart v.view k u) v.view w.view × SettlesInto (IsVacantOrStart k u) v.view w.view) h
+          (start-then k (view tree) v.view m.view w.view (rests known) (crash known), settles-then k (view tree) v.view m.view w.view (rests known) (settles known))
       leaves_as (withholds z) h known = absurd h
 
       -- the store was made
-      pub made-created : IfErr r IsMakingStop → ((files : FileTable) → IsTable files b a → Gives view (given files) (Ok tree)) → StoreMade k given reads b a v w r
-      made-created s h = record {
+      pub made-created : HasRead b a reads → IfErr r IsMakingStop → ((files : FileTable) → IsTable files b a → Gives view (given files) (Ok tree)) → StoreMade k given reads b a v w r
+      made-created read s h = record {
         exists = λ known no. absurd (no (vacant known));
         made = λ known is files t. (created_as (given files) r (h files t) (created known), leaves_as (given files) (h files t) known);
+        read = λ known is. reads-all reads b a r read;
         stops = s;
       }
 
@@ -166,6 +184,7 @@ module _ (k : Kind) (given : FileTable → FetchedFile) (reads : ℕ) (i : Known
     clock = refl;
     exists = λ known no. (let x = m.exists known no in (x.0, x.1, inl (subst (λ z. SaidLine (lines z) (is_refusal z) o p e) x.2 s)));
     did = λ known vacant files t. inr (inr (made_of (given files) r e (m.made known vacant files t).0 s));
+    read = λ known vacant. reads-all reads f g (result_of e) (m.read known vacant);
     crash = λ known vacant files t. (m.made known vacant files t).1;
   }
 
@@ -185,6 +204,15 @@ module _ (k : Kind) (given : FileTable → FetchedFile) (reads : ℕ) (i : Known
     | inr d ↦ inr (early_of stop d t)
   ]
 
+  stop_read : (stop : Stop) → HasRead f g 0 ⊎ HasRead f g reads → ReadsOrNone reads f g (result_of (end_of_stop stop))
+  stop_read Output r = r
+  stop_read Full r = r
+  stop_read File r = r
+  stop_read Disk r = r
+  stop_read (NoStore at) r = r
+  stop_read Clock r = r
+  stop_read Memory r = r
+
   -- it was stopped
   pub made-stopped : (stop : Stop) → StoreMade k given reads f g v w (Err stop) → TellsStop o p stop → Made k given reads b a v w (end_of_stop stop)
   made-stopped stop m t = record {
@@ -193,6 +221,7 @@ module _ (k : Kind) (given : FileTable → FetchedFile) (reads : ℕ) (i : Known
     clock = refl;
     exists = λ known no. (let x = m.exists known no in (x.0, x.1, inr (early_of stop x.2 t)));
     did = λ known vacant files tab. elim (did_stop stop (stop_of (given files) stop (m.made known vacant files tab).0) t) [ inl q ↦ inl q | inr q ↦ inr (inl q) ];
+    read = λ known vacant. stop_read stop (m.read known vacant);
     crash = λ known vacant files tab. (m.made known vacant files tab).1;
   }
 

@@ -29,7 +29,9 @@ use Rattle.cp_workspace.specs.Workspaces.{Stands, IsUsable, HasStamps, HoldsFile
 use Rattle.cp_workspace.specs.declared.workspace.Workspace.{Workspace}
 use Rattle.cp_interpreter.specs.Job.{job_so_far, job}
 use Rattle.cp_interpreter.specs.Play.{begun, plays, plays_all}
-use Rattle.cp_workspace.specs.Files.{KnownFiles, HasRead, IsTable}
+use Rattle.cp_workspace.specs.Files.{KnownFiles, IsTable}
+use Rattle.cp_workspace.specs.Spending.{HasSpent}
+use Rattle.cp_workspace.proofs.Spent.{spent-as}
 use Rattle.cp_interpreter.specs.Outside.{KnownInput, KnownClock, KnownOutput, Outside}
 use Rattle.cp_interpreter.specs.Story.{LeavesHistory, WritesLast, frames_end, store_terms, left_on, LeavesFronts, DidOn, session_on, work_on, Leaving, Did, IsEarly, early_line, HasNotBegun, RanOn, HasCauses, DiskCauses, result_of}
 use Rattle.cp_interpreter.specs.Turns.{Follows, MayGoOn, IsDiskStop, LeavesAlong, RanFrom, TellsStop, end_of_stop, work_from}
@@ -136,43 +138,46 @@ unfolding plays job_so_far scan_bytes session_after
 first-history files h c curator moments = refl
 
 -- no reads before others
-no_more : (b a : KnownFiles) (n : ℕ) → HasRead b a n → HasRead b a (0 + n)
-no_more b a n h = let same : 0 + n ≡ n = omega arith in subst (HasRead b a) (sym same) h
-
-one_read : (b a : KnownFiles) (n : ℕ) → HasRead b a (n + 1) → HasRead b a ((0 + n) + 1)
-one_read b a n h = let same : (0 + n) + 1 ≡ n + 1 = omega arith in subst (HasRead b a) (sym same) h
+no_more : (b a : Outside) {n k : ℕ} → HasSpent n k b.files a.files b.clock a.clock → HasSpent (0 + n) k b.files a.files b.clock a.clock
+no_more b a {n} {k} spent = spent-as b.files a.files b.clock a.clock n k (0 + n) k (omega arith) refl spent
 
 -- what a session does from its beginning on is what the session on the history does
 module _ (files : FileTable) (terms : Terms) (s : Session) (Leaves : Leaving) (taken : List ℕ) (b a : Outside) where
   did-on : (e : End) → Did (work_from files (begun terms s) false) Leaves 0 taken b a e → Did (work_on files terms s 0) Leaves 0 taken b a e
   unfolding plays plays_all job_so_far job
-  did-on how.Done w = record { refused_is = w.refused_is; wrote = w.wrote; read = no_more b.files a.files _ w.read; left = w.left }
-  did-on how.Refused w = record { refused_is = w.refused_is; wrote = w.wrote; read = no_more b.files a.files _ w.read; left = w.left }
+  did-on how.Done w = record { refused_is = w.refused_is; wrote = w.wrote; spent = no_more b a w.spent; left = w.left }
+  did-on how.Refused w = record { refused_is = w.refused_is; wrote = w.wrote; spent = no_more b a w.spent; left = w.left }
   did-on how.Usage w = absurd w
-  did-on how.Input w = record { wrote = w.wrote; read = no_more b.files a.files _ w.read; left = w.left }
+  did-on how.Input w = record { wrote = w.wrote; spent = no_more b a w.spent; left = w.left }
   did-on how.File w = record {
     at = w.at;
     inside = w.inside;
     load = omega (arith, w.load);
     wrote = w.wrote;
-    read = one_read b.files a.files _ w.read;
+    spent = no_more b a w.spent;
     left = w.left;
   }
   did-on how.Output w = elim w [
-    | inl x ↦ inl (record { at = x.at; inside = x.inside; wrote = x.wrote; left = x.left })
-    | inr x ↦ inr (record { ended = x.ended; wrote = x.wrote; left = x.left })
+    | inl x ↦ inl (record { at = x.at; inside = x.inside; wrote = x.wrote; spent = no_more b a x.spent; left = x.left })
+    | inr x ↦ inr (record { ended = x.ended; wrote = x.wrote; spent = no_more b a x.spent; left = x.left })
   ]
-  did-on how.Disk w = record { at = w.at; within = w.within; wrote = w.wrote; left = w.left }
+  did-on how.Disk w = record { at = w.at; inside = w.inside; writing = omega (arith, w.writing); wrote = w.wrote; spent = no_more b a w.spent; left = w.left }
   did-on (how.NoStore at) w = absurd w
   did-on how.Memory w = elim w [
     | inl y ↦ inl (elim y [
-      | inl x ↦ inl (record { at = x.at; inside = x.inside; wrote = x.wrote; left = x.left })
-      | inr x ↦ inr (record { ended = x.ended; wrote = x.wrote; left = x.left })
+      | inl x ↦ inl (record { at = x.at; inside = x.inside; wrote = x.wrote; spent = no_more b a x.spent; left = x.left })
+      | inr x ↦ inr (record { ended = x.ended; wrote = x.wrote; spent = no_more b a x.spent; left = x.left })
     ])
-    | inr x ↦ inr (record { at = x.at; within = x.within; wrote = x.wrote; left = x.left })
+    | inr x ↦ inr (record {
+      at = x.at;
+      within = x.within;
+      wrote = x.wrote;
+      spent = elim x.spent [ inl none ↦ inl (no_more b a none) | inr all ↦ inr (no_more b a all) ];
+      left = x.left;
+    })
   ]
-  did-on how.TooLong w = record { at = w.at; within = w.within; last_piece = w.last_piece; wrote = w.wrote; read = no_more b.files a.files _ w.read; left = w.left }
-  did-on how.Clock w = record { at = w.at; within = w.within; wrote = w.wrote; left = w.left }
+  did-on how.TooLong w = record { at = w.at; within = w.within; last_piece = w.last_piece; wrote = w.wrote; spent = no_more b a w.spent; left = w.left }
+  did-on how.Clock w = record { at = w.at; inside = w.inside; commit = w.commit; wrote = w.wrote; spent = no_more b a w.spent; left = w.left }
 
 along-on : (files : FileTable) (terms : Terms) (s : Session) (taken : List ℕ) (k : ℕ) (c : List ℕ) → StandsFor (plays files (begun terms s) (take k taken)).history c → StandsFor ((work_on files terms s 0).so_far (take k taken)).history c
 unfolding plays job_so_far
@@ -256,7 +261,7 @@ ran-early-on curator i f k o p v w e early wrote none never leaves = record {
 }
   where
     not_begun : HasNotBegun [] [] (record { input = i; files = f; clock = k; output = o }) (record { input = i; files = f; clock = k; output = p }) e
-    not_begun = record { early = early; none_taken = refl; none_told = refl; files = refl; wrote = wrote }
+    not_begun = record { early = early; none_taken = refl; none_told = refl; files = refl; clock = refl; wrote = wrote }
 
 -- a call that ran a session on its store
 module _ {R S : Type 0} (view : R → Tree) (source_view : S → Tree) (curator : List ℕ) (x : Interpreter R S) (b a : Outside) (v m w : KnownDisk) (e : End)

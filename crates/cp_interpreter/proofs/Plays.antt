@@ -31,18 +31,20 @@ use Rattle.cp_reply.specs.Session.{Session, Setting, turn, replies_to, session_a
 use Rattle.cp_reply.proofs.Appended.{replies_to-append, session_after-append}
 use Rattle.cp_workspace.specs.Texts.{Terms, setting}
 use Rattle.cp_workspace.specs.Loads.{cut_reads}
+use Rattle.cp_workspace.specs.Commits.{cut_asks}
+use Rattle.cp_workspace.specs.Spending.{HasSpent, Spends}
 use Rattle.cp_disk.specs.Views.{KnownDisk}
-use Rattle.cp_workspace.specs.Files.{HasRead, HasReadSome, IsTable, ReadsBefore}
+use Rattle.cp_workspace.specs.Files.{HasReadSome, IsTable}
 use Rattle.cp_workspace.specs.Workspaces.{Stands, IsUsable, HasStamps, HoldsFile, TurnsAs, HasTurned}
-use Rattle.cp_workspace.specs.Faults.{IsFileFault}
 use Rattle.cp_workspace.specs.declared.fault.WorkspaceFault.{WorkspaceFault}
 use Rattle.cp_workspace.specs.declared.fault.WorkspaceFault.TheVariants as fails
 use Rattle.cp_workspace.specs.declared.workspace.Workspace.{Workspace}
-use Rattle.cp_workspace.proofs.ReadCounts.{read-then, table-first, table-second}
-use Rattle.cp_interpreter.specs.Job.{Report, report_of, is_refusal, reads_in}
+use Rattle.cp_workspace.proofs.ReadCounts.{table-first, table-second}
+use Rattle.cp_workspace.proofs.Spent.{spent-none, spent-sum, spent-as}
+use Rattle.cp_interpreter.specs.Job.{Report, report_of, is_refusal, reads_in, asks_in}
 use Rattle.cp_interpreter.specs.Outside.{World}
 use Rattle.cp_interpreter.specs.Play.{Seen, plays, after_play, closes, plays_all}
-use Rattle.cp_interpreter.specs.Story.{TakesFrom, left_on}
+use Rattle.cp_interpreter.specs.Story.{TakesFrom, left_on, SpentAs, SpentNothing, spending}
 use Rattle.cp_interpreter.specs.Turns.{Follows, MayGoOn, SendsOut, Goes, Went, Fed, WasFed, RunsLast, RanLast, LeavesBoth, LeavesAlong, cuts_play, after_cuts}
 use Rattle.cp_interpreter.specs.declared.interpreter.Interpreter.{Interpreter}
 use Rattle.cp_interpreter.specs.declared.stop.Stop.{Stop}
@@ -57,26 +59,32 @@ or-false false = refl
 
 -- what was done first, and then
 abbrev pub joined : Report → Report → Report
-joined e f = record { out = e.out ++ f.out; refused = e.refused || f.refused; reads = e.reads + f.reads; history = f.history }
+joined e f = record { out = e.out ++ f.out; refused = e.refused || f.refused; reads = e.reads + f.reads; asks = e.asks + f.asks; history = f.history }
 
-report : List ℕ → Bool → ℕ → List Entry → Report
-report out refused reads history = record { out = out; refused = refused; reads = reads; history = history }
+report : List ℕ → Bool → ℕ → ℕ → List Entry → Report
+report out refused reads asks history = record { out = out; refused = refused; reads = reads; asks = asks; history = history }
 
--- the lines of replies, where so many files were read, and the history is this
-told : List Reply → ℕ → List Entry → Report
-told rs n h = report (flat_map lines rs) (list_any is_refusal rs) n h
+-- the lines of replies, where so many files were read, the clock was asked so often, and the history is this
+told : List Reply → ℕ → ℕ → List Entry → Report
+told rs n k h = report (flat_map lines rs) (list_any is_refusal rs) n k h
 
 -- the lines of replies one after another
-told-append : (xs ys : List Reply) (n : ℕ) (h : List Entry) → told (xs ++ ys) n h ≡ report (flat_map lines xs ++ flat_map lines ys) (list_any is_refusal xs || list_any is_refusal ys) n h
+told-append : (xs ys : List Reply) (n k : ℕ) (h : List Entry) → told (xs ++ ys) n k h ≡ report (flat_map lines xs ++ flat_map lines ys) (list_any is_refusal xs || list_any is_refusal ys) n k h
 unfolding told report
-told-append xs ys n h =
-    ap (λ o. report o (list_any is_refusal (xs ++ ys)) n h) (flat_map-append lines xs ys) ∙ ap (λ b. report (flat_map lines xs ++ flat_map lines ys) b n h) (list_any-append is_refusal xs ys)
+told-append xs ys n k h =
+    ap (λ o. report o (list_any is_refusal (xs ++ ys)) n k h) (flat_map-append lines xs ys) ∙ ap (λ b. report (flat_map lines xs ++ flat_map lines ys) b n k h) (list_any-append is_refusal xs ys)
 
 -- the files that cuts read one after another
 reads_in-append : (c : Setting) (s : Session) (xs ys : List Cut) → reads_in c s (xs ++ ys) ≡ reads_in c s xs + reads_in c (session_after c s xs) ys
 unfolding reads_in session_after
 reads_in-append c s [] ys = omega arith
 reads_in-append c s (x ∷ xs) ys = omega (arith, reads_in-append c (turn c s x).next xs ys)
+
+-- how often cuts ask the clock one after another
+asks_in-append : (c : Setting) (s : Session) (xs ys : List Cut) → asks_in c s (xs ++ ys) ≡ asks_in c s xs + asks_in c (session_after c s xs) ys
+unfolding asks_in session_after
+asks_in-append c s [] ys = omega arith
+asks_in-append c s (x ∷ xs) ys = omega (arith, asks_in-append c (turn c s x).next xs ys)
 
 -- ---- parts of texts
 
@@ -180,10 +188,12 @@ module _ (files : FileTable) where
       let out = flat_map lines (replies_to c s xs) ++ flat_map lines (replies_to c (session_after c s xs) ys) in
       let refused = list_any is_refusal (replies_to c s xs) || list_any is_refusal (replies_to c (session_after c s xs) ys) in
       let reads = reads_in c s xs + reads_in c (session_after c s xs) ys in
-      ap (λ rs. told rs (reads_in c s (xs ++ ys)) (session_after c s (xs ++ ys)).history) (replies_to-append c s xs ys)
-      ∙ told-append (replies_to c s xs) (replies_to c (session_after c s xs) ys) (reads_in c s (xs ++ ys)) (session_after c s (xs ++ ys)).history
-      ∙ ap (λ n. report out refused n (session_after c s (xs ++ ys)).history) (reads_in-append c s xs ys)
-      ∙ ap (λ (z : Session). report out refused reads z.history) (session_after-append c s xs ys)
+      let asks = asks_in c s xs + asks_in c (session_after c s xs) ys in
+      ap (λ rs. told rs (reads_in c s (xs ++ ys)) (asks_in c s (xs ++ ys)) (session_after c s (xs ++ ys)).history) (replies_to-append c s xs ys)
+      ∙ told-append (replies_to c s xs) (replies_to c (session_after c s xs) ys) (reads_in c s (xs ++ ys)) (asks_in c s (xs ++ ys)) (session_after c s (xs ++ ys)).history
+      ∙ ap (λ n. report out refused n (asks_in c s (xs ++ ys)) (session_after c s (xs ++ ys)).history) (reads_in-append c s xs ys)
+      ∙ ap (λ n. report out refused reads n (session_after c s (xs ++ ys)).history) (asks_in-append c s xs ys)
+      ∙ ap (λ (z : Session). report out refused reads asks z.history) (session_after-append c s xs ys)
 
   -- bytes are played in any pieces
   pub plays-append : (s : Seen) (xs ys : List ℕ) → plays files s (xs ++ ys) ≡ joined (plays files s xs) (plays files (after_play files s xs) ys)
@@ -211,10 +221,12 @@ module _ (files : FileTable) where
   joined-assoc : (d e f : Report) → joined (joined d e) f ≡ joined d (joined e f)
   unfolding report
   joined-assoc d e f =
-      let sum : (d.reads + e.reads) + f.reads ≡ d.reads + (e.reads + f.reads) = omega arith in
-      ap (λ o. report o ((d.refused || e.refused) || f.refused) ((d.reads + e.reads) + f.reads) f.history) (append_assoc d.out e.out f.out)
-      ∙ ap (λ b. report (d.out ++ (e.out ++ f.out)) b ((d.reads + e.reads) + f.reads) f.history) (or_assoc d.refused e.refused f.refused)
-      ∙ ap (λ n. report (d.out ++ (e.out ++ f.out)) (d.refused || (e.refused || f.refused)) n f.history) sum
+      let reads : (d.reads + e.reads) + f.reads ≡ d.reads + (e.reads + f.reads) = omega arith in
+      let asks : (d.asks + e.asks) + f.asks ≡ d.asks + (e.asks + f.asks) = omega arith in
+      ap (λ o. report o ((d.refused || e.refused) || f.refused) ((d.reads + e.reads) + f.reads) ((d.asks + e.asks) + f.asks) f.history) (append_assoc d.out e.out f.out)
+      ∙ ap (λ b. report (d.out ++ (e.out ++ f.out)) b ((d.reads + e.reads) + f.reads) ((d.asks + e.asks) + f.asks) f.history) (or_assoc d.refused e.refused f.refused)
+      ∙ ap (λ n. report (d.out ++ (e.out ++ f.out)) (d.refused || (e.refused || f.refused)) n ((d.asks + e.asks) + f.asks) f.history) reads
+      ∙ ap (λ n. report (d.out ++ (e.out ++ f.out)) (d.refused || (e.refused || f.refused)) (d.reads + (e.reads + f.reads)) n f.history) asks
 
   -- the rest may begin with bytes that are played
   pub all-append : (s : Seen) (xs ys : List ℕ) → plays_all files s (xs ++ ys) ≡ joined (plays files s xs) (plays_all files (after_play files s xs) ys)
@@ -226,9 +238,9 @@ module _ (files : FileTable) where
       ∙ ap (joined (plays files s xs)) (sym (all-closes (after_play files s xs) ys))
 
   -- no byte does nothing
-  pub plays-none : (s : Seen) → ((plays files s []).out ≡ []) × ((plays files s []).reads ≡ 0)
-  unfolding plays scan_bytes replies_to reads_in
-  plays-none s = (refl, refl)
+  pub plays-none : (s : Seen) → ((plays files s []).out ≡ []) × ((plays files s []).reads ≡ 0) × ((plays files s []).asks ≡ 0)
+  unfolding plays scan_bytes replies_to reads_in asks_in
+  plays-none s = (refl, refl, refl)
 
   -- and it adds no entry
   pub history-none : (s : Seen) → (plays files s []).history ≡ s.session.history
@@ -246,6 +258,17 @@ module _ (files : FileTable) where
   closes-reads s = none s.session (rest_of s.scan) (rest-unread s.scan)
     where
       none : (u : Session) (cuts : List Cut) → AreUnread cuts → reads_in (setting files s.terms) u cuts ≡ 0
+      none u [] a = refl
+      none u (Text x ∷ cuts) a = absurd a
+      none u (TooLong ∷ cuts) a = omega (arith, none (turn (setting files s.terms) u TooLong).next cuts a)
+      none u (Unfinished x ∷ cuts) a = omega (arith, none (turn (setting files s.terms) u (Unfinished x)).next cuts a)
+
+  -- nor does it ask the clock
+  pub closes-asks : (s : Seen) → (closes files s).asks ≡ 0
+  unfolding closes asks_in AreUnread
+  closes-asks s = none s.session (rest_of s.scan) (rest-unread s.scan)
+    where
+      none : (u : Session) (cuts : List Cut) → AreUnread cuts → asks_in (setting files s.terms) u cuts ≡ 0
       none u [] a = refl
       none u (Text x ∷ cuts) a = absurd a
       none u (TooLong ∷ cuts) a = omega (arith, none (turn (setting files s.terms) u TooLong).next cuts a)
@@ -308,10 +331,19 @@ module _ (files : FileTable) where
 
   -- ---- cuts
 
-  -- the reads of one cut
+  -- what one cut spends
   one_read : (terms : Terms) (s : Session) (cut : Cut) → cut_reads s cut ≡ reads_in (setting files terms) s (cut ∷ [])
   unfolding reads_in
   one_read terms s cut = omega arith
+
+  one_ask : (terms : Terms) (s : Session) (cut : Cut) → cut_asks s cut ≡ asks_in (setting files terms) s (cut ∷ [])
+  unfolding asks_in
+  one_ask terms s cut = omega arith
+
+  one_spent : (s : Seen) (cut : Cut) (b a : World) → HasSpent (cut_reads s.session cut) (cut_asks s.session cut) b.files a.files b.clock a.clock → SpentAs (cuts_play files s (cut ∷ [])) b a
+  one_spent s cut b a n =
+      spent-as b.files a.files b.clock a.clock (cut_reads s.session cut) (cut_asks s.session cut) (cuts_play files s (cut ∷ [])).reads (cuts_play files s (cut ∷ [])).asks
+      (sym (one_read s.terms s.session cut)) (sym (one_ask s.terms s.session cut)) n
 
   -- a turn leaves the history before it or after it
   pub turned-both : {R S : Type 0} (view : R → Tree) (source_view : S → Tree) (s : Seen) (cut : Cut) (rest : List ℕ) (old new : Workspace R S) (v w : KnownDisk) (result : Result (Option Reply) WorkspaceFault)
@@ -323,7 +355,7 @@ module _ (files : FileTable) where
   -- a cut brought no reply
   pub ran-silent : {R S : Type 0} (view : R → Tree) (source_view : S → Tree) (s : Seen) (cut : Cut) (rest : List ℕ) (old new : Interpreter R S) (b a : World) (v w : KnownDisk)
       → TurnsAs view source_view (λ (r : Option Reply). r) s.terms (turn (setting files s.terms) s.session cut) s.session rest old.workspace new.workspace v w (Ok None) → (IsTrue w.known → IsTrue v.known)
-      → Follows view source_view v old s → HasRead b.files a.files (cut_reads s.session cut) → Appends b.output.contents a.output.contents [] → new.cutter ≡ old.cutter → new.refused ≡ old.refused
+      → Follows view source_view v old s → HasSpent (cut_reads s.session cut) (cut_asks s.session cut) b.files a.files b.clock a.clock → Appends b.output.contents a.output.contents [] → new.cutter ≡ old.cutter → new.refused ≡ old.refused
       → Goes view source_view (cuts_play files s (cut ∷ [])) (after_cuts files s (cut ∷ [])) s.session.history rest old new b a w (Ok tt)
   unfolding replies_to session_after
   ran-silent view source_view s cut rest old new b a v w t still f n o h r =
@@ -331,14 +363,14 @@ module _ (files : FileTable) where
         record { cutter = h ∙ f.cutter; stands = t.turned.1; holds = λ known. t.kept (still known) (f.holds (still known)) },
         r ∙ or-false old.refused,
         o,
-        subst (HasRead b.files a.files) (one_read s.terms s.session cut) n,
+        one_spent s cut b a n,
         t.asked,
       )
 
   -- the lines of a cut's reply were written
   pub ran-said : {R S : Type 0} (view : R → Tree) (source_view : S → Tree) (s : Seen) (cut : Cut) (r : Reply) (rest : List ℕ) (old mid new : Interpreter R S) (b a : World) (v w : KnownDisk) (result : Result ⊤ Stop)
       → TurnsAs view source_view (λ (o : Option Reply). o) s.terms (turn (setting files s.terms) s.session cut) s.session rest old.workspace mid.workspace v w (Ok (Some r)) → (IsTrue w.known → IsTrue v.known)
-      → Follows view source_view v old s → HasRead b.files a.files (cut_reads s.session cut) → mid.cutter ≡ old.cutter → mid.refused ≡ old.refused
+      → Follows view source_view v old s → HasSpent (cut_reads s.session cut) (cut_asks s.session cut) b.files a.files b.clock a.clock → mid.cutter ≡ old.cutter → mid.refused ≡ old.refused
       → SendsOut (lines r) b.output.contents a.output.contents result → OnOk result (new.cutter ≡ mid.cutter) → OnOk result (new.workspace ≡ mid.workspace) → OnOk result (new.refused ≡ (mid.refused || is_refusal r))
       → Goes view source_view (cuts_play files s (cut ∷ [])) (after_cuts files s (cut ∷ [])) s.session.history rest old new b a w result
   unfolding replies_to session_after
@@ -351,17 +383,19 @@ module _ (files : FileTable) where
         },
         g' ∙ ap (λ z. z || is_refusal r) g ∙ ap (λ z. old.refused || z) (or-false (is_refusal r)),
         subst (Appends b.output.contents a.output.contents) (sym (append-nil (lines r))) o,
-        subst (HasRead b.files a.files) (one_read s.terms s.session cut) n,
+        one_spent s cut b a n,
         t.asked,
       )
   ran-said view source_view s cut r rest old mid new b a v w (Err Output) t still f n h g o h' l' g' =
       rw (sym t.turned.0) (
         subst (TakesLess b.output.contents a.output.contents) (sym (append-nil (lines r))) o,
+        one_spent s cut b a n,
         held-left mid.workspace _ _ w (λ known. t.kept (still known) (f.holds (still known))),
       )
   ran-said view source_view s cut r rest old mid new b a v w (Err Full) t still f n h g o h' l' g' =
       rw (sym t.turned.0) (
         subst (TakesLess b.output.contents a.output.contents) (sym (append-nil (lines r))) o,
+        one_spent s cut b a n,
         held-left mid.workspace _ _ w (λ known. t.kept (still known) (f.holds (still known))),
       )
   ran-said view source_view s cut r rest old mid new b a v w (Err File) t still f n h g o h' l' g' = absurd o
@@ -369,31 +403,34 @@ module _ (files : FileTable) where
   ran-said view source_view s cut r rest old mid new b a v w (Err (NoStore at)) t still f n h g o h' l' g' = absurd o
   ran-said view source_view s cut r rest old mid new b a v w (Err Clock) t still f n h g o h' l' g' = absurd o
   ran-said view source_view s cut r rest old mid new b a v w (Err Memory) t still f n h g o h' l' g' =
-      (o, held-left_second mid.workspace _ _ w (λ known. t.kept (still known) (f.holds (still known))))
+      (o, inr (one_spent s cut b a n), held-left_second mid.workspace _ _ w (λ known. t.kept (still known) (f.holds (still known))))
 
   -- a cut stopped the session before its reply: its file, the disk or the clock failed, or memory ran out
   pub ran-stopped_early : {R S : Type 0} (view : R → Tree) (source_view : S → Tree) (s : Seen) (cut : Cut) (rest : List ℕ) (old new : Interpreter R S) (b a : World) (v w : KnownDisk) (fault : WorkspaceFault) (stop : Stop)
       → TurnsAs view source_view (λ (o : Option Reply). o) s.terms (turn (setting files s.terms) s.session cut) s.session rest old.workspace new.workspace v w (Err fault) → (IsTrue w.known → IsTrue v.known) → Follows view source_view v old s
       → (fault ≡ fails.File → stop ≡ File) → (fault ≡ fails.Disk → stop ≡ Disk) → (fault ≡ fails.Clock → stop ≡ Clock) → (fault ≡ fails.Memory → stop ≡ Memory)
       → (fault ≡ fails.File → left_on w s.session.history s.session.history) → (fault ≡ fails.Clock → left_on w s.session.history s.session.history)
-      → ReadsBefore IsFileFault (cut_reads s.session cut) b.files a.files fault → Appends b.output.contents a.output.contents []
+      → Spends {T = Option Reply} (cut_reads s.session cut) (cut_asks s.session cut) b.files a.files b.clock a.clock (Err fault) → Appends b.output.contents a.output.contents []
       → Goes view source_view (cuts_play files s (cut ∷ [])) (after_cuts files s (cut ∷ [])) s.session.history rest old new b a w (Err stop)
   unfolding session_after
   ran-stopped_early view source_view s cut rest old new b a v w fails.File stop t still f file disk clock memory same untouched n o =
-      let x = n.blamed refl in
-      subst (λ z. Goes view source_view (cuts_play files s (cut ∷ [])) (after_cuts files s (cut ∷ [])) s.session.history rest old new b a w (Err z)) (sym (file refl)) (sym (one_read s.terms s.session cut) ∙ x.0, o, x.1, same refl)
+      subst (λ z. Goes view source_view (cuts_play files s (cut ∷ [])) (after_cuts files s (cut ∷ [])) s.session.history rest old new b a w (Err z)) (sym (file refl))
+      (sym (one_read s.terms s.session cut) ∙ n.0, o, one_spent s cut b a n.1, same refl)
   ran-stopped_early view source_view s cut rest old new b a v w fails.Disk stop t still f file disk clock memory same untouched n o =
-      subst (λ z. Goes view source_view (cuts_play files s (cut ∷ [])) (after_cuts files s (cut ∷ [])) s.session.history rest old new b a w (Err z)) (sym (disk refl)) (o, λ known c image. (t.leaves (still known) (f.holds (still known))).now c image)
+      subst (λ z. Goes view source_view (cuts_play files s (cut ∷ [])) (after_cuts files s (cut ∷ [])) s.session.history rest old new b a w (Err z)) (sym (disk refl))
+      (omega (arith, one_read s.terms s.session cut, one_ask s.terms s.session cut, n.0), o, one_spent s cut b a n.1, λ known c image. (t.leaves (still known) (f.holds (still known))).now c image)
   ran-stopped_early view source_view s cut rest old new b a v w fails.Clock stop t still f file disk clock memory same untouched n o =
-      subst (λ z. Goes view source_view (cuts_play files s (cut ∷ [])) (after_cuts files s (cut ∷ [])) s.session.history rest old new b a w (Err z)) (sym (clock refl)) (o, untouched refl)
+      subst (λ z. Goes view source_view (cuts_play files s (cut ∷ [])) (after_cuts files s (cut ∷ [])) s.session.history rest old new b a w (Err z)) (sym (clock refl))
+      (sym (one_ask s.terms s.session cut) ∙ n.0, o, one_spent s cut b a n.1, untouched refl)
   ran-stopped_early view source_view s cut rest old new b a v w fails.Memory stop t still f file disk clock memory same untouched n o =
-      subst (λ z. Goes view source_view (cuts_play files s (cut ∷ [])) (after_cuts files s (cut ∷ [])) s.session.history rest old new b a w (Err z)) (sym (memory refl)) (o, λ known c image. (t.leaves (still known) (f.holds (still known))).now c image)
+      subst (λ z. Goes view source_view (cuts_play files s (cut ∷ [])) (after_cuts files s (cut ∷ [])) s.session.history rest old new b a w (Err z)) (sym (memory refl))
+      (o, elim n [ inl y ↦ inl y | inr y ↦ inr (one_spent s cut b a y) ], λ known c image. (t.leaves (still known) (f.holds (still known))).now c image)
 
   -- no cut
   pub ran-none : {R S : Type 0} (view : R → Tree) (source_view : S → Tree) (s : Seen) (rest : List ℕ) (k : Interpreter R S) (a : World) (v : KnownDisk) → Follows view source_view v k s → s.session.moments ≡ rest
       → Goes view source_view (cuts_play files s []) (after_cuts files s []) s.session.history rest k k a a v (Ok tt)
-  unfolding replies_to session_after reads_in
-  ran-none view source_view s rest k a v f e = (f, or-false k.refused, Appends-nil a.output.contents, refl, e)
+  unfolding replies_to session_after reads_in asks_in
+  ran-none view source_view s rest k a v f e = (f, or-false k.refused, Appends-nil a.output.contents, spent-none a.files a.clock, e)
 
   -- ---- bytes
 
@@ -440,8 +477,8 @@ module _ (files : FileTable) where
   -- no byte is played at once
   pub goes-none : {R S : Type 0} (view : R → Tree) (source_view : S → Tree) (s : Seen) (rest : List ℕ) (k : Interpreter R S) (a : World) (v : KnownDisk) → Follows view source_view v k s → s.session.moments ≡ rest
       → Goes view source_view (plays files s []) (after_play files s []) s.session.history rest k k a a v (Ok tt)
-  unfolding plays after_play scan_bytes replies_to session_after reads_in
-  goes-none view source_view s rest k a v f e = (f, or-false k.refused, Appends-nil a.output.contents, refl, e)
+  unfolding plays after_play scan_bytes replies_to session_after reads_in asks_in
+  goes-none view source_view s rest k a v f e = (f, or-false k.refused, Appends-nil a.output.contents, spent-none a.files a.clock, e)
 
   -- bytes, and then others
   pub goes-then : {R S : Type 0} (view : R → Tree) (source_view : S → Tree) (s : Seen) (xs ys mid_rest rest : List ℕ) (old mid new : Interpreter R S) (b m a : World) (u w : KnownDisk)
@@ -453,7 +490,7 @@ module _ (files : FileTable) where
         h.0,
         h.1 ∙ ap (λ z. z || (plays files (after_play files s xs) ys).refused) g.1 ∙ or_assoc old.refused (plays files s xs).refused (plays files (after_play files s xs) ys).refused,
         Appends-trans b.output.contents m.output.contents a.output.contents (plays files s xs).out (plays files (after_play files s xs) ys).out g.2 h.2,
-        read-then b.files m.files a.files (plays files s xs).reads (plays files (after_play files s xs) ys).reads g.3 h.3,
+        spent-sum b.files m.files a.files b.clock m.clock a.clock (plays files s xs).reads (plays files s xs).asks (plays files (after_play files s xs) ys).reads (plays files (after_play files s xs) ys).asks _ _ refl refl g.3 h.3,
         h.4,
       )
 
@@ -493,21 +530,55 @@ module _ (files : FileTable) where
           (subst (λ (r : Report). TakesFrom (length (plays files s xs).out) b.output.contents a.output.contents r.out) (sym (plays-append s xs (x ∷ [])))
           (part-then b.output.contents m.output.contents a.output.contents (plays files s xs).out (plays files (after_play files s xs) (x ∷ [])).out g.2 k)))
 
+      reads_one : (plays files s (take (length xs + 1) whole)).reads ≡ (plays files s (take (length xs) whole)).reads + (plays files (after_play files s xs) (x ∷ [])).reads
+      reads_one = ap (λ zs. (plays files s zs).reads) one ∙ ap (λ (r : Report). r.reads) (plays-append s xs (x ∷ [])) ∙ ap (λ zs. (plays files s zs).reads + (plays files (after_play files s xs) (x ∷ [])).reads) (sym front)
+
+      asks_one : (plays files s (take (length xs + 1) whole)).asks ≡ (plays files s (take (length xs) whole)).asks + (plays files (after_play files s xs) (x ∷ [])).asks
+      asks_one = ap (λ zs. (plays files s zs).asks) one ∙ ap (λ (r : Report). r.asks) (plays-append s xs (x ∷ [])) ∙ ap (λ zs. (plays files s zs).asks + (plays files (after_play files s xs) (x ∷ [])).asks) (sym front)
+
+      spent_before : SpentAs (plays files s (take (length xs) whole)) b m
+      spent_before = subst (λ zs. SpentAs (plays files s zs) b m) (sym front) g.3
+
+      spent_then : (i j n k : ℕ) → n ≡ (plays files s (take (length xs) whole)).reads + i → k ≡ (plays files s (take (length xs) whole)).asks + j
+          → HasSpent i j m.files a.files m.clock a.clock → HasSpent n k b.files a.files b.clock a.clock
+      spent_then i j n k is js spent =
+          spent-sum b.files m.files a.files b.clock m.clock a.clock (plays files s (take (length xs) whole)).reads (plays files s (take (length xs) whole)).asks i j n k is js spent_before spent
+
+      spent_one : SpentAs (plays files (after_play files s xs) (x ∷ [])) m a → SpentAs (plays files s (take (length xs + 1) whole)) b a
+      spent_one k = spent_then (plays files (after_play files s xs) (x ∷ [])).reads (plays files (after_play files s xs) (x ∷ [])).asks _ _ reads_one asks_one k
+
+      spent_either : SpentNothing m a ⊎ SpentAs (plays files (after_play files s xs) (x ∷ [])) m a → SpentAs (plays files s (take (length xs) whole)) b a ⊎ SpentAs (plays files s (take (length xs + 1) whole)) b a
+      spent_either k = elim k [ inl none ↦ inl (spent_then 0 0 _ _ (omega arith) (omega arith) none) | inr all ↦ inr (spent_one all) ]
+
       stopped : (z : Stop) → Goes view source_view (plays files (after_play files s xs) (x ∷ [])) (after_play files (after_play files s xs) (x ∷ [])) (after_play files s xs).session.history rest mid new m a w (Err z) → Fed view source_view files s whole rest old new b a w (Err z)
-      stopped Output k = record { at = length xs; inside = omega (arith, more); wrote = part k.0; left = left-same w _ _ _ _ behind behind k.1 }
-      stopped Full k = record { at = length xs; inside = omega (arith, more); wrote = part k.0; left = left-same w _ _ _ _ behind behind k.1 }
+      stopped Output k = record { at = length xs; inside = omega (arith, more); wrote = part k.0; spent = spent_one k.1; left = left-same w _ _ _ _ behind behind k.2 }
+      stopped Full k = record { at = length xs; inside = omega (arith, more); wrote = part k.0; spent = spent_one k.1; left = left-same w _ _ _ _ behind behind k.2 }
       stopped File k = record {
         at = length xs;
         inside = omega (arith, more);
-        load = ap (λ zs. (plays files s zs).reads) one ∙ ap (λ (r : Report). r.reads) (plays-append s xs (x ∷ [])) ∙ ap (λ n. (plays files s xs).reads + n) k.0 ∙ sym (ap (λ zs. (plays files s zs).reads + 1) front);
+        load = omega (arith, reads_one, k.0);
         wrote = nothing k.1;
-        read = subst (λ zs. HasRead b.files a.files ((plays files s zs).reads + 1)) (sym front) (read-then b.files m.files a.files (plays files s xs).reads 1 g.3 k.2);
+        spent = spent_one k.2;
         left = left-same w _ _ _ _ before before k.3;
       }
-      stopped Disk k = record { at = length xs; within = omega (arith, more); wrote = nothing k.0; left = left-same w _ _ _ _ before behind k.1 }
+      stopped Disk k = record {
+        at = length xs;
+        inside = omega (arith, more);
+        writing = omega (arith, reads_one, asks_one, k.0);
+        wrote = nothing k.1;
+        spent = spent_one k.2;
+        left = left-same w _ _ _ _ before behind k.3;
+      }
       stopped (NoStore n) k = k
-      stopped Clock k = record { at = length xs; within = omega (arith, more); wrote = nothing k.0; left = left-same w _ _ _ _ before before k.1 }
-      stopped Memory k = record { at = length xs; within = omega (arith, more); wrote = nothing k.0; left = left-same w _ _ _ _ before behind k.1 }
+      stopped Clock k = record {
+        at = length xs;
+        inside = omega (arith, more);
+        commit = omega (arith, asks_one, k.0);
+        wrote = nothing k.1;
+        spent = spent_one k.2;
+        left = left-same w _ _ _ _ before before k.3;
+      }
+      stopped Memory k = record { at = length xs; within = omega (arith, more); wrote = nothing k.0; spent = spent_either k.1; left = left-same w _ _ _ _ before behind k.2 }
 
   -- ---- the end of the input
 
@@ -527,6 +598,12 @@ module _ (files : FileTable) where
       none : (report_of files s.terms s.session cuts).reads ≡ 0
       none = ap (λ (e : Report). e.reads) same ∙ closes-reads s
 
+      no_ask : (report_of files s.terms s.session cuts).asks ≡ 0
+      no_ask = ap (λ (e : Report). e.asks) same ∙ closes-asks s
+
+      nothing : SpentAs (report_of files s.terms s.session cuts) b a → SpentNothing b a
+      nothing k = spent-as b.files a.files b.clock a.clock (report_of files s.terms s.session cuts).reads (report_of files s.terms s.session cuts).asks 0 0 (sym none) (sym no_ask) k
+
       kept : (report_of files s.terms s.session cuts).history ≡ s.session.history
       kept = ap (λ (e : Report). e.history) same ∙ closes-history s
 
@@ -540,16 +617,16 @@ module _ (files : FileTable) where
       moved (Ok y) g = (
         g.1 ∙ ap (λ z. z || (report_of files s.terms s.session cuts).refused) r ∙ ap (λ (e : Report). old.refused || e.refused) same,
         subst (λ (e : Report). Appends b.output.contents a.output.contents e.out) same g.2,
-        subst (HasRead b.files a.files) none g.3,
+        nothing g.3,
         left (held-left new.workspace _ _ w g.0.holds),
       )
-      moved (Err Output) g = (part g.0, left g.1)
-      moved (Err Full) g = (part g.0, left g.1)
+      moved (Err Output) g = (part g.0, nothing g.1, left g.2)
+      moved (Err Full) g = (part g.0, nothing g.1, left g.2)
       moved (Err File) g = absurd (omega (arith, none, g.0))
-      moved (Err Disk) g = (g.0, left-same w _ _ _ _ refl kept g.1)
+      moved (Err Disk) g = absurd (omega (arith, none, no_ask, g.0))
       moved (Err (NoStore n)) g = g
-      moved (Err Clock) g = g
-      moved (Err Memory) g = (g.0, left-same w _ _ _ _ refl kept g.1)
+      moved (Err Clock) g = absurd (omega (arith, no_ask, g.0))
+      moved (Err Memory) g = (g.0, elim g.1 [ inl y ↦ y | inr y ↦ nothing y ], left-same w _ _ _ _ refl kept g.2)
 
 -- ---- steps of the code
 
@@ -565,15 +642,15 @@ module _ {R S : Type 0} (view : R → Tree) (source_view : S → Tree) where
   -- a cut brought no reply
   pub went-silent : (cut : Cut) (old new : Interpreter R S) (b a : World) (v w : KnownDisk)
       → HasTurned view source_view (λ (o : Option Reply). o) (λ t terms s. turn (setting t terms) s cut) (λ t. IsTable t b.files a.files) old.workspace new.workspace v w b.clock.left a.clock.left (Ok None)
-      → ((terms : Terms) (s : Session) → Stands view source_view terms old.workspace s → HasRead b.files a.files (cut_reads s cut)) → (IsTrue w.known → IsTrue v.known)
+      → ((terms : Terms) (s : Session) → Stands view source_view terms old.workspace s → HasSpent (cut_reads s cut) (cut_asks s cut) b.files a.files b.clock a.clock) → (IsTrue w.known → IsTrue v.known)
       → Appends b.output.contents a.output.contents [] → new.cutter ≡ old.cutter → new.refused ≡ old.refused
       → Went view source_view (λ t s. cuts_play t s (cut ∷ [])) (λ t s. after_cuts t s (cut ∷ [])) old new b a v w (Ok tt)
-  went-silent cut old new b a v w turned reads still o h r = record {
+  went-silent cut old new b a v w turned spent still o h r = record {
     moments = turned.moments;
     told = turned.told;
     goes = λ files known s rest f e. (
         let t = turned.turns files known s.terms s.session rest f.stands e in (
-          ran-silent files view source_view s cut rest old new b a v w t still f (reads s.terms s.session f.stands) o h r,
+          ran-silent files view source_view s cut rest old new b a v w t still f (spent s.terms s.session f.stands) o h r,
           turned-both files view source_view s cut rest old.workspace new.workspace v w (Ok None) t f.holds,
         ));
   }
@@ -581,16 +658,16 @@ module _ {R S : Type 0} (view : R → Tree) (source_view : S → Tree) where
   -- the lines of a cut's reply were written
   pub went-said : (cut : Cut) (y : Reply) (old mid new : Interpreter R S) (b a : World) (v w : KnownDisk) (result : Result ⊤ Stop)
       → HasTurned view source_view (λ (o : Option Reply). o) (λ t terms s. turn (setting t terms) s cut) (λ t. IsTable t b.files a.files) old.workspace mid.workspace v w b.clock.left a.clock.left (Ok (Some y))
-      → ((terms : Terms) (s : Session) → Stands view source_view terms old.workspace s → HasRead b.files a.files (cut_reads s cut)) → (IsTrue w.known → IsTrue v.known)
+      → ((terms : Terms) (s : Session) → Stands view source_view terms old.workspace s → HasSpent (cut_reads s cut) (cut_asks s cut) b.files a.files b.clock a.clock) → (IsTrue w.known → IsTrue v.known)
       → mid.cutter ≡ old.cutter → mid.refused ≡ old.refused
       → SendsOut (lines y) b.output.contents a.output.contents result → OnOk result (new.cutter ≡ mid.cutter) → OnOk result (new.workspace ≡ mid.workspace) → OnOk result (new.refused ≡ (mid.refused || is_refusal y))
       → Went view source_view (λ t s. cuts_play t s (cut ∷ [])) (λ t s. after_cuts t s (cut ∷ [])) old new b a v w result
-  went-said cut y old mid new b a v w result turned reads still h r o h' l' r' = record {
+  went-said cut y old mid new b a v w result turned spent still h r o h' l' r' = record {
     moments = turned.moments;
     told = turned.told;
     goes = λ files known s rest f e. (
         let t = turned.turns files known s.terms s.session rest f.stands e in (
-          ran-said files view source_view s cut y rest old mid new b a v w result t still f (reads s.terms s.session f.stands) h r o h' l' r',
+          ran-said files view source_view s cut y rest old mid new b a v w result t still f (spent s.terms s.session f.stands) h r o h' l' r',
           turned-both files view source_view s cut rest old.workspace mid.workspace v w (Ok (Some y)) t f.holds,
         ));
   }
@@ -598,19 +675,19 @@ module _ {R S : Type 0} (view : R → Tree) (source_view : S → Tree) where
   -- a cut stopped the session before its reply; where a file or the clock failed, the disk is as it was
   pub went-stopped_early : (cut : Cut) (old new : Interpreter R S) (b a : World) (v w : KnownDisk) (fault : WorkspaceFault) (stop : Stop)
       → HasTurned view source_view (λ (o : Option Reply). o) (λ t terms s. turn (setting t terms) s cut) (λ t. IsTable t b.files a.files) old.workspace new.workspace v w b.clock.left a.clock.left (Err fault)
-      → ((terms : Terms) (s : Session) → Stands view source_view terms old.workspace s → ReadsBefore IsFileFault (cut_reads s cut) b.files a.files fault) → (IsTrue w.known → IsTrue v.known)
+      → ((terms : Terms) (s : Session) → Stands view source_view terms old.workspace s → Spends {T = Option Reply} (cut_reads s cut) (cut_asks s cut) b.files a.files b.clock a.clock (Err fault)) → (IsTrue w.known → IsTrue v.known)
       → (fault ≡ fails.File → stop ≡ File) × (fault ≡ fails.Disk → stop ≡ Disk) × (fault ≡ fails.Clock → stop ≡ Clock) × (fault ≡ fails.Memory → stop ≡ Memory)
       → (fault ≡ fails.File → (c : List ℕ) → w.view.images c → v.view.images c) → (fault ≡ fails.Clock → (c : List ℕ) → w.view.images c → v.view.images c)
       → Appends b.output.contents a.output.contents []
       → Went view source_view (λ t s. cuts_play t s (cut ∷ [])) (λ t s. after_cuts t s (cut ∷ [])) old new b a v w (Err stop)
-  went-stopped_early cut old new b a v w fault stop turned reads still stops same untouched o = record {
+  went-stopped_early cut old new b a v w fault stop turned spent still stops same untouched o = record {
     moments = turned.moments;
     told = turned.told;
     goes = λ files known s rest f e. (
         let t = turned.turns files known s.terms s.session rest f.stands e in
         let left : left_on v s.session.history s.session.history = held-left old.workspace s.session.history s.session.history v f.holds in (
           ran-stopped_early files view source_view s cut rest old new b a v w fault stop t still f stops.0 stops.1 stops.2 stops.3
-              (λ is known c image. left (still known) c (same is c image)) (λ is known c image. left (still known) c (untouched is c image)) (reads s.terms s.session f.stands) o,
+              (λ is known c image. left (still known) c (same is c image)) (λ is known c image. left (still known) c (untouched is c image)) (spent s.terms s.session f.stands) o,
           turned-both files view source_view s cut rest old.workspace new.workspace v w (Err fault) t f.holds,
         ));
   }
@@ -636,7 +713,7 @@ module _ {R S : Type 0} (view : R → Tree) (source_view : S → Tree) where
     moments = [];
     told = refl;
     goes = λ files known s rest f e. (
-      (Appends-nil a.output.contents, held-left old.workspace s.session.history (plays files s (x ∷ [])).history v f.holds),
+      (Appends-nil a.output.contents, inl (spent-none a.files a.clock), held-left old.workspace s.session.history (plays files s (x ∷ [])).history v f.holds),
       both-none s.session.history (plays files s (x ∷ [])).history v,
     );
   })

@@ -15,21 +15,22 @@ use Rattle.cp_model.specs.Tree.{Tree}
 use Rattle.cp_frame.specs.Stands.{StandsFor}
 use Rattle.cp_db.proofs.Keeping.{kept-images}
 use Rattle.cp_disk.specs.Views.{KnownDisk}
-use Rattle.cp_workspace.specs.Files.{KnownFiles, HasRead, HasReadSome}
-use Rattle.cp_workspace.proofs.ReadCounts.{read-sum, some-then, table-first, table-second}
+use Rattle.cp_workspace.specs.Files.{KnownFiles, HasReadSome}
+use Rattle.cp_workspace.proofs.ReadCounts.{some-then, table-first, table-second}
+use Rattle.cp_workspace.proofs.Spent.{spent-none, spent-sum, spent-as}
 use Rattle.cp_workspace.proofs.Standing.{on-ok}
 use Rattle.cp_interpreter.specs.Texts.{input_line, file_line, disk_line, clock_line, memory_line, too_long_line}
 use Rattle.cp_interpreter.specs.Job.{Report}
 use Rattle.cp_interpreter.specs.Outside.{KnownInput, KnownClock, KnownOutput, World, Outside, world_of}
 use Rattle.cp_interpreter.specs.Play.{Seen, plays, after_play, closes, plays_all}
-use Rattle.cp_interpreter.specs.Story.{Writes, WasRefused, StopsIn, StopsAfter, WritesLast, Leaving, left_on, AllDone, OutputStopped, StoppedInside, Did, HasCauses, DiskCauses, result_of}
+use Rattle.cp_interpreter.specs.Story.{Writes, WasRefused, StopsIn, StopsAfter, WritesLast, Leaving, left_on, SpentAs, SpentNothing, AllDone, OutputStopped, OutOfMemory, Did, HasCauses, DiskCauses, result_of}
 use Rattle.cp_interpreter.specs.declared.interpreter.Interpreter.{Interpreter}
 use Rattle.cp_interpreter.specs.Turns.{Follows, StopRefusesWrite, IsOpenedStop, StopsWriting, Fed, WasFed, RunsLast, RanLast, LeavesBoth, LeavesAlong, with_refusal, work_from, RanFrom, TookPiece, IsSteady, TellsStop, Closes, HasClosed, IsClosing, end_of_stop}
 use Rattle.cp_interpreter.specs.declared.end.End.{End}
 use Rattle.cp_interpreter.specs.declared.end.End.TheVariants as how
 use Rattle.cp_interpreter.specs.declared.stop.Stop.{Stop}
 use Rattle.cp_interpreter.specs.declared.stop.Stop.TheVariants.{Output, Full, File, Disk, NoStore, Clock, Memory}
-use Rattle.cp_interpreter.proofs.Plays.{plays-append, all-append, all-none, closes-reads, closes-history, plays-none, history-none, along-then, goes-none, goes-then}
+use Rattle.cp_interpreter.proofs.Plays.{plays-append, all-append, all-none, closes-reads, closes-asks, closes-history, plays-none, history-none, along-then, goes-none, goes-then}
 
 -- the outside, of its parts
 abbrev pub parts : KnownInput → KnownFiles → KnownClock → KnownOutput → Outside
@@ -108,22 +109,28 @@ module _ (files : FileTable) where
   refused-then : (s : Seen) (f : Bool) (xs ys : List ℕ) → (with_refusal f (plays_all files s (xs ++ ys))).refused ≡ (with_refusal (f || (plays files s xs).refused) (plays_all files (after_play files s xs) ys)).refused
   refused-then s f xs ys = ap (λ (e : Report). f || e.refused) (all-append files s xs ys) ∙ sym (or_assoc f (plays files s xs).refused (plays_all files (after_play files s xs) ys).refused)
 
-  -- all that was written and read, and the history, after the bytes and then the rest
+  -- all that was written and spent, and the history, after the bytes and then the rest
   out-then : (s : Seen) (xs ys : List ℕ) → (plays_all files s (xs ++ ys)).out ≡ (plays files s xs).out ++ (plays_all files (after_play files s xs) ys).out
   out-then s xs ys = ap (λ (e : Report). e.out) (all-append files s xs ys)
 
   all_read-then : (s : Seen) (xs ys : List ℕ) → (plays_all files s (xs ++ ys)).reads ≡ (plays files s xs).reads + (plays_all files (after_play files s xs) ys).reads
   all_read-then s xs ys = ap (λ (e : Report). e.reads) (all-append files s xs ys)
 
+  all_asks-then : (s : Seen) (xs ys : List ℕ) → (plays_all files s (xs ++ ys)).asks ≡ (plays files s xs).asks + (plays_all files (after_play files s xs) ys).asks
+  all_asks-then s xs ys = ap (λ (e : Report). e.asks) (all-append files s xs ys)
+
   all_history-then : (s : Seen) (xs ys : List ℕ) → (plays_all files s (xs ++ ys)).history ≡ (plays_all files (after_play files s xs) ys).history
   all_history-then s xs ys = ap (λ (e : Report). e.history) (all-append files s xs ys)
 
-  -- what the bytes write and read, and then others, and the history to which they come
+  -- what the bytes write and spend, and then others, and the history to which they come
   played-then : (s : Seen) (xs ys : List ℕ) → (plays files s (xs ++ ys)).out ≡ (plays files s xs).out ++ (plays files (after_play files s xs) ys).out
   played-then s xs ys = ap (λ (e : Report). e.out) (plays-append files s xs ys)
 
   reads-then : (s : Seen) (xs ys : List ℕ) → (plays files s (xs ++ ys)).reads ≡ (plays files s xs).reads + (plays files (after_play files s xs) ys).reads
   reads-then s xs ys = ap (λ (e : Report). e.reads) (plays-append files s xs ys)
+
+  asks-then : (s : Seen) (xs ys : List ℕ) → (plays files s (xs ++ ys)).asks ≡ (plays files s xs).asks + (plays files (after_play files s xs) ys).asks
+  asks-then s xs ys = ap (λ (e : Report). e.asks) (plays-append files s xs ys)
 
   history-then : (s : Seen) (xs ys : List ℕ) → (plays files s (xs ++ ys)).history ≡ (plays files (after_play files s xs) ys).history
   history-then s xs ys = ap (λ (e : Report). e.history) (plays-append files s xs ys)
@@ -135,6 +142,9 @@ module _ (files : FileTable) where
   front_reads-then : (s : Seen) (xs ys : List ℕ) (k : ℕ) → (plays files s (take (length xs + k) (xs ++ ys))).reads ≡ (plays files s xs).reads + (plays files (after_play files s xs) (take k ys)).reads
   front_reads-then s xs ys k = ap (λ zs. (plays files s zs).reads) (take-append-add xs ys k) ∙ reads-then s xs (take k ys)
 
+  front_asks-then : (s : Seen) (xs ys : List ℕ) (k : ℕ) → (plays files s (take (length xs + k) (xs ++ ys))).asks ≡ (plays files s xs).asks + (plays files (after_play files s xs) (take k ys)).asks
+  front_asks-then s xs ys k = ap (λ zs. (plays files s zs).asks) (take-append-add xs ys k) ∙ asks-then s xs (take k ys)
+
   front_history-then : (s : Seen) (xs ys : List ℕ) (k : ℕ) → (plays files s (take (length xs + k) (xs ++ ys))).history ≡ (plays files (after_play files s xs) (take k ys)).history
   front_history-then s xs ys k = ap (λ zs. (plays files s zs).history) (take-append-add xs ys k) ∙ history-then s xs (take k ys)
 
@@ -145,16 +155,33 @@ module _ (files : FileTable) where
       subst (λ z. L (plays files s (take (length xs + k) (xs ++ ys))).history z) (sym (ap (λ z. (plays files s (take z (xs ++ ys))).history) e ∙ front_history-then s xs ys j))
       (subst (λ z. L z (plays files (after_play files s xs) (take j ys)).history) (sym (front_history-then s xs ys k)) w)
 
-  module _ (s : Seen) (f : Bool) (count : ℕ) (xs ys : List ℕ) (b m a : Outside) (L : Leaving) (h : Writes b.output m.output (plays files s xs).out) (r : HasRead b.files m.files (plays files s xs).reads) where
+  module _ (s : Seen) (f : Bool) (count : ℕ) (xs ys : List ℕ) (b m a : Outside) (L : Leaving) (h : Writes b.output m.output (plays files s xs).out) (r : SpentAs (plays files s xs) (world_of b) (world_of m)) where
     abbrev next : Seen
     next = after_play files s xs
 
     abbrev flag : Bool
     flag = f || (plays files s xs).refused
 
-    -- so many reads, and those of the bytes before them
-    abbrev read_all : (n k : ℕ) → k ≡ (plays files s xs).reads + n → HasRead m.files a.files n → HasRead b.files a.files k
-    read_all n k e w = read-sum b.files m.files a.files (plays files s xs).reads n k e r w
+    -- what was spent, and what was for the bytes before it
+    spent_all : (n k : Report) → k.reads ≡ (plays files s xs).reads + n.reads → k.asks ≡ (plays files s xs).asks + n.asks → SpentAs n (world_of m) (world_of a) → SpentAs k (world_of b) (world_of a)
+    spent_all n k reads asks w = spent-sum b.files m.files a.files b.clock m.clock a.clock (plays files s xs).reads (plays files s xs).asks n.reads n.asks k.reads k.asks reads asks r w
+
+    -- the same of a front part
+    spent_front : (j n : ℕ) → n ≡ length xs + j → SpentAs (plays files next (take j ys)) (world_of m) (world_of a) → SpentAs (plays files s (take n (xs ++ ys))) (world_of b) (world_of a)
+    spent_front j n e w =
+        subst (λ i. SpentAs (plays files s (take i (xs ++ ys))) (world_of b) (world_of a)) (sym e)
+        (spent_all (plays files next (take j ys)) (plays files s (take (length xs + j) (xs ++ ys))) (front_reads-then s xs ys j) (front_asks-then s xs ys j) w)
+
+    -- and of the whole
+    spent_whole : SpentAs (plays_all files next ys) (world_of m) (world_of a) → SpentAs (plays_all files s (xs ++ ys)) (world_of b) (world_of a)
+    spent_whole w = spent_all (plays_all files next ys) (plays_all files s (xs ++ ys)) (all_read-then s xs ys) (all_asks-then s xs ys) w
+
+    -- what is spent up to a byte
+    reads_at : (k : ℕ) → (plays files s (take ((length xs + k) + 1) (xs ++ ys))).reads ≡ (plays files s xs).reads + (plays files next (take (k + 1) ys)).reads
+    reads_at k = let same : (length xs + k) + 1 ≡ length xs + (k + 1) = omega arith in ap (λ n. (plays files s (take n (xs ++ ys))).reads) same ∙ front_reads-then s xs ys (k + 1)
+
+    asks_at : (k : ℕ) → (plays files s (take ((length xs + k) + 1) (xs ++ ys))).asks ≡ (plays files s xs).asks + (plays files next (take (k + 1) ys)).asks
+    asks_at k = let same : (length xs + k) + 1 ≡ length xs + (k + 1) = omega arith in ap (λ n. (plays files s (take n (xs ++ ys))).asks) same ∙ front_asks-then s xs ys (k + 1)
 
     -- a last line, and what was written before it
     written_last : (k : ℕ) (last : List ℕ) → WritesLast m.output a.output (plays files next (take k ys)).out last → WritesLast b.output a.output (plays files s (take (length xs + k) (xs ++ ys))).out last
@@ -173,7 +200,7 @@ module _ (files : FileTable) where
     all_done t w = record {
       refused_is = refused-then s f xs ys ∙ w.refused_is;
       wrote = (w.wrote.0 ∙ h.0, subst (Appends b.output.contents a.output.contents) (sym (out-then s xs ys)) (Appends-trans b.output.contents m.output.contents a.output.contents (plays files s xs).out (plays_all files next ys).out h.1 w.wrote.1));
-      read = read_all (plays_all files next ys).reads (plays_all files s (xs ++ ys)).reads (all_read-then s xs ys) w.read;
+      spent = spent_whole w.spent;
       left = all_left w.left;
     }
 
@@ -192,6 +219,7 @@ module _ (files : FileTable) where
         at = length xs + part.at;
         inside = omega (arith, part.inside, length-append xs ys);
         wrote = stopped_after part.at part.wrote;
+        spent = spent_front (part.at + 1) ((length xs + part.at) + 1) (omega arith) part.spent;
         left = subst (λ n. L (plays files s (take n (xs ++ ys))).history (plays files s (take n (xs ++ ys))).history) (omega arith) (front_left (part.at + 1) part.left);
       })
       | inr part ↦ inr (record {
@@ -199,16 +227,25 @@ module _ (files : FileTable) where
         wrote = subst (λ z. StopsAfter b.output a.output z (plays_all files s (xs ++ ys)).out) (sym (played-then s xs ys))
             (subst (StopsAfter b.output a.output ((plays files s xs).out ++ (plays files next ys).out)) (sym (out-then s xs ys))
             (stops-after b.output m.output a.output (plays files s xs).out (plays files next ys).out (plays_all files next ys).out h part.wrote));
+        spent = spent_whole part.spent;
         left = all_left part.left;
       })
     ]
 
-    inside : (last : List ℕ) → StoppedInside (work_from files next flag) L ys m a last → StoppedInside (work_from files s f) L (xs ++ ys) b a last
-    inside last w = record {
+    -- what is left by a statement that was run or not
+    left_inside : (k : ℕ) → L (plays files next (take k ys)).history (plays files next (take (k + 1) ys)).history → L (plays files s (take (length xs + k) (xs ++ ys))).history (plays files s (take ((length xs + k) + 1) (xs ++ ys))).history
+    left_inside k w = front_left-then L s xs ys k (k + 1) ((length xs + k) + 1) (omega arith) w
+
+    inside : OutOfMemory (work_from files next flag) L ys m a → OutOfMemory (work_from files s f) L (xs ++ ys) b a
+    inside w = record {
       at = length xs + w.at;
       within = omega (arith, w.within, length-append xs ys);
-      wrote = written_last w.at last w.wrote;
-      left = front_left-then L s xs ys w.at (w.at + 1) ((length xs + w.at) + 1) (omega arith) w.left;
+      wrote = written_last w.at memory_line w.wrote;
+      spent = elim w.spent [
+        | inl none ↦ inl (spent_front w.at (length xs + w.at) refl none)
+        | inr all ↦ inr (spent_front (w.at + 1) ((length xs + w.at) + 1) (omega arith) all)
+      ];
+      left = left_inside w.at w.left;
     }
 
     -- bytes, and then the end
@@ -218,58 +255,73 @@ module _ (files : FileTable) where
     did-then how.Usage w = absurd w
     did-then how.Input w = record {
       wrote = subst (λ z. WritesLast b.output a.output z input_line) (sym (played-then s xs ys)) (last-after b.output m.output a.output (plays files s xs).out (plays files next ys).out input_line h w.wrote);
-      read = read_all (plays files next ys).reads (plays files s (xs ++ ys)).reads (reads-then s xs ys) w.read;
+      spent = spent_all (plays files next ys) (plays files s (xs ++ ys)) (reads-then s xs ys) (asks-then s xs ys) w.spent;
       left = subst (λ z. L z z) (sym (history-then s xs ys)) w.left;
     }
-    did-then how.File w =
-        let one : (length xs + w.at) + 1 ≡ length xs + (w.at + 1) = omega arith in
-        let upto = front_reads-then s xs ys w.at in
-        let beyond : (plays files s (take ((length xs + w.at) + 1) (xs ++ ys))).reads ≡ (plays files s xs).reads + (plays files next (take (w.at + 1) ys)).reads = ap (λ n. (plays files s (take n (xs ++ ys))).reads) one ∙ front_reads-then s xs ys (w.at + 1) in
-        record {
-          at = length xs + w.at;
-          inside = omega (arith, w.inside, length-append xs ys);
-          load = omega (arith, upto, beyond, w.load);
-          wrote = written_last w.at file_line w.wrote;
-          read = read_all ((plays files next (take w.at ys)).reads + 1) ((plays files s (take (length xs + w.at) (xs ++ ys))).reads + 1) (omega (arith, upto)) w.read;
-          left = front_left w.at w.left;
-        }
+    did-then how.File w = record {
+      at = length xs + w.at;
+      inside = omega (arith, w.inside, length-append xs ys);
+      load = omega (arith, front_reads-then s xs ys w.at, reads_at w.at, w.load);
+      wrote = written_last w.at file_line w.wrote;
+      spent = spent_front (w.at + 1) ((length xs + w.at) + 1) (omega arith) w.spent;
+      left = front_left w.at w.left;
+    }
     did-then how.Output w = stopped w
-    did-then how.Disk w = inside disk_line w
+    did-then how.Disk w = record {
+      at = length xs + w.at;
+      inside = omega (arith, w.inside, length-append xs ys);
+      writing = omega (arith, front_reads-then s xs ys w.at, front_asks-then s xs ys w.at, reads_at w.at, asks_at w.at, w.writing);
+      wrote = written_last w.at disk_line w.wrote;
+      spent = spent_front (w.at + 1) ((length xs + w.at) + 1) (omega arith) w.spent;
+      left = left_inside w.at w.left;
+    }
     did-then (how.NoStore at) w = absurd w
     did-then how.Memory w = elim w [
       | inl full ↦ inl (stopped full)
-      | inr ran ↦ inr (inside memory_line ran)
+      | inr ran ↦ inr (inside ran)
     ]
     did-then how.TooLong w = record {
       at = length xs + w.at;
       within = omega (arith, w.within);
       last_piece = omega (arith, w.last_piece, length-append xs ys);
       wrote = written_last w.at too_long_line w.wrote;
-      read = read_all (plays files next (take w.at ys)).reads (plays files s (take (length xs + w.at) (xs ++ ys))).reads (front_reads-then s xs ys w.at) w.read;
+      spent = spent_front w.at (length xs + w.at) refl w.spent;
       left = front_left w.at w.left;
     }
     did-then how.Clock w = record {
       at = length xs + w.at;
-      within = omega (arith, w.within, length-append xs ys);
+      inside = omega (arith, w.inside, length-append xs ys);
+      commit = omega (arith, front_asks-then s xs ys w.at, asks_at w.at, w.commit);
       wrote = written_last w.at clock_line w.wrote;
+      spent = spent_front (w.at + 1) ((length xs + w.at) + 1) (omega arith) w.spent;
       left = front_left w.at w.left;
     }
 
   -- ---- sessions that end
 
+  -- no byte spends nothing
+  spent_first : (s : Seen) (b a : World) → SpentNothing b a → SpentAs (plays files s []) b a
+  spent_first s b a n = spent-as b.files a.files b.clock a.clock 0 0 (plays files s []).reads (plays files s []).asks (plays-none files s).1 (plays-none files s).2 n
+
+  -- nor does the end of the input
+  spent_closed : (s : Seen) (b a : World) → SpentNothing b a → SpentAs (plays_all files s []) b a
+  spent_closed s b a n =
+      spent-as b.files a.files b.clock a.clock 0 0 (plays_all files s []).reads (plays_all files s []).asks
+      (ap (λ (e : Report). e.reads) (all-none files s) ∙ closes-reads files s) (ap (λ (e : Report). e.asks) (all-none files s) ∙ closes-asks files s) n
+
   -- the input failed
-  pub did-input : (L : Leaving) (s : Seen) (f : Bool) (count : ℕ) (b a : Outside) → WritesLast b.output a.output [] input_line → HasRead b.files a.files 0 → L s.session.history s.session.history → Did (work_from files s f) L count [] b a how.Input
-  did-input L s f count b a w r l = record { wrote = last-first b.output a.output s input_line w; read = subst (HasRead b.files a.files) (sym (plays-none files s).1) r; left = left-first L s l }
+  pub did-input : (L : Leaving) (s : Seen) (f : Bool) (count : ℕ) (b a : Outside) → WritesLast b.output a.output [] input_line → SpentNothing (world_of b) (world_of a) → L s.session.history s.session.history → Did (work_from files s f) L count [] b a how.Input
+  did-input L s f count b a w r l = record { wrote = last-first b.output a.output s input_line w; spent = spent_first s (world_of b) (world_of a) r; left = left-first L s l }
 
   -- too much has come
-  pub did-too-long : (L : Leaving) (s : Seen) (f : Bool) (count : ℕ) (bytes : List ℕ) (b a : Outside) → count ≤ INPUT_MAX → length bytes ≤ PIECE_MAX → WritesLast b.output a.output [] too_long_line → HasRead b.files a.files 0 → L s.session.history s.session.history
+  pub did-too-long : (L : Leaving) (s : Seen) (f : Bool) (count : ℕ) (bytes : List ℕ) (b a : Outside) → count ≤ INPUT_MAX → length bytes ≤ PIECE_MAX → WritesLast b.output a.output [] too_long_line → SpentNothing (world_of b) (world_of a) → L s.session.history s.session.history
       → Did (work_from files s f) L count bytes b a how.TooLong
   did-too-long L s f count bytes b a le piece w r l = record {
     at = 0;
     within = omega (arith, le);
     last_piece = omega (arith, piece);
     wrote = last-first b.output a.output s too_long_line w;
-    read = subst (HasRead b.files a.files) (sym (plays-none files s).1) r;
+    spent = spent_first s (world_of b) (world_of a) r;
     left = left-first L s l;
   }
 
@@ -281,24 +333,25 @@ module _ (files : FileTable) where
     left_closed : L s.session.history s.session.history → L (plays_all files s []).history (plays_all files s []).history
     left_closed l = subst (λ z. L z z) (sym (ap (λ (e : Report). e.history) (all-none files s) ∙ closes-history files s)) l
 
-    all_closed : (t : Bool) → ((f || (closes files s).refused) ≡ t) × Writes b.output a.output (closes files s).out × HasRead b.files a.files 0 × L s.session.history s.session.history → AllDone (work_from files s f) L [] b a t
+    all_closed : (t : Bool) → ((f || (closes files s).refused) ≡ t) × Writes b.output a.output (closes files s).out × SpentNothing (world_of b) (world_of a) × L s.session.history s.session.history → AllDone (work_from files s f) L [] b a t
     all_closed t c = record {
       refused_is = ap (λ (e : Report). f || e.refused) (all-none files s) ∙ c.0;
       wrote = subst (λ (e : Report). Writes b.output a.output e.out) (sym (all-none files s)) c.1;
-      read = subst (HasRead b.files a.files) (sym (ap (λ (e : Report). e.reads) (all-none files s) ∙ closes-reads files s)) c.2;
+      spent = spent_closed s (world_of b) (world_of a) c.2;
       left = left_closed c.3;
     }
 
-    ending : StopsIn b.output a.output (closes files s).out × L s.session.history s.session.history → OutputStopped (work_from files s f) L [] b a
+    ending : StopsIn b.output a.output (closes files s).out × SpentNothing (world_of b) (world_of a) × L s.session.history s.session.history → OutputStopped (work_from files s f) L [] b a
     ending c = inr (record {
       ended = end;
       wrote = subst (λ xs. StopsAfter b.output a.output xs (plays_all files s []).out) (sym (plays-none files s).0)
           (subst (λ (e : Report). StopsAfter b.output a.output [] e.out) (sym (all-none files s)) (c.0.0, (c.0.1.0, omega arith, c.0.1.1, c.0.1.2)));
-      left = left_closed c.1;
+      spent = spent_closed s (world_of b) (world_of a) c.1;
+      left = left_closed c.2;
     })
 
-    closing : (last : List ℕ) → WritesLast b.output a.output [] last × L s.session.history s.session.history → StoppedInside (work_from files s f) L [] b a last
-    closing last c = record { at = 0; within = omega arith; wrote = last-first b.output a.output s last c.0; left = left-first L s c.1 }
+    closing : WritesLast b.output a.output [] memory_line × SpentNothing (world_of b) (world_of a) × L s.session.history s.session.history → OutOfMemory (work_from files s f) L [] b a
+    closing c = record { at = 0; within = omega arith; wrote = last-first b.output a.output s memory_line c.0; spent = inl (spent_first s (world_of b) (world_of a) c.1); left = left-first L s c.2 }
 
     pub did-closed : (e : End) → Closes files s f (world_of b) (world_of a) w e → Did (work_from files s f) (left_on w) count [] b a e
     did-closed how.Done c = all_closed _ c
@@ -307,11 +360,11 @@ module _ (files : FileTable) where
     did-closed how.Input c = absurd c
     did-closed how.File c = absurd c
     did-closed how.Output c = ending c
-    did-closed how.Disk c = closing disk_line c
+    did-closed how.Disk c = absurd c
     did-closed (how.NoStore at) c = absurd c
-    did-closed how.Memory c = elim c [ inl full ↦ inl (ending full) | inr last ↦ inr (closing memory_line last) ]
+    did-closed how.Memory c = elim c [ inl full ↦ inl (ending full) | inr last ↦ inr (closing last) ]
     did-closed how.TooLong c = absurd c
-    did-closed how.Clock c = record { at = 0; within = omega arith; wrote = last-first b.output a.output s clock_line c.0; left = left-first L s c.1 }
+    did-closed how.Clock c = absurd c
 
   -- the session was stopped
   module _ {R S : Type 0} (view : R → Tree) (source_view : S → Tree) (s : Seen) (f : Bool) (rest : List ℕ) (old new : Interpreter R S) (count : ℕ) (bytes : List ℕ) (ib ia : KnownInput) (fb fm : KnownFiles) (cb cm : KnownClock) (ob om oa : KnownOutput) (w : KnownDisk) where
@@ -320,30 +373,30 @@ module _ (files : FileTable) where
     line_at at last g t = subst (λ z. WritesLast ob oa z last) (append-nil (plays files s (take at bytes)).out) (last-after ob om oa (plays files s (take at bytes)).out [] last g t)
 
     writing : StopsWriting files s bytes (world fb cb ob) (world fm cm om) w → WasRefused ob om → oa ≡ om → OutputStopped (work_from files s f) (left_on w) bytes (parts ib fb cb ob) (parts ia fm cm oa)
-    writing g r t = inl (record { at = g.at; inside = g.inside; wrote = subst (λ o. StopsAfter ob o (plays files s (take g.at bytes)).out (plays files s (take (g.at + 1) bytes)).out) (sym t) (r, g.wrote); left = g.left })
+    writing g r t = inl (record { at = g.at; inside = g.inside; wrote = subst (λ o. StopsAfter ob o (plays files s (take g.at bytes)).out (plays files s (take (g.at + 1) bytes)).out) (sym t) (r, g.wrote); spent = g.spent; left = g.left })
 
     pub did-stopped : (stop : Stop) → Fed view source_view files s bytes rest old new (world fb cb ob) (world fm cm om) w (Err stop) → StopRefusesWrite ob om stop → TellsStop om oa stop
         → Did (work_from files s f) (left_on w) count bytes (parts ib fb cb ob) (parts ia fm cm oa) (end_of_stop stop)
     did-stopped Output g r t = writing g r t
     did-stopped Full g r t = inl (writing g r t)
-    did-stopped File g r t = record { at = g.at; inside = g.inside; load = g.load; wrote = line_at g.at file_line (r, g.wrote) t; read = g.read; left = g.left }
-    did-stopped Disk g r t = record { at = g.at; within = g.within; wrote = line_at g.at disk_line (r, g.wrote) t; left = g.left }
+    did-stopped File g r t = record { at = g.at; inside = g.inside; load = g.load; wrote = line_at g.at file_line (r, g.wrote) t; spent = g.spent; left = g.left }
+    did-stopped Disk g r t = record { at = g.at; inside = g.inside; writing = g.writing; wrote = line_at g.at disk_line (r, g.wrote) t; spent = g.spent; left = g.left }
     did-stopped (NoStore at) g r t = absurd g
-    did-stopped Clock g r t = record { at = g.at; within = g.within; wrote = line_at g.at clock_line (r, g.wrote) t; left = g.left }
-    did-stopped Memory g r t = inr (record { at = g.at; within = g.within; wrote = line_at g.at memory_line (r, g.wrote) t; left = g.left })
+    did-stopped Clock g r t = record { at = g.at; inside = g.inside; commit = g.commit; wrote = line_at g.at clock_line (r, g.wrote) t; spent = g.spent; left = g.left }
+    did-stopped Memory g r t = inr (record { at = g.at; within = g.within; wrote = line_at g.at memory_line (r, g.wrote) t; spent = g.spent; left = g.left })
 
 -- ---- sessions that were stopped
 
 -- a session was stopped at the end of its input
 pub closes-stopped : {R S : Type 0} (files : FileTable) (s : Seen) (f : Bool) (old new : Interpreter R S) (fb fm : KnownFiles) (cb cm : KnownClock) (ob om oa : KnownOutput) (w : KnownDisk) (stop : Stop) → RunsLast files s old new (world fb cb ob) (world fm cm om) w (Err stop)
     → StopRefusesWrite ob om stop → TellsStop om oa stop → Closes files s f (world fb cb ob) (world fm cm oa) w (end_of_stop stop)
-closes-stopped files s f old new fb fm cb cm ob om oa w Output g r t = (subst (λ o. StopsIn ob o (closes files s).out) (sym t) (r, g.0), g.1)
-closes-stopped files s f old new fb fm cb cm ob om oa w Full g r t = inl (subst (λ o. StopsIn ob o (closes files s).out) (sym t) (r, g.0), g.1)
+closes-stopped files s f old new fb fm cb cm ob om oa w Output g r t = (subst (λ o. StopsIn ob o (closes files s).out) (sym t) (r, g.0), g.1, g.2)
+closes-stopped files s f old new fb fm cb cm ob om oa w Full g r t = inl (subst (λ o. StopsIn ob o (closes files s).out) (sym t) (r, g.0), g.1, g.2)
 closes-stopped files s f old new fb fm cb cm ob om oa w File g r t = absurd g
-closes-stopped files s f old new fb fm cb cm ob om oa w Disk g r t = (last-alone ob om oa disk_line (r, g.0) t, g.1)
+closes-stopped files s f old new fb fm cb cm ob om oa w Disk g r t = absurd g
 closes-stopped files s f old new fb fm cb cm ob om oa w (NoStore at) g r t = absurd g
-closes-stopped files s f old new fb fm cb cm ob om oa w Clock g r t = (last-alone ob om oa clock_line (r, g.0) t, g.1)
-closes-stopped files s f old new fb fm cb cm ob om oa w Memory g r t = inr (last-alone ob om oa memory_line (r, g.0) t, g.1)
+closes-stopped files s f old new fb fm cb cm ob om oa w Clock g r t = absurd g
+closes-stopped files s f old new fb fm cb cm ob om oa w Memory g r t = inr (last-alone ob om oa memory_line (r, g.0) t, g.1, g.2)
 
 -- the end of a stop is an end of its own
 pub closing-stopped : (stop : Stop) → IsOpenedStop stop → IsClosing (end_of_stop stop)
@@ -431,7 +484,7 @@ module _ {R S : Type 0} (view : R → Tree) (source_view : S → Tree) where
     told = told-none k.left;
     running = record { fitting = λ e. absurd (cc); opened = λ at e. absurd (cc) };
     ended = tt;
-    did = λ files t s rest z m. (did-input files (left_on v) s x.refused count (parts ib f k ob) (parts ia f k oa) w refl (left-here view source_view v x s z), along-still files s [] v);
+    did = λ files t s rest z m. (did-input files (left_on v) s x.refused count (parts ib f k ob) (parts ia f k oa) w (spent-none f k) (left-here view source_view v x s z), along-still files s [] v);
   }
 
   -- the input has ended
@@ -461,7 +514,7 @@ module _ {R S : Type 0} (view : R → Tree) (source_view : S → Tree) where
     told = told-none k.left;
     running = record { fitting = λ e. absurd (cc); opened = λ at e. absurd (cc) };
     ended = tt;
-    did = λ files t s rest z m. (did-too-long files (left_on v) s x.refused count bytes (parts ib f k ob) (parts ia f k oa) le piece w refl (left-here view source_view v x s z), along-still files s bytes v);
+    did = λ files t s rest z m. (did-too-long files (left_on v) s x.refused count bytes (parts ib f k ob) (parts ia f k oa) le piece w (spent-none f k) (left-here view source_view v x s z), along-still files s bytes v);
   }
 
   -- the session was stopped

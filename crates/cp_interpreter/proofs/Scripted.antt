@@ -22,12 +22,14 @@ use Rattle.cp_reply.specs.Session.{Session, session_after}
 use Rattle.cp_workspace.specs.Files.{KnownFiles, HasRead, HasReadSome, IsTable}
 use Rattle.cp_workspace.specs.Texts.{Terms}
 use Rattle.cp_workspace.specs.Workspaces.{opened_session}
-use Rattle.cp_workspace.proofs.ReadCounts.{read-sum, table-first, table-second}
+use Rattle.cp_workspace.proofs.ReadCounts.{table-first, table-second}
+use Rattle.cp_workspace.specs.Spending.{HasSpent}
+use Rattle.cp_workspace.proofs.Spent.{spent-sum}
 use Rattle.cp_interpreter.specs.Texts.{file_line, memory_line}
 use Rattle.cp_interpreter.specs.Job.{job_so_far, job}
 use Rattle.cp_interpreter.specs.Outside.{KnownInput, KnownClock, KnownOutput, World}
 use Rattle.cp_interpreter.specs.Play.{Seen, begun, plays, plays_all}
-use Rattle.cp_interpreter.specs.Story.{LeavesHistory, WritesLast, SaidLine, Leaving, left_on, Work, AllDone, OutputStopped, StoppedInside, Did, work_on, store_terms, LeavesFronts, IsEarly, early_line, HasNotBegun, HasCauses, WorldCauses, DiskCauses, result_of}
+use Rattle.cp_interpreter.specs.Story.{LeavesHistory, WritesLast, SaidLine, Leaving, left_on, Work, AllDone, OutputStopped, OutOfMemory, Did, work_on, store_terms, LeavesFronts, IsEarly, early_line, HasNotBegun, HasCauses, WorldCauses, DiskCauses, result_of}
 use Rattle.cp_interpreter.specs.Scripts.{script_of, commit_text, ScriptState, refused_script, ScriptFailed, DidScript, script_session, DidCommit, Committed}
 use Rattle.cp_interpreter.specs.Turns.{LeavesAlong, RanFrom, RanScript, IsClosing, TellsStop, end_of_stop, work_from, script_from}
 use Rattle.cp_interpreter.specs.Begins.{LeavesStore, BegunOn, GivesScript}
@@ -44,38 +46,44 @@ use Rattle.cp_interpreter.proofs.Opened.{early-not-long, early-not-usage}
 
 -- what a session does for a script is what it does for an input, after the read of the script
 module _ (files : FileTable) (s : Seen) (q : Bool) (taken : List ℕ) (i j ia ja : KnownInput) (f fb fa : KnownFiles) (c ca : KnownClock) (o oa : KnownOutput) (L : Leaving) (r : HasRead f fb 1) (ends : IsAtEnd ia.left → IsAtEnd ja.left) where
-  read_all : (n m : ℕ) → m ≡ 1 + n → HasRead fb fa n → HasRead f fa m
-  read_all n m e w = read-sum f fb fa 1 n m e r w
+  spent_all : {n k : ℕ} → HasSpent n k fb fa c ca → HasSpent (1 + n) k f fa c ca
+  spent_all {n} {k} w = spent-sum f fb fa c c ca 1 0 n k (1 + n) k refl (omega arith) (record { read = r; asked = refl }) w
 
   script_done : (t : Bool) → AllDone (work_from files s q) L taken (parts i fb c o) (parts ia fa ca oa) t → AllDone (script_from files s q) L taken (parts j f c o) (parts ja fa ca oa) t
-  script_done t w = record { refused_is = w.refused_is; wrote = w.wrote; read = read_all _ _ refl w.read; left = w.left }
+  script_done t w = record { refused_is = w.refused_is; wrote = w.wrote; spent = spent_all w.spent; left = w.left }
 
   script_stopped : OutputStopped (work_from files s q) L taken (parts i fb c o) (parts ia fa ca oa) → OutputStopped (script_from files s q) L taken (parts j f c o) (parts ja fa ca oa)
-  script_stopped (inl w) = inl (record { at = w.at; inside = w.inside; wrote = w.wrote; left = w.left })
-  script_stopped (inr w) = inr (record { ended = ends w.ended; wrote = w.wrote; left = w.left })
+  script_stopped (inl w) = inl (record { at = w.at; inside = w.inside; wrote = w.wrote; spent = spent_all w.spent; left = w.left })
+  script_stopped (inr w) = inr (record { ended = ends w.ended; wrote = w.wrote; spent = spent_all w.spent; left = w.left })
 
-  script_inside : (last : List ℕ) → StoppedInside (work_from files s q) L taken (parts i fb c o) (parts ia fa ca oa) last → StoppedInside (script_from files s q) L taken (parts j f c o) (parts ja fa ca oa) last
-  script_inside last w = record { at = w.at; within = w.within; wrote = w.wrote; left = w.left }
+  script_inside : OutOfMemory (work_from files s q) L taken (parts i fb c o) (parts ia fa ca oa) → OutOfMemory (script_from files s q) L taken (parts j f c o) (parts ja fa ca oa)
+  script_inside w = record {
+    at = w.at;
+    within = w.within;
+    wrote = w.wrote;
+    spent = elim w.spent [ inl none ↦ inl (spent_all none) | inr all ↦ inr (spent_all all) ];
+    left = w.left;
+  }
 
   did-script : (e : End) → Did (work_from files s q) L 0 taken (parts i fb c o) (parts ia fa ca oa) e → Did (script_from files s q) L 0 taken (parts j f c o) (parts ja fa ca oa) e
   did-script how.Done w = script_done _ w
   did-script how.Refused w = script_done _ w
   did-script how.Usage w = absurd w
-  did-script how.Input w = record { wrote = w.wrote; read = read_all _ _ refl w.read; left = w.left }
+  did-script how.Input w = record { wrote = w.wrote; spent = spent_all w.spent; left = w.left }
   did-script how.File w = record {
     at = w.at;
     inside = w.inside;
     load = omega (arith, w.load);
     wrote = w.wrote;
-    read = read_all _ _ (omega arith) w.read;
+    spent = spent_all w.spent;
     left = w.left;
   }
   did-script how.Output w = script_stopped w
-  did-script how.Disk w = script_inside _ w
+  did-script how.Disk w = record { at = w.at; inside = w.inside; writing = omega (arith, w.writing); wrote = w.wrote; spent = spent_all w.spent; left = w.left }
   did-script (how.NoStore at) w = absurd w
-  did-script how.Memory w = elim w [ inl full ↦ inl (script_stopped full) | inr ran ↦ inr (script_inside _ ran) ]
-  did-script how.TooLong w = record { at = w.at; within = w.within; last_piece = w.last_piece; wrote = w.wrote; read = read_all _ _ refl w.read; left = w.left }
-  did-script how.Clock w = record { at = w.at; within = w.within; wrote = w.wrote; left = w.left }
+  did-script how.Memory w = elim w [ inl full ↦ inl (script_stopped full) | inr ran ↦ inr (script_inside ran) ]
+  did-script how.TooLong w = record { at = w.at; within = w.within; last_piece = w.last_piece; wrote = w.wrote; spent = spent_all w.spent; left = w.left }
+  did-script how.Clock w = record { at = w.at; inside = w.inside; commit = w.commit; wrote = w.wrote; spent = spent_all w.spent; left = w.left }
 
 -- a script as an input, which never fails
 abbrev pub script_input : ScriptState → KnownInput
@@ -139,16 +147,16 @@ module _ {R S : Type 0} (view : R → Tree) (source_view : S → Tree) (x : Inte
 
       did_from : (files : FileTable) (s : Seen) → left_on v s.session.history s.session.history → (g : Result (List ℕ) Why) → GivesScript g (Err y) → DidScript g (script_from files s x.refused) s.session.history (left_on v) [] [] (world f c o) (world fb c p) e
       did_from files s left (Ok bytes) is = absurd is
-      did_from files s left (Err z) is = (refl, refl, subst (λ k. SaidLine (refused_script k) true o p e) is w, λ h. read, left)
+      did_from files s left (Err z) is = (refl, refl, subst (λ k. SaidLine (refused_script k) true o p e) is w, read, refl, left)
 
   -- the file failed, or memory ran out
-  script-failed : (p : KnownOutput) → IsClosing e → ((e ≡ how.File) × WritesLast o p [] file_line × HasRead f fb 1) ⊎ ((e ≡ how.Memory) × WritesLast o p [] memory_line) → RanScript view source_view x file (world f c o) (world fb c p) v v e
-  script-failed p closing ended = record {
+  script-failed : (p : KnownOutput) → IsClosing e → HasRead f fb 1 → ((e ≡ how.File) × WritesLast o p [] file_line) ⊎ ((e ≡ how.Memory) × WritesLast o p [] memory_line) → RanScript view source_view x file (world f c o) (world fb c p) v v e
+  script-failed p closing read ended = record {
     taken = [];
     moments = [];
     told = told-none c.left;
     closing = closing;
-    did = λ files t s rest z m. (inl (record { ended = ended; none_taken = refl; none_told = refl; left = left-here view source_view v x s z }), along-still files s [] v);
+    did = λ files t s rest z m. (inl (record { ended = ended; read = read; clock = refl; none_taken = refl; none_told = refl; left = left-here view source_view v x s z }), along-still files s [] v);
   }
 
 -- such a call is stopped by the file, or as memory runs out
@@ -159,13 +167,13 @@ script-stopped view source_view x file f fb c o p v fails.Failed stop becomes re
     let last : WritesLast o p [] file_line = subst (TellsStop o p) is w in
     subst (λ z. RanScript view source_view x file (world f c o) (world fb c p) v v (end_of_stop z)) (sym is)
     (script-failed view source_view x file f fb c o v how.File p
-    (record { running = record { fitting = λ h. absurd (cc); opened = λ at h. absurd (cc) }; input = λ h. absurd (cc); too_much = λ h. absurd (cc) }) (inl (refl, last, read)))
+    (record { running = record { fitting = λ h. absurd (cc); opened = λ at h. absurd (cc) }; input = λ h. absurd (cc); too_much = λ h. absurd (cc) }) read (inl (refl, last)))
 script-stopped view source_view x file f fb c o p v fails.Memory stop becomes read w =
     let is = becomes.1 refl in
     let last : WritesLast o p [] memory_line = subst (TellsStop o p) is w in
     subst (λ z. RanScript view source_view x file (world f c o) (world fb c p) v v (end_of_stop z)) (sym is)
     (script-failed view source_view x file f fb c o v how.Memory p
-    (record { running = record { fitting = λ h. absurd (cc); opened = λ at h. absurd (cc) }; input = λ h. absurd (cc); too_much = λ h. absurd (cc) }) (inr (refl, last)))
+    (record { running = record { fitting = λ h. absurd (cc); opened = λ at h. absurd (cc) }; input = λ h. absurd (cc); too_much = λ h. absurd (cc) }) read (inr (refl, last)))
 
 -- ---- causes
 
@@ -242,7 +250,7 @@ committed-early file curator i f k o p v w e early wrote none never leaves = rec
 }
   where
     not_begun : HasNotBegun [] [] (parts i f k o) (parts i f k p) e
-    not_begun = record { early = early; none_taken = refl; none_told = refl; files = refl; wrote = wrote }
+    not_begun = record { early = early; none_taken = refl; none_told = refl; files = refl; clock = refl; wrote = wrote }
 
 -- a call that ran the script of its file, or said why there is none
 module _ {R S : Type 0} (view : R → Tree) (source_view : S → Tree) (file curator : List ℕ) (x : Interpreter R S) (i : KnownInput) (f fa : KnownFiles) (k ka : KnownClock) (o oa : KnownOutput) (v m w : KnownDisk) (e : End)

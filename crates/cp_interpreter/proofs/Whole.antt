@@ -10,12 +10,13 @@ use Rattle.cp_workspace.specs.Files.{KnownFiles, HasRead}
 use Rattle.cp_disk.specs.Views.{KnownDisk}
 use Rattle.cp_workspace.specs.Texts.{Terms}
 use Rattle.cp_workspace.specs.Faults.{IsFailedFile}
-use Rattle.cp_workspace.proofs.ReadCounts.{read-sum}
+use Rattle.cp_workspace.specs.Spending.{HasSpent}
+use Rattle.cp_workspace.proofs.Spent.{spent-sum}
 use Rattle.cp_workspace.proofs.Standing.{on-ok}
 use Rattle.cp_interpreter.specs.Job.{job_so_far, job}
 use Rattle.cp_interpreter.specs.Outside.{KnownInput, KnownClock, KnownOutput, Outside}
 use Rattle.cp_interpreter.specs.Play.{begun, plays, plays_all}
-use Rattle.cp_interpreter.specs.Story.{SaidLine, Leaving, unseen, AllDone, OutputStopped, StoppedInside, Did, work_on, IsRunning, HasCauses, DiskCauses, result_of}
+use Rattle.cp_interpreter.specs.Story.{SaidLine, Leaving, unseen, AllDone, OutputStopped, OutOfMemory, Did, work_on, IsRunning, HasCauses, DiskCauses, result_of}
 use Rattle.cp_interpreter.specs.Turns.{work_from, end_of_stop}
 use Rattle.cp_interpreter.specs.declared.end.End.{End}
 use Rattle.cp_interpreter.specs.declared.end.End.TheVariants as how
@@ -33,42 +34,42 @@ played-none files terms s = (plays-none files (begun terms s)).0
 
 -- what a session does from its start is what the whole session does, after what was read for its start
 module _ (files : FileTable) (terms : Terms) (s : Session) (k : ℕ) (taken : List ℕ) (i : KnownInput) (f fb : KnownFiles) (c : KnownClock) (o : KnownOutput) (a : Outside) (L : Leaving) (r : HasRead f fb k) where
-  abbrev read_all : (n m : ℕ) → m ≡ k + n → HasRead fb a.files n → HasRead f a.files m
-  read_all n m e w = read-sum f fb a.files k n m e r w
+  spent_all : {n j : ℕ} → HasSpent n j fb a.files c a.clock → HasSpent (k + n) j f a.files c a.clock
+  spent_all {n} {j} w = spent-sum f fb a.files c c a.clock k 0 n j (k + n) j refl (omega arith) (record { read = r; asked = refl }) w
 
   start_done : (t : Bool) → AllDone (work_from files (begun terms s) false) L taken (parts i fb c o) a t → AllDone (work_on files terms s k) unseen taken (parts i f c o) a t
   unfolding plays plays_all job_so_far job
-  start_done t w = record { refused_is = w.refused_is; wrote = w.wrote; read = read_all _ _ refl w.read; left = tt }
+  start_done t w = record { refused_is = w.refused_is; wrote = w.wrote; spent = spent_all w.spent; left = tt }
 
   start_stopped : OutputStopped (work_from files (begun terms s) false) L taken (parts i fb c o) a → OutputStopped (work_on files terms s k) unseen taken (parts i f c o) a
   unfolding plays plays_all job_so_far job
-  start_stopped (inl w) = inl (record { at = w.at; inside = w.inside; wrote = w.wrote; left = tt })
-  start_stopped (inr w) = inr (record { ended = w.ended; wrote = w.wrote; left = tt })
+  start_stopped (inl w) = inl (record { at = w.at; inside = w.inside; wrote = w.wrote; spent = spent_all w.spent; left = tt })
+  start_stopped (inr w) = inr (record { ended = w.ended; wrote = w.wrote; spent = spent_all w.spent; left = tt })
 
-  start_inside : (last : List ℕ) → StoppedInside (work_from files (begun terms s) false) L taken (parts i fb c o) a last → StoppedInside (work_on files terms s k) unseen taken (parts i f c o) a last
+  start_inside : OutOfMemory (work_from files (begun terms s) false) L taken (parts i fb c o) a → OutOfMemory (work_on files terms s k) unseen taken (parts i f c o) a
   unfolding plays plays_all job_so_far job
-  start_inside last w = record { at = w.at; within = w.within; wrote = w.wrote; left = tt }
+  start_inside w = record { at = w.at; within = w.within; wrote = w.wrote; spent = elim w.spent [ inl none ↦ inl (spent_all none) | inr all ↦ inr (spent_all all) ]; left = tt }
 
   pub did-start : (e : End) → Did (work_from files (begun terms s) false) L 0 taken (parts i fb c o) a e → Did (work_on files terms s k) unseen 0 taken (parts i f c o) a e
   unfolding plays plays_all job_so_far job
   did-start how.Done w = start_done _ w
   did-start how.Refused w = start_done _ w
   did-start how.Usage w = absurd w
-  did-start how.Input w = record { wrote = w.wrote; read = read_all _ _ refl w.read; left = tt }
+  did-start how.Input w = record { wrote = w.wrote; spent = spent_all w.spent; left = tt }
   did-start how.File w = record {
     at = w.at;
     inside = w.inside;
     load = omega (arith, w.load);
     wrote = w.wrote;
-    read = read_all _ _ (omega arith) w.read;
+    spent = spent_all w.spent;
     left = tt;
   }
   did-start how.Output w = start_stopped w
-  did-start how.Disk w = start_inside _ w
+  did-start how.Disk w = record { at = w.at; inside = w.inside; writing = omega (arith, w.writing); wrote = w.wrote; spent = spent_all w.spent; left = tt }
   did-start (how.NoStore at) w = absurd w
-  did-start how.Memory w = elim w [ inl full ↦ inl (start_stopped full) | inr ran ↦ inr (start_inside _ ran) ]
-  did-start how.TooLong w = record { at = w.at; within = w.within; last_piece = w.last_piece; wrote = w.wrote; read = read_all _ _ refl w.read; left = tt }
-  did-start how.Clock w = record { at = w.at; within = w.within; wrote = w.wrote; left = tt }
+  did-start how.Memory w = elim w [ inl full ↦ inl (start_stopped full) | inr ran ↦ inr (start_inside ran) ]
+  did-start how.TooLong w = record { at = w.at; within = w.within; last_piece = w.last_piece; wrote = w.wrote; spent = spent_all w.spent; left = tt }
+  did-start how.Clock w = record { at = w.at; inside = w.inside; commit = w.commit; wrote = w.wrote; spent = spent_all w.spent; left = tt }
 
 -- ---- calls that run no session
 

@@ -13,6 +13,7 @@ use Rattle.cp_reply.specs.Lines.{lines}
 use Rattle.cp_reply.specs.Session.{Session, replies_to_statements, session_after_statements}
 use Rattle.cp_workspace.specs.Texts.{Terms, setting}
 use Rattle.cp_workspace.specs.Loads.{statement_reads}
+use Rattle.cp_workspace.specs.Commits.{statement_asks}
 use Rattle.cp_workspace.specs.Files.{HasRead, IsTable}
 use Rattle.cp_workspace.specs.Workspaces.{opened_session}
 use Rattle.cp_interpreter.specs.Texts.{file_line, disk_line, memory_line}
@@ -28,6 +29,7 @@ statement_report files terms s x = record {
   out = flat_map lines (replies_to_statements (setting files terms) s (x ∷ []));
   refused = list_any is_refusal (replies_to_statements (setting files terms) s (x ∷ []));
   reads = statement_reads s x;
+  asks = statement_asks s x;
   history = (session_after_statements (setting files terms) s (x ∷ [])).history;
 }
 
@@ -42,10 +44,12 @@ DidStatement r h Leaves before now how.Refused = (r.refused ≡ true) × Writes 
 DidStatement r h Leaves before now how.Usage = ⊥
 DidStatement r h Leaves before now how.Input = ⊥
 DidStatement r h Leaves before now how.File = (r.reads ≡ 1) × WritesLast before.output now.output [] file_line × HasRead before.files now.files 1 × Leaves h h
-DidStatement r h Leaves before now how.Output = StopsIn before.output now.output r.out × Leaves r.history r.history
-DidStatement r h Leaves before now how.Disk = WritesLast before.output now.output [] disk_line × Leaves h r.history
+DidStatement r h Leaves before now how.Output = StopsIn before.output now.output r.out × HasRead before.files now.files r.reads × Leaves r.history r.history
+DidStatement r h Leaves before now how.Disk = (r.reads ≡ 1) × WritesLast before.output now.output [] disk_line × HasRead before.files now.files 1 × Leaves h r.history
 DidStatement r h Leaves before now (how.NoStore at) = ⊥
-DidStatement r h Leaves before now how.Memory = (StopsIn before.output now.output r.out × Leaves r.history r.history) ⊎ (WritesLast before.output now.output [] memory_line × Leaves h r.history)
+DidStatement r h Leaves before now how.Memory =
+    (StopsIn before.output now.output r.out × HasRead before.files now.files r.reads × Leaves r.history r.history)
+    ⊎ (WritesLast before.output now.output [] memory_line × (HasRead before.files now.files 0 ⊎ HasRead before.files now.files r.reads) × Leaves h r.history)
 DidStatement r h Leaves before now how.TooLong = ⊥
 DidStatement r h Leaves before now how.Clock = ⊥
 

@@ -21,7 +21,7 @@ use Rattle.cp_reply.specs.declared.reply.Why.TheVariants as why
 use Rattle.cp_reply.specs.declared.reply.Reply.{Reply}
 use Rattle.cp_reply.specs.declared.reply.Reply.TheVariants as reply
 use Rattle.cp_reply.specs.Session.{FetchedFile, gives, withholds}
-use Rattle.cp_workspace.specs.Files.{KnownFiles, HasRead, IsTable}
+use Rattle.cp_workspace.specs.Files.{KnownFiles, HasRead, IsTable, ReadsOrNone}
 use Rattle.cp_workspace.specs.Workspaces as workspace
 use Rattle.cp_workspace.specs.Workspaces.{HoldsFile, opened_session}
 use Rattle.cp_workspace.specs.declared.workspace.Workspace.{Workspace}
@@ -103,6 +103,7 @@ pub record StoreMade (k : Kind) (given : FileTable → FetchedFile) (reads : ℕ
   pub exists : IsTrue v.known → (IsVacant v.view.content → ⊥) → (now ≡ before) × ViewRests v.view w.view × FoundAs result
   pub made : IsTrue v.known → IsVacant v.view.content → (files : FileTable) → IsTable files before now
       → MadeAs k (given files) reads before now w result × LeavesStart k (given files) v.view w.view
+  pub read : IsTrue v.known → IsVacant v.view.content → ReadsOrNone reads before now result
   pub stops : IfErr result IsMakingStop
 
 -- ---- scripts
@@ -137,10 +138,10 @@ LoadGives r h before now w (Ok y) = (lines y ≡ r.out) × (is_refusal y ≡ r.r
 LoadGives r h before now w (Err Output) = ⊥
 LoadGives r h before now w (Err Full) = ⊥
 LoadGives r h before now w (Err File) = (r.reads ≡ 1) × HasRead before now 1 × left_on w h h
-LoadGives r h before now w (Err Disk) = left_on w h r.history
+LoadGives r h before now w (Err Disk) = (r.reads ≡ 1) × HasRead before now 1 × left_on w h r.history
 LoadGives r h before now w (Err (NoStore at)) = ⊥
 LoadGives r h before now w (Err Clock) = ⊥
-LoadGives r h before now w (Err Memory) = left_on w h r.history
+LoadGives r h before now w (Err Memory) = (HasRead before now 0 ⊎ HasRead before now r.reads) × left_on w h r.history
 
 -- what a load did to files and disk, whose report is expected on each history
 pub record LoadedAs (l : Load) (before now : KnownFiles) (v w : KnownDisk) (result : Result Reply Stop) : Type 0 where

@@ -13,6 +13,7 @@ use Rattle.cp_reply.specs.Session.{Setting, Session, turn, replies_to, session_a
 use Rattle.cp_outside.specs.FileReads.{FileTable}
 use Rattle.cp_workspace.specs.Texts.{Terms, setting}
 use Rattle.cp_workspace.specs.Loads.{cut_reads}
+use Rattle.cp_workspace.specs.Commits.{cut_asks}
 
 -- the verdict tells of a difference
 abbrev pub is_difference : Verdict → Bool
@@ -30,11 +31,17 @@ unfoldable pub reads_in : Setting → Session → List Cut → ℕ
 reads_in c s [] = 0
 reads_in c s (x ∷ xs) = cut_reads s x + reads_in c (turn c s x).next xs
 
--- what is written, whether some line is a refusal, how many files are read, and the history to which it comes
+-- how often they ask the clock
+unfoldable pub asks_in : Setting → Session → List Cut → ℕ
+asks_in c s [] = 0
+asks_in c s (x ∷ xs) = cut_asks s x + asks_in c (turn c s x).next xs
+
+-- what is written, whether some line is a refusal, how many files are read, how often the clock is asked, and the history to which it comes
 pub record Report : Type 0 where
   pub out : List ℕ
   pub refused : Bool
   pub reads : ℕ
+  pub asks : ℕ
   pub history : List Entry
 
 -- what cuts do, with these files
@@ -45,6 +52,7 @@ report_of files terms s cuts =
       out = flat_map lines replies;
       refused = list_any is_refusal replies;
       reads = reads_in (setting files terms) s cuts;
+      asks = asks_in (setting files terms) s cuts;
       history = (session_after (setting files terms) s cuts).history;
     }
 

@@ -4,6 +4,7 @@ use Rattle.std.specs.declared.option.Option.{Option}
 use Rattle.cp_outside.specs.declared.files.Files as files
 use Rattle.cp_workspace.specs.Files.{KnownFiles, known_files}
 use Rattle.cp_outside.specs.declared.clock.Clock as clock
+pub use Rattle.cp_workspace.specs.Clocks.{KnownClock, known_clock}
 use Rattle.cp_outside.specs.declared.source.Source as source
 use Rattle.cp_outside.specs.declared.sink.Sink as sink
 
@@ -11,12 +12,6 @@ use Rattle.cp_outside.specs.declared.sink.Sink as sink
 pub record KnownInput : Type 0 where
   pub left : Option (List ℕ)
   pub given : ℕ
-  pub faults : ℕ
-
--- a clock: the moments that are still to come, where they are known; how often it was asked, and how often it failed
-pub record KnownClock : Type 0 where
-  pub left : Option (List ℕ)
-  pub asked : ℕ
   pub faults : ℕ
 
 -- an output: the bytes that it took, where they are known; how often it failed; how often it refused a write, and how many bytes it took since
@@ -43,9 +38,6 @@ pub record Outside : Type 0 where
 
 abbrev pub known_input : {I : Type 0} → source.Ghosts I → I → KnownInput
 known_input g i = record { left = g.left i; given = g.given i; faults = g.faults i }
-
-abbrev pub known_clock : {K : Type 0} → clock.Ghosts K → K → KnownClock
-known_clock g k = record { left = g.left k; asked = g.asked k; faults = g.faults k }
 
 abbrev pub known_output : {O : Type 0} → sink.Ghosts O → O → KnownOutput
 known_output g o = record { contents = g.contents o; faults = g.faults o; refusals = g.refusals o; since_refusal = g.since_refusal o }

@@ -55,18 +55,20 @@ pub record PlayedScript (work : Work) (Leaves : Leaving) (script taken : List �
 
 -- ---- commits from files
 
--- No session was run since the commit file failed, or memory ran out while it was read; a crash leaves the history.
+-- No session was run since the commit file failed, or memory ran out while it was read, which is all that was read; the clock wasn't asked, and a crash leaves the history.
 pub record ScriptFailed (h : List Entry) (Leaves : Leaving) (taken moments : List ℕ) (before now : World) (end : End) : Type 0 where
-  pub ended : ((end ≡ how.File) × WritesLast before.output now.output [] file_line × HasRead before.files now.files 1) ⊎ ((end ≡ how.Memory) × WritesLast before.output now.output [] memory_line)
+  pub ended : ((end ≡ how.File) × WritesLast before.output now.output [] file_line) ⊎ ((end ≡ how.Memory) × WritesLast before.output now.output [] memory_line)
+  pub read : HasRead before.files now.files 1
+  pub clock : now.clock ≡ before.clock
   pub none_taken : taken ≡ []
   pub none_told : moments ≡ []
   pub left : Leaves h h
 
--- What the script did, if there is one; else the line was written that says why there is none, and nothing was run.
+-- What the script did, if there is one; else the line was written that says why there is none, and nothing was run, nor the clock asked.
 abbrev pub DidScript : Result (List ℕ) Why → Work → List Entry → Leaving → List ℕ → List ℕ → World → World → End → Type 0
 DidScript (Ok script) work h Leaves taken moments before now end = PlayedScript work Leaves script taken before now end
 DidScript (Err w) work h Leaves taken moments before now end =
-    (taken ≡ []) × (moments ≡ []) × SaidLine (refused_script w) true before.output now.output end × (end ≡ how.Refused → HasRead before.files now.files 1) × Leaves h h
+    (taken ≡ []) × (moments ≡ []) × SaidLine (refused_script w) true before.output now.output end × HasRead before.files now.files 1 × (now.clock ≡ before.clock) × Leaves h h
 
 -- The session on the history h, which the content c tells, with the moments that were told and any after them; its commit file has been read.
 abbrev pub script_session : FileTable → List Entry → List ℕ → List ℕ → List ℕ → Work

@@ -14,18 +14,19 @@ use Rattle.cp_disk.specs.Counts.{UsesDisk}
 use Rattle.cp_disk.specs.Views.{View, ViewRests, ViewKeeps, KnownDisk}
 use Rattle.cp_journal.specs.Frames.{frames_of}
 use Rattle.cp_journal.specs.Journals.{walk_end}
-use Rattle.cp_journal.specs.NewStores.{IsVacant}
+use Rattle.cp_journal.specs.NewStores.{IsVacant, SettlesInto}
 use Rattle.cp_journal.specs.declared.limits.TheConstants.{HEADER_SIZE}
 use Rattle.cp_frame.specs.Stands.{IsStore, Opens, StandsFor}
 use Rattle.cp_frame.specs.Stops.{IsNot}
-use Rattle.cp_db.specs.Writing.{IsOldOrVacantOrStart}
+use Rattle.cp_db.specs.Writing.{IsOldOrVacantOrStart, IsVacantOrStart}
 use Rattle.cp_reply.specs.Lines.{lines}
 use Rattle.cp_reply.specs.declared.reply.Of.TheVariants as of
 use Rattle.cp_reply.specs.declared.reply.Why.TheVariants as why
 use Rattle.cp_reply.specs.declared.reply.Reply.TheVariants as reply
 use Rattle.cp_reply.specs.Session.{Session, FetchedFile, gives, withholds}
 use Rattle.cp_workspace.specs.Texts.{Terms}
-use Rattle.cp_workspace.specs.Files.{HasRead, IsTable}
+use Rattle.cp_workspace.specs.Files.{HasRead, IsTable, ReadsOrNone}
+use Rattle.cp_workspace.specs.Spending.{HasSpent}
 use Rattle.cp_workspace.specs.Workspaces.{opened_session}
 use Rattle.cp_interpreter.specs.Texts.{input_line, file_line, disk_line, no_store_line, memory_line, too_long_line, clock_line}
 use Rattle.cp_interpreter.specs.Job.{Report, job_so_far, job}
@@ -76,6 +77,20 @@ left_on w h i = IsTrue w.known → (c : List ℕ) → w.view.images c → Stands
 abbrev pub unseen : Leaving
 unseen h i = ⊤
 
+-- ---- what was spent
+
+-- Files were read, and the clock was asked, as often as the report says.
+abbrev pub SpentAs : Report → World → World → Type 0
+SpentAs r before now = HasSpent r.reads r.asks before.files now.files before.clock now.clock
+
+-- No file was read, and the clock wasn't asked.
+abbrev pub SpentNothing : World → World → Type 0
+SpentNothing before now = HasSpent 0 0 before.files now.files before.clock now.clock
+
+-- how many files are read, and how often the clock is asked
+abbrev pub spending : Report → ℕ
+spending r = r.reads + r.asks
+
 -- ---- what a session did
 
 -- What a session does for bytes of its input: for those that came so far, and for all of a whole input.
@@ -87,7 +102,7 @@ pub record Work : Type 0 where
 pub record AllDone (work : Work) (Leaves : Leaving) (taken : List ℕ) (before now : Outside) (refused : Bool) : Type 0 where
   pub refused_is : (work.whole taken).refused ≡ refused
   pub wrote : Writes before.output now.output (work.whole taken).out
-  pub read : HasRead before.files now.files (work.whole taken).reads
+  pub spent : SpentAs (work.whole taken) (world_of before) (world_of now)
   pub left : Leaves (work.whole taken).history (work.whole taken).history
 
 -- The output refused a write of what is written for the statement that ends with the next byte, which was run: all lines before it were written, and less than all of its own.
@@ -95,12 +110,14 @@ pub record StoppedWriting (work : Work) (Leaves : Leaving) (taken : List ℕ) (b
   pub at : ℕ
   pub inside : at < length taken
   pub wrote : StopsAfter before.output now.output (work.so_far (take at taken)).out (work.so_far (take (at + 1) taken)).out
+  pub spent : SpentAs (work.so_far (take (at + 1) taken)) (world_of before) (world_of now)
   pub left : Leaves (work.so_far (take (at + 1) taken)).history (work.so_far (take (at + 1) taken)).history
 
 -- The same of what is written for the input's end, which has come.
 pub record StoppedEnding (work : Work) (Leaves : Leaving) (taken : List ℕ) (before now : Outside) : Type 0 where
   pub ended : IsAtEnd now.input.left
   pub wrote : StopsAfter before.output now.output (work.so_far taken).out (work.whole taken).out
+  pub spent : SpentAs (work.whole taken) (world_of before) (world_of now)
   pub left : Leaves (work.whole taken).history (work.whole taken).history
 
 abbrev pub OutputStopped : Work → Leaving → List ℕ → Outside → Outside → Type 0
@@ -112,28 +129,41 @@ pub record FileFailed (work : Work) (Leaves : Leaving) (taken : List ℕ) (befor
   pub inside : at < length taken
   pub load : (work.so_far (take (at + 1) taken)).reads ≡ (work.so_far (take at taken)).reads + 1
   pub wrote : WritesLast before.output now.output (work.so_far (take at taken)).out file_line
-  pub read : HasRead before.files now.files ((work.so_far (take at taken)).reads + 1)
+  pub spent : SpentAs (work.so_far (take (at + 1) taken)) (world_of before) (world_of now)
   pub left : Leaves (work.so_far (take at taken)).history (work.so_far (take at taken)).history
 
--- The clock failed in the statement that ends with the next byte, if one does: all lines before it were written, and the last line. A crash leaves the history before it.
+-- The clock failed: in the commit of operations that ends with the next byte. All lines before it were written, and the last line. A crash leaves the history before it.
 pub record ClockFailed (work : Work) (Leaves : Leaving) (taken : List ℕ) (before now : Outside) : Type 0 where
   pub at : ℕ
-  pub within : at ≤ length taken
+  pub inside : at < length taken
+  pub commit : (work.so_far (take (at + 1) taken)).asks ≡ (work.so_far (take at taken)).asks + 1
   pub wrote : WritesLast before.output now.output (work.so_far (take at taken)).out clock_line
+  pub spent : SpentAs (work.so_far (take (at + 1) taken)) (world_of before) (world_of now)
   pub left : Leaves (work.so_far (take at taken)).history (work.so_far (take at taken)).history
 
--- The disk failed, or memory ran out, in the statement that ends with the next byte, if one does: all lines before it were written, and the last line.
+-- The disk failed: in the load of a file, or the commit of operations, that ends with the next byte. All lines before it were written, and the last line.
 -- A crash leaves the history before the statement or after it.
-pub record StoppedInside (work : Work) (Leaves : Leaving) (taken : List ℕ) (before now : Outside) (last : List ℕ) : Type 0 where
+pub record DiskFailed (work : Work) (Leaves : Leaving) (taken : List ℕ) (before now : Outside) : Type 0 where
+  pub at : ℕ
+  pub inside : at < length taken
+  pub writing : spending (work.so_far (take (at + 1) taken)) ≡ spending (work.so_far (take at taken)) + 1
+  pub wrote : WritesLast before.output now.output (work.so_far (take at taken)).out disk_line
+  pub spent : SpentAs (work.so_far (take (at + 1) taken)) (world_of before) (world_of now)
+  pub left : Leaves (work.so_far (take at taken)).history (work.so_far (take (at + 1) taken)).history
+
+-- Memory ran out in the statement that ends with the next byte, if one does: all lines before it were written, and the last line.
+-- A crash leaves the history before the statement or after it, for which all was spent or nothing.
+pub record OutOfMemory (work : Work) (Leaves : Leaving) (taken : List ℕ) (before now : Outside) : Type 0 where
   pub at : ℕ
   pub within : at ≤ length taken
-  pub wrote : WritesLast before.output now.output (work.so_far (take at taken)).out last
+  pub wrote : WritesLast before.output now.output (work.so_far (take at taken)).out memory_line
+  pub spent : SpentAs (work.so_far (take at taken)) (world_of before) (world_of now) ⊎ SpentAs (work.so_far (take (at + 1) taken)) (world_of before) (world_of now)
   pub left : Leaves (work.so_far (take at taken)).history (work.so_far (take (at + 1) taken)).history
 
 -- The input failed: all lines for what was taken were written, and the last line.
 pub record InputFailed (work : Work) (Leaves : Leaving) (taken : List ℕ) (before now : Outside) : Type 0 where
   pub wrote : WritesLast before.output now.output (work.so_far taken).out input_line
-  pub read : HasRead before.files now.files (work.so_far taken).reads
+  pub spent : SpentAs (work.so_far taken) (world_of before) (world_of now)
   pub left : Leaves (work.so_far taken).history (work.so_far taken).history
 
 -- Too much came, after so many bytes before these: all lines for all but the last piece were written, and the last line.
@@ -142,7 +172,7 @@ pub record TooMuchCame (work : Work) (Leaves : Leaving) (count : ℕ) (taken : L
   pub within : count + at ≤ INPUT_MAX
   pub last_piece : length taken ≤ at + PIECE_MAX
   pub wrote : WritesLast before.output now.output (work.so_far (take at taken)).out too_long_line
-  pub read : HasRead before.files now.files (work.so_far (take at taken)).reads
+  pub spent : SpentAs (work.so_far (take at taken)) (world_of before) (world_of now)
   pub left : Leaves (work.so_far (take at taken)).history (work.so_far (take at taken)).history
 
 -- What a session did that took these bytes, after so many others, by how it ended.
@@ -153,9 +183,9 @@ Did work Leaves count taken before now how.Usage = ⊥
 Did work Leaves count taken before now how.Input = InputFailed work Leaves taken before now
 Did work Leaves count taken before now how.File = FileFailed work Leaves taken before now
 Did work Leaves count taken before now how.Output = OutputStopped work Leaves taken before now
-Did work Leaves count taken before now how.Disk = StoppedInside work Leaves taken before now disk_line
+Did work Leaves count taken before now how.Disk = DiskFailed work Leaves taken before now
 Did work Leaves count taken before now (how.NoStore at) = ⊥
-Did work Leaves count taken before now how.Memory = OutputStopped work Leaves taken before now ⊎ StoppedInside work Leaves taken before now memory_line
+Did work Leaves count taken before now how.Memory = OutputStopped work Leaves taken before now ⊎ OutOfMemory work Leaves taken before now
 Did work Leaves count taken before now how.TooLong = TooMuchCame work Leaves count taken before now
 Did work Leaves count taken before now how.Clock = ClockFailed work Leaves taken before now
 
@@ -236,12 +266,13 @@ early_line how.Clock = []
 abbrev pub IsEarly : End → Type 0
 IsEarly end = (end ≡ how.Disk) ⊎ ((at : ℕ) × (end ≡ how.NoStore at)) ⊎ (end ≡ how.Memory)
 
--- No session was run: the store is none, or the disk failed, or memory ran out, and the last line was written. No input was taken, no file was read, and no moment told.
+-- No session was run: the store is none, or the disk failed, or memory ran out, and the last line was written. No input was taken, no file was read, and the clock wasn't asked.
 pub record HasNotBegun (taken moments : List ℕ) (before now : Outside) (end : End) : Type 0 where
   pub early : IsEarly end
   pub none_taken : taken ≡ []
   pub none_told : moments ≡ []
   pub files : now.files ≡ before.files
+  pub clock : now.clock ≡ before.clock
   pub wrote : WritesLast before.output now.output [] (early_line end)
 
 -- The session on the history h, which the content c tells, with the moments that were told and any after them.
@@ -295,10 +326,10 @@ MadeFrom k (withholds y) before now v w end =
 MadeFrom k (gives t) before now v w end =
     SaidLine (lines (reply.Created k (len t))) false before.output now.output end × ((c : List ℕ) → w.view.images c → StandsFor (start k t ∷ []) c)
 
--- What a crash leaves meanwhile: what it could leave, or a vacant file, or the store with its start alone.
+-- What a crash leaves meanwhile: what it could leave, and from some moment on a vacant file, or the store with its start alone.
 abbrev pub LeavesStart : Kind → FetchedFile → View → View → Type 0
 LeavesStart k (withholds y) v w = ViewRests v w
-LeavesStart k (gives t) v w = ViewKeeps (IsOldOrVacantOrStart v k t) v w
+LeavesStart k (gives t) v w = ViewKeeps (IsOldOrVacantOrStart v k t) v w × SettlesInto (IsVacantOrStart k t) v w
 
 -- The call ended before it was known what to say.
 abbrev pub EndedEarly : Outside → Outside → End → Type 0
@@ -308,7 +339,7 @@ EndedEarly before now end = IsEarly end × WritesLast before.output now.output [
 abbrev pub FileOfStartFailed : ℕ → Outside → Outside → End → Type 0
 FileOfStartFailed reads before now end = (end ≡ how.File) × (reads ≡ 1) × WritesLast before.output now.output [] file_line × HasRead before.files now.files 1
 
--- A call that was to make a store read no input and asked no clock. Where there is one, it says so, and reads no file; else it made one from the start tree.
+-- A call that was to make a store read no input and asked no clock. Where there is one, it says so, and reads no file; else it made one from the start tree, whose file it read once.
 pub record Made (k : Kind) (given : FileTable → FetchedFile) (reads : ℕ) (before now : Outside) (v w : KnownDisk) (end : End) : Type 0 where
   pub running : IsRunning end
   pub input : now.input ≡ before.input
@@ -317,6 +348,7 @@ pub record Made (k : Kind) (given : FileTable → FetchedFile) (reads : ℕ) (be
       → (now.files ≡ before.files) × ViewRests v.view w.view × (SaidLine store_exists true before.output now.output end ⊎ EndedEarly before now end)
   pub did : IsTrue v.known → IsVacant v.view.content → (files : FileTable) → IsTable files before.files now.files
       → FileOfStartFailed reads before now end ⊎ EndedEarly before now end ⊎ MadeFrom k (given files) before now v w end
+  pub read : IsTrue v.known → IsVacant v.view.content → ReadsOrNone reads before.files now.files (result_of end)
   pub crash : IsTrue v.known → IsVacant v.view.content → (files : FileTable) → IsTable files before.files now.files → LeavesStart k (given files) v.view w.view
 
 -- ---- causes

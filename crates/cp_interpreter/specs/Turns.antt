@@ -18,13 +18,13 @@ use Rattle.cp_interpreter.specs.Texts.{no_store_line, memory_line, file_line, di
 use Rattle.cp_workspace.specs.Texts.{setting}
 use Rattle.cp_disk.specs.Counts.{UsesDisk}
 use Rattle.cp_disk.specs.Views.{KnownDisk}
-use Rattle.cp_workspace.specs.Files.{HasRead, HasReadSome, IsTable, UsesFiles}
+use Rattle.cp_workspace.specs.Files.{HasReadSome, IsTable, UsesFiles}
 use Rattle.cp_workspace.specs.Workspaces.{Stands, IsUsable, HasStamps, HoldsFile}
 use Rattle.cp_workspace.specs.declared.workspace.Workspace.{Workspace}
 use Rattle.cp_interpreter.specs.Job.{Report, report_of}
 use Rattle.cp_interpreter.specs.Play.{Seen, plays, after_play, closes, plays_all}
 use Rattle.cp_interpreter.specs.Outside.{KnownOutput, World, Outside, world_of}
-use Rattle.cp_interpreter.specs.Story.{Writes, WasRefused, StopsIn, TakesFrom, WritesLast, left_on, Work, Did, after_reads, IsRunning, result_of}
+use Rattle.cp_interpreter.specs.Story.{Writes, WasRefused, StopsIn, TakesFrom, WritesLast, left_on, SpentAs, SpentNothing, spending, Work, Did, after_reads, IsRunning, result_of}
 use Rattle.cp_interpreter.specs.Scripts.{script_of, ScriptFailed, DidScript}
 use Rattle.cp_interpreter.specs.declared.interpreter.Interpreter.{Interpreter}
 use Rattle.cp_interpreter.specs.declared.end.End.{End}
@@ -132,19 +132,25 @@ cuts_play files s cuts = report_of files s.terms s.session cuts
 abbrev pub after_cuts : FileTable → Seen → List Cut → Seen
 after_cuts files s cuts = record { scan = s.scan; terms = s.terms; session = session_after (setting files s.terms) s.session cuts }
 
--- What is reported was written and read, the moments after it are the rest, and the code follows what is seen then; or the output stopped in it, once its turn was made;
--- or nothing was written: a file that failed is the one that is read, with a file or the clock the disk is as it was, else a crash leaves the history before or after.
+-- What is reported was written and spent, the moments after it are the rest, and the code follows what is seen then; or the output stopped in it, once its turn was made;
+-- or nothing was written: a file fails that is read, the clock where it is asked, and the disk where one of these is; where memory ran out nothing was spent or all.
+-- With a file or the clock the disk is as it was, else a crash leaves the history before or after.
 abbrev pub Goes : {R S : Type 0} → (R → Tree) → (S → Tree) → Report → Seen → List Entry → List ℕ → Interpreter R S → Interpreter R S → World → World → KnownDisk → Result ⊤ Stop → Type 0
 Goes view source_view r next h rest old new before now w (Ok x) =
-    Follows view source_view w new next × (new.refused ≡ (old.refused || r.refused)) × Appends before.output.contents now.output.contents r.out × HasRead before.files now.files r.reads × (next.session.moments ≡ rest)
-Goes view source_view r next h rest old new before now w (Err Output) = TakesLess before.output.contents now.output.contents r.out × left_on w r.history r.history
-Goes view source_view r next h rest old new before now w (Err Full) = TakesLess before.output.contents now.output.contents r.out × left_on w r.history r.history
+    Follows view source_view w new next × (new.refused ≡ (old.refused || r.refused)) × Appends before.output.contents now.output.contents r.out × SpentAs r before now × (next.session.moments ≡ rest)
+Goes view source_view r next h rest old new before now w (Err Output) =
+    TakesLess before.output.contents now.output.contents r.out × SpentAs r before now × left_on w r.history r.history
+Goes view source_view r next h rest old new before now w (Err Full) =
+    TakesLess before.output.contents now.output.contents r.out × SpentAs r before now × left_on w r.history r.history
 Goes view source_view r next h rest old new before now w (Err File) =
-    (r.reads ≡ 1) × Appends before.output.contents now.output.contents [] × HasRead before.files now.files 1 × left_on w h h
-Goes view source_view r next h rest old new before now w (Err Disk) = Appends before.output.contents now.output.contents [] × left_on w h r.history
+    (r.reads ≡ 1) × Appends before.output.contents now.output.contents [] × SpentAs r before now × left_on w h h
+Goes view source_view r next h rest old new before now w (Err Disk) =
+    (spending r ≡ 1) × Appends before.output.contents now.output.contents [] × SpentAs r before now × left_on w h r.history
 Goes view source_view r next h rest old new before now w (Err (NoStore at)) = ⊥
-Goes view source_view r next h rest old new before now w (Err Clock) = Appends before.output.contents now.output.contents [] × left_on w h h
-Goes view source_view r next h rest old new before now w (Err Memory) = Appends before.output.contents now.output.contents [] × left_on w h r.history
+Goes view source_view r next h rest old new before now w (Err Clock) =
+    (r.asks ≡ 1) × Appends before.output.contents now.output.contents [] × SpentAs r before now × left_on w h h
+Goes view source_view r next h rest old new before now w (Err Memory) =
+    Appends before.output.contents now.output.contents [] × (SpentNothing before now ⊎ SpentAs r before now) × left_on w h r.history
 
 -- Each file that a crash leaves meanwhile is one that it could leave before, or stands for the one history or the other.
 abbrev pub LeavesBoth : List Entry → List Entry → KnownDisk → KnownDisk → Type 0
@@ -165,29 +171,42 @@ pub record StopsWriting (files : FileTable) (s : Seen) (bytes : List ℕ) (befor
   pub at : ℕ
   pub inside : at < length bytes
   pub wrote : TakesFrom (length (plays files s (take at bytes)).out) before.output.contents now.output.contents (plays files s (take (at + 1) bytes)).out
+  pub spent : SpentAs (plays files s (take (at + 1) bytes)) before now
   pub left : left_on w (plays files s (take (at + 1) bytes)).history (plays files s (take (at + 1) bytes)).history
 
--- a file failed at the load that ends with the byte at this position: all before it was written and read
+-- a file failed at the load that ends with the byte at this position: all before it was written
 pub record StopsAtLoad (files : FileTable) (s : Seen) (bytes : List ℕ) (before now : World) (w : KnownDisk) : Type 0 where
   pub at : ℕ
   pub inside : at < length bytes
   pub load : (plays files s (take (at + 1) bytes)).reads ≡ (plays files s (take at bytes)).reads + 1
   pub wrote : Appends before.output.contents now.output.contents (plays files s (take at bytes)).out
-  pub read : HasRead before.files now.files ((plays files s (take at bytes)).reads + 1)
+  pub spent : SpentAs (plays files s (take (at + 1) bytes)) before now
   pub left : left_on w (plays files s (take at bytes)).history (plays files s (take at bytes)).history
 
--- the clock failed in the statement that ends with the byte at this position: all before it was written
-pub record StopsAtClock (files : FileTable) (s : Seen) (bytes : List ℕ) (before now : World) (w : KnownDisk) : Type 0 where
+-- the clock failed in the commit that ends with the byte at this position: all before it was written
+pub record StopsAtCommit (files : FileTable) (s : Seen) (bytes : List ℕ) (before now : World) (w : KnownDisk) : Type 0 where
   pub at : ℕ
-  pub within : at ≤ length bytes
+  pub inside : at < length bytes
+  pub commit : (plays files s (take (at + 1) bytes)).asks ≡ (plays files s (take at bytes)).asks + 1
   pub wrote : Appends before.output.contents now.output.contents (plays files s (take at bytes)).out
+  pub spent : SpentAs (plays files s (take (at + 1) bytes)) before now
   pub left : left_on w (plays files s (take at bytes)).history (plays files s (take at bytes)).history
 
--- the disk failed or memory ran out in the statement that ends with the byte at this position: all before it was written
+-- the disk failed in the load or the commit that ends with the byte at this position: all before it was written
+pub record StopsOnDisk (files : FileTable) (s : Seen) (bytes : List ℕ) (before now : World) (w : KnownDisk) : Type 0 where
+  pub at : ℕ
+  pub inside : at < length bytes
+  pub writing : spending (plays files s (take (at + 1) bytes)) ≡ spending (plays files s (take at bytes)) + 1
+  pub wrote : Appends before.output.contents now.output.contents (plays files s (take at bytes)).out
+  pub spent : SpentAs (plays files s (take (at + 1) bytes)) before now
+  pub left : left_on w (plays files s (take at bytes)).history (plays files s (take (at + 1) bytes)).history
+
+-- memory ran out in the statement that ends with the byte at this position: all before it was written
 pub record StopsInside (files : FileTable) (s : Seen) (bytes : List ℕ) (before now : World) (w : KnownDisk) : Type 0 where
   pub at : ℕ
   pub within : at ≤ length bytes
   pub wrote : Appends before.output.contents now.output.contents (plays files s (take at bytes)).out
+  pub spent : SpentAs (plays files s (take at bytes)) before now ⊎ SpentAs (plays files s (take (at + 1) bytes)) before now
   pub left : left_on w (plays files s (take at bytes)).history (plays files s (take (at + 1) bytes)).history
 
 -- Bytes were played, or a front part of them where something stopped the session.
@@ -197,9 +216,9 @@ Fed view source_view files s bytes rest old new before now w (Ok x) =
 Fed view source_view files s bytes rest old new before now w (Err Output) = StopsWriting files s bytes before now w
 Fed view source_view files s bytes rest old new before now w (Err Full) = StopsWriting files s bytes before now w
 Fed view source_view files s bytes rest old new before now w (Err File) = StopsAtLoad files s bytes before now w
-Fed view source_view files s bytes rest old new before now w (Err Disk) = StopsInside files s bytes before now w
+Fed view source_view files s bytes rest old new before now w (Err Disk) = StopsOnDisk files s bytes before now w
 Fed view source_view files s bytes rest old new before now w (Err (NoStore at)) = ⊥
-Fed view source_view files s bytes rest old new before now w (Err Clock) = StopsAtClock files s bytes before now w
+Fed view source_view files s bytes rest old new before now w (Err Clock) = StopsAtCommit files s bytes before now w
 Fed view source_view files s bytes rest old new before now w (Err Memory) = StopsInside files s bytes before now w
 
 -- Each file that a crash leaves meanwhile is one that it could leave before, or stands for the history after a front part of the bytes.
@@ -216,17 +235,20 @@ pub record WasFed {R S : Type 0} (view : R → Tree) (source_view : S → Tree) 
 
 -- ---- the input's end
 
--- The cut at the end of the input was run, and the code knows whether a refusal was written; or as with other lines. It reads no file, asks no clock and adds no entry.
+-- The cut at the end of the input was run, and the code knows whether a refusal was written; or as with other lines. It reads no file, asks no clock, writes nothing to the disk and adds no entry.
 abbrev pub RunsLast : {R S : Type 0} → FileTable → Seen → Interpreter R S → Interpreter R S → World → World → KnownDisk → Result ⊤ Stop → Type 0
 RunsLast files s old new before now w (Ok x) =
-    (new.refused ≡ (old.refused || (closes files s).refused)) × Appends before.output.contents now.output.contents (closes files s).out × HasRead before.files now.files 0 × left_on w s.session.history s.session.history
-RunsLast files s old new before now w (Err Output) = TakesLess before.output.contents now.output.contents (closes files s).out × left_on w s.session.history s.session.history
-RunsLast files s old new before now w (Err Full) = TakesLess before.output.contents now.output.contents (closes files s).out × left_on w s.session.history s.session.history
+    (new.refused ≡ (old.refused || (closes files s).refused)) × Appends before.output.contents now.output.contents (closes files s).out × SpentNothing before now × left_on w s.session.history s.session.history
+RunsLast files s old new before now w (Err Output) =
+    TakesLess before.output.contents now.output.contents (closes files s).out × SpentNothing before now × left_on w s.session.history s.session.history
+RunsLast files s old new before now w (Err Full) =
+    TakesLess before.output.contents now.output.contents (closes files s).out × SpentNothing before now × left_on w s.session.history s.session.history
 RunsLast files s old new before now w (Err File) = ⊥
-RunsLast files s old new before now w (Err Disk) = Appends before.output.contents now.output.contents [] × left_on w s.session.history s.session.history
+RunsLast files s old new before now w (Err Disk) = ⊥
 RunsLast files s old new before now w (Err (NoStore at)) = ⊥
-RunsLast files s old new before now w (Err Clock) = Appends before.output.contents now.output.contents [] × left_on w s.session.history s.session.history
-RunsLast files s old new before now w (Err Memory) = Appends before.output.contents now.output.contents [] × left_on w s.session.history s.session.history
+RunsLast files s old new before now w (Err Clock) = ⊥
+RunsLast files s old new before now w (Err Memory) =
+    Appends before.output.contents now.output.contents [] × SpentNothing before now × left_on w s.session.history s.session.history
 
 -- The last cut was run, as the sessions do that the code follows, with the moments that the clock told and any after them.
 pub record RanLast {R S : Type 0} (view : R → Tree) (source_view : S → Tree) (old new : Interpreter R S) (before now : World) (v w : KnownDisk) (result : Result ⊤ Stop) : Type 0 where
@@ -287,20 +309,20 @@ pub record RanFrom {R S : Type 0} (view : R → Tree) (source_view : S → Tree)
 -- The session is over.
 abbrev pub Closes : FileTable → Seen → Bool → World → World → KnownDisk → End → Type 0
 Closes files s refused before now w how.Done =
-    ((refused || (closes files s).refused) ≡ false) × Writes before.output now.output (closes files s).out × HasRead before.files now.files 0 × left_on w s.session.history s.session.history
+    ((refused || (closes files s).refused) ≡ false) × Writes before.output now.output (closes files s).out × SpentNothing before now × left_on w s.session.history s.session.history
 Closes files s refused before now w how.Refused =
-    ((refused || (closes files s).refused) ≡ true) × Writes before.output now.output (closes files s).out × HasRead before.files now.files 0 × left_on w s.session.history s.session.history
+    ((refused || (closes files s).refused) ≡ true) × Writes before.output now.output (closes files s).out × SpentNothing before now × left_on w s.session.history s.session.history
 Closes files s refused before now w how.Usage = ⊥
 Closes files s refused before now w how.Input = ⊥
 Closes files s refused before now w how.File = ⊥
-Closes files s refused before now w how.Output = StopsIn before.output now.output (closes files s).out × left_on w s.session.history s.session.history
-Closes files s refused before now w how.Disk = WritesLast before.output now.output [] disk_line × left_on w s.session.history s.session.history
+Closes files s refused before now w how.Output = StopsIn before.output now.output (closes files s).out × SpentNothing before now × left_on w s.session.history s.session.history
+Closes files s refused before now w how.Disk = ⊥
 Closes files s refused before now w (how.NoStore at) = ⊥
 Closes files s refused before now w how.Memory =
-    (StopsIn before.output now.output (closes files s).out × left_on w s.session.history s.session.history)
-    ⊎ (WritesLast before.output now.output [] memory_line × left_on w s.session.history s.session.history)
+    (StopsIn before.output now.output (closes files s).out × SpentNothing before now × left_on w s.session.history s.session.history)
+    ⊎ (WritesLast before.output now.output [] memory_line × SpentNothing before now × left_on w s.session.history s.session.history)
 Closes files s refused before now w how.TooLong = ⊥
-Closes files s refused before now w how.Clock = WritesLast before.output now.output [] clock_line × left_on w s.session.history s.session.history
+Closes files s refused before now w how.Clock = ⊥
 
 -- The same, as to the sessions that the code follows, with the moments that the clock told and any after them.
 pub record HasClosed {R S : Type 0} (view : R → Tree) (source_view : S → Tree) (x : Interpreter R S) (before now : World) (v w : KnownDisk) (end : End) : Type 0 where

@@ -1,17 +1,13 @@
 -- How a workload begins: on a new database with the source of the scripts.
-use Rattle.std.proofs.Common.{◌≡◌, ◌∙◌, ℕ, ◌+◌, List, [], ◌∷◌, Bool, true, false, Ok, Err, refl, inl, inr, sym, ap, subst, arith}
-use Rattle.std.specs.Prelude.{IsTrue, is_some, length, ◌⊎◌, ⊤}
-use Rattle.std.specs.declared.option.Option.{Option}
-use Rattle.std.specs.declared.option.Option.TheVariants.{None, Some}
-use Rattle.cp_model.specs.Tree.{Tree, Source, source}
-use Rattle.cp_model.specs.History.{Entry, State, start, start_state, load, replay, IsSource, CanLoad}
+use Rattle.std.proofs.Common.{◌≡◌, ◌∙◌, ℕ, ◌+◌, List, [], ◌∷◌, Bool, true, false, Ok, Err, refl, inl, inr, sym, subst}
+use Rattle.std.specs.Prelude.{IsTrue, ◌⊎◌, ⊤}
+use Rattle.cp_model.specs.Tree.{Tree}
+use Rattle.cp_model.specs.History.{start, load, IsSource}
 use Rattle.cp_model.specs.declared.kind.Kind.{Kind}
 use Rattle.cp_journal.specs.declared.limits.TheConstants.{HEADER_SIZE, FRAME_HEAD}
 use Rattle.cp_frame.specs.Sizes.{start_size, load_size}
 use Rattle.cp_frame.proofs.Ends.{end_of-none}
-use Rattle.cp_db.specs.Databases.{HoldsState, Stands}
-use Rattle.cp_db.specs.declared.database.Db.{Db}
-use Rattle.cp_db.specs.declared.fault.WriteFault.TheVariants as fault
+use Rattle.cp_db.specs.declared.fault.LoadFault.TheVariants as fault
 use Rattle.cp_gen.specs.Source.{source_name, source_tree}
 use Rattle.cp_gen.proofs.SourceLaws.{source-loads}
 use Rattle.cp_workspace.specs.Workspaces.{EndsAt}
@@ -19,30 +15,9 @@ use Rattle.cp_workspace.proofs.Standing.{ends-added}
 use Rattle.cp_scratch.specs.Sessions.{empty_tree}
 use Rattle.cp_scratch.specs.Workloads.{workload_start, workload_terms}
 
-abbrev sources_in_state : Option State → List Source
-sources_in_state None = []
-sources_in_state (Some s) = s.sources
-
--- a start alone has no sources
-start-sources : (k : Kind) (t : Tree) (s : State) → replay (start k t ∷ []) ≡ Some s → s.sources ≡ []
-unfolding replay start_state
-start-sources k t s h = ap sources_in_state (sym h)
-
--- nor has any state that a database holds that stands for a start alone
-no-sources : {R S : Type 0} (view : R → Tree) (source_view : S → Tree) (k : Kind) (t : Tree) (d : Db R S) → Stands view source_view false d (start k t ∷ [])
-    → (s : State) → HoldsState view source_view d s → s.sources ≡ []
-no-sources view source_view k t d y s z = sym z.committed.sources ∙ y.holds.committed.sources ∙ start-sources k t y.state y.led.replayed
-
--- the source of the scripts may be loaded into it
-pub can-load-source : {R S : Type 0} (view : R → Tree) (source_view : S → Tree) (k : Kind) (t u : Tree) (n : List ℕ) (d : Db R S) → Stands view source_view false d (start k t ∷ []) → n ≡ source_name → u ≡ source_tree
-    → (s : State) → HoldsState view source_view d s → CanLoad s n u
-can-load-source view source_view k t u n d y named is s z =
-    let none = no-sources view source_view k t d y s z in
-    record {
-      loadable = subst (λ m. IsSource m u) (sym named) (subst (λ m. IsSource source_name m) (sym is) source-loads);
-      fresh = ap (λ l. is_some (source l n)) none;
-      few = omega (arith, ap length none);
-    }
+-- the source of the scripts may be loaded under its name
+pub is-source : (u : Tree) (n : List ℕ) → n ≡ source_name → u ≡ source_tree → IsSource n u
+is-source u n named is = subst (λ m. IsSource m u) (sym named) (subst (λ m. IsSource source_name m) (sym is) source-loads)
 
 -- where the frames end with it
 pub source-ends : (k : Kind) (before now : ℕ) → before ≡ HEADER_SIZE + FRAME_HEAD + start_size empty_tree → now ≡ before + FRAME_HEAD + load_size source_name source_tree

@@ -40,7 +40,7 @@ returns-in-Some-2-clause-went g c =
     let r = c.in-Some-2.reply in
     let T : Option Reply → Type 0 = λ o. HasTurned view source_view (λ (z : Option Reply). z) (λ t terms s. turn (setting t terms) s cut) (λ t. IsTable t b.files a.files) old.workspace mid.workspace v w b.clock.left a.clock.left (Ok o) in
     let P : Option Cut → Type 0 = λ o. Went view source_view (λ t s. cuts_play t s (option_to_list o)) (λ t s. after_cuts t s (option_to_list o)) old c.say.new.self b a v w c.say.result in
-    subst P (sym c.in-Some.is) (went-said view source_view cut r old mid c.say.new.self b a v w c.say.result (subst T c.in-Some-2.is c.in_ok-reply.ensures.turned) c.in_ok-reply.ensures.reads (λ k. still (sym c.in_ok-reply.ensures.disk.same) k) refl refl
+    subst P (sym c.in-Some.is) (went-said view source_view cut r old mid c.say.new.self b a v w c.say.result (subst T c.in-Some-2.is c.in_ok-reply.ensures.turned) c.in_ok-reply.ensures.spent (λ k. still (sym c.in_ok-reply.ensures.disk.same) k) refl refl
     c.say.ensures.went c.say.ensures.held c.say.ensures.workspace c.say.ensures.refused)
 
 pub returns-in-None-clause-went : goal.returns-in-None-clause-went
@@ -57,7 +57,7 @@ returns-in-None-clause-went g c =
     let cut = c.in-Some.cut in
     let T : Option Reply → Type 0 = λ o. HasTurned view source_view (λ (z : Option Reply). z) (λ t terms s. turn (setting t terms) s cut) (λ t. IsTable t b.files a.files) old.workspace new.workspace v w b.clock.left a.clock.left (Ok o) in
     let P : Option Cut → Type 0 = λ o. Went view source_view (λ t s. cuts_play t s (option_to_list o)) (λ t s. after_cuts t s (option_to_list o)) old new b a v w (Ok tt) in
-    subst P (sym c.in-Some.is) (went-silent view source_view cut old new b a v w (subst T c.in-None.is c.in_ok-reply.ensures.turned) c.in_ok-reply.ensures.reads (λ k. still (sym c.in_ok-reply.ensures.disk.same) k) (Appends-nil b.output.contents) refl refl)
+    subst P (sym c.in-Some.is) (went-silent view source_view cut old new b a v w (subst T c.in-None.is c.in_ok-reply.ensures.turned) c.in_ok-reply.ensures.spent (λ k. still (sym c.in_ok-reply.ensures.disk.same) k) (Appends-nil b.output.contents) refl refl)
 
 pub returns-in_err-reply-clause-went : goal.returns-in_err-reply-clause-went
 returns-in_err-reply-clause-went g c =
@@ -75,5 +75,5 @@ returns-in_err-reply-clause-went g c =
     let e = c.in_err-reply.field-0.0 in
     let p = err_from_is_err_and c.from_residual.result c.from_residual.ensures.1 in
     let P : Option Cut → Type 0 = λ o. Went view source_view (λ t s. cuts_play t s (option_to_list o)) (λ t s. after_cuts t s (option_to_list o)) old new b a v w (Err p.0) in
-    rw p.1 (subst P (sym c.in-Some.is) (went-stopped_early view source_view cut old new b a v w e p.0 met.turned met.reads (λ k. still (sym met.disk.same) k) p.2
+    rw p.1 (subst P (sym c.in-Some.is) (went-stopped_early view source_view cut old new b a v w e p.0 met.turned met.spent (λ k. still (sym met.disk.same) k) p.2
     (λ is z image. subst (λ d. (g.D.Disk.known d).view.images z) (met.same (ap (λ y. Err y) is)) image) (λ is z image. subst (λ d. (g.D.Disk.known d).view.images z) (met.untouched (ap (λ y. Err y) is)) image) (Appends-nil b.output.contents)))
