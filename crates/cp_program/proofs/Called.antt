@@ -18,6 +18,7 @@ use Rattle.cp_lang.specs.declared.syntax_tree.Stmt.TheVariants as stmt
 use Rattle.cp_reply.specs.Lines.{lines}
 use Rattle.cp_reply.specs.declared.reply.Reply.{Reply}
 use Rattle.cp_program.specs.Answering.{Answered, Generated, IsAnswerTo, IsLogOf, IsVerdictOn}
+use Rattle.cp_program.specs.Using.{IsUsesOf}
 use Rattle.cp_program.specs.Calls.{DidCommand, HasItsStore, IsShort, Called}
 use Rattle.cp_interpreter.specs.Job.{is_refusal}
 use Rattle.cp_interpreter.specs.Ends.{code_of}
@@ -62,6 +63,7 @@ fits (words.Show p) before now v w e r = answered-fits Opens (IsAnswerTo (stmt.S
 fits (words.Generate seed count k) before now v w e r = generated-not k seed count before now e how.Usage r (λ h. absurd (cc)) (λ line said h. said-not-usage line false before.output now.output e said h)
 fits words.Log before now v w e r = answered-fits OpensAndReplays IsLogOf before now v w e r
 fits words.Verify before now v w e r = answered-fits OpensAndReplays IsVerdictOn before now v w e r
+fits (words.Uses q) before now v w e r = answered-fits Opens (IsUsesOf q) before now v w e r
 
 -- where there is a store, if there is to be one, it is found
 opens : (x : Command) (before now : Outside) (v w : KnownDisk) (e : End) → DidCommand x before now v w e → HasItsStore x v → (at : ℕ) → e ≡ how.NoStore at → ⊥
@@ -75,6 +77,7 @@ opens (words.Show p) before now v w e r has at h = (r.no_store has.0 at h).1.nev
 opens (words.Generate seed count k) before now v w e r has at h = generated-not k seed count before now e (how.NoStore at) r (λ g. absurd (cc)) (λ line said g. said-not-none line false before.output now.output e said at g) h
 opens words.Log before now v w e r has at h = (r.no_store has.0 at h).1.never has.1
 opens words.Verify before now v w e r has at h = (r.no_store has.0 at h).1.never has.1
+opens (words.Uses q) before now v w e r has at h = (r.no_store has.0 at h).1.never has.1
 
 -- where nothing failed and little came, the call ends with an answer
 complete : (x : Command) (before now : Outside) (v w : KnownDisk) (e : End) → DidCommand x before now v w e → HasCauses before now e → DiskCauses v w e → (e ≡ how.TooLong → before.input.given + INPUT_MAX < now.input.given)

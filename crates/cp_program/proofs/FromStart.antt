@@ -41,7 +41,7 @@ use Rattle.cp_interpreter.specs.declared.end.End.TheVariants as how
 use Rattle.cp_interpreter.specs.declared.stop.Stop.{Stop}
 use Rattle.cp_interpreter.specs.declared.stop.Stop.TheVariants.{File, Memory}
 use Rattle.cp_interpreter.proofs.Runs.{parts}
-use Rattle.cp_interpreter.proofs.Whole.{played-none, did-start, said-running, said-short}
+use Rattle.cp_interpreter.proofs.Whole.{did-start, said-running, said-short}
 
 -- ---- from the start tree on
 
@@ -144,11 +144,11 @@ module _ (j : Kind) (given : FileTable → FetchedFile) (k : ℕ) (i : KnownInpu
     where
       did_from : (files : FileTable) (g : FetchedFile) → Begun {R = R} {S = S} view source_view v j g (Err y) → DidFrom j files g k [] [] (parts i f c o) (parts i fb c p) e
       did_from files (gives t) b = absurd b
-      did_from files (withholds z) b = (refl, subst (λ q. SaidLine (refused_start q) true o p e) b w, λ h. read)
+      did_from files (withholds z) b = (refl, refl, subst (λ q. SaidLine (refused_start q) true o p e) b w, read, refl)
 
   -- memory ran out before a byte was taken
-  pub ran-out : WritesLast o p [] memory_line → Ran j given k (parts i f c o) (parts i fb c p) how.Memory
-  ran-out w = record {
+  pub ran-out : WritesLast o p [] memory_line → HasRead f fb 0 ⊎ HasRead f fb k → Ran j given k (parts i f c o) (parts i fb c p) how.Memory
+  ran-out w read = record {
     taken = [];
     took = Consumes-nil i.left;
     counted = omega arith;
@@ -157,17 +157,8 @@ module _ (j : Kind) (given : FileTable → FetchedFile) (k : ℕ) (i : KnownInpu
     told = told-none c.left;
     running = record { fitting = λ h. absurd (cc); opened = λ at h. absurd (cc) };
     ended = tt;
-    did = λ files t. inr (did_from files (given files));
+    did = λ files t. inl (record { ended = inr (refl, w, read); none_taken = refl; none_told = refl; clock = refl });
   }
-    where
-      did_from : (files : FileTable) (g : FetchedFile) → DidFrom j files g k [] [] (parts i f c o) (parts i fb c p) how.Memory
-      did_from files (gives t) = λ rest. inr (record {
-        at = 0;
-        within = omega arith;
-        wrote = subst (λ z. WritesLast o p z memory_line) (sym (played-none files (scratch_terms j t) (scratch_session j t ([] ++ rest)))) w;
-        left = tt;
-      })
-      did_from files (withholds z) = (refl, inr w, λ h. absurd (cc))
 
   -- a call was stopped before it took a byte: by its start tree's file, or as memory ran out
   pub ran-early : (fault : FilesFault) (stop : Stop) → (fault ≡ fails.Failed → stop ≡ File) × (fault ≡ fails.Memory → stop ≡ Memory) → ReadsBefore IsFailedFile k f fb fault → TellsStop o p stop → Ran j given k (parts i f c o) (parts i fb c p) (end_of_stop stop)
@@ -184,8 +175,8 @@ module _ (j : Kind) (given : FileTable → FetchedFile) (k : ℕ) (i : KnownInpu
         told = told-none c.left;
         running = record { fitting = λ h. absurd (cc); opened = λ at h. absurd (cc) };
         ended = tt;
-        did = λ files t. inl (refl, x.0, refl, last, x.1);
+        did = λ files t. inl (record { ended = inl (refl, x.0, last, x.1); none_taken = refl; none_told = refl; clock = refl });
       })
   ran-early fails.Memory stop becomes r w =
       let is = becomes.1 refl in
-      subst (λ z. Ran j given k (parts i f c o) (parts i fb c p) (end_of_stop z)) (sym is) (ran-out (subst (TellsStop o p) is w))
+      subst (λ z. Ran j given k (parts i f c o) (parts i fb c p) (end_of_stop z)) (sym is) (ran-out (subst (TellsStop o p) is w) r.either)

@@ -1,4 +1,5 @@
 mod FromStart
+mod Used
 mod Verdicts
 mod Answered
 mod Called

@@ -17,6 +17,7 @@ use Rattle.cp_interpreter.specs.Ends.{code_of}
 use Rattle.cp_interpreter.specs.Story.{WritesLast, RanOn, Made, HasCauses, DiskCauses, IsFaultless}
 use Rattle.cp_interpreter.specs.Alone.{Loaded}
 use Rattle.cp_program.specs.Answering.{Answered, Generated, IsAnswerTo, IsLogOf, IsVerdictOn}
+use Rattle.cp_program.specs.Using.{IsUsesOf}
 use Rattle.cp_interpreter.specs.Scripts.{Committed}
 use Rattle.cp_interpreter.specs.declared.end.End.{End}
 use Rattle.cp_interpreter.specs.declared.end.End.TheVariants as how
@@ -52,6 +53,7 @@ DidCommand (words.Show p) before now v w end = Answered Opens (IsAnswerTo (stmt.
 DidCommand (words.Generate seed count k) before now v w end = Generated k seed count before now end
 DidCommand words.Log before now v w end = Answered OpensAndReplays IsLogOf before now v w end
 DidCommand words.Verify before now v w end = Answered OpensAndReplays IsVerdictOn before now v w end
+DidCommand (words.Uses q) before now v w end = Answered Opens (IsUsesOf q) before now v w end
 
 -- What was done for the words: for their command, or, where they fit no row, the usage was given.
 abbrev pub RanAs : Option Command → Outside → Outside → KnownDisk → KnownDisk → End → Type 0
@@ -70,6 +72,7 @@ LeavesDisk (words.Show p) = ⊥
 LeavesDisk (words.Generate seed count k) = ⊤
 LeavesDisk words.Log = ⊥
 LeavesDisk words.Verify = ⊥
+LeavesDisk (words.Uses q) = ⊥
 
 -- The words ask for nothing of the disk.
 abbrev pub NeedsNoDisk : Option Command → Type 0
@@ -102,6 +105,7 @@ HasItsStore (words.Show p) v = HasOpenStore v
 HasItsStore (words.Generate seed count k) v = ⊤
 HasItsStore words.Log v = HasWholeStore v
 HasItsStore words.Verify v = HasWholeStore v
+HasItsStore (words.Uses q) v = HasOpenStore v
 
 -- What the words ask for needs no store, or the disk is known to hold one that opens.
 abbrev pub HasStore : Option Command → KnownDisk → Type 0

@@ -12,7 +12,7 @@ use Rattle.std.specs.Io.KnownBytes.{Consumes, IsAtEnd}
 use Rattle.cp_outside.specs.Moments.{HasTold}
 use Rattle.cp_model.specs.declared.kind.Kind.{Kind}
 use Rattle.cp_workspace.specs.Files.{HasRead, IsTable}
-use Rattle.cp_interpreter.specs.Texts.{file_line}
+use Rattle.cp_interpreter.specs.Texts.{file_line, memory_line}
 use Rattle.cp_interpreter.specs.Outside.{Outside}
 use Rattle.cp_interpreter.specs.Story.{WritesLast, unseen, Did, result_of, IsRunning, SaidLine, work_on}
 use Rattle.cp_interpreter.specs.declared.end.End.{End}
@@ -22,17 +22,21 @@ use Rattle.cp_interpreter.specs.declared.end.End.TheVariants as how
 abbrev pub refused_start : Why → List ℕ
 refused_start w = lines (reply.Refused of.Scratch w)
 
--- The file of the start tree failed, which is all that was read, nothing of the input was taken, and the last line was written.
-abbrev pub StartFailed : ℕ → List ℕ → Outside → Outside → End → Type 0
-StartFailed reads taken before now end = (end ≡ how.File) × (reads ≡ 1) × (taken ≡ []) × WritesLast before.output now.output [] file_line × HasRead before.files now.files 1
+-- No session was run, since the file of the start tree failed, or memory ran out. Nothing else was read, nothing of the input was taken, the clock wasn't asked, and the last line was written.
+pub record HasNotStarted (reads : ℕ) (taken moments : List ℕ) (before now : Outside) (end : End) : Type 0 where
+  pub ended : ((end ≡ how.File) × (reads ≡ 1) × WritesLast before.output now.output [] file_line × HasRead before.files now.files 1)
+      ⊎ ((end ≡ how.Memory) × WritesLast before.output now.output [] memory_line × (HasRead before.files now.files 0 ⊎ HasRead before.files now.files reads))
+  pub none_taken : taken ≡ []
+  pub none_told : moments ≡ []
+  pub clock : now.clock ≡ before.clock
 
 -- The session from the start tree, for which so many files are read, with the moments that were told and any after them; or the line that refuses it.
--- Nothing of the input is taken where there is no start tree.
+-- Where there is no start tree nothing of the input is taken, and the clock isn't asked.
 abbrev pub DidFrom : Kind → FileTable → FetchedFile → ℕ → List ℕ → List ℕ → Outside → Outside → End → Type 0
 DidFrom k files (gives t) reads moments taken before now end =
     (rest : List ℕ) → Did (work_on files (scratch_terms k t) (scratch_session k t (moments ++ rest)) reads) unseen 0 taken before now end
 DidFrom k files (withholds w) reads moments taken before now end =
-    (taken ≡ []) × SaidLine (refused_start w) true before.output now.output end × (end ≡ how.Refused → HasRead before.files now.files reads)
+    (taken ≡ []) × (moments ≡ []) × SaidLine (refused_start w) true before.output now.output end × HasRead before.files now.files reads × (now.clock ≡ before.clock)
 
 -- A call with words that fit took these bytes of the input: all of them where all was done, unless the start tree is refused; more than a call takes exactly at that end.
 -- Where a table says what each name names, as far as the call had to know it, it did what the session from the start tree does.
@@ -45,4 +49,4 @@ pub record Ran (k : Kind) (given : FileTable → FetchedFile) (reads : ℕ) (bef
   pub told : HasTold before.clock.left now.clock.left moments
   pub running : IsRunning end
   pub ended : OnOk (result_of end) (IsAtEnd now.input.left ⊎ ((end ≡ how.Refused) × (taken ≡ [])))
-  pub did : (files : FileTable) → IsTable files before.files now.files → StartFailed reads taken before now end ⊎ DidFrom k files (given files) reads moments taken before now end
+  pub did : (files : FileTable) → IsTable files before.files now.files → HasNotStarted reads taken moments before now end ⊎ DidFrom k files (given files) reads moments taken before now end

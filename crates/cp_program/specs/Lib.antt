@@ -2,4 +2,5 @@ pub mod Texts
 pub mod InMemory
 pub mod Begun
 pub mod Answering
+pub mod Using
 pub mod Calls

@@ -99,7 +99,11 @@ fn verdict_on<R: TreeRep, S: TreeRep, D: Disk>(alloc: Global, disk: &mut D) -> R
 }
 
 /// Writes an answer, or the last line of what stopped the call.
-fn give_answer<O: Sink>(alloc: Global, answer: Result<Reply, Stop>, output: &mut O) -> End
+pub(crate) fn give_answer<O: Sink>(
+    alloc: Global,
+    answer: Result<Reply, Stop>,
+    output: &mut O,
+) -> End
     ensures gave { GaveAnswer answer (known_output O.Sink output.old) (known_output O.Sink output.new) result }
     ensures cause { IfErr answer IsOpeningStop → Accounts (λ e. e ≡ End.Output) (O.faults output.old) (O.faults output.new) (result_of result) }
 {

@@ -2,8 +2,8 @@
 ghost use Rattle.std.specs.Prelude.{◌≡◌, ◌⊎◌, IfErr};
 ghost use Rattle.cp_disk.specs.Counts.{UsesDisk};
 ghost use Rattle.cp_disk.specs.Views.{IfKnown, Keeps};
-ghost use Rattle.cp_journal.specs.NewStores.{IsVacant};
-ghost use Rattle.cp_db.specs.Writing.{IsOldOrVacantOrStart};
+ghost use Rattle.cp_journal.specs.NewStores.{IsVacant, SettlesInto};
+ghost use Rattle.cp_db.specs.Writing.{IsOldOrVacantOrStart, IsVacantOrStart};
 ghost use Rattle.cp_workspace.specs.Files.{known_files, UsesFiles};
 ghost use Rattle.cp_interpreter.specs.Begins.{CreatedAs, StoreMade};
 ghost use Rattle.cp_scratch.specs.Starts.{start_given, start_reads};
@@ -40,6 +40,8 @@ fn create<R: TreeRep, D: Disk>(
     ensures created { IfKnown (D.known disk.old) (λ v. IsVacant v.content
         → CreatedAs kind (R.contents tree) (D.known disk.new) result) }
     ensures crash { Keeps (IsOldOrVacantOrStart (D.known disk.old).view kind (R.contents tree)) (D.known disk.old) (D.known disk.new) }
+    ensures settles { IfKnown (D.known disk.old) (λ v.
+        SettlesInto (IsVacantOrStart kind (R.contents tree)) v (D.known disk.new).view) }
     ensures cause { UsesDisk IsDiskStop (D.known disk.old) (D.known disk.new) result }
     ensures kinds { IfErr result (λ e. (e ≡ Stop.Disk) ⊎ (e ≡ Stop.Memory)) }
 {

@@ -10,6 +10,7 @@ mod load;
 mod run;
 mod scratch;
 mod store;
+mod uses;
 
 pub use cp_interpreter::Status;
 pub use run::run_cpdb;

@@ -16,6 +16,7 @@ use crate::init::init;
 use crate::load::load;
 use crate::scratch::scratch;
 use crate::store::run;
+use crate::uses::uses;
 use cp_disk::Disk;
 use cp_interpreter::{End, Status, last_line, out_of_memory};
 use cp_outside::{Clock, Files, Sink, Source};
@@ -24,7 +25,7 @@ use cp_words::{Command, command_of};
 use std::alloc::Global;
 
 const USAGE: &[u8] =
-    b"usage: cpdb scratch KIND [JSON]\nusage: cpdb init STORE KIND [JSON]\nusage: cpdb run STORE [CURATOR]\nusage: cpdb commit STORE FILE [CURATOR]\nusage: cpdb load STORE NAME json FILE\nusage: cpdb load STORE NAME csv FILE [COLUMN]\nusage: cpdb query STORE STATEMENT\nusage: cpdb verify STORE\nusage: cpdb checkpoint STORE\nusage: cpdb gen SEED COUNT KIND\nusage: cpdb log STORE\n";
+    b"usage: cpdb scratch KIND [JSON]\nusage: cpdb init STORE KIND [JSON]\nusage: cpdb run STORE [CURATOR]\nusage: cpdb commit STORE FILE [CURATOR]\nusage: cpdb load STORE NAME json FILE\nusage: cpdb load STORE NAME csv FILE [COLUMN]\nusage: cpdb query STORE STATEMENT\nusage: cpdb verify STORE\nusage: cpdb checkpoint STORE\nusage: cpdb gen SEED COUNT KIND\nusage: cpdb log STORE\nusage: cpdb uses STORE PLACE\n";
 
 /// Does what the command asks for.
 fn run_command<R: TreeRep, S: TreeRep, D: Disk, F: Files, K: Clock, I: Source, O: Sink>(
@@ -69,6 +70,7 @@ fn run_command<R: TreeRep, S: TreeRep, D: Disk, F: Files, K: Clock, I: Source, O
         }
         Command::Log => list_commits::<R, S, D, O>(alloc, disk, output),
         Command::Verify => verify_records::<R, S, D, O>(alloc, disk, output),
+        Command::Uses(place) => uses::<R, S, D, O>(alloc, place, disk, output),
     }
 }
 

@@ -10,7 +10,7 @@ returns-in_ok-reply-in-Ok-clause-loaded g c =
     loaded-said g.R.TreeRep.contents g.S.TreeRep.contents c.args.source
     (known_files g.F.Files c.args.files.now) (known_files g.F.Files c.load-reply.new.files) (g.D.Disk.known c.args.disk.now) (g.D.Disk.known c.open_workspace.new.disk) (g.D.Disk.known c.load-reply.new.disk)
     c.in-Ok.workspace c.load-reply.new.self (still c.in-Ok.ensures.cause.same) c.open_workspace.ensures.rests c.in-Ok.ensures.opened
-    c.in_ok-reply-in-Ok.field-0 c.in_ok-reply-in-Ok.ensures.turned c.in_ok-reply-in-Ok.ensures.reads
+    c.in_ok-reply-in-Ok.field-0 c.in_ok-reply-in-Ok.ensures.turned c.in_ok-reply-in-Ok.ensures.spent
 
 pub returns-in-Err-clause-loaded : goal.returns-in-Err-clause-loaded
 returns-in-Err-clause-loaded g c =
@@ -32,4 +32,4 @@ returns-in_err-reply-in-Ok-clause-loaded g c =
     let e = c.in_err-reply-in-Ok.field-0.0 in
     let p = err_from_is_err_and c.from_residual.result c.from_residual.ensures.1 in
     rw p.1 (loaded-stopped view source_view c.args.source f h v m w c.in-Ok.workspace c.load-reply.new.self (still c.in-Ok.ensures.cause.same) c.open_workspace.ensures.rests c.in-Ok.ensures.opened
-    e p.0 p.2 met.turned met.reads (λ is z image. subst (λ d. (g.D.Disk.known d).view.images z) (met.untouched (ap (λ y. Err y) is)) image) (λ is. met.kinds (ap (λ y. Err y) is)))
+    e p.0 p.2 met.turned met.spent (λ is z image. subst (λ d. (g.D.Disk.known d).view.images z) (met.untouched (ap (λ y. Err y) is)) image) (λ is. met.kinds (ap (λ y. Err y) is)))

@@ -111,3 +111,14 @@ returns-in-Generate-clause-ran g c =
 
 pub returns-in-Generate-clause-causes : goal.returns-in-Generate-clause-causes
 returns-in-Generate-clause-causes g c = c.generate.ensures.causes (known_input g.I.Source c.args.input.now) (known_files g.F.Files c.args.files.now) (known_clock g.K.Clock c.args.clock.now)
+
+pub returns-in-Uses-clause-ran : goal.returns-in-Uses-clause-ran
+returns-in-Uses-clause-ran g c =
+    let before = known_outside g.F.Files g.K.Clock g.I.Source g.O.Sink c.args.files.now c.args.clock.now c.args.input.now c.args.output.now in
+    let now = known_outside g.F.Files g.K.Clock g.I.Source g.O.Sink c.args.files.now c.args.clock.now c.args.input.now c.uses.new.output in
+    let v = g.D.Disk.known c.args.disk.now in
+    let w = g.D.Disk.known c.uses.new.disk in
+    subst (λ (a : Command). DidCommand a before now v w c.uses.result) (sym c.in-Uses.is) (c.uses.ensures.ran (known_input g.I.Source c.args.input.now) (known_files g.F.Files c.args.files.now) (known_clock g.K.Clock c.args.clock.now))
+
+pub returns-in-Uses-clause-causes : goal.returns-in-Uses-clause-causes
+returns-in-Uses-clause-causes g c = c.uses.ensures.causes (known_input g.I.Source c.args.input.now) (known_files g.F.Files c.args.files.now) (known_clock g.K.Clock c.args.clock.now)

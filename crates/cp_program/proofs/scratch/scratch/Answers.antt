@@ -1,4 +1,4 @@
-use Rattle.std.proofs.Common.{sym, subst}
+use Rattle.std.proofs.Common.{inl, refl, sym, subst}
 use Rattle.cp_outside.specs.FileReads.{FileTable}
 use Rattle.cp_reply.specs.Session.{FetchedFile}
 use Rattle.cp_workspace.specs.Files.{known_files}
@@ -20,7 +20,7 @@ returns-in_default-clause-ran g c =
     let p = known_output g.O.Sink c.out_of_memory.new.output in
     let n = start_reads c.args.start in
     let P : End → Type 0 = λ e. Ran c.args.kind given n (parts i f k o) (parts i f k p) e in
-    subst P (sym c.out_of_memory.ensures.end) (ran-out c.args.kind given n i f f k o p c.out_of_memory.ensures.wrote)
+    subst P (sym c.out_of_memory.ensures.end) (ran-out c.args.kind given n i f f k o p c.out_of_memory.ensures.wrote (inl refl))
 
 pub returns-in_default-new-clause-ran : goal.returns-in_default-new-clause-ran
 returns-in_default-new-clause-ran g c =
@@ -32,4 +32,4 @@ returns-in_default-new-clause-ran g c =
     let p = known_output g.O.Sink c.out_of_memory-in_default-new.new.output in
     let n = start_reads c.args.start in
     let P : End → Type 0 = λ e. Ran c.args.kind given n (parts i f k o) (parts i f k p) e in
-    subst P (sym c.out_of_memory-in_default-new.ensures.end) (ran-out c.args.kind given n i f f k o p c.out_of_memory-in_default-new.ensures.wrote)
+    subst P (sym c.out_of_memory-in_default-new.ensures.end) (ran-out c.args.kind given n i f f k o p c.out_of_memory-in_default-new.ensures.wrote (inl refl))
