@@ -29,6 +29,7 @@ usage: cpdb verify STORE
 usage: cpdb checkpoint STORE
 usage: cpdb gen SEED COUNT KIND
 usage: cpdb log STORE
+usage: cpdb uses STORE PLACE
 """
 KINDS = ("n", "t", "h", "ht")
 QUERIES = ("src", "hist", "mod", "trace", "from", "show", "records", "stats")
@@ -476,6 +477,23 @@ class Store:
             at, high = event[2], event[1] - 1
         return parts + ["%s@0..%d" % (place_text(at), high), "start"]
 
+    def passed(self, path):
+        """The places through which the data of a place of the tree has come, and the place of a source where it came from."""
+        found = [("T", *path)]
+        for event in reversed(brought(self.tree[path][1])):
+            if event[0] == "born":
+                break
+            found.append(event[2])
+            if event[2][0] != "T":
+                break
+        return found
+
+    def uses(self, place):
+        if place[0] != "T" and place[0] not in self.sources:
+            return "refused: no source " + place[0]
+        found = [place_text(("T", *path)) for path in sorted(self.tree) if place in self.passed(path)]
+        return "uses %s: %s" % (place_text(place), " ".join(found) or "none")
+
     def stats(self):
         numbers = (self.kind, self.tid, len(self.log), len(self.records), len(self.tree), len(self.sources))
         return "stats: kind %s, tid %d, transactions %d, records %d, nodes %d, sources %d" % numbers
@@ -617,6 +635,15 @@ class Session:
 # Calls.
 
 
+def place_of(word):
+    """The place that a word spells, if it does: each has one spelling."""
+    try:
+        verb, place, *_ = parse(("src " + word).encode())
+    except Fault:
+        return None
+    return place if verb == "src" and place_text(place) == word else None
+
+
 def fit(words):
     """Whether the words after the program's name fit."""
     if any(not word or word[0] == "-" for word in words):
@@ -637,6 +664,8 @@ def fit(words):
                 return parse(statement.encode())[0] in QUERIES
             except Fault:
                 return False
+        case ["uses", _, place]:
+            return place_of(place) is not None
         case ["gen", seed, count, kind]:
             return is_decimal(seed, 0, 2**64 - 1) and is_decimal(count, 1, 100_000) and kind in KINDS
     return False
@@ -737,6 +766,8 @@ class World:
             Session(store, "", self).take(("load", name, form, file, words[3] if len(words) > 3 else None))
         elif command == "query":
             Session(store, "", self).take(parse(words[0].encode()))
+        elif command == "uses":
+            self.lines.append(store.uses(place_of(words[0])))
         elif command == "verify":
             self.lines.append("agrees %d" % len(store.records))
         else:
@@ -828,7 +859,7 @@ def sessions_of(path):
             cases.append((line, [("words", "scratch n", []), ("in", "-", [line[2:]]), ("out", "", [])], []))
         elif line.startswith("$ bin/cpdb "):
             block, words = "session", line[11:]
-            if words.split()[0] not in ("run", "commit", "load", "query", "log", "verify"):
+            if words.split()[0] not in ("run", "commit", "load", "query", "log", "verify", "uses"):
                 cases.append((line, [], []))
             moment = 1_795_910_400 + 60 * (len(cases[-1][1]) // 4)
             moments = "%d %d %d" % (moment, moment + 1, moment + 2)

@@ -115,6 +115,14 @@ impl Call {
         }
     }
 
+    /// Whether the call has a store: `scratch` and `gen` leave the disk as it is.
+    pub(crate) fn has_store(&self) -> bool {
+        match self.words.as_slice() {
+            [_, command, ..] => !matches!(command.as_str(), "scratch" | "gen"),
+            _ => false,
+        }
+    }
+
     /// Counts the bytes of the input.
     pub(crate) fn input_len(&self) -> usize {
         self.input.len()

@@ -12,7 +12,13 @@ use std::rt;
 
 /// What a crash may leave that is looked at: the content of the last sync, the content now, and that with other bytes in
 /// place of those that are pending.
-const CRASHES: [Crash; 4] = [Crash::Old, Crash::New, Crash::Fill(0), Crash::Fill(1)];
+const CRASHES: [Crash; 5] = [
+    Crash::Old,
+    Crash::New,
+    Crash::Fill(0),
+    Crash::Fill(1),
+    Crash::Fill(255),
+];
 
 /// The last line of a call that ends since this device failed.
 pub(crate) fn last_line(device: Device) -> &'static [u8] {
@@ -43,35 +49,68 @@ pub(crate) fn is_cut_short(device: Device, output: &[u8], whole: &[u8]) -> bool 
     }
 }
 
-/// The number after the last `committed` of these lines, or after the last `..` of its line; 0 where there is none.
-pub(crate) fn last_tid(output: &[u8]) -> u64 {
+/// Which stores a call may leave, by the number of entries after the start; `None` is no store.
+#[derive(Clone, Copy, Drop)]
+pub(crate) struct Bounds {
+    low: Option<u64>,
+    high: Option<u64>,
+}
+
+/// How many entries the lines say that the call has added; `None` where none of them tells of a store.
+fn entries_told(output: &[u8]) -> Option<u64> {
     let text = std::str::from_utf8(output).unwrap_or("");
-    let mut last = 0;
+    let mut told = None;
     for line in text.split('\n') {
-        if let Some(tids) = line.strip_prefix("committed ") {
-            let (low, high) = tids.split_once("..").unwrap_or((tids, tids));
-            last = high
-                .parse::<u64>()
-                .unwrap_or(low.parse::<u64>().unwrap_or(0));
+        if line.starts_with("created ") {
+            told = Some(0);
+        } else if line.starts_with("committed ") || line.starts_with("loaded ") {
+            told = Some(told.unwrap_or(0u64).saturating_add(1));
         }
     }
-    last
+    told
 }
 
-/// The Tid in the line of `stats`; `None` where the call wrote no such line.
-fn tid_in(output: &[u8]) -> Option<u64> {
-    let text = std::str::from_utf8(output).unwrap_or("");
-    let (_, rest) = text.split_once(", tid ")?;
-    let (tid, _) = rest.split_once(',')?;
-    tid.parse::<u64>().ok()
-}
-
-/// The last Tid that a call which asks for the numbers tells; `None` where there is no store.
-fn tid_told(outcome: &Outcome) -> Option<u64> {
-    if outcome.status == 6 {
-        return None;
+/// So many entries more.
+fn with_entries(before: Option<u64>, told: Option<u64>) -> Option<u64> {
+    match (before, told) {
+        (Some(old), Some(more)) => Some(old.saturating_add(more)),
+        (old, more) => old.or(more),
     }
-    Some(tid_in(&outcome.output).unwrap_or(u64::MAX))
+}
+
+impl Bounds {
+    /// Those of a call that wrote this much of its whole output on a store with so many entries: each entry whose line was
+    /// written, and of the others at most the first.
+    pub(crate) fn of(before: Option<u64>, output: &[u8], whole: &[u8]) -> Bounds {
+        let low = with_entries(before, entries_told(output));
+        let all = with_entries(before, entries_told(whole));
+        let next = low.map_or(0, |entries| entries.saturating_add(1));
+        Bounds {
+            low,
+            high: all.min(Some(next)),
+        }
+    }
+
+    /// Whether a store with so many entries is one of them.
+    fn have(self, left: Option<u64>) -> bool {
+        self.low <= left && left <= self.high
+    }
+}
+
+/// The number after this word and a space, up to the next comma or the line's end.
+fn number_after(line: &str, word: &str) -> Option<u64> {
+    let (_, rest) = line.split_once(word)?;
+    let text = rest.trim_start();
+    let (number, _) = text.split_once([',', '\n']).unwrap_or((text, ""));
+    number.parse::<u64>().ok()
+}
+
+/// How many entries the line of `stats` tells; `None` where the call wrote no such line.
+fn entries_in(output: &[u8]) -> Option<u64> {
+    let text = std::str::from_utf8(output).unwrap_or("");
+    let commits = number_after(text, "transactions")?;
+    let loads = number_after(text, "sources")?;
+    Some(commits.saturating_add(loads))
 }
 
 /// What a session on this disk gives that asks for the numbers.
@@ -85,38 +124,35 @@ fn asked<R: rt::Files + Drop, P: Program>(
     asking.make::<P, ShareTree, ArenaTree, _, _>(alloc, program, disk, files)
 }
 
-/// The last Tid of the store that a crash leaves; `None` where it leaves no store. The files of the call are those of a
-/// runtime `R`, of which it reads none.
-fn tid_left<R: rt::Files + Drop, P: Program>(
+/// How many entries the store on this disk has; `None` where it is no store, and a number that no store has where it can't
+/// be told. The files of the call are those of a runtime `R`, of which it reads none.
+pub(crate) fn entries_on<R: rt::Files + Drop, P: Program>(
     alloc: Global,
     program: &P,
-    disk: &MemDisk,
-    how: Crash,
+    disk: &mut MemDisk,
 ) -> Result<Option<u64>, AllocError> {
     let mut files: CaseFiles<R> = CaseFiles::Named(MemFiles::new(alloc, &[])?);
-    let mut image = disk.crash(alloc, how)?;
-    let told = asked::<R, P>(alloc, program, &mut image, &mut files);
-    drop(image);
+    let told = asked::<R, P>(alloc, program, disk, &mut files);
     drop(files);
-    Ok(tid_told(&told?))
+    let outcome = told?;
+    if outcome.status == 6 {
+        return Ok(None);
+    }
+    Ok(Some(entries_in(&outcome.output).unwrap_or(u64::MAX)))
 }
 
-/// Says what a crash leaves other than a store with a last Tid from `low` to `high`; or no store, where one is made. `None`
-/// where it always leaves that.
+/// Says what a crash leaves other than one of these stores. `None` where it always leaves one of them.
 pub(crate) fn fault_left<R: rt::Files + Drop, P: Program>(
     alloc: Global,
     program: &P,
     disk: &MemDisk,
-    low: u64,
-    high: u64,
-    may_be_none: bool,
+    bounds: Bounds,
 ) -> Result<Option<String>, AllocError> {
     for how in CRASHES {
-        let fits = match tid_left::<R, P>(alloc, program, disk, how)? {
-            Some(tid) => low <= tid && tid <= high,
-            None => may_be_none,
-        };
-        if !fits {
+        let mut image = disk.crash(alloc, how)?;
+        let left = entries_on::<R, P>(alloc, program, &mut image);
+        drop(image);
+        if !bounds.have(left?) {
             return Ok(Some(format!(in alloc; "a crash {how:?} leaves another store")?));
         }
     }

@@ -23,13 +23,13 @@
 //! | `status N`, `status one of N N ..` | the exit status |
 //! | `left N` | how many bytes of the input weren't taken |
 //! | `size N`, `bytes AT HEX` | the length of the call's store, and bytes in it |
-//! | `each DEVICE` | made again with the device failing at its first call (a disk from that on), at its second and so on, until it makes fewer: each ends with the device's status and last line, and a crash leaves each commit whose line was written, and of the others the first |
+//! | `each DEVICE` | made again with the device failing at its first call (a disk from that on), at its second and so on, until it makes fewer: each ends with the device's status and last line, and a crash leaves each entry that was there or whose line was written, and of the others at most the first |
 //!
 //! A call whose input, files and store have at most 65,536 bytes is made once more with trees that have every other form at
 //! once, and has to give the same.
 
 use crate::call::{Call, Device, Outcome, device_of};
-use crate::failures::{fault_left, is_ended_by, last_tid};
+use crate::failures::{Bounds, entries_on, fault_left, is_ended_by};
 use crate::file::StoreFiles;
 use crate::program::Program;
 use crate::setting::Setting;
@@ -250,11 +250,23 @@ impl<'a, R: Files, P: Program> Stage<'a, R, P> {
         }
     }
 
+    /// How many entries the store has before the call; `None` where it is no store.
+    fn entries_before(&self, alloc: Global) -> Result<Option<u64>, AllocError> {
+        let asking = Call::asking(alloc)?;
+        let made = asking.disk_of(alloc, &self.setting.before);
+        drop(asking);
+        let mut disk = made?;
+        let told = entries_on::<&'a R, P>(alloc, self.setting.program, &mut disk);
+        drop(disk);
+        told
+    }
+
     /// Says what a call gave, and what it left on the disk, other than what it has to where the device fails: the status, the
-    /// last line, and a store with each commit whose line was written.
+    /// last line, and a store with each entry whose line was written, and of the others at most the first.
     fn compare_cut_short(
         &self,
         alloc: Global,
+        call: &Call,
         whole: &Outcome,
         device: Device,
         outcome: &Outcome,
@@ -263,10 +275,13 @@ impl<'a, R: Files, P: Program> Stage<'a, R, P> {
         if !is_ended_by(device, outcome, whole) {
             return difference(alloc, "it ends otherwise");
         }
-        let low = last_tid(&outcome.output);
-        let high = last_tid(&whole.output);
-        let is_made = whole.output.starts_with(b"created");
-        fault_left::<&'a R, P>(alloc, self.setting.program, disk, low, high, is_made)
+        let before = self.entries_before(alloc)?;
+        let bounds = if call.has_store() {
+            Bounds::of(before, &outcome.output, &whole.output)
+        } else {
+            Bounds::of(before, b"", b"")
+        };
+        fault_left::<&'a R, P>(alloc, self.setting.program, disk, bounds)
     }
 
     /// Says what the call gave other than what it has to give as a device fails at its first call, at its second, and so on,
@@ -287,7 +302,7 @@ impl<'a, R: Files, P: Program> Stage<'a, R, P> {
             let compared = if is_past_all {
                 Ok(None)
             } else {
-                self.compare_cut_short(alloc, whole, device, &outcome, &disk)
+                self.compare_cut_short(alloc, call, whole, device, &outcome, &disk)
             };
             drop(outcome);
             drop(disk);
