@@ -24,14 +24,14 @@ _cpdb_options() {
 _cpdb_command() {
     case $COMP_CWORD:${COMP_WORDS[1]-} in
     1:*)
-        words="scratch init run commit load query gen log verify help $tools"
+        words="scratch init run commit load query gen log verify uses help $tools"
         case $word in -*) words='--help --version' ;; esac
         ;;
     2:help) words=$tools ;;
     2:scratch | 3:init | 4:gen) words='n t h ht' ;;
     4:load) words='json csv' ;;
     3:query) words='records show stats' ;;
-    [23]:commit | [24]:init | [25]:load | 3:scratch | 2:run | 2:query | 2:log | 2:verify) files=-o ;;
+    [23]:commit | [24]:init | [25]:load | 3:scratch | 2:run | 2:query | 2:log | 2:verify | 2:uses) files=-o ;;
     esac
 }
 

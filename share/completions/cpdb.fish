@@ -42,6 +42,7 @@ complete -c cpdb -n __fish_is_first_token -a query -d 'Answer one statement from
 complete -c cpdb -n __fish_is_first_token -a gen -d 'Run a generated workload in memory'
 complete -c cpdb -n __fish_is_first_token -a log -d 'List the commits of a store'
 complete -c cpdb -n __fish_is_first_token -a verify -d 'Compare the records of a store with a replay'
+complete -c cpdb -n __fish_is_first_token -a uses -d 'Tell which places use the data of one'
 complete -c cpdb -n __fish_is_first_token -a help -d 'Tell the commands and tools, or how a tool is used'
 complete -c cpdb -n __fish_is_first_token -l version -d 'Tell the commit and the kit'
 complete -c cpdb -n __fish_is_first_token -l help -d 'Tell the commands and tools'
@@ -79,7 +80,7 @@ complete -c cpdb -n '__cpdb_at 3 query' -a stats -d 'Numbers of the store'
 
 complete -c cpdb -n '__cpdb_at 2 shell' -a scratch -d 'A session in memory'
 
-complete -c cpdb -n '__cpdb_at 2 init run commit load query log verify' -F
+complete -c cpdb -n '__cpdb_at 2 init run commit load query log verify uses' -F
 complete -c cpdb -n '__cpdb_at 3 scratch commit' -F
 complete -c cpdb -n '__cpdb_at 4 init; or __cpdb_at 5 load' -F
 complete -c cpdb -n '__cpdb_at 2 backup diff find history json ls outdated page prepare rescue revert shell sources stats try update' -F
