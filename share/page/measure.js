@@ -1,6 +1,7 @@
 'use strict';
 // Opened with `?measure` after its name the page types 200 keys into its search, and says how long each took until it was
-// painted. Opened with `?answers` it writes the program's five answers for each place of T, as they follow from what it keeps.
+// painted. Opened with `?answers` it writes the program's six answers for each place of T, as they follow from what it keeps,
+// and then who uses each other place that it knows.
 
 const KEYS = 200;
 
@@ -47,5 +48,6 @@ async function measure(store) {
 function showAnswers(store) {
   const lines = [];
   for (let place = 0; place < store.roots[0].end; place += 1) lines.push(...store.answers(place));
+  for (let place = store.roots[0].end; place < store.parents.length; place += 1) lines.push(store.usesLine(store.path(place)));
   document.body.replaceChildren(element('pre', { id: 'answers' }, lines.join('\n')));
 }

@@ -245,7 +245,74 @@ class Store {
     this.partSteps = parts.map((it) => it.slice(1));
   }
 
-  // The answers of the program to its five queries of a place.
+  // Who uses a place
+
+  // By the numbers of places: which places of T have a past of their own that passes through one or ends in it, and at which
+  // rank of their traces; `users[starts[number]]` is the first of a number.
+  passages() {
+    if (this.passagesAt) return this.passagesAt;
+    const starts = new Int32Array(this.parents.length + 1);
+    this.eachPassage((number) => { starts[number + 1] += 1; });
+    for (let number = 0; number < this.parents.length; number += 1) starts[number + 1] += starts[number];
+    const next = starts.slice();
+    const users = new Int32Array(starts[this.parents.length]);
+    const ranks = new Int32Array(users.length);
+    this.eachPassage((number, user, rank) => {
+      users[next[number]] = user;
+      ranks[next[number]++] = rank;
+    });
+    this.passagesAt = { starts, users, ranks };
+    return this.passagesAt;
+  }
+
+  // Tells of each past that is a place's own its places, but for those that it shares with its parent's, and its end.
+  eachPassage(tell) {
+    for (let place = 0; place < this.pastAt.length; place += 1) {
+      const at = this.pastAt[place];
+      if (at < 0) continue;
+      const shared = this.pasts[at] - 1;
+      const last = shared + this.pasts[at + 1];
+      let next = at + 2;
+      for (let rank = shared; rank < last; rank += 1) {
+        tell(rank === 0 ? place : this.pasts[next++], place, rank);
+        next += 1;
+      }
+      if (this.pasts[next] >= 0) tell(this.pasts[next], place, last);
+    }
+  }
+
+  // The places of T whose trace passes through a place or ends in it, in order, as `cpdb uses` answers; whether the place
+  // stands or not. Each has such a past by itself or from a place above, whose own passes through one above the place.
+  uses(path) {
+    const { starts, users, ranks } = this.passages();
+    const found = new Set();
+    for (const number of this.numbersOn(path)) {
+      const labels = path.slice(this.ancestors(number).length + 1);
+      for (let at = starts[number]; at < starts[number + 1]; at += 1) {
+        const user = this.heir(users[at], ranks[at], labels);
+        if (user >= 0) found.add(user);
+      }
+    }
+    return [...found].sort((one, other) => one - other);
+  }
+
+  // The place by these labels below a place of T, where each on the way has its parent's past up to a rank; else -1.
+  heir(place, rank, labels) {
+    let at = place;
+    for (const label of labels) {
+      at = this.childWith(at, label);
+      if (at < 0 || (this.pastAt[at] >= 0 && this.pasts[this.pastAt[at]] - 1 <= rank)) return -1;
+    }
+    return at;
+  }
+
+  // The line that `cpdb uses` writes.
+  usesLine(path) {
+    const users = this.uses(path).map((it) => spelledPlace(this.path(it)));
+    return `uses ${spelledPlace(path)}: ${users.length > 0 ? users.join(' ') : 'none'}`;
+  }
+
+  // The answers of the program to its five queries of a place, and the line of `cpdb uses`.
   answers(place) {
     const trace = this.trace(place);
     const { segments, end } = trace;
@@ -257,7 +324,7 @@ class Store {
     const from = segments.length > 1 ? spelledPlace(segments[1].path) : endText;
     return [`src ${name}: ${this.src(trace) === null ? 'none' : this.src(trace)}`, `hist ${name}: ${list(this.hist(trace))}`,
       `mod ${name}: ${list(this.mod(place))}`, `trace ${name}: ${[...stood, endText].join(' < ')}`,
-      `from ${name}: ${isStart ? 'start' : `${from} at ${segments[0].low}`}`];
+      `from ${name}: ${isStart ? 'start' : `${from} at ${segments[0].low}`}`, this.usesLine(this.path(place))];
   }
 
   // Commits and records

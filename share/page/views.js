@@ -103,10 +103,20 @@ function curatedParts(store, place, path) {
     element('p', { class: 'summary' }, summary(store, trace)),
     section('Its past', pictureNode(store, trace)),
     partsOfSteps(store, place, trace),
+    usersSection(store, path),
     store.childCount[place] > 0 && childrenTable(store, place),
     recordsSection(store, path, 'What was done at this address'),
     answersNode(store, place),
   ];
+}
+
+// The places of T whose data came by a place, but for that place itself.
+function usersSection(store, path) {
+  const { place, isThere } = store.walk(path);
+  const users = store.uses(path).filter((it) => !(isThere && it === place));
+  const title = 'Who took data from here';
+  if (users.length === 0) return section(title, element('p', { class: 'none users' }, 'Nobody.'));
+  return section(`${title} (${NUMBERS.format(users.length)})`, someRows(element('ul', { class: 'users' }), users, (it) => element('li', {}, placeLink(store.path(it)))));
 }
 
 // How the data came here, in a sentence or two.
@@ -198,7 +208,7 @@ function answersNode(store, place) {
   box.ontoggle = () => {
     if (!box.open || box.children.length > 1) return;
     box.append(element('pre', { tabindex: 0 }, store.answers(place).map((it) => seen(it)).join('\n')),
-      element('p', { class: 'note' }, 'As cpdb writes them. The page keeps trace and mod without what the answers for the place above or below imply, and derives src, hist and from from the trace. When it was made, the program was asked all five of every place, and answered just this.'));
+      element('p', { class: 'note' }, 'As cpdb writes them. The page keeps trace and mod without what the answers for the place above or below imply, and derives src, hist and from from the trace, and uses from all traces. When it was made, the program was asked the first five of every place, and answered just this.'));
   };
   return box;
 }
@@ -211,6 +221,7 @@ function missingView(store, path) {
   return [crumbs(path), element('h2', {}, labelNode(path[path.length - 1])),
     element('p', { class: 'summary' }, path[0] === 'T' ? 'Nothing stands at this address now. ' : place < 0 ? 'There is no source with this name. ' : 'The page has no such place of this source. ',
       nearest && ['What stands nearest above it is ', placeLink(nearest), '.']),
+    place >= 0 && usersSection(store, path),
     path[0] === 'T' && recordsSection(store, path, 'What was done at this address')];
 }
 
@@ -226,7 +237,7 @@ function sourceParts(store, place) {
     !root.whole && ' It is too big for this page, which has only those of its places that were taken.');
   const title = isRoot ? 'What was taken' : 'Where it went';
   const list = copies.length === 0 ? element('p', { class: 'none' }, 'Nothing of it stands in T now.') : someRows(element('ol', { class: 'steps' }), copies, (it) => copyRow(store, it));
-  return [facts, isRoot && meter(taken.places, root.places, store.rootOf(place)), section(copies.length > 0 ? `${title} (${NUMBERS.format(copies.length)})` : title, list),
+  return [facts, isRoot && meter(taken.places, root.places, store.rootOf(place)), section(copies.length > 0 ? `${title} (${NUMBERS.format(copies.length)})` : title, list), usersSection(store, store.path(place)),
     store.childCount[place] > 0 && childrenTable(store, place)];
 }
 
