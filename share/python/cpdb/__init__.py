@@ -18,10 +18,10 @@ by side as here (PREFIX/bin/cpdb is a link to the bin/cpdb there):
     sys.path.insert(0, os.path.join(os.path.dirname(os.path.dirname(os.path.realpath(__file__))), "share", "python"))
     import cpdb
 """
-from .calls import copy_of, init, log, program, query, verify
+from .calls import copy_of, init, log, program, query, uses, verify
 from .replies import (Commit, Committed, End, Ended, Origin, Record, Refused, Segment, Stats, Trace, read_commit,
                       read_committed, read_origin, read_record, read_records, read_show, read_src, read_stats, read_tids,
-                      read_trace)
+                      read_trace, read_uses)
 from .session import Session, statement_of
 from .spelling import (Place, SpellingError, Tree, copy_text, delete_text, insert_text, label_text, quoted, read_label, read_tree, read_value, tree_text,
                        value_text, walk)
@@ -33,5 +33,5 @@ __all__ = ["Commit", "CommitEntry", "Committed", "Copy", "Delete", "End", "Ended
            "SpellingError", "Start", "Stats", "Trace", "Tree", "copy_of", "copy_text", "delete_text", "entries_of", "entry",
            "frame_at", "frames", "header", "init", "insert_text", "is_vacant", "label_text", "log", "operation_text", "program",
            "query", "quoted", "read_commit", "read_committed", "read_label", "read_origin", "read_record", "read_records",
-           "read_show", "read_src", "read_stats", "read_tids", "read_trace", "read_tree", "read_value", "statement_of",
-           "tree_text", "value_text", "verify", "walk"]
+           "read_show", "read_src", "read_stats", "read_tids", "read_trace", "read_tree", "read_uses", "read_value",
+           "statement_of", "tree_text", "uses", "value_text", "verify", "walk"]

@@ -6,9 +6,10 @@ import subprocess
 import tempfile
 from typing import Iterator, List, NamedTuple, Optional, Union
 
-from .replies import Commit, Ended, Refused, number_behind, read_commit
+from .replies import Commit, Ended, Refused, number_behind, read_commit, read_uses
+from .spelling import Place
 
-__all__ = ["copy_of", "init", "log", "program", "query", "verify"]
+__all__ = ["copy_of", "init", "log", "program", "query", "uses", "verify"]
 
 Name = Union[str, "os.PathLike[str]"]
 
@@ -67,6 +68,14 @@ def verify(store: Name) -> str:
 def query(store: Name, statement: str) -> List[str]:
     """The lines that answer one query on a store, refusals as they are."""
     return _call("query", store, statement).lines
+
+
+def uses(store: Name, place: Union[Place, str]) -> List[Place]:
+    """The places of T whose data came by a place of T or of a source, in order: itself too, where it stands in T.
+
+    Refused where no source has the place's name.
+    """
+    return read_uses(_call("uses", store, str(place)).lines[-1])
 
 
 @contextlib.contextmanager

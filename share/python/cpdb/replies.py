@@ -6,7 +6,7 @@ from .spelling import Place, SpellingError, Tree, read_label, read_place_at, rea
 
 __all__ = ["Commit", "Committed", "End", "Ended", "Origin", "Record", "Refused", "Segment", "Stats", "Trace",
            "read_commit", "read_committed", "read_origin", "read_record", "read_records", "read_show", "read_src",
-           "read_stats", "read_tids", "read_trace"]
+           "read_stats", "read_tids", "read_trace", "read_uses"]
 
 
 class Refused(Exception):
@@ -168,6 +168,23 @@ def read_origin(line: str) -> Origin:
     if not found:
         raise _unread(line)
     return _end(answer[: found.start()])._replace(tid=int(found.group(1)))
+
+
+def read_uses(line: str) -> List[Place]:
+    """The places of a reply of `uses`, in its order, which is that of places."""
+    answer = answer_of(line, "uses")
+    if answer == "none":
+        return []
+    places: List[Place] = []
+    offset = 0
+    while True:
+        text, offset = read_place_at(answer, offset)
+        places.append(read_written_place(text))
+        if offset == len(answer):
+            return places
+        if answer[offset] != " ":
+            raise _unread(line)
+        offset += 1
 
 
 def read_record(line: str) -> Record:

@@ -22,6 +22,7 @@ syntax match cpdbVerb /\<from\>/ nextgroup=cpdbBegun,cpdbQuotedBegun skipwhite s
 syntax match cpdbVerb /\<show\>/ nextgroup=cpdbShown,cpdbQuotedShown skipwhite
 syntax match cpdbVerb /\<records\>/ nextgroup=cpdbNumber,cpdbCount skipwhite
 syntax match cpdbVerb /\<stats\>/ nextgroup=cpdbNumbers skipwhite
+syntax match cpdbVerb /^\s*\zsuses\ze \%("\|\k\+: \)/ nextgroup=cpdbUsed,cpdbQuotedUsed skipwhite
 
 syntax match cpdbWord /\<into\>/ contained nextgroup=cpdbPlace,cpdbQuotedPlace skipwhite skipnl skipempty
 syntax match cpdbFrom /\<from\>/ contained nextgroup=cpdbPlace,cpdbQuotedPlace skipwhite skipnl skipempty
@@ -36,12 +37,16 @@ syntax match cpdbAsked /\k\+/ contained nextgroup=cpdbAnswer
 syntax match cpdbTraced /\k\+/ contained nextgroup=cpdbTrace
 syntax match cpdbBegun /\k\+/ contained nextgroup=cpdbBeginning
 syntax match cpdbShown /\k\+/ contained nextgroup=cpdbTree
+syntax match cpdbUsed /\k\+/ contained nextgroup=cpdbUsers
+syntax match cpdbUser /\k\+/ contained nextgroup=cpdbUser,cpdbQuotedUser skipwhite
 syntax region cpdbQuotedPlace start=/"/ skip=/\\./ end=/"/ contained contains=cpdbEscape
 syntax region cpdbQuotedOrigin start=/"/ skip=/\\./ end=/"/ contained contains=cpdbEscape nextgroup=cpdbWord skipwhite skipnl skipempty
 syntax region cpdbQuotedAsked start=/"/ skip=/\\./ end=/"/ contained contains=cpdbEscape nextgroup=cpdbAnswer
 syntax region cpdbQuotedTraced start=/"/ skip=/\\./ end=/"/ contained contains=cpdbEscape nextgroup=cpdbTrace
 syntax region cpdbQuotedBegun start=/"/ skip=/\\./ end=/"/ contained contains=cpdbEscape nextgroup=cpdbBeginning
 syntax region cpdbQuotedShown start=/"/ skip=/\\./ end=/"/ contained contains=cpdbEscape nextgroup=cpdbTree
+syntax region cpdbQuotedUsed start=/"/ skip=/\\./ end=/"/ contained contains=cpdbEscape nextgroup=cpdbUsers
+syntax region cpdbQuotedUser start=/"/ skip=/\\./ end=/"/ contained contains=cpdbEscape nextgroup=cpdbUser,cpdbQuotedUser skipwhite
 
 " Trees
 syntax region cpdbLiteral matchgroup=cpdbBrace start=/{/ end=/}/ contained contains=@cpdbInNode nextgroup=cpdbWord skipwhite skipnl skipempty
@@ -68,6 +73,8 @@ syntax match cpdbSource /\<[A-Za-z][A-Za-z0-9_]*\>/ contained nextgroup=cpdbForm
 syntax match cpdbAnswer /: / contained nextgroup=cpdbTids
 syntax match cpdbTids /\<\%(none\|\d\+\%( \d\+\)*\)$/ contained
 syntax match cpdbTree /: / contained nextgroup=@cpdbValue
+syntax match cpdbUsers /: / contained nextgroup=cpdbNobody,cpdbUser,cpdbQuotedUser
+syntax match cpdbNobody /\<none$/ contained
 syntax match cpdbBeginning /: / contained nextgroup=cpdbNew,cpdbGiven,cpdbQuotedGiven
 syntax match cpdbGiven /\k\+/ contained nextgroup=cpdbAt skipwhite
 syntax region cpdbQuotedGiven start=/"/ skip=/\\./ end=/"/ contained contains=cpdbEscape nextgroup=cpdbAt skipwhite
@@ -97,7 +104,7 @@ highlight default link cpdbVerb Statement
 for s:word in ['Word', 'From', 'Form', 'By', 'At', 'ByWhom']
   execute 'highlight default link cpdb' . s:word . ' Keyword'
 endfor
-for s:place in ['Place', 'Origin', 'Asked', 'Traced', 'Begun', 'Shown', 'Given', 'Segment', 'Recorded']
+for s:place in ['Place', 'Origin', 'Asked', 'Traced', 'Begun', 'Shown', 'Used', 'User', 'Given', 'Segment', 'Recorded']
   execute 'highlight default link cpdb' . s:place . ' Identifier'
   execute 'highlight default link cpdbQuoted' . s:place . ' Identifier'
 endfor
@@ -116,6 +123,7 @@ highlight default link cpdbText String
 highlight default link cpdbTable String
 highlight default link cpdbEscape SpecialChar
 highlight default link cpdbTids Number
+highlight default link cpdbNobody Number
 highlight default link cpdbTid Number
 highlight default link cpdbSteps Number
 highlight default link cpdbLoggedSteps Number
