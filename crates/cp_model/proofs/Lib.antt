@@ -12,6 +12,7 @@ pub mod KeyedLemmas
 pub mod LeapsLemmas
 pub mod Lookups
 pub mod Losses
+pub mod MarkedRows
 pub mod Marks
 pub mod NewestLemmas
 pub mod Origins
@@ -19,6 +20,7 @@ pub mod Passing
 pub mod Pasts
 pub mod Reading
 pub mod RecordsLemmas
+pub mod Rising
 pub mod Rooted
 pub mod RowsUpto
 pub mod Sorted

@@ -20,3 +20,4 @@ pub mod Versions
 pub mod Laws
 pub mod Below
 pub mod Changes
+pub mod Rising

@@ -3,8 +3,6 @@ mod Answering
 mod Steps
 mod Asking
 mod Stepwise
-mod MarkedRows
-mod RecordsRise
 mod RisingRows
 mod Noting
 mod TidSets

@@ -14,10 +14,10 @@ use Rattle.cp_model.specs.declared.kind.Kind.{Kind}
 use Rattle.cp_model.specs.declared.record.Record.{Record}
 use Rattle.cp_model.specs.Changes.{goes_before, records_at, rises, is_between}
 use Rattle.cp_model.proofs.Passing.{and_true, and_both}
+use Rattle.cp_model.proofs.Rising.{records-rise}
 use Rattle.cp_query.specs.Asked.{IsCommitted}
 use Rattle.cp_query.specs.Kept.{records_upto}
 use Rattle.cp_query.specs.Rows.{comes_next, with_next}
-use Rattle.cp_query.proofs.RecordsRise.{records-rise}
 use Rattle.cp_query.proofs.Stepwise.{asked-step, asked-all, none-after}
 
 -- ---- parts of rows that rise

@@ -7,6 +7,7 @@ use Rattle.cp_model.proofs.Origins.{sound-step}
 use Rattle.cp_model.proofs.Histories.{legal-tree}
 use Rattle.cp_model.proofs.Effects.{working-step, read-rows_of, losses-rows_of}
 use Rattle.cp_model.proofs.Pasts.{legal-pasts}
+use Rattle.cp_model.proofs.Rising.{records-rise}
 use Rattle.cp_model.proofs.VersionLemmas.{versions-are-legal, last-version-is-all}
 use Rattle.cp_model.proofs.VersionStates.{versions-are-states}
 use Rattle.cp_model.proofs.stated.laws.Goals as goal
@@ -34,6 +35,9 @@ returns-clause-reading c = record {
 
 pub returns-clause-pasts : goal.returns-clause-pasts
 returns-clause-pasts c = legal-pasts
+
+pub returns-clause-records : goal.returns-clause-records
+returns-clause-records c = records-rise
 
 pub returns-clause-legal_versions : goal.returns-clause-legal_versions
 returns-clause-legal_versions c = versions-are-legal

@@ -11,8 +11,7 @@ use Rattle.cp_model.specs.Keyed as keyed
 use Rattle.cp_model.specs.Subtrees.{map_values, with_values}
 use Rattle.cp_model.specs.Tree.{Tree}
 use Rattle.cp_model.specs.Step.{Working}
-use Rattle.cp_model.specs.declared.record.RowMark.{RowMark as Mark}
-use Rattle.cp_model.specs.Rows.{full_here, reduced_here, full_rows, reduced_rows, rows_with_marks, all_paths}
+use Rattle.cp_model.specs.Rows.{Mark, full_here, reduced_here, full_rows, reduced_rows, rows_with_marks, all_paths}
 use Rattle.cp_model.specs.History.{rows_of}
 use Rattle.cp_model.specs.declared.kind.Kind.{Kind}
 use Rattle.cp_model.specs.declared.kind.Kind.TheVariants as kind

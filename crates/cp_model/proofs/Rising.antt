@@ -15,14 +15,13 @@ use Rattle.cp_model.specs.Place.{Path, path_cmp, in_target, at_target}
 use Rattle.cp_model.specs.Tree.{Tree}
 use Rattle.cp_model.specs.Step.{Outcome, done, refused, step}
 use Rattle.cp_model.specs.Past.{tree_of}
-use Rattle.cp_model.specs.declared.record.RowMark.{RowMark as Mark}
-use Rattle.cp_model.specs.declared.record.RowMark.TheVariants.{Made as I, Copied as C, Gone as D, Kept as K}
+use Rattle.cp_model.specs.Rows.{Mark, I, C, D, K}
 use Rattle.cp_model.specs.History.{Entry, start, load, commit, State, record_of, rows_of, with_tid, steps_of, after_settling, after_outcome, after_step, after_commit, start_state, then_entry, replay, CanFollow, IsLegal, IsLegalFrom}
 use Rattle.cp_model.specs.declared.kind.Kind.{Kind}
 use Rattle.cp_model.specs.Changes.{goes_before, rises, is_source, is_between, AreNext}
 use Rattle.cp_model.proofs.Passing.{and_true, and_both, or_true}
 use Rattle.cp_model.proofs.Sorted.{parts_of}
-use Rattle.cp_query.proofs.MarkedRows.{sorted-rows_of}
+use Rattle.cp_model.proofs.MarkedRows.{sorted-rows_of}
 
 -- a record has the Tid of its step
 pub tid-record_of : (t : ℕ) (p : Path) (m : Mark) → (record_of t p m).tid ≡ t
