@@ -1,18 +1,18 @@
 -- One entry more: what the disk holds then, and what a crash leaves.
 use Rattle.std.proofs.Common.{◌≡◌, inl, inr, ℕ, ◌≤◌, ◌<◌, Bool, true, List, [], ◌∷◌, ◌++◌, length, refl, subst, arith, length-append}
 use Rattle.cp_model.specs.History.{Entry, replay}
-use Rattle.cp_disk.specs.Views.{View, ViewKeeps}
+use Rattle.cp_disk.specs.Views.{View, Either, ViewKeeps}
 use Rattle.cp_disk.proofs.Composing.{keeps_none, keeps_wider}
 use Rattle.cp_format.specs.Formats.{Reads}
 use Rattle.cp_frame.specs.Entries.{WrittenEntry, entry_format}
 use Rattle.cp_journal.specs.Frames.{Frame, entry}
-use Rattle.cp_journal.specs.Holding.{Holds, StandsWithOrWithout as HasFrameOrNot}
+use Rattle.cp_journal.specs.Holding.{Holds, Stands}
 use Rattle.cp_journal.specs.Journals.{Describes}
 use Rattle.cp_journal.specs.Upgrading.{upgraded, StandsInAVersion}
 use Rattle.cp_journal.specs.declared.limits.TheConstants.{VERSION_AT}
 use Rattle.cp_journal.proofs.Standing.{holds_images}
 use Rattle.cp_frame.specs.Items.{an_entry, IsHeld, IsOfVersion, CanStand, Tell, entry_meant}
-use Rattle.cp_frame.specs.Stands.{IsHead, StandsFor, StandsWithOrWithout}
+use Rattle.cp_frame.specs.Stands.{IsHead, StandsFor, StandsForEither}
 use Rattle.cp_frame.proofs.Images.{store-stands, in-a-version, upgraded-head}
 use Rattle.cp_frame.proofs.Standing.{tell-added, tell-newer}
 use Rattle.cp_db.specs.Databases.{IsKept}
@@ -26,8 +26,8 @@ module _ {R S : Type 0} (d : Db R S) (h : List Entry) (v : View) (k : IsKept tru
   kept-stands c i = store-stands d.version k.head k.frames h c k.is_head k.some k.tell (holds_images k.head k.frames d.journal.next v k.described.holds c i)
 
   -- where the disk is as it was, a crash leaves the history before
-  pub crash-none : (e : Entry) → ViewKeeps (StandsWithOrWithout h e) v v
-  crash-none e = keeps_none (StandsWithOrWithout h e) v (λ c i. inl (kept-stands c i))
+  pub crash-none : (e : Entry) → ViewKeeps (StandsForEither h (h ++ e ∷ [])) v v
+  crash-none e = keeps_none (StandsForEither h (h ++ e ∷ [])) v (λ c i. inl (kept-stands c i))
 
   pub crash-failed : ViewKeeps (StandsFor h) v v
   crash-failed = keeps_none (StandsFor h) v kept-stands
@@ -68,13 +68,13 @@ module _ (version : ℕ) (h : List Entry) (e : Entry) (body : List ℕ) (n : IsN
       tell = rw (same, is) (tell-next k.frames told);
     }
 
-    either : (c : List ℕ) → HasFrameOrNot k.head k.frames (entry body) c → StandsWithOrWithout h e c
+    either : (c : List ℕ) → Either (Stands k.head k.frames) (Stands k.head (k.frames ++ entry body ∷ [])) c → StandsForEither h (h ++ e ∷ []) c
     either c (inl before) = inl (store-stands d.version k.head k.frames h c k.is_head k.some k.tell before)
     either c (inr after) = inr (store-stands d.version k.head (k.frames ++ entry body ∷ []) (h ++ e ∷ []) c k.is_head (some_more k.frames) (rw is (tell-next k.frames told)) after)
 
     -- a crash leaves the history before, or that with the entry
-    pub crash-added : ((head : List ℕ) (fs : List Frame) → Holds head fs d.journal.next v → ViewKeeps (HasFrameOrNot head fs (entry body)) v u) → ViewKeeps (StandsWithOrWithout h e) v u
-    crash-added keeps = keeps_wider (HasFrameOrNot k.head k.frames (entry body)) (StandsWithOrWithout h e) v u (keeps k.head k.frames k.described.holds) either
+    pub crash-added : ((head : List ℕ) (fs : List Frame) → Holds head fs d.journal.next v → ViewKeeps (Either (Stands head fs) (Stands head (fs ++ entry body ∷ []))) v u) → ViewKeeps (StandsForEither h (h ++ e ∷ [])) v u
+    crash-added keeps = keeps_wider (Either (Stands k.head k.frames) (Stands k.head (k.frames ++ entry body ∷ []))) (StandsForEither h (h ++ e ∷ [])) v u (keeps k.head k.frames k.described.holds) either
 
 -- ---- the version is written
 

@@ -15,7 +15,7 @@ use Rattle.cp_journal.specs.declared.limits.TheConstants.{BODY_MAX, FRAME_HEAD}
 use Rattle.cp_operation.specs.Passed.{records_of}
 use Rattle.cp_engine.specs.Transactions as txn
 use Rattle.cp_engine.specs.declared.txn.Step.{Step}
-use Rattle.cp_frame.specs.Stands.{StandsFor, StandsWithOrWithout}
+use Rattle.cp_frame.specs.Stands.{StandsFor, StandsForEither}
 use Rattle.cp_frame.specs.Sizes.{has_room, load_size, stamped_size}
 use Rattle.cp_db.specs.Committed.{HasRows, LeadsTo}
 use Rattle.cp_db.specs.Databases.{HoldsState, end_in}
@@ -127,5 +127,5 @@ HasCommitted view source_view old s stamp (txn.failed j b) new (Err fault.Memory
 
 -- of a commit a crash leaves the file for the history before, or for that with the operations that the transaction holds
 abbrev pub IsBeforeOrCommitted : List Entry → Stamp → txn.Progress → List ℕ → Type 0
-IsBeforeOrCommitted h stamp (txn.going ops) c = StandsWithOrWithout h (commit stamp ops) c
+IsBeforeOrCommitted h stamp (txn.going ops) c = StandsForEither h (h ++ commit stamp ops ∷ []) c
 IsBeforeOrCommitted h stamp (txn.failed n b) c = StandsFor h c

@@ -10,9 +10,9 @@ ghost use Rattle.cp_model.specs.declared.op.Op.{Op as OpValue};
 ghost use Rattle.cp_model.specs.declared.record.Record.{Record as RecordValue};
 ghost use Rattle.cp_model.specs.declared.stamp.Stamp.{Stamp as StampValue};
 ghost use Rattle.cp_disk.specs.Counts.{UsesDisk};
-ghost use Rattle.cp_disk.specs.Views.{ViewRests, ViewKeeps, IfKnown, IsSettled, Keeps};
+ghost use Rattle.cp_disk.specs.Views.{Either, ViewRests, ViewKeeps, IfKnown, IsSettled, Keeps};
 ghost use Rattle.cp_journal.specs.Frames.{Frame, entry};
-ghost use Rattle.cp_journal.specs.Holding.{Holds, StandsWithOrWithout as HasFrameOrNot};
+ghost use Rattle.cp_journal.specs.Holding.{Holds, Stands as StandsOnFrames};
 ghost use Rattle.cp_journal.specs.Journals.{Describes};
 ghost use Rattle.cp_journal.specs.NewStores.{IsVacant, SettlesInto};
 ghost use Rattle.cp_engine.specs.Transactions.{Progress, going};
@@ -20,7 +20,7 @@ ghost use Rattle.cp_format.specs.Formats.{Reads};
 ghost use Rattle.cp_frame.specs.Entries.{WrittenEntry, IsEntry, entry_format};
 ghost use Rattle.cp_frame.specs.declared.entry.Entry.TheVariants.{Load as LoadEntry, Stamped as StampedEntry};
 ghost use Rattle.cp_frame.specs.Items.{Tell};
-ghost use Rattle.cp_frame.specs.Stands.{StandsFor, StandsWithOrWithout};
+ghost use Rattle.cp_frame.specs.Stands.{StandsFor, StandsForEither};
 ghost use Rattle.cp_frame.specs.Sizes.{has_room, load_size, start_size};
 ghost use Rattle.cp_db.specs.Databases.{HoldsState, HoldsSame, Stands, IsDatabase, IsReady, IsKept, HasCome, end_in, is_spent, version_in};
 ghost use Rattle.cp_db.specs.Writing.{commit_size, HasCommitted, HasLoaded, HasMade, HasStepped, IsBeforeOrCommitted, IsCommitDisk, IsInitDisk, IsLoadDisk, IsOldOrVacantOrStart, IsVacantOrStart, IsWriteDisk, in_the_way};
@@ -182,7 +182,7 @@ impl<R: TreeRep, S: TreeRep> Db<R, S> {
             → OnOk result (IsKept true self.new (h ++ load name (S.contents tree) ∷ []) (D.known disk.new).view)) }
         ensures crash { IfKnown (D.known disk.old) (λ v. (h : List HistoryEntry)
             → Stands R.contents S.contents true self.old h → IsKept true self.old h v
-            → ViewKeeps (StandsWithOrWithout h (load name (S.contents tree))) v (D.known disk.new).view) }
+            → ViewKeeps (StandsForEither h (h ++ load name (S.contents tree) ∷ [])) v (D.known disk.new).view) }
         ensures room { has_room (end_in self.old) (load_size name (S.contents tree)) ≡ false → disk.new ≡ disk.old }
         ensures ready { OnOk result (IfKnown (D.known disk.new) (λ v. IsReady self.new v)) }
         ensures durable { OnOk result (IsSettled (D.known disk.new)) }
@@ -321,7 +321,7 @@ impl<R: TreeRep, S: TreeRep> Db<R, S> {
             → OnOk result (Describes head (fs ++ entry body.now ∷ []) self.new.journal (D.known disk.new).view)) }
         ensures crash { IfKnown (D.known disk.old) (λ v. (head : List ℕ) (fs : List Frame)
             → Holds head fs (end_in self.old) v
-            → ViewKeeps (HasFrameOrNot head fs (entry body.now)) v (D.known disk.new).view) }
+            → ViewKeeps (Either (StandsOnFrames head fs) (StandsOnFrames head (fs ++ entry body.now ∷ []))) v (D.known disk.new).view) }
         ensures ready { OnOk result (IfKnown (D.known disk.new) (λ v. IsReady self.new v)) }
         ensures durable { OnOk result (IsSettled (D.known disk.new)) }
         ensures kinds { IsErrOf result WriteFault.TooLarge → ⊥ }
@@ -352,7 +352,7 @@ impl<R: TreeRep, S: TreeRep> Db<R, S> {
             → OnOk result (IsKept true self.new (h ++ load name (S.contents tree) ∷ []) (D.known disk.new).view)) }
         ensures crash { IfKnown (D.known disk.old) (λ v. (h : List HistoryEntry)
             → Stands R.contents S.contents true self.old h → IsKept true self.old h v
-            → ViewKeeps (StandsWithOrWithout h (load name (S.contents tree))) v (D.known disk.new).view) }
+            → ViewKeeps (StandsForEither h (h ++ load name (S.contents tree) ∷ [])) v (D.known disk.new).view) }
         ensures room { has_room (end_in self.old) (load_size name (S.contents tree)) ≡ false → disk.new ≡ disk.old }
         ensures ready { OnOk result (IfKnown (D.known disk.new) (λ v. IsReady self.new v)) }
         ensures durable { OnOk result (IsSettled (D.known disk.new)) }
@@ -441,7 +441,7 @@ impl<R: TreeRep, S: TreeRep> Db<R, S> {
         ensures crash { IfKnown (D.known disk.old) (λ v. (ops : List OpValue)
             → HasMade R.contents S.contents self.old ops step → (h : List HistoryEntry)
             → Stands R.contents S.contents true self.old h → IsKept true self.old h v
-            → ViewKeeps (StandsWithOrWithout h (commit stamp ops)) v (D.known disk.new).view) }
+            → ViewKeeps (StandsForEither h (h ++ commit stamp ops ∷ [])) v (D.known disk.new).view) }
         ensures room { (ops : List OpValue) → HasMade R.contents S.contents self.old ops step
             → (s : State) → HoldsState R.contents S.contents self.old s
             → has_room (end_in self.old) (commit_size s stamp ops) ≡ false → disk.new ≡ disk.old }

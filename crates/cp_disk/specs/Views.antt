@@ -24,6 +24,10 @@ pub record KnownDisk : Type 1 where
   pub view : View
   pub counts : Counts
 
+-- The file has one of two properties.
+abbrev pub Either : (List ℕ → Type 0) → (List ℕ → Type 0) → List ℕ → Type 0
+Either Property Other c = Property c ⊎ Other c
+
 -- This content is the one file that a crash may leave.
 abbrev pub Only : List ℕ → (List ℕ → Type 0) → Type 0
 Only content images = (c : List ℕ) → images c → c ≡ content
@@ -55,10 +59,14 @@ pub record ViewSteps (Step : List ℕ → List ℕ → Type 0) (v w : View) : Ty
   pub since : (t : ℕ) (c : List ℕ) → t ≤ v.moment → w.since t c → v.since t c ⊎ IsAfter Step v c
   pub now : (c : List ℕ) → w.images c → IsAfter Step v c
 
+-- From v to w, each file that a crash may have left is one that it could leave at v, or has this property.
+abbrev pub ViewLeaves : (List ℕ → Type 0) → View → View → Type 0
+ViewLeaves Property v w = (t : ℕ) (c : List ℕ) → t ≤ v.moment → w.since t c → v.since t c ⊎ Property c
+
 -- From v to w, each file that a crash leaves has this property.
 pub record ViewKeeps (Property : List ℕ → Type 0) (v w : View) : Type 0 where
   pub later : v.moment ≤ w.moment
-  pub since : (t : ℕ) (c : List ℕ) → t ≤ v.moment → w.since t c → v.since t c ⊎ Property c
+  pub since : ViewLeaves Property v w
   pub now : (c : List ℕ) → w.images c → Property c
 
 -- ---- of disks of which it may not be known what they hold
@@ -82,6 +90,10 @@ Rests d e = IfKnown d (λ v. ViewRests v e.view)
 -- From d to e each file that a crash leaves is an image of d after this step.
 abbrev pub Steps : (List ℕ → List ℕ → Type 0) → KnownDisk → KnownDisk → Type 0
 Steps Step d e = IfKnown d (λ v. ViewSteps Step v e.view)
+
+-- From d to e time has gone on, and each file that a crash may have left is one that it could leave at d, or has this property.
+abbrev pub Leaves : (List ℕ → Type 0) → KnownDisk → KnownDisk → Type 0
+Leaves Property d e = IfKnown d (λ v. (v.moment ≤ e.view.moment) × ViewLeaves Property v e.view)
 
 -- From d to e each file that a crash leaves has this property.
 abbrev pub Keeps : (List ℕ → Type 0) → KnownDisk → KnownDisk → Type 0

@@ -1,5 +1,5 @@
 -- What a file stands for: no history where it is vacant, else the one that its frames tell; and which files a database opens.
-use Rattle.std.specs.Prelude.{ℕ, ◌≡◌, ◌≤◌, ◌⊎◌, ◌++◌, Bool, true, false, List, [], ◌∷◌, length, take}
+use Rattle.std.specs.Prelude.{ℕ, ◌≡◌, ◌≤◌, ◌⊎◌, Bool, true, false, List, [], length, take}
 use Rattle.std.specs.List.{flat_map}
 use Rattle.std.specs.declared.option.Option.TheVariants.{None}
 use Rattle.cp_model.specs.History.{Entry}
@@ -10,6 +10,7 @@ use Rattle.cp_journal.specs.NewStores.{IsVacant}
 use Rattle.cp_journal.specs.declared.header.Header.{Header}
 use Rattle.cp_journal.specs.declared.limits.TheConstants.{HEADER_SIZE}
 use Rattle.cp_frame.specs.Items.{Item, AllStand, AreHeld, entries_in}
+use Rattle.cp_disk.specs.Views.{Either}
 
 -- ---- headers
 
@@ -81,6 +82,6 @@ pub record IsStore (h : List Entry) (c : List ℕ) : Type 0 where
 abbrev pub StandsFor : List Entry → List ℕ → Type 0
 StandsFor h c = ((h ≡ []) × IsVacant c) ⊎ IsStore h c
 
--- the file stands for this history, or for it with one entry more
-abbrev pub StandsWithOrWithout : List Entry → Entry → List ℕ → Type 0
-StandsWithOrWithout h e c = StandsFor h c ⊎ StandsFor (h ++ e ∷ []) c
+-- It stands for this history, or for that one.
+abbrev pub StandsForEither : List Entry → List Entry → List ℕ → Type 0
+StandsForEither h i = Either (StandsFor h) (StandsFor i)

@@ -2,7 +2,7 @@
 ghost use Rattle.std.specs.Prelude.{◌≡◌, ◌↔◌, [], None, Ok, IfOk, IsErr, IsErrOf};
 ghost use Rattle.std.specs.IoError.{error_kind};
 ghost use Rattle.cp_outside.specs.Causes.{Accounts, one_more};
-ghost use Rattle.cp_outside.specs.FileReads.{ReadsFile, BlamesFile};
+ghost use Rattle.cp_outside.specs.FileReads.{ReadsFile};
 ghost use Rattle.cp_host.specs.Adapters.{files_reads, files_faults, ReadsAll};
 
 use cp_outside::{FileEnd, Files, FilesFault};
@@ -42,7 +42,7 @@ impl<R> HostFiles<R> {
     fn refuse(&mut self, error: &io::Error) -> Result<FileEnd, FilesFault>
         ensures refused { IsErr result }
         ensures reads { files_reads self.new ≡ files_reads self.old }
-        ensures cause { Accounts BlamesFile (files_faults self.old) (files_faults self.new) result }
+        ensures cause { Accounts (λ e. e ≡ FilesFault.Failed) (files_faults self.old) (files_faults self.new) result }
         ensures failed { IsErrOf result FilesFault.Failed
             → files_faults self.new ≡ one_more (files_faults self.old) }
         ensures memory { IsErrOf result FilesFault.Memory
@@ -120,7 +120,7 @@ impl<R: rt::Files> Files for HostFiles<R> {
     ) -> Result<FileEnd, FilesFault>
         ensures read { IfOk result (λ end. ReadsFile None name.now limit into.new.items end) }
         ensures counted { files_reads self.new ≡ one_more (files_reads self.old) }
-        ensures cause { Accounts BlamesFile (files_faults self.old) (files_faults self.new) result }
+        ensures cause { Accounts (λ e. e ≡ FilesFault.Failed) (files_faults self.old) (files_faults self.new) result }
 
         // The empty name names nothing, and each failure is counted once.
         ensures nameless { name.now ≡ [] → result ≡ Ok FileEnd.Missing }

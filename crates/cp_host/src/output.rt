@@ -2,7 +2,7 @@
 ghost use Rattle.std.specs.Prelude.{◌≡◌, ◌<◌, length, IfErr};
 ghost use Rattle.std.specs.Io.KnownBytes.{WriteAppends};
 ghost use Rattle.cp_outside.specs.Causes.{Accounts, one_more};
-ghost use Rattle.cp_outside.specs.Sinks.{BlamesOutput, CountsRefusal, CountsSince, TakesSome};
+ghost use Rattle.cp_outside.specs.Sinks.{CountsRefusal, CountsSince, TakesSome};
 ghost use Rattle.cp_host.specs.Adapters.{sink_inner, sink_faults, sink_since};
 
 use cp_outside::{Sink, SinkFault};
@@ -46,7 +46,7 @@ impl<W: Write> Sink for StdoutSink<W> {
         ensures some { TakesSome result bytes.now }
         ensures bytes { WriteAppends (W.contents (sink_inner self.old)) (W.contents (sink_inner self.new))
             result bytes.now }
-        ensures cause { Accounts BlamesOutput (sink_faults self.old) (sink_faults self.new) result }
+        ensures cause { Accounts (λ e. e ≡ SinkFault.Failed) (sink_faults self.old) (sink_faults self.new) result }
         ensures refused { CountsRefusal (sink_faults self.old) (sink_faults self.new) result }
         ensures since { CountsSince (sink_since self.old) (sink_since self.new) result }
 

@@ -5,7 +5,7 @@ use Rattle.cp_outside.specs.Causes.{Accounts}
 use Rattle.cp_disk.specs.Views.{KnownDisk}
 use Rattle.cp_workspace.proofs.ReadCounts.{some-then}
 use Rattle.cp_interpreter.specs.Outside.{KnownOutput, World}
-use Rattle.cp_interpreter.specs.Turns.{Uses, RefusesWrite, IsFileStop, IsDiskStop, IsClockStop, IsOutputStop}
+use Rattle.cp_interpreter.specs.Turns.{Uses, RefusesWrite}
 use Rattle.cp_interpreter.specs.declared.stop.Stop.{Stop}
 use Rattle.cp_interpreter.specs.declared.stop.Stop.TheVariants.{Output, Full, File, Disk, NoStore, Clock, Memory}
 use Rattle.cp_interpreter.proofs.Lines.{refused-after}
@@ -36,16 +36,16 @@ pub uses-then : (b m a : World) (v u w : KnownDisk) (result : Result ⊤ Stop) �
 uses-then b m a v u w result first second = record {
   files = record {
     same = second.files.same ∙ first.files.same;
-    account = subst (λ n. Accounts IsFileStop n a.files.faults result) first.files.account.steady second.files.account;
+    account = subst (λ n. Accounts (λ e. e ≡ File) n a.files.faults result) first.files.account.steady second.files.account;
   };
   read = some-then b.files m.files a.files first.read second.read;
-  clock = subst (λ n. Accounts IsClockStop n a.clock.faults result) first.clock.steady second.clock;
+  clock = subst (λ n. Accounts (λ e. e ≡ Clock) n a.clock.faults result) first.clock.steady second.clock;
   output = record {
-    account = subst (λ n. Accounts IsOutputStop n a.output.faults result) first.output.account.steady second.output.account;
+    account = subst (λ n. Accounts (λ e. e ≡ Output) n a.output.faults result) first.output.account.steady second.output.account;
     refuses = refuses-after b.output m.output a.output result first.output.refuses second.output.refuses;
   };
   disk = record {
     same = second.disk.same ∙ first.disk.same;
-    account = subst (λ n. Accounts IsDiskStop n w.counts.faults result) first.disk.account.steady second.disk.account;
+    account = subst (λ n. Accounts (λ e. e ≡ Disk) n w.counts.faults result) first.disk.account.steady second.disk.account;
   };
 }

@@ -7,8 +7,8 @@ use Rattle.cp_outside.specs.FileReads.{FileTable}
 use Rattle.cp_model.specs.Tree.{Tree}
 use Rattle.cp_model.specs.History.{Entry}
 use Rattle.cp_disk.specs.Counts.{UsesDisk}
-use Rattle.cp_disk.specs.Views.{KnownDisk, ViewRests}
-use Rattle.cp_frame.specs.Stands.{IsStore, Opens}
+use Rattle.cp_disk.specs.Views.{KnownDisk, ViewRests, ViewKeeps, ViewLeaves}
+use Rattle.cp_frame.specs.Stands.{IsStore, Opens, StandsForEither}
 use Rattle.cp_frame.specs.Stops.{IsNot}
 use Rattle.cp_db.specs.Databases as database
 use Rattle.cp_db.specs.Databases.{IsKept}
@@ -24,7 +24,6 @@ use Rattle.cp_reply.specs.declared.reply.Reply.{Reply}
 use Rattle.cp_reply.specs.Session.{Session, says, turn_of, session_after_statements}
 use Rattle.cp_workspace.specs.Texts.{Terms, setting}
 use Rattle.cp_workspace.specs.Loads.{statement_reads}
-use Rattle.cp_workspace.specs.Disks.{LeavesEither}
 use Rattle.cp_workspace.specs.Files.{KnownFiles, HasRead, IsTable, UsesFiles}
 use Rattle.cp_workspace.specs.Spending.{Spends}
 use Rattle.cp_workspace.specs.Workspaces.{Stands, HoldsFile, TurnsAs, db_in, end_now, opened_session}
@@ -34,9 +33,9 @@ use Rattle.cp_workspace.specs.declared.workspace.Workspace.{Workspace}
 use Rattle.cp_interpreter.specs.Job.{Report, is_refusal}
 use Rattle.cp_interpreter.specs.Outside.{KnownInput, KnownClock, KnownOutput, Outside}
 use Rattle.cp_interpreter.specs.Story.{Writes, StopsIn, SaidLine, HasCauses, DiskCauses, HasNotBegun, result_of, left_on, store_terms, frames_end}
-use Rattle.cp_interpreter.specs.Alone.{report_on, LeavesOneOf, DidStatement, Loaded}
+use Rattle.cp_interpreter.specs.Alone.{report_on, DidStatement, Loaded}
 use Rattle.cp_interpreter.specs.Begins.{IsOpeningStop, OpenedAlone, NotOpened, LoadGives, LoadedAs}
-use Rattle.cp_interpreter.specs.Turns.{IsDiskStop, IsFileStop, TellsStop, end_of_stop}
+use Rattle.cp_interpreter.specs.Turns.{TellsStop, end_of_stop}
 use Rattle.cp_interpreter.specs.declared.end.End.{End}
 use Rattle.cp_interpreter.specs.declared.end.End.TheVariants as how
 use Rattle.cp_interpreter.specs.declared.stop.Stop.{Stop}
@@ -103,7 +102,7 @@ not-store T view source_view v w Clock at h o = absurd (cc)
 not-store T view source_view v w Memory at h o = absurd (cc)
 
 -- no file is blamed where no store was opened
-pub opening-files : {T : Type 0} (f : KnownFiles) (stop : Stop) → IsOpeningStop stop → UsesFiles {T = T} IsFileStop f f (Err stop)
+pub opening-files : {T : Type 0} (f : KnownFiles) (stop : Stop) → IsOpeningStop stop → UsesFiles {T = T} (λ e. e ≡ File) f f (Err stop)
 opening-files f stop kind = record {
   same = refl;
   account = record { later = omega arith; blamed = opening-is (λ s. s ≡ File → Rose f.faults f.faults) stop kind (λ h. absurd (cc)) (λ at h. absurd (cc)) (λ h. absurd (cc)); steady = tt };
@@ -152,14 +151,14 @@ module _ {R S : Type 0} (view : R → Tree) (source_view : S → Tree) (l : Load
       here : Stands view source_view terms old session × HoldsFile old h m
       here = (opened known).1 h [] store
 
-      left : (r : Result Reply WorkspaceFault) → MadeTurn r → LeavesEither h report.history m w
+      left : (r : Result Reply WorkspaceFault) → MadeTurn r → ViewKeeps (StandsForEither h report.history) m.view w.view
       unfolding session_after_statements
       left r turned = (turned files t terms session here.0).leaves (same known) here.1
 
       later : (r : Result Reply WorkspaceFault) → MadeTurn r → v.view.moment ≤ w.view.moment
       later r turned = omega (arith, (rests known).later, (left r turned).later)
 
-      crash : (r : Result Reply WorkspaceFault) → MadeTurn r → LeavesOneOf h report.history v.view w.view
+      crash : (r : Result Reply WorkspaceFault) → MadeTurn r → ViewLeaves (StandsForEither h report.history) v.view w.view
       crash r turned n c le x = elim ((left r turned).since n c (omega (arith, le, (rests known).later)) x) [
         | inl before ↦ inl ((rests known).since n c le before)
         | inr after ↦ inr after
@@ -275,7 +274,7 @@ abbrev IsLoadStop : Stop → Type 0
 IsLoadStop stop = (stop ≡ Output → ⊥) × (stop ≡ Full → ⊥) × (stop ≡ Clock → ⊥)
 
 -- the disk's account
-pub disk-stopped : (v w : KnownDisk) (stop : Stop) → IsLoadStop stop → {T : Type 0} → UsesDisk {T = T} IsDiskStop v w (Err stop) → DiskCauses v w (end_of_stop stop)
+pub disk-stopped : (v w : KnownDisk) (stop : Stop) → IsLoadStop stop → {T : Type 0} → UsesDisk {T = T} (λ e. e ≡ Disk) v w (Err stop) → DiskCauses v w (end_of_stop stop)
 disk-stopped v w stop kind uses = record {
   same = uses.same;
   account = stop-account how.Disk v.counts.faults w.counts.faults stop uses.account.later (λ h. uses.account.blamed (stop-from stop how.Disk kind.1 h));
@@ -289,7 +288,7 @@ module _ (i : KnownInput) (f g : KnownFiles) (k : KnownClock) (o p : KnownOutput
   a = record { input = i; files = g; clock = k; output = p }
 
   -- the causes where it was stopped
-  pub causes-stopped : (stop : Stop) → IsLoadStop stop → UsesFiles {T = Reply} IsFileStop f g (Err stop) → o.faults ≤ p.faults → HasCauses b a (end_of_stop stop)
+  pub causes-stopped : (stop : Stop) → IsLoadStop stop → UsesFiles {T = Reply} (λ e. e ≡ File) f g (Err stop) → o.faults ≤ p.faults → HasCauses b a (end_of_stop stop)
   causes-stopped stop kind used later = record {
     input = stop-account how.Input i.faults i.faults stop (omega arith) (λ h. absurd (stop-input stop h));
     world = record {

@@ -17,7 +17,6 @@ use Rattle.cp_reply.specs.declared.reply.Why.TheVariants as why
 use Rattle.cp_reply.specs.declared.reply.Reply.{Reply}
 use Rattle.cp_reply.specs.declared.reply.Reply.TheVariants as reply
 use Rattle.cp_reply.specs.Session.{FetchedFile, gives, withholds}
-use Rattle.cp_workspace.specs.Faults.{IsFailedFile}
 use Rattle.cp_workspace.specs.Fetched.{Gives}
 use Rattle.cp_workspace.specs.Files.{KnownFiles, HasRead, IsTable, ReadsBefore, ReadsOrNone, UsesFiles}
 use Rattle.cp_workspace.proofs.ReadCounts.{reads-all}
@@ -25,7 +24,7 @@ use Rattle.cp_interpreter.specs.Job.{is_refusal}
 use Rattle.cp_interpreter.specs.Outside.{KnownInput, KnownClock, KnownOutput, Outside}
 use Rattle.cp_interpreter.specs.Story.{LeavesStart, IsRunning, SaidLine, Made, MadeFrom, EndedEarly, FileOfStartFailed, result_of}
 use Rattle.cp_interpreter.specs.Begins.{IsMakingStop, CreatedAs, MadeAs, StoreMade}
-use Rattle.cp_interpreter.specs.Turns.{IsFileStop, TellsStop, end_of_stop}
+use Rattle.cp_interpreter.specs.Turns.{TellsStop, end_of_stop}
 use Rattle.cp_interpreter.specs.declared.end.End.{End}
 use Rattle.cp_interpreter.specs.declared.end.End.TheVariants as how
 use Rattle.cp_interpreter.specs.declared.stop.Stop.{Stop}
@@ -90,7 +89,7 @@ module _ (k : Kind) (given : FileTable → FetchedFile) (reads : ℕ) (b a : Kno
 
   module _ (vacant : IsTrue v.known → IsVacant v.view.content) where
     -- the start tree's file failed, or memory ran out
-    pub made-unread : (fault : FilesFault) (stop : Stop) → (fault ≡ fails.Failed → stop ≡ File) × (fault ≡ fails.Memory → stop ≡ Memory) → ReadsBefore IsFailedFile reads b a fault → StoreMade k given reads b a v m (Err stop)
+    pub made-unread : (fault : FilesFault) (stop : Stop) → (fault ≡ fails.Failed → stop ≡ File) × (fault ≡ fails.Memory → stop ≡ Memory) → ReadsBefore (λ e. e ≡ fails.Failed) reads b a fault → StoreMade k given reads b a v m (Err stop)
     made-unread fails.Failed stop becomes r = record {
       exists = λ known no. absurd (no (vacant known));
       made = λ known is files t. (making k (given files) reads b a m stop (inl (becomes.0 refl)) (λ e. r.blamed refl), leaves-start k (given files) v.view m.view (rests known));
@@ -233,6 +232,6 @@ stops-of (Ok x) h = tt
 stops-of (Err e) h = inr h
 
 -- and blames no file
-pub files-unblamed : {T : Type 0} (b a : KnownFiles) (r : Result T Stop) → IfErr r (λ e. (e ≡ Disk) ⊎ (e ≡ Memory)) → a.found ≡ b.found → a.faults ≡ b.faults → UsesFiles IsFileStop b a r
+pub files-unblamed : {T : Type 0} (b a : KnownFiles) (r : Result T Stop) → IfErr r (λ e. (e ≡ Disk) ⊎ (e ≡ Memory)) → a.found ≡ b.found → a.faults ≡ b.faults → UsesFiles (λ e. e ≡ File) b a r
 files-unblamed b a (Ok x) h found same = record { same = found; account = record { later = omega (arith, same); blamed = tt; steady = same } }
 files-unblamed b a (Err e) h found same = record { same = found; account = record { later = omega (arith, same); blamed = λ f. no_file e _ h f; steady = tt } }

@@ -3,12 +3,12 @@ use Rattle.std.proofs.Common.{Bool, ◌≡◌, ℕ, ◌+◌, List, [], drop, tak
 use Rattle.std.specs.Prelude.{IsTrue, IfErr, Result, ◌⊎◌, ◌≤◌, ◌++◌, OnOk}
 use Rattle.std.specs.Io.KnownBytes.{IsAtEnd}
 use Rattle.std.proofs.KnownBytes.{Consumes-nil}
-use Rattle.cp_outside.specs.Causes.{Accounts, Rose}
+use Rattle.cp_outside.specs.Causes.{Accounts}
 use Rattle.cp_model.specs.Tree.{Tree}
 use Rattle.cp_model.specs.History.{Entry}
 use Rattle.cp_outside.specs.FileReads.{FileTable}
 use Rattle.cp_disk.specs.Counts.{UsesDisk}
-use Rattle.cp_disk.specs.Views.{View, ViewRests, ViewKeeps, KnownDisk}
+use Rattle.cp_disk.specs.Views.{View, ViewRests, ViewKeeps, KnownDisk, ViewLeaves}
 use Rattle.cp_lang.specs.Cuts.{scan_start, scan_bytes}
 use Rattle.cp_lang.specs.CutterState.{held_of}
 use Rattle.cp_journal.specs.Frames.{frames_of, spelled_all}
@@ -33,8 +33,8 @@ use Rattle.cp_workspace.specs.Files.{KnownFiles, IsTable}
 use Rattle.cp_workspace.specs.Spending.{HasSpent}
 use Rattle.cp_workspace.proofs.Spent.{spent-as}
 use Rattle.cp_interpreter.specs.Outside.{KnownInput, KnownClock, KnownOutput, Outside}
-use Rattle.cp_interpreter.specs.Story.{LeavesHistory, WritesLast, frames_end, store_terms, left_on, LeavesFronts, DidOn, session_on, work_on, Leaving, Did, IsEarly, early_line, HasNotBegun, RanOn, HasCauses, DiskCauses, result_of}
-use Rattle.cp_interpreter.specs.Turns.{Follows, MayGoOn, IsDiskStop, LeavesAlong, RanFrom, TellsStop, end_of_stop, work_from}
+use Rattle.cp_interpreter.specs.Story.{LeavesHistory, WritesLast, frames_end, store_terms, left_on, DidOn, session_on, work_on, Leaving, Did, IsEarly, early_line, HasNotBegun, RanOn, HasCauses, DiskCauses, result_of, StandsForFront}
+use Rattle.cp_interpreter.specs.Turns.{Follows, MayGoOn, LeavesAlong, RanFrom, TellsStop, end_of_stop, work_from}
 use Rattle.cp_interpreter.specs.Begins.{LeavesStore, Migrated, OpenedAs, BegunOn, IsOpeningStop}
 use Rattle.cp_interpreter.specs.declared.interpreter.Interpreter.{Interpreter}
 use Rattle.cp_interpreter.specs.declared.end.End.{End}
@@ -279,7 +279,7 @@ module _ {R S : Type 0} (view : R → Tree) (source_view : S → Tree) (curator 
     left : LeavesHistory h v m
     left = leaves known h store
 
-    crashed : (rest : List ℕ) → LeavesFronts (session_on files h v.view.content curator (r.moments ++ rest)) r.taken v.view w.view
+    crashed : (rest : List ℕ) → ViewLeaves (StandsForFront (session_on files h v.view.content curator (r.moments ++ rest)) r.taken) v.view w.view
     crashed rest t c le i =
         let y = (went rest).1 (same known) in
         elim (y.1 t c (omega (arith, le, left.later)) i) [
@@ -319,7 +319,7 @@ pub out-disk : (v : KnownDisk) → DiskCauses v v how.Memory
 out-disk v = record { same = refl; account = record { later = omega arith; blamed = λ h. absurd (cc); steady = tt } }
 
 -- one at which the opening stopped
-pub stop-disk : (v w : KnownDisk) (stop : Stop) → IsOpeningStop stop → {T : Type 0} → UsesDisk {T = T} IsDiskStop v w (Err stop) → DiskCauses v w (end_of_stop stop)
+pub stop-disk : (v w : KnownDisk) (stop : Stop) → IsOpeningStop stop → {T : Type 0} → UsesDisk {T = T} (λ e. e ≡ Disk) v w (Err stop) → DiskCauses v w (end_of_stop stop)
 stop-disk v w stop k uses = elim k [
   | inl e ↦ subst (λ s. DiskCauses v w (end_of_stop s)) (sym e) (record { same = uses.same; account = record { later = uses.account.later; blamed = λ h. uses.account.blamed e; steady = tt } })
   | inr l ↦ elim l [

@@ -23,7 +23,7 @@ use Rattle.cp_lang.specs.CutterState.{CutterState, held_of, byte_cuts, byte_held
 use Rattle.cp_lang.proofs.Bytewise.{byte_cuts-is, byte_held-is}
 use Rattle.cp_model.specs.Tree.{Tree}
 use Rattle.cp_model.specs.History.{Entry}
-use Rattle.cp_frame.specs.Stands.{StandsFor}
+use Rattle.cp_frame.specs.Stands.{StandsFor, StandsForEither}
 use Rattle.cp_db.proofs.Keeping.{kept-images}
 use Rattle.cp_reply.specs.Lines.{lines}
 use Rattle.cp_reply.specs.declared.reply.Reply.{Reply}
@@ -33,7 +33,7 @@ use Rattle.cp_workspace.specs.Texts.{Terms, setting}
 use Rattle.cp_workspace.specs.Loads.{cut_reads}
 use Rattle.cp_workspace.specs.Commits.{cut_asks}
 use Rattle.cp_workspace.specs.Spending.{HasSpent, Spends}
-use Rattle.cp_disk.specs.Views.{KnownDisk}
+use Rattle.cp_disk.specs.Views.{KnownDisk, Leaves}
 use Rattle.cp_workspace.specs.Files.{HasReadSome, IsTable}
 use Rattle.cp_workspace.specs.Workspaces.{Stands, IsUsable, HasStamps, HoldsFile, TurnsAs, HasTurned}
 use Rattle.cp_workspace.specs.declared.fault.WorkspaceFault.{WorkspaceFault}
@@ -44,8 +44,8 @@ use Rattle.cp_workspace.proofs.Spent.{spent-none, spent-sum, spent-as}
 use Rattle.cp_interpreter.specs.Job.{Report, report_of, is_refusal, reads_in, asks_in}
 use Rattle.cp_interpreter.specs.Outside.{World}
 use Rattle.cp_interpreter.specs.Play.{Seen, plays, after_play, closes, plays_all}
-use Rattle.cp_interpreter.specs.Story.{TakesFrom, left_on, SpentAs, SpentNothing, spending}
-use Rattle.cp_interpreter.specs.Turns.{Follows, MayGoOn, SendsOut, Goes, Went, Fed, WasFed, RunsLast, RanLast, LeavesBoth, LeavesAlong, cuts_play, after_cuts}
+use Rattle.cp_interpreter.specs.Story.{TakesFrom, left_on, SpentAs, SpentNothing}
+use Rattle.cp_interpreter.specs.Turns.{Follows, MayGoOn, SendsOut, Goes, Went, Fed, WasFed, RunsLast, RanLast, LeavesAlong, cuts_play, after_cuts}
 use Rattle.cp_interpreter.specs.declared.interpreter.Interpreter.{Interpreter}
 use Rattle.cp_interpreter.specs.declared.stop.Stop.{Stop}
 use Rattle.cp_interpreter.specs.declared.stop.Stop.TheVariants.{Output, Full, File, Disk, NoStore, Clock, Memory}
@@ -137,7 +137,7 @@ pub left-same : (w : KnownDisk) (h i j k : List Entry) → h ≡ j → i ≡ k �
 left-same w h i j k p q left = subst (λ z. left_on w j z) q (subst (λ z. left_on w z i) p left)
 
 -- a disk that is as it was leaves what it could leave
-pub both-none : (h i : List Entry) (v : KnownDisk) → LeavesBoth h i v v
+pub both-none : (h i : List Entry) (v : KnownDisk) → Leaves (StandsForEither h i) v v
 both-none h i v = λ known. (omega arith, λ t c le at. inl at)
 
 -- ---- what the code keeps
@@ -292,7 +292,7 @@ module _ (files : FileTable) where
   along-none s v = λ known. (omega arith, λ t c le at. inl at)
 
   -- a byte whose cut was run
-  pub along-one : (s : Seen) (x : ℕ) (v w : KnownDisk) → LeavesBoth s.session.history (plays files s (x ∷ [])).history v w → LeavesAlong files s (x ∷ []) v w
+  pub along-one : (s : Seen) (x : ℕ) (v w : KnownDisk) → Leaves (StandsForEither s.session.history (plays files s (x ∷ [])).history) v w → LeavesAlong files s (x ∷ []) v w
   along-one s x v w both = λ known. ((both known).0, λ t c le at. found c ((both known).1 t c le at))
     where
       found : {A : Type 0} (c : List ℕ) → A ⊎ (StandsFor s.session.history c ⊎ StandsFor (plays files s (x ∷ [])).history c) → A ⊎ ((k : ℕ) × (k ≤ length (x ∷ [])) × StandsFor (plays files s (take k (x ∷ []))).history c)
@@ -348,7 +348,7 @@ module _ (files : FileTable) where
   -- a turn leaves the history before it or after it
   pub turned-both : {R S : Type 0} (view : R → Tree) (source_view : S → Tree) (s : Seen) (cut : Cut) (rest : List ℕ) (old new : Workspace R S) (v w : KnownDisk) (result : Result (Option Reply) WorkspaceFault)
       → TurnsAs view source_view (λ (r : Option Reply). r) s.terms (turn (setting files s.terms) s.session cut) s.session rest old new v w result → (IsTrue v.known → HoldsFile old s.session.history v)
-      → LeavesBoth s.session.history (cuts_play files s (cut ∷ [])).history v w
+      → Leaves (StandsForEither s.session.history (cuts_play files s (cut ∷ [])).history) v w
   unfolding session_after
   turned-both view source_view s cut rest old new v w result t holds = λ known. (let l = t.leaves known (holds known) in (l.later, l.since))
 
@@ -449,10 +449,10 @@ module _ (files : FileTable) where
   pub pushed-goes : {R S : Type 0} (view : R → Tree) (source_view : S → Tree) (s : Seen) (x : ℕ) (rest : List ℕ) (cuts : List Cut) (old mid new : Interpreter R S) (b a : World) (v w : KnownDisk) (result : Result ⊤ Stop)
       → Follows view source_view v old s → cuts ≡ byte_cuts old.cutter x → mid.refused ≡ old.refused
       → Goes view source_view (cuts_play files (seen (scan_byte s.scan x).scan s.terms s.session) cuts) (after_cuts files (seen (scan_byte s.scan x).scan s.terms s.session) cuts) s.session.history rest mid new b a w result
-      → LeavesBoth s.session.history (cuts_play files s cuts).history v w
-      → Goes view source_view (plays files s (x ∷ [])) (after_play files s (x ∷ [])) s.session.history rest old new b a w result × LeavesBoth s.session.history (plays files s (x ∷ [])).history v w
+      → Leaves (StandsForEither s.session.history (cuts_play files s cuts).history) v w
+      → Goes view source_view (plays files s (x ∷ [])) (after_play files s (x ∷ [])) s.session.history rest old new b a w result × Leaves (StandsForEither s.session.history (plays files s (x ∷ [])).history) v w
   pushed-goes view source_view s x rest cuts old mid new b a v w result f c r go both =
-      rw ((plays-one s x).0, (plays-one s x).1) (moved result (subst at is go), subst (λ z. LeavesBoth s.session.history (cuts_play files s z).history v w) is both)
+      rw ((plays-one s x).0, (plays-one s x).1) (moved result (subst at is go), subst (λ z. Leaves (StandsForEither s.session.history (cuts_play files s z).history) v w) is both)
     where
       t : Seen
       t = seen (scan_byte s.scan x).scan s.terms s.session
@@ -586,11 +586,11 @@ module _ (files : FileTable) where
   pub ran-last_goes : {R S : Type 0} (view : R → Tree) (source_view : S → Tree) (s : Seen) (c : Scan) (rest : List ℕ) (cuts : List Cut) (old mid new : Interpreter R S) (b a : World) (v w : KnownDisk) (result : Result ⊤ Stop)
       → cuts ≡ rest_of s.scan → mid.refused ≡ old.refused
       → Goes view source_view (cuts_play files (seen c s.terms s.session) cuts) (after_cuts files (seen c s.terms s.session) cuts) s.session.history rest mid new b a w result
-      → LeavesBoth s.session.history (cuts_play files s cuts).history v w
-      → RunsLast files s old new b a w result × LeavesBoth s.session.history s.session.history v w
+      → Leaves (StandsForEither s.session.history (cuts_play files s cuts).history) v w
+      → RunsLast files s old new b a w result × Leaves (StandsForEither s.session.history s.session.history) v w
   unfolding closes
   ran-last_goes view source_view s c rest cuts old mid new b a v w result is r go both =
-      (moved result go, subst (λ z. LeavesBoth s.session.history z v w) kept both)
+      (moved result go, subst (λ z. Leaves (StandsForEither s.session.history z) v w) kept both)
     where
       same : report_of files s.terms s.session cuts ≡ report_of files s.terms s.session (rest_of s.scan)
       same = ap (λ z. report_of files s.terms s.session z) is

@@ -12,9 +12,9 @@ use Rattle.cp_outside.specs.Causes.{Accounts}
 use Rattle.cp_outside.specs.FileReads.{FileTable}
 use Rattle.cp_outside.proofs.Telling.{told-none, told-then}
 use Rattle.cp_model.specs.Tree.{Tree}
-use Rattle.cp_frame.specs.Stands.{StandsFor}
+use Rattle.cp_frame.specs.Stands.{StandsFor, StandsForEither}
 use Rattle.cp_db.proofs.Keeping.{kept-images}
-use Rattle.cp_disk.specs.Views.{KnownDisk}
+use Rattle.cp_disk.specs.Views.{KnownDisk, Leaves}
 use Rattle.cp_workspace.specs.Files.{KnownFiles, HasReadSome}
 use Rattle.cp_workspace.proofs.ReadCounts.{some-then, table-first, table-second}
 use Rattle.cp_workspace.proofs.Spent.{spent-none, spent-sum, spent-as}
@@ -25,7 +25,7 @@ use Rattle.cp_interpreter.specs.Outside.{KnownInput, KnownClock, KnownOutput, Wo
 use Rattle.cp_interpreter.specs.Play.{Seen, plays, after_play, closes, plays_all}
 use Rattle.cp_interpreter.specs.Story.{Writes, WasRefused, StopsIn, StopsAfter, WritesLast, Leaving, left_on, SpentAs, SpentNothing, AllDone, OutputStopped, OutOfMemory, Did, HasCauses, DiskCauses, result_of}
 use Rattle.cp_interpreter.specs.declared.interpreter.Interpreter.{Interpreter}
-use Rattle.cp_interpreter.specs.Turns.{Follows, StopRefusesWrite, IsOpenedStop, StopsWriting, Fed, WasFed, RunsLast, RanLast, LeavesBoth, LeavesAlong, with_refusal, work_from, RanFrom, TookPiece, IsSteady, TellsStop, Closes, HasClosed, IsClosing, end_of_stop}
+use Rattle.cp_interpreter.specs.Turns.{Follows, StopRefusesWrite, IsOpenedStop, StopsWriting, Fed, WasFed, RunsLast, RanLast, LeavesAlong, with_refusal, work_from, RanFrom, TookPiece, IsSteady, TellsStop, Closes, HasClosed, IsClosing, end_of_stop}
 use Rattle.cp_interpreter.specs.declared.end.End.{End}
 use Rattle.cp_interpreter.specs.declared.end.End.TheVariants as how
 use Rattle.cp_interpreter.specs.declared.stop.Stop.{Stop}
@@ -81,7 +81,7 @@ module _ (files : FileTable) where
   along-still s bytes v = λ known. (omega arith, λ t c le h. inl h)
 
   -- at the end of the input the history stays
-  pub along-closed : (s : Seen) (v w : KnownDisk) → LeavesBoth s.session.history s.session.history v w → LeavesAlong files s [] v w
+  pub along-closed : (s : Seen) (v w : KnownDisk) → Leaves (StandsForEither s.session.history s.session.history) v w → LeavesAlong files s [] v w
   along-closed s v w l = λ known. (
     (l known).0,
     λ t c le h. elim ((l known).1 t c le h) [

@@ -11,7 +11,7 @@ use Rattle.cp_outside.specs.FileReads.{FileTable}
 use Rattle.cp_outside.specs.declared.files.FilesFault.{FilesFault}
 use Rattle.cp_outside.specs.declared.files.FilesFault.TheVariants as fails
 use Rattle.cp_outside.proofs.Telling.{told-none}
-use Rattle.cp_disk.specs.Views.{ViewRests, KnownDisk}
+use Rattle.cp_disk.specs.Views.{ViewRests, KnownDisk, ViewLeaves}
 use Rattle.cp_frame.specs.Stands.{IsStore, Opens, StandsFor}
 use Rattle.cp_frame.specs.Stops.{IsNot}
 use Rattle.cp_model.specs.Tree.{Tree}
@@ -29,7 +29,7 @@ use Rattle.cp_interpreter.specs.Texts.{file_line, memory_line}
 use Rattle.cp_interpreter.specs.Job.{job_so_far, job}
 use Rattle.cp_interpreter.specs.Outside.{KnownInput, KnownClock, KnownOutput, World}
 use Rattle.cp_interpreter.specs.Play.{Seen, begun, plays, plays_all}
-use Rattle.cp_interpreter.specs.Story.{LeavesHistory, WritesLast, SaidLine, Leaving, left_on, Work, AllDone, OutputStopped, OutOfMemory, Did, work_on, store_terms, LeavesFronts, IsEarly, early_line, HasNotBegun, HasCauses, WorldCauses, DiskCauses, result_of}
+use Rattle.cp_interpreter.specs.Story.{LeavesHistory, WritesLast, SaidLine, Leaving, left_on, Work, AllDone, OutputStopped, OutOfMemory, Did, work_on, store_terms, IsEarly, early_line, HasNotBegun, HasCauses, WorldCauses, DiskCauses, result_of, StandsForFront}
 use Rattle.cp_interpreter.specs.Scripts.{script_of, commit_text, ScriptState, refused_script, ScriptFailed, DidScript, script_session, DidCommit, Committed}
 use Rattle.cp_interpreter.specs.Turns.{LeavesAlong, RanFrom, RanScript, IsClosing, TellsStop, end_of_stop, work_from, script_from}
 use Rattle.cp_interpreter.specs.Begins.{LeavesStore, BegunOn, GivesScript}
@@ -274,7 +274,7 @@ module _ {R S : Type 0} (view : R → Tree) (source_view : S → Tree) (file cur
     done : (rest : List ℕ) → Before (left_on w) (script_session files h v.view.content curator (r.moments ++ rest))
     done rest = subst (Before (left_on w)) (same-work files terms (session rest)) (subst (λ z. Before (left_on w) (script_from files (begun terms (session rest)) z)) none (went rest).0)
 
-    crashed : (rest : List ℕ) → LeavesFronts (script_session files h v.view.content curator (r.moments ++ rest)) r.taken v.view w.view
+    crashed : (rest : List ℕ) → ViewLeaves (StandsForFront (script_session files h v.view.content curator (r.moments ++ rest)) r.taken) v.view w.view
     crashed rest n c le l =
         let y = (went rest).1 (same known) in
         elim (y.1 n c (omega (arith, le, left.later)) l) [

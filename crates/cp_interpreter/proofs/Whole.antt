@@ -9,7 +9,6 @@ use Rattle.cp_reply.specs.Session.{Session}
 use Rattle.cp_workspace.specs.Files.{KnownFiles, HasRead}
 use Rattle.cp_disk.specs.Views.{KnownDisk}
 use Rattle.cp_workspace.specs.Texts.{Terms}
-use Rattle.cp_workspace.specs.Faults.{IsFailedFile}
 use Rattle.cp_workspace.specs.Spending.{HasSpent}
 use Rattle.cp_workspace.proofs.Spent.{spent-sum}
 use Rattle.cp_workspace.proofs.Standing.{on-ok}
@@ -122,7 +121,7 @@ module _ (i : KnownInput) (f fb : KnownFiles) (k : KnownClock) (o p : KnownOutpu
   }
 
   -- the causes where a call was stopped before it took a byte
-  pub causes-early : (fault : FilesFault) (stop : Stop) → (fault ≡ fails.Failed → stop ≡ File) × (fault ≡ fails.Memory → stop ≡ Memory) → fb.found ≡ f.found → f.faults ≤ fb.faults → (IsFailedFile fault → Rose f.faults fb.faults) → o.faults ≤ p.faults
+  pub causes-early : (fault : FilesFault) (stop : Stop) → (fault ≡ fails.Failed → stop ≡ File) × (fault ≡ fails.Memory → stop ≡ Memory) → fb.found ≡ f.found → f.faults ≤ fb.faults → ((λ e. e ≡ fails.Failed) fault → Rose f.faults fb.faults) → o.faults ≤ p.faults
       → HasCauses (parts i f k o) (parts i fb k p) (end_of_stop stop)
   causes-early fails.Failed stop becomes found more rose later =
       subst (λ z. HasCauses (parts i f k o) (parts i fb k p) (end_of_stop z)) (sym (becomes.0 refl)) (record {

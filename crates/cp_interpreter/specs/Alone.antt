@@ -3,8 +3,8 @@ use Rattle.std.specs.Prelude.{◌≡◌, ◌⊎◌, ℕ, ◌≤◌, List, [], �
 use Rattle.std.specs.List.{flat_map, list_any}
 use Rattle.cp_outside.specs.FileReads.{FileTable}
 use Rattle.cp_model.specs.History.{Entry}
-use Rattle.cp_disk.specs.Views.{View, ViewRests, KnownDisk}
-use Rattle.cp_frame.specs.Stands.{IsStore, Opens, StandsFor}
+use Rattle.cp_disk.specs.Views.{ViewRests, KnownDisk, ViewLeaves}
+use Rattle.cp_frame.specs.Stands.{IsStore, Opens, StandsForEither}
 use Rattle.cp_frame.specs.Stops.{IsNot}
 use Rattle.cp_lang.specs.declared.syntax_tree.Load.{Load}
 use Rattle.cp_lang.specs.declared.syntax_tree.Stmt.{Stmt}
@@ -53,15 +53,11 @@ DidStatement r h Leaves before now how.Memory =
 DidStatement r h Leaves before now how.TooLong = ⊥
 DidStatement r h Leaves before now how.Clock = ⊥
 
--- Each file that a crash leaves between the two moments is one that it could leave before, or stands for the one history or for the other.
-abbrev pub LeavesOneOf : List Entry → List Entry → View → View → Type 0
-LeavesOneOf h i v w = (t : ℕ) (c : List ℕ) → t ≤ v.moment → w.since t c → v.since t c ⊎ StandsFor h c ⊎ StandsFor i c
-
 -- What was done on a store that stands for the history h, which the content tells at entry: the load, whose report this is; or the call ended before it.
 pub record DidLoad (r : Report) (h : List Entry) (before now : Outside) (v w : KnownDisk) (end : End) : Type 0 where
   pub did : (HasNotBegun [] [] before now end × ViewRests v.view w.view) ⊎ DidStatement r h (left_on w) before now end
   pub later : v.view.moment ≤ w.view.moment
-  pub crash : LeavesOneOf h r.history v.view w.view
+  pub crash : ViewLeaves (StandsForEither h r.history) v.view w.view
 
 -- A call that was to load a source into a store took no input and asked no clock.
 -- What isn't opened is no store, and what is none isn't opened. What stands for a history has the source, or the refusal of the load.

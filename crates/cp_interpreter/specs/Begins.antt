@@ -5,9 +5,9 @@ use Rattle.cp_model.specs.Tree.{Tree}
 use Rattle.cp_model.specs.History.{Entry, start}
 use Rattle.cp_model.specs.declared.kind.Kind.{Kind}
 use Rattle.cp_outside.specs.FileReads.{FileTable}
-use Rattle.cp_disk.specs.Views.{ViewRests, ViewKeeps, KnownDisk}
+use Rattle.cp_disk.specs.Views.{ViewRests, ViewKeeps, KnownDisk, ViewLeaves}
 use Rattle.cp_journal.specs.NewStores.{IsVacant}
-use Rattle.cp_frame.specs.Stands.{IsStore, Opens, StandsFor}
+use Rattle.cp_frame.specs.Stands.{IsStore, Opens, StandsFor, StandsForEither}
 use Rattle.cp_frame.specs.Stops.{IsNot}
 use Rattle.cp_db.specs.Databases as database
 use Rattle.cp_db.specs.Databases.{IsKept, end_in}
@@ -29,7 +29,7 @@ use Rattle.cp_interpreter.specs.Job.{Report, is_refusal}
 use Rattle.cp_interpreter.specs.Outside.{KnownOutput}
 use Rattle.cp_interpreter.specs.Play.{begun}
 use Rattle.cp_interpreter.specs.Story.{LeavesHistory, frames_end, left_on, store_terms, SaidLine, LeavesStart}
-use Rattle.cp_interpreter.specs.Alone.{LeavesOneOf, report_on}
+use Rattle.cp_interpreter.specs.Alone.{report_on}
 use Rattle.cp_interpreter.specs.Scripts.{ScriptState}
 use Rattle.cp_interpreter.specs.Turns.{Follows, TellsStop, end_of_stop}
 use Rattle.cp_interpreter.specs.declared.interpreter.Interpreter.{Interpreter}
@@ -151,7 +151,7 @@ pub record LoadedAs (l : Load) (before now : KnownFiles) (v w : KnownDisk) (resu
       → NotOpened before now v w result ⊎ LoadGives (report_on files h v.view.content (stmt.Load l)) h before now w result
   pub later : IsTrue v.known → (files : FileTable) → IsTable files before now → (h : List Entry) → IsStore h v.view.content → v.view.moment ≤ w.view.moment
   pub crash : IsTrue v.known → (files : FileTable) → IsTable files before now → (h : List Entry) → IsStore h v.view.content
-      → LeavesOneOf h (report_on files h v.view.content (stmt.Load l)).history v.view w.view
+      → ViewLeaves (StandsForEither h (report_on files h v.view.content (stmt.Load l)).history) v.view w.view
   pub kinds : IfErr result (λ e. (e ≡ Output → ⊥) × (e ≡ Full → ⊥) × (e ≡ Clock → ⊥))
 
 -- a content from which the call answers has a reply of which this is so; of any other the offset is told at which it stops

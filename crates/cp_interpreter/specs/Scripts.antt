@@ -5,8 +5,8 @@ use Rattle.std.specs.declared.option.Option.TheVariants.{None, Some}
 use Rattle.cp_outside.specs.FileReads.{FileTable}
 use Rattle.cp_outside.specs.Moments.{HasTold}
 use Rattle.cp_model.specs.History.{Entry}
-use Rattle.cp_disk.specs.Views.{ViewRests, KnownDisk}
-use Rattle.cp_frame.specs.Stands.{IsStore, Opens, StandsFor}
+use Rattle.cp_disk.specs.Views.{ViewRests, KnownDisk, ViewLeaves}
+use Rattle.cp_frame.specs.Stands.{IsStore, Opens}
 use Rattle.cp_frame.specs.Stops.{IsNot}
 use Rattle.cp_reply.specs.Lines.{lines}
 use Rattle.cp_reply.specs.declared.reply.Of.TheVariants as of
@@ -18,7 +18,7 @@ use Rattle.cp_workspace.specs.Files.{HasRead, IsTable}
 use Rattle.cp_workspace.specs.Workspaces.{opened_session}
 use Rattle.cp_interpreter.specs.Texts.{file_line, memory_line}
 use Rattle.cp_interpreter.specs.Outside.{World, Outside, world_of}
-use Rattle.cp_interpreter.specs.Story.{WritesLast, Leaving, left_on, Work, Did, result_of, work_on, store_terms, SaidLine, HasNotBegun, LeavesHistory, LeavesFronts}
+use Rattle.cp_interpreter.specs.Story.{WritesLast, Leaving, left_on, Work, Did, result_of, work_on, store_terms, SaidLine, HasNotBegun, LeavesHistory, StandsForFront}
 use Rattle.cp_interpreter.specs.declared.end.End.{End}
 use Rattle.cp_interpreter.specs.declared.end.End.TheVariants as how
 
@@ -80,7 +80,7 @@ pub record DidCommit (files : FileTable) (h : List Entry) (file curator taken mo
       ⊎ ScriptFailed h (left_on w) taken moments (world_of before) (world_of now) end
       ⊎ DidScript (script_of (files file)) (script_session files h v.view.content curator (moments ++ rest)) h (left_on w) taken moments (world_of before) (world_of now) end
   pub later : v.view.moment ≤ w.view.moment
-  pub crash : (rest : List ℕ) → LeavesFronts (script_session files h v.view.content curator (moments ++ rest)) taken v.view w.view
+  pub crash : (rest : List ℕ) → ViewLeaves (StandsForFront (script_session files h v.view.content curator (moments ++ rest)) taken) v.view w.view
 
 -- A call that was to run a commit file on a store took no input; the store is opened before the file is read.
 -- What isn't opened is no store, and what is none isn't opened. What stands for a history has the session over the script.

@@ -11,7 +11,7 @@ use Rattle.cp_model.specs.Keyed.{len}
 use Rattle.cp_model.specs.History.{Entry, start}
 use Rattle.cp_model.specs.declared.kind.Kind.{Kind}
 use Rattle.cp_disk.specs.Counts.{UsesDisk}
-use Rattle.cp_disk.specs.Views.{View, ViewRests, ViewKeeps, KnownDisk}
+use Rattle.cp_disk.specs.Views.{View, ViewRests, ViewKeeps, KnownDisk, ViewLeaves}
 use Rattle.cp_journal.specs.Frames.{frames_of}
 use Rattle.cp_journal.specs.Journals.{walk_end}
 use Rattle.cp_journal.specs.NewStores.{IsVacant, SettlesInto}
@@ -279,9 +279,9 @@ pub record HasNotBegun (taken moments : List ℕ) (before now : Outside) (end : 
 abbrev pub session_on : FileTable → List Entry → List ℕ → List ℕ → List ℕ → Work
 session_on files h c curator moments = work_on files (store_terms h c curator) (opened_session h moments) 0
 
--- Each file that a crash leaves between the two moments is one that it could leave before, or stands for the history after a front part of the bytes.
-abbrev pub LeavesFronts : Work → List ℕ → View → View → Type 0
-LeavesFronts work taken v w = (t : ℕ) (c : List ℕ) → t ≤ v.moment → w.since t c → v.since t c ⊎ ((k : ℕ) × (k ≤ length taken) × StandsFor (work.so_far (take k taken)).history c)
+-- It stands for what the work makes of a front of the bytes that were taken.
+abbrev pub StandsForFront : Work → List ℕ → List ℕ → Type 0
+StandsForFront work taken c = (k : ℕ) × (k ≤ length taken) × StandsFor (work.so_far (take k taken)).history c
 
 -- The content stands for the history; meanwhile, and now, each file that a crash leaves is one that it could leave before, or stands for the history.
 pub record LeavesHistory (h : List Entry) (v w : KnownDisk) : Type 0 where
@@ -295,7 +295,7 @@ pub record DidOn (files : FileTable) (h : List Entry) (curator taken moments : L
   pub did : (rest : List ℕ) → (HasNotBegun taken moments before now end × LeavesHistory h v w)
       ⊎ Did (session_on files h v.view.content curator (moments ++ rest)) (left_on w) 0 taken before now end
   pub later : v.view.moment ≤ w.view.moment
-  pub crash : (rest : List ℕ) → LeavesFronts (session_on files h v.view.content curator (moments ++ rest)) taken v.view w.view
+  pub crash : (rest : List ℕ) → ViewLeaves (StandsForFront (session_on files h v.view.content curator (moments ++ rest)) taken) v.view w.view
 
 -- A call that ran a session on a store took these bytes of the input, all of them where all was done; more than a call takes exactly at that end.
 -- What isn't opened is no store, and what is none isn't opened. What stands for a history has its session.

@@ -12,12 +12,12 @@ use Rattle.cp_lang.specs.CutterState.{CutterState, held_of}
 use Rattle.cp_lang.specs.declared.cut.Cut.{Cut}
 use Rattle.cp_model.specs.Tree.{Tree}
 use Rattle.cp_model.specs.History.{Entry}
-use Rattle.cp_frame.specs.Stands.{StandsFor}
+use Rattle.cp_frame.specs.Stands.{StandsFor, StandsForEither}
 use Rattle.cp_reply.specs.Session.{session_after}
 use Rattle.cp_interpreter.specs.Texts.{no_store_line, memory_line, file_line, disk_line, clock_line}
 use Rattle.cp_workspace.specs.Texts.{setting}
 use Rattle.cp_disk.specs.Counts.{UsesDisk}
-use Rattle.cp_disk.specs.Views.{KnownDisk}
+use Rattle.cp_disk.specs.Views.{KnownDisk, Leaves}
 use Rattle.cp_workspace.specs.Files.{HasReadSome, IsTable, UsesFiles}
 use Rattle.cp_workspace.specs.Workspaces.{Stands, IsUsable, HasStamps, HoldsFile}
 use Rattle.cp_workspace.specs.declared.workspace.Workspace.{Workspace}
@@ -61,22 +61,6 @@ pub record MayGoOn {R S : Type 0} (view : R → Tree) (source_view : S → Tree)
 
 -- ---- what the outside says of a step that may stop the session
 
--- a file failed
-abbrev pub IsFileStop : Stop → Type 0
-IsFileStop stop = stop ≡ File
-
--- the disk failed
-abbrev pub IsDiskStop : Stop → Type 0
-IsDiskStop stop = stop ≡ Disk
-
--- the clock failed
-abbrev pub IsClockStop : Stop → Type 0
-IsClockStop stop = stop ≡ Clock
-
--- the output failed
-abbrev pub IsOutputStop : Stop → Type 0
-IsOutputStop stop = stop ≡ Output
-
 -- it isn't that the file is no store
 abbrev pub IsOpenedStop : Stop → Type 0
 IsOpenedStop stop = (at : ℕ) → stop ≡ NoStore at → ⊥
@@ -98,16 +82,16 @@ RefusesWrite before now (Err stop) = StopRefusesWrite before now stop
 
 -- The output is blamed only where its count rose, which stays where nothing stopped; and it refused a write exactly where it stopped the session.
 pub record UsesOutput (before now : KnownOutput) (result : Result ⊤ Stop) : Type 0 where
-  pub account : Accounts IsOutputStop before.faults now.faults result
+  pub account : Accounts (λ e. e ≡ Output) before.faults now.faults result
   pub refuses : RefusesWrite before now result
 
 -- Files, clock, output and disk.
 pub record Uses (before now : World) (v w : KnownDisk) (result : Result ⊤ Stop) : Type 0 where
-  pub files : UsesFiles IsFileStop before.files now.files result
+  pub files : UsesFiles (λ e. e ≡ File) before.files now.files result
   pub read : HasReadSome before.files now.files
-  pub clock : Accounts IsClockStop before.clock.faults now.clock.faults result
+  pub clock : Accounts (λ e. e ≡ Clock) before.clock.faults now.clock.faults result
   pub output : UsesOutput before.output now.output result
-  pub disk : UsesDisk IsDiskStop v w result
+  pub disk : UsesDisk (λ e. e ≡ Disk) v w result
 
 -- ---- what was written
 
@@ -152,17 +136,12 @@ Goes view source_view r next h rest old new before now w (Err Clock) =
 Goes view source_view r next h rest old new before now w (Err Memory) =
     Appends before.output.contents now.output.contents [] × (SpentNothing before now ⊎ SpentAs r before now) × left_on w h r.history
 
--- Each file that a crash leaves meanwhile is one that it could leave before, or stands for the one history or the other.
-abbrev pub LeavesBoth : List Entry → List Entry → KnownDisk → KnownDisk → Type 0
-LeavesBoth h i v w = IsTrue v.known → (v.view.moment ≤ w.view.moment)
-    × ((t : ℕ) (c : List ℕ) → t ≤ v.view.moment → w.view.since t c → v.view.since t c ⊎ (StandsFor h c ⊎ StandsFor i c))
-
 -- Cuts were run, as the sessions do that the code follows, with the moments that the clock told and any after them.
 pub record Went {R S : Type 0} (view : R → Tree) (source_view : S → Tree) (report : FileTable → Seen → Report) (after : FileTable → Seen → Seen) (old new : Interpreter R S) (before now : World) (v w : KnownDisk) (result : Result ⊤ Stop) : Type 0 where
   pub moments : List ℕ
   pub told : HasTold before.clock.left now.clock.left moments
   pub goes : (files : FileTable) → IsTable files before.files now.files → (s : Seen) (rest : List ℕ) → Follows view source_view v old s → s.session.moments ≡ moments ++ rest
-      → Goes view source_view (report files s) (after files s) s.session.history rest old new before now w result × LeavesBoth s.session.history (report files s).history v w
+      → Goes view source_view (report files s) (after files s) s.session.history rest old new before now w result × Leaves (StandsForEither s.session.history (report files s).history) v w
 
 -- ---- what the bytes of a piece do
 
@@ -255,7 +234,7 @@ pub record RanLast {R S : Type 0} (view : R → Tree) (source_view : S → Tree)
   pub moments : List ℕ
   pub told : HasTold before.clock.left now.clock.left moments
   pub runs : (files : FileTable) → IsTable files before.files now.files → (s : Seen) (rest : List ℕ) → Follows view source_view v old s → s.session.moments ≡ moments ++ rest
-      → RunsLast files s old new before now w result × LeavesBoth s.session.history s.session.history v w
+      → RunsLast files s old new before now w result × Leaves (StandsForEither s.session.history s.session.history) v w
 
 -- ---- how a session ends
 
@@ -330,7 +309,7 @@ pub record HasClosed {R S : Type 0} (view : R → Tree) (source_view : S → Tre
   pub told : HasTold before.clock.left now.clock.left moments
   pub closing : IsClosing end
   pub closed : (files : FileTable) → IsTable files before.files now.files → (s : Seen) (rest : List ℕ) → Follows view source_view v x s → s.session.moments ≡ moments ++ rest
-      → Closes files s x.refused before now w end × LeavesBoth s.session.history s.session.history v w
+      → Closes files s x.refused before now w end × Leaves (StandsForEither s.session.history s.session.history) v w
 
 -- The next bytes were taken and played.
 pub record TookPiece {R S : Type 0} (view : R → Tree) (source_view : S → Tree) (old new : Interpreter R S) (count later : ℕ) (before now : Outside) (v w : KnownDisk) : Type 0 where

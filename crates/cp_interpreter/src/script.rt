@@ -1,11 +1,10 @@
 //! The script of a commit file, as an input.
-ghost use Rattle.std.specs.Prelude.{◌≤◌, ◌<◌, ◌+◌, length, drop, IfOk};
+ghost use Rattle.std.specs.Prelude.{◌≡◌, ◌≤◌, ◌<◌, ◌+◌, length, drop, IfOk};
 ghost use Rattle.std.specs.declared.option.Option.TheVariants.{Some};
 ghost use Rattle.std.specs.Io.{ReadsAtMost};
 ghost use Rattle.std.specs.Io.KnownBytes.{ReadConsumes};
 ghost use Rattle.cp_outside.specs.Causes.{Accounts, AnyError, CountsBytes};
 ghost use Rattle.cp_outside.specs.FileReads.{FileTable};
-ghost use Rattle.cp_workspace.specs.Faults.{IsFailedFile};
 ghost use Rattle.cp_workspace.specs.Files.{known_files, HasRead, IsTable, UsesFiles};
 ghost use Rattle.cp_interpreter.specs.Scripts.{script_of, commit_text};
 ghost use Rattle.cp_interpreter.specs.Begins.{GivesScript};
@@ -68,7 +67,7 @@ pub fn read_script<F: Files>(
     ensures gives { IfOk result (λ r. (t : FileTable) → IsTable t (known_files F.Files files.old) (known_files F.Files files.new)
         → GivesScript (script_of (t file.now)) r) }
     ensures short { IfOk result (λ r. IfOk r (λ s. length s.left ≤ FILE_MAX + length commit_text)) }
-    ensures used { UsesFiles IsFailedFile (known_files F.Files files.old) (known_files F.Files files.new) result }
+    ensures used { UsesFiles (λ e. e ≡ FilesFault.Failed) (known_files F.Files files.old) (known_files F.Files files.new) result }
     ensures read { HasRead (known_files F.Files files.old) (known_files F.Files files.new) 1 }
 {
     let mut bytes = Vec::new(alloc);

@@ -2,10 +2,10 @@
 use Rattle.std.proofs.Common.{◌≡◌, inl, inr, ℕ, List, [], ◌∷◌, ◌++◌, length, take, drop, refl, sym, ◌∙◌, ap, subst, arith, append_assoc, append-nil, length-append, take-append-drop}
 use Rattle.std.proofs.lemmas.List.{take_at, drop_at, drop-take}
 use Rattle.std.proofs.lemmas.List.Concat.{flat_map-append}
-use Rattle.cp_disk.specs.Views.{View, ViewKeeps}
+use Rattle.cp_disk.specs.Views.{View, ViewKeeps, Either}
 use Rattle.cp_disk.proofs.Composing.{keeps_wider}
 use Rattle.cp_journal.specs.Frames.{Frame, spelled, spelled_all, Walk, frames_of}
-use Rattle.cp_journal.specs.Holding.{IsLawful, AreLawful, IsAdded, Continues, IsBeforeOrAfter, Stands, Holds, StandsWithOrWithout}
+use Rattle.cp_journal.specs.Holding.{IsLawful, AreLawful, IsAdded, Continues, IsBeforeOrAfter, Stands, Holds}
 use Rattle.cp_journal.specs.Journals.{JournalState, places, Describes}
 use Rattle.cp_journal.specs.declared.frame.FrameAt.{FrameAt}
 use Rattle.cp_journal.proofs.Adding.{now_before}
@@ -32,12 +32,12 @@ module _ (head : List ℕ) (fs : List Frame) (e : ℕ) (v : View) (holds : Holds
         };
       }
 
-  with_or_without : (f : Frame) (c : List ℕ) → IsBeforeOrAfter e v.content f c → StandsWithOrWithout head fs f c
+  with_or_without : (f : Frame) (c : List ℕ) → IsBeforeOrAfter e v.content f c → Either (Stands head fs) (Stands head (fs ++ f ∷ [])) c
   with_or_without f c (inl before) = inl (subst (λ (l : List Frame). Stands head l c) (append-nil fs) (stands_continues [] c before))
   with_or_without f c (inr after) = inr (stands_continues (f ∷ []) c after)
 
-  pub keeps_stands : (f : Frame) (w : View) → ViewKeeps (IsBeforeOrAfter e v.content f) v w → ViewKeeps (StandsWithOrWithout head fs f) v w
-  keeps_stands f w keeps = keeps_wider (IsBeforeOrAfter e v.content f) (StandsWithOrWithout head fs f) v w keeps (with_or_without f)
+  pub keeps_stands : (f : Frame) (w : View) → ViewKeeps (IsBeforeOrAfter e v.content f) v w → ViewKeeps (Either (Stands head fs) (Stands head (fs ++ f ∷ []))) v w
+  keeps_stands f w keeps = keeps_wider (IsBeforeOrAfter e v.content f) (Either (Stands head fs) (Stands head (fs ++ f ∷ []))) v w keeps (with_or_without f)
 
   pub holds_more : (f : Frame) (to : ℕ) (w : View) → IsLawful f → IsAdded e f v.content to w → Holds head (fs ++ f ∷ []) to w
   holds_more f to w ok added =

@@ -23,10 +23,6 @@ pub record Stands (head : List ℕ) (fs : List Frame) (c : List ℕ) : Type 0 wh
   pub front : take (length head) c ≡ head
   pub frames : HasFrames (length head) fs c
 
--- The file begins so, and then come these frames, or these and the one more.
-abbrev pub StandsWithOrWithout : List ℕ → List Frame → Frame → List ℕ → Type 0
-StandsWithOrWithout head fs f c = Stands head fs c ⊎ Stands head (fs ++ f ∷ []) c
-
 -- A closed gate stands here, and nothing is pending but after it.
 pub record IsAtRest (at : ℕ) (v : View) : Type 0 where
   pub inside : at < length v.content

@@ -5,8 +5,6 @@ use Rattle.cp_disk.specs.Views.{View}
 use Rattle.cp_disk.specs.declared.limits.TheConstants.{DISK_MAX}
 use Rattle.cp_journal.specs.Frames.{Frame, spelled_all, Walk}
 use Rattle.cp_journal.specs.Holding.{AreLawful, Holds}
-use Rattle.cp_journal.specs.declared.fault.JournalFault.{JournalFault}
-use Rattle.cp_journal.specs.declared.fault.JournalFault.TheVariants.{Disk}
 use Rattle.cp_journal.specs.declared.frame.FrameAt.{FrameAt}
 use Rattle.cp_journal.specs.declared.frame.TheConstants.{ENTRY}
 use Rattle.cp_journal.specs.declared.limits.TheConstants.{FRAME_HEAD}
@@ -72,7 +70,3 @@ pub record HasWalked (from : ℕ) (w : Walk) (j : JournalState) (c : List ℕ) :
 pub record Describes (head : List ℕ) (fs : List Frame) (j : JournalState) (v : View) : Type 0 where
   pub holds : Holds head fs j.next v
   pub lists : Lists (length head) fs j v.content
-
--- The disk failed.
-abbrev pub IsDiskFault : JournalFault → Type 0
-IsDiskFault fault = fault ≡ Disk

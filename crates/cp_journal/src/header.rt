@@ -4,7 +4,6 @@ ghost use Rattle.std.specs.Int.{w64, from_be_bytes};
 ghost use Rattle.cp_disk.specs.Counts.{Counted, UsesDisk};
 ghost use Rattle.cp_disk.specs.Views.{IfKnown, IsSettled, Rests};
 ghost use Rattle.cp_journal.specs.Headers.{slot_in as slot_of, header_in, IsSlot, IsFront, HasOwnNumbers, IsHeader, HasHeader};
-ghost use Rattle.cp_journal.specs.Journals.{IsDiskFault};
 
 use crate::fault::JournalFault;
 use crate::limits::{HEADER_SIZE, VERSION_AT};
@@ -138,7 +137,7 @@ pub(crate) fn read_header<D: Disk>(disk: &mut D) -> Result<Header, JournalFault>
         (λ e. (e ≡ JournalFault.Disk) ⊎ ((e ≡ JournalFault.Memory) ⊎ (e ≡ JournalFault.NoStore 0))) }
     ensures durable { OnOk result (IsSettled (D.known disk.new)) }
     ensures rests { Rests (D.known disk.old) (D.known disk.new) }
-    ensures cause { UsesDisk IsDiskFault (D.known disk.old) (D.known disk.new) result }
+    ensures cause { UsesDisk (λ e. e ≡ JournalFault.Disk) (D.known disk.old) (D.known disk.new) result }
     ensures reads { (D.known disk.new).counts.reads ≤ (D.known disk.old).counts.reads + 1 }
 {
     match look_up(disk)? {

@@ -3,10 +3,10 @@ ghost use Rattle.std.specs.Prelude.{◌≡◌, ◌≤◌, ◌<◌, ◌⊎◌, �
 ghost use Rattle.std.specs.List.{slice_get};
 ghost use Rattle.cp_outside.specs.Causes.{Rose};
 ghost use Rattle.cp_disk.specs.Counts.{UsesDisk};
-ghost use Rattle.cp_disk.specs.Views.{Only, IsDurable, ViewKeeps, IfKnown, IsSettled, Rests, Steps, Keeps};
+ghost use Rattle.cp_disk.specs.Views.{Only, IsDurable, ViewKeeps, IfKnown, IsSettled, Rests, Steps, Keeps, Either};
 ghost use Rattle.cp_journal.specs.Frames.{Frame, entry, frames_of, after_gate};
-ghost use Rattle.cp_journal.specs.Holding.{HasFrames, IsAtRest, IsAdded, IsBeforeOrAfter, IsLawful, Holds, StandsWithOrWithout};
-ghost use Rattle.cp_journal.specs.Journals.{next_byte, Lists, entry_body, HasWalked, Describes, IsDiskFault};
+ghost use Rattle.cp_journal.specs.Holding.{HasFrames, IsAtRest, IsAdded, IsBeforeOrAfter, IsLawful, Holds, Stands};
+ghost use Rattle.cp_journal.specs.Journals.{next_byte, Lists, entry_body, HasWalked, Describes};
 ghost use Rattle.cp_journal.specs.Headers.{HasHeader, header_in};
 ghost use Rattle.cp_journal.specs.NewStores.{IsVacant, IsVacantOrNew, SettlesInto, header, new_file, IsOldOrVacantOrNew};
 ghost use Rattle.cp_journal.specs.Upgrading.{upgraded, HasOtherVersion, SaysHeader, with_version, SaysInAVersion, StandsInAVersion};
@@ -64,7 +64,7 @@ impl Journal {
         ensures vacant { IfKnown (D.known disk.old) (λ v. IfOk result (λ b. IsTrue b ↔ IsVacant v.content)) }
         ensures rests { Rests (D.known disk.old) (D.known disk.new) }
         ensures kinds { OnErr result (IsErrOf result JournalFault.Disk ⊎ IsErrOf result JournalFault.Memory) }
-        ensures cause { UsesDisk IsDiskFault (D.known disk.old) (D.known disk.new) result }
+        ensures cause { UsesDisk (λ e. e ≡ JournalFault.Disk) (D.known disk.old) (D.known disk.new) result }
         ensures wants { (D.known disk.old).counts.wants ≤ (D.known disk.new).counts.wants }
     {
         Ok(is_vacant(disk)?)
@@ -91,7 +91,7 @@ impl Journal {
         ensures usable { IfOk result (λ j. (j.broken ≡ None) × (j.spent ≡ false)) }
         ensures idle { IfOk result (λ j. j.begun ≡ None) }
         ensures kinds { OnErr result (IsErrOf result JournalFault.Disk ⊎ IsErrOf result JournalFault.Memory) }
-        ensures cause { UsesDisk IsDiskFault (D.known disk.old) (D.known disk.new) result }
+        ensures cause { UsesDisk (λ e. e ≡ JournalFault.Disk) (D.known disk.old) (D.known disk.new) result }
         ensures memory { IsErrOf result JournalFault.Memory → (disk.new ≡ disk.old)
             ⊎ Rose (D.known disk.old).counts.wants (D.known disk.new).counts.wants }
     {
@@ -140,7 +140,7 @@ impl Journal {
             (λ e. (e ≡ JournalFault.Disk) ⊎ ((e ≡ JournalFault.Memory) ⊎ (e ≡ JournalFault.NoStore 0))) }
         ensures durable { OnOk result (IsSettled (D.known disk.new)) }
         ensures rests { Rests (D.known disk.old) (D.known disk.new) }
-        ensures cause { UsesDisk IsDiskFault (D.known disk.old) (D.known disk.new) result }
+        ensures cause { UsesDisk (λ e. e ≡ JournalFault.Disk) (D.known disk.old) (D.known disk.new) result }
         ensures reads { (D.known disk.new).counts.reads ≤ (D.known disk.old).counts.reads + 1 }
     {
         read_header(disk)
@@ -161,7 +161,7 @@ impl Journal {
         ensures usable { IfOk result (λ j. j.spent ≡ false) }
         ensures idle { IfOk result (λ j. j.begun ≡ None) }
         ensures kinds { OnErr result (IsErrOf result JournalFault.Disk ⊎ IsErrOf result JournalFault.Memory) }
-        ensures cause { UsesDisk IsDiskFault (D.known disk.old) (D.known disk.new) result }
+        ensures cause { UsesDisk (λ e. e ≡ JournalFault.Disk) (D.known disk.old) (D.known disk.new) result }
         ensures reads { IfOk result (λ j. (D.known disk.new).counts.reads ≤ (D.known disk.old).counts.reads + 2 * length j.frames + 2) }
         ensures most_reads { IfKnown (D.known disk.old) (λ v.
             (D.known disk.new).counts.reads ≤ (D.known disk.old).counts.reads + 2 * length (frames_of (drop at v.content)).frames + 2) }
@@ -204,7 +204,7 @@ impl Journal {
             → OnOk result (into.new.items ≡ entry_body f)) }
         ensures rests { Rests (D.known disk.old) (D.known disk.new) }
         ensures kinds { OnErr result (IsErrOf result JournalFault.Disk ⊎ IsErrOf result JournalFault.Memory) }
-        ensures cause { UsesDisk IsDiskFault (D.known disk.old) (D.known disk.new) result }
+        ensures cause { UsesDisk (λ e. e ≡ JournalFault.Disk) (D.known disk.old) (D.known disk.new) result }
         ensures reads { (f : frame_at) → slice_get self.now.frames n ≡ Some f
             → READ_MAX * (D.known disk.new).counts.reads ≤ READ_MAX * (D.known disk.old).counts.reads + f.len + (READ_MAX - 1) }
     {
@@ -278,7 +278,7 @@ impl Journal {
             → OnOk result (Describes head (fs ++ entry body.now ∷ []) self.new (D.known disk.new).view)) }
         ensures stands { IfKnown (D.known disk.old) (λ v. (head : List ℕ) (fs : List Frame)
             → Holds head fs self.old.next v
-            → ViewKeeps (StandsWithOrWithout head fs (entry body.now)) v (D.known disk.new).view) }
+            → ViewKeeps (Either (Stands head fs) (Stands head (fs ++ entry body.now ∷ []))) v (D.known disk.new).view) }
         ensures too_large { IsErrOf result JournalFault.TooLarge
             ↔ ((BODY_MAX < length body.now) ⊎ (DISK_MAX < self.old.next + length body.now + FRAME_HEAD + 1)) }
         ensures unchanged { IsErrOf result JournalFault.TooLarge → (self.new ≡ self.old) × (disk.new ≡ disk.old) }
@@ -287,7 +287,7 @@ impl Journal {
         ensures spent { IsTrue self.new.spent ↔ (IsErrOf result JournalFault.Disk ⊎ IsErrOf result JournalFault.Memory) }
         ensures broken { self.new.broken ≡ self.old.broken }
         ensures idle { self.new.begun ≡ self.old.begun }
-        ensures cause { UsesDisk IsDiskFault (D.known disk.old) (D.known disk.new) result }
+        ensures cause { UsesDisk (λ e. e ≡ JournalFault.Disk) (D.known disk.old) (D.known disk.new) result }
         ensures memory { IsErrOf result JournalFault.Memory → (disk.new ≡ disk.old)
             ⊎ Rose (D.known disk.old).counts.wants (D.known disk.new).counts.wants }
         ensures reads { (D.known disk.new).counts.reads ≡ (D.known disk.old).counts.reads }
@@ -339,7 +339,7 @@ impl Journal {
         ensures same { (self.new.frames ≡ self.old.frames) × (self.new.next ≡ self.old.next)
             × (self.new.broken ≡ self.old.broken) }
         ensures idle { self.new.begun ≡ self.old.begun }
-        ensures cause { UsesDisk IsDiskFault (D.known disk.old) (D.known disk.new) result }
+        ensures cause { UsesDisk (λ e. e ≡ JournalFault.Disk) (D.known disk.old) (D.known disk.new) result }
         ensures memory { IsErrOf result JournalFault.Memory
             → Rose (D.known disk.old).counts.wants (D.known disk.new).counts.wants }
         ensures reads { (D.known disk.new).counts.reads ≡ (D.known disk.old).counts.reads }
@@ -394,7 +394,7 @@ impl Journal {
         ensures spent { self.new.spent ≡ self.old.spent }
         ensures broken { self.new.broken ≡ self.old.broken }
         ensures idle { self.new.begun ≡ self.old.begun }
-        ensures cause { UsesDisk IsDiskFault (D.known disk.old) (D.known disk.new) result }
+        ensures cause { UsesDisk (λ e. e ≡ JournalFault.Disk) (D.known disk.old) (D.known disk.new) result }
         ensures memory { IsErrOf result JournalFault.Memory → (disk.new ≡ disk.old)
             ⊎ Rose (D.known disk.old).counts.wants (D.known disk.new).counts.wants }
         ensures reads { (D.known disk.new).counts.reads ≡ (D.known disk.old).counts.reads }

@@ -2,7 +2,6 @@
 ghost use Rattle.std.specs.Prelude.{◌≡◌, ◌≤◌, ◌<◌, ◌⊎◌, ◌+◌, ◌-◌, ◌*◌, IsErrOf, length, take, drop, OnOk, OnErr};
 ghost use Rattle.cp_disk.specs.Counts.{UsesDisk};
 ghost use Rattle.cp_disk.specs.Views.{IfKnown, Rests};
-ghost use Rattle.cp_journal.specs.Journals.{IsDiskFault};
 
 use crate::fault::JournalFault;
 use cp_disk::{DISK_MAX, Disk, READ_MAX};
@@ -19,7 +18,7 @@ pub(crate) fn read_range<D: Disk>(
     ensures bytes { IfKnown (D.known disk.old) (λ v. OnOk result (into.new.items ≡ take len (drop at v.content))) }
     ensures rests { Rests (D.known disk.old) (D.known disk.new) }
     ensures kinds { OnErr result (IsErrOf result JournalFault.Disk ⊎ IsErrOf result JournalFault.Memory) }
-    ensures cause { UsesDisk IsDiskFault (D.known disk.old) (D.known disk.new) result }
+    ensures cause { UsesDisk (λ e. e ≡ JournalFault.Disk) (D.known disk.old) (D.known disk.new) result }
     ensures reads { READ_MAX * (D.known disk.new).counts.reads ≤ READ_MAX * (D.known disk.old).counts.reads + len + (READ_MAX - 1) }
 {
     into.clear();

@@ -3,7 +3,7 @@ ghost use Rattle.std.specs.Prelude.{◌≡◌, ◌≤◌, ◌<◌, ◌⊎◌, �
 ghost use Rattle.cp_disk.specs.Counts.{Counted, UsesDisk};
 ghost use Rattle.cp_disk.specs.Views.{IfKnown, Rests};
 ghost use Rattle.cp_journal.specs.Frames.{fits as may_be_frame, frames_of};
-ghost use Rattle.cp_journal.specs.Journals.{AreInRange, IsDiskFault};
+ghost use Rattle.cp_journal.specs.Journals.{AreInRange};
 ghost use Rattle.cp_journal.specs.Walks.{length_in, IsSeen, HasRoom, IsWalked};
 
 use crate::fault::JournalFault;
@@ -147,7 +147,7 @@ pub(crate) fn walk_frames<D: Disk>(
     ensures kinds { OnErr result (IsErrOf result JournalFault.Disk ⊎ IsErrOf result JournalFault.Memory) }
     ensures range { IfOk result (λ w. (w.next ≤ DISK_MAX) × AreInRange w.frames.items) }
     ensures rests { Rests (D.known disk.old) (D.known disk.new) }
-    ensures cause { UsesDisk IsDiskFault (D.known disk.old) (D.known disk.new) result }
+    ensures cause { UsesDisk (λ e. e ≡ JournalFault.Disk) (D.known disk.old) (D.known disk.new) result }
     ensures reads { IfOk result (λ w. (D.known disk.new).counts.reads ≤ (D.known disk.old).counts.reads + 2 * length w.frames.items + 2) }
     ensures most_reads { IfKnown (D.known disk.old) (λ v.
         (D.known disk.new).counts.reads ≤ (D.known disk.old).counts.reads + 2 * length (frames_of (drop from v.content)).frames + 2) }

@@ -1,10 +1,8 @@
 -- What a read of a file gives, and which of its errors blame the file.
-use Rattle.std.specs.Prelude.{ℕ, ◌≡◌, ◌≤◌, ◌<◌, List, [], length, take, None, Some, ⊤}
+use Rattle.std.specs.Prelude.{ℕ, ◌≡◌, ◌≤◌, ◌<◌, List, [], length, take, None, Some}
 use Rattle.std.specs.declared.option.Option.{Option}
 use Rattle.cp_outside.specs.declared.files.FileEnd.{FileEnd}
 use Rattle.cp_outside.specs.declared.files.FileEnd.TheVariants.{Whole, TooLong, Missing}
-use Rattle.cp_outside.specs.declared.files.FilesFault.{FilesFault}
-use Rattle.cp_outside.specs.declared.files.FilesFault.TheVariants.{Failed, Memory}
 
 -- What each name names: the bytes of a file, or none where there is no such file.
 abbrev pub FileTable : Type 0
@@ -19,8 +17,3 @@ EndsAs file limit bytes Missing = (file ≡ None) × (bytes ≡ [])
 -- Some file was found so, which is the told one where the files are told.
 abbrev pub ReadsFile : Option FileTable → List ℕ → ℕ → List ℕ → FileEnd → Type 0
 ReadsFile files name limit bytes end = (file : Option (List ℕ)) × ((f : FileTable) → files ≡ Some f → f name ≡ file) × EndsAs file limit bytes end
-
--- The file could not be read, and memory did not run out.
-abbrev pub BlamesFile : FilesFault → Type 0
-BlamesFile Failed = ⊤
-BlamesFile Memory = ⊥

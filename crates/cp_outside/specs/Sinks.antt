@@ -1,15 +1,8 @@
 -- What a write took, and which of its errors blame the output.
-use Rattle.std.specs.Prelude.{ℕ, ◌≡◌, ◌≤◌, ◌<◌, ◌+◌, ◌-◌, ◌^◌, min, List, length, take, Result, Ok, Err, IfOk, ⊤}
+use Rattle.std.specs.Prelude.{ℕ, ◌≡◌, ◌≤◌, ◌<◌, ◌+◌, ◌-◌, ◌^◌, min, List, length, take, Result, Ok, Err, IfOk}
 use Rattle.std.specs.declared.option.Option.{Option}
 use Rattle.std.specs.Io.KnownBytes.{Appends}
 use Rattle.cp_outside.specs.Causes.{one_more}
-use Rattle.cp_outside.specs.declared.sink.SinkFault.{SinkFault}
-use Rattle.cp_outside.specs.declared.sink.SinkFault.TheVariants.{Failed, Memory}
-
--- The output failed, and memory did not run out.
-abbrev pub BlamesOutput : SinkFault → Type 0
-BlamesOutput Failed = ⊤
-BlamesOutput Memory = ⊥
 
 -- At `Ok(n)` the n bytes that were taken are one at least, and at most all.
 abbrev pub TakesSome : {E : Type 0} → Result ℕ E → List ℕ → Type 0

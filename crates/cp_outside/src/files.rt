@@ -2,7 +2,7 @@
 ghost use Rattle.std.specs.Prelude.{◌≡◌, ℕ, IfOk};
 ghost use Rattle.std.specs.declared.option.Option.{Option};
 ghost use Rattle.cp_outside.specs.Causes.{Accounts, one_more};
-ghost use Rattle.cp_outside.specs.FileReads.{FileTable, ReadsFile, BlamesFile};
+ghost use Rattle.cp_outside.specs.FileReads.{FileTable, ReadsFile};
 
 use std::alloc::{AllocError, AllocFailed};
 use thiserror::Error;
@@ -75,5 +75,5 @@ pub trait Files {
             ReadsFile (found self.old) name.now limit into.new.items end) }
         ensures same { found self.new ≡ found self.old }
         ensures counted { reads self.new ≡ one_more (reads self.old) }
-        ensures cause { Accounts BlamesFile (faults self.old) (faults self.new) result };
+        ensures cause { Accounts (λ e. e ≡ FilesFault.Failed) (faults self.old) (faults self.new) result };
 }

@@ -1,7 +1,7 @@
 //! Files in memory.
-ghost use Rattle.std.specs.Prelude.{◌≡◌, [], ◌↔◌, length, Some, IfOk, OnOk, IsErrOf, Contains};
+ghost use Rattle.std.specs.Prelude.{◌≡◌, [], ◌↔◌, Some, IfOk, OnOk, IsErrOf, Contains};
 ghost use Rattle.std.specs.Option.{option_map};
-ghost use Rattle.cp_outside.specs.FileReads.{EndsAs, ReadsFile, BlamesFile};
+ghost use Rattle.cp_outside.specs.FileReads.{EndsAs, ReadsFile};
 ghost use Rattle.cp_outside.specs.Causes.{Accounts, one_more};
 ghost use Rattle.cp_outside.specs.MemoryStates.{file_named, new_files, after_file, after_failed_file};
 
@@ -145,7 +145,7 @@ impl Files for MemFiles {
             ReadsFile (Some (file_named self.old.files)) name.now limit into.new.items end) }
         ensures same { Some (file_named self.new.files) ≡ Some (file_named self.old.files) }
         ensures counted { self.new.calls ≡ one_more self.old.calls }
-        ensures cause { Accounts BlamesFile self.old.faults self.new.faults result }
+        ensures cause { Accounts (λ e. e ≡ FilesFault.Failed) self.old.faults self.new.faults result }
 
         // The reads that the list names fail, and the others give what the name names, where there
         // is memory.

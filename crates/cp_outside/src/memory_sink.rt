@@ -3,7 +3,7 @@ ghost use Rattle.std.specs.Prelude.{◌≡◌, [], ◌<◌, ◌↔◌, length, S
 ghost use Rattle.std.specs.Io.KnownBytes.{WriteAppends};
 ghost use Rattle.cp_outside.specs.Causes.{Accounts, one_more};
 ghost use Rattle.cp_outside.specs.MemoryStates.{new_sink, after_refusal, after_write, after_failed_write, after_refused_write};
-ghost use Rattle.cp_outside.specs.Sinks.{BlamesOutput, CountsRefusal, CountsSince, TakesSome};
+ghost use Rattle.cp_outside.specs.Sinks.{CountsRefusal, CountsSince, TakesSome};
 
 use crate::plan::Plan;
 use crate::sink::{Sink, SinkFault};
@@ -85,7 +85,7 @@ impl Sink for MemSink {
         requires { 0 < length bytes.now }
         ensures some { TakesSome result bytes.now }
         ensures bytes { WriteAppends (Some self.old.bytes) (Some self.new.bytes) result bytes.now }
-        ensures cause { Accounts BlamesOutput self.old.faults self.new.faults result }
+        ensures cause { Accounts (λ e. e ≡ SinkFault.Failed) self.old.faults self.new.faults result }
         ensures refused { CountsRefusal self.old.refusals self.new.refusals result }
         ensures since { CountsSince self.old.since_refusal self.new.since_refusal result }
 

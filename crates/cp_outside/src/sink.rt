@@ -3,7 +3,7 @@ ghost use Rattle.std.specs.Prelude.{◌≡◌, ◌<◌, ℕ, List, length, OnOk,
 ghost use Rattle.std.specs.declared.option.Option.{Option};
 ghost use Rattle.std.specs.Io.KnownBytes.{WriteAppends, Appends};
 ghost use Rattle.cp_outside.specs.Causes.{Accounts};
-ghost use Rattle.cp_outside.specs.Sinks.{BlamesOutput, CountsRefusal, CountsSince, TakesSome, TakesLess};
+ghost use Rattle.cp_outside.specs.Sinks.{CountsRefusal, CountsSince, TakesSome, TakesLess};
 
 use std::alloc::{AllocError, AllocFailed};
 use thiserror::Error;
@@ -61,7 +61,7 @@ pub trait Sink {
         requires { 0 < length bytes.now }
         ensures some { TakesSome result bytes.now }
         ensures bytes { WriteAppends (contents self.old) (contents self.new) result bytes.now }
-        ensures cause { Accounts BlamesOutput (faults self.old) (faults self.new) result }
+        ensures cause { Accounts (λ e. e ≡ SinkFault.Failed) (faults self.old) (faults self.new) result }
         ensures refused { CountsRefusal (refusals self.old) (refusals self.new) result }
         ensures since { CountsSince (since_refusal self.old) (since_refusal self.new) result };
 }
@@ -73,7 +73,7 @@ pub fn write_all<O: Sink>(output: &mut O, bytes: &[u8]) -> Result<(), SinkFault>
     ensures all { OnOk result (Appends (O.contents output.old) (O.contents output.new) bytes.now) }
     ensures part { OnErr result
         (TakesLess (O.contents output.old) (O.contents output.new) bytes.now) }
-    ensures cause { Accounts BlamesOutput (O.faults output.old) (O.faults output.new) result }
+    ensures cause { Accounts (λ e. e ≡ SinkFault.Failed) (O.faults output.old) (O.faults output.new) result }
     ensures refused { CountsRefusal (O.refusals output.old) (O.refusals output.new) result }
     ensures since { OnErr result (O.since_refusal output.new ≡ 0) }
 {

@@ -28,7 +28,7 @@ use Rattle.cp_interpreter.specs.Story.{SaidLine, HasCauses, DiskCauses, result_o
 use Rattle.cp_scratch.specs.Sessions.{no_files}
 use Rattle.cp_program.specs.Answering.{IsAnswerTo, IsLogOf, IsVerdictOn, Answered}
 use Rattle.cp_interpreter.specs.Begins.{IsOpeningStop, OpenedAlone, AnsweredAs, GaveAnswer}
-use Rattle.cp_interpreter.specs.Turns.{IsDiskStop, TellsStop, end_of_stop}
+use Rattle.cp_interpreter.specs.Turns.{TellsStop, end_of_stop}
 use Rattle.cp_interpreter.specs.declared.end.End.{End}
 use Rattle.cp_interpreter.specs.declared.end.End.TheVariants as how
 use Rattle.cp_interpreter.specs.declared.stop.Stop.{Stop}
@@ -118,7 +118,7 @@ disk-then v m w e first next = record {
 }
 
 -- the disk's account of it
-pub disk-answer : (v w : KnownDisk) (o p : KnownOutput) (r : Result Reply Stop) (e : End) → IfErr r IsOpeningStop → GaveAnswer r o p e → UsesDisk IsDiskStop v w r → DiskCauses v w e
+pub disk-answer : (v w : KnownDisk) (o p : KnownOutput) (r : Result Reply Stop) (e : End) → IfErr r IsOpeningStop → GaveAnswer r o p e → UsesDisk (λ e. e ≡ Disk) v w r → DiskCauses v w e
 disk-answer v w o p (Ok y) e kind gave cause = disk-said v w (lines y) (is_refusal y) o p e cause.same cause.account.steady gave
 disk-answer v w o p (Err stop) e kind gave cause = subst (λ z. DiskCauses v w z) (sym gave.0) (stop-disk v w stop kind cause)
 

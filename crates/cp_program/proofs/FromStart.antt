@@ -25,7 +25,6 @@ use Rattle.cp_workspace.specs.Files.{KnownFiles, HasRead, HasReadSome, IsTable, 
 use Rattle.cp_disk.specs.Views.{KnownDisk}
 use Rattle.cp_workspace.specs.Workspaces.{Stands, IsWorkspace, IsUsable, HasStamps, HoldsFile, db_in, end_now}
 use Rattle.cp_workspace.specs.declared.workspace.Workspace.{Workspace}
-use Rattle.cp_workspace.specs.Faults.{IsFailedFile}
 use Rattle.cp_workspace.proofs.ReadCounts.{table-first, table-second}
 use Rattle.cp_interpreter.specs.Texts.{file_line, memory_line}
 use Rattle.cp_scratch.specs.Sessions.{scratch_session, scratch_terms}
@@ -161,7 +160,7 @@ module _ (j : Kind) (given : FileTable → FetchedFile) (k : ℕ) (i : KnownInpu
   }
 
   -- a call was stopped before it took a byte: by its start tree's file, or as memory ran out
-  pub ran-early : (fault : FilesFault) (stop : Stop) → (fault ≡ fails.Failed → stop ≡ File) × (fault ≡ fails.Memory → stop ≡ Memory) → ReadsBefore IsFailedFile k f fb fault → TellsStop o p stop → Ran j given k (parts i f c o) (parts i fb c p) (end_of_stop stop)
+  pub ran-early : (fault : FilesFault) (stop : Stop) → (fault ≡ fails.Failed → stop ≡ File) × (fault ≡ fails.Memory → stop ≡ Memory) → ReadsBefore (λ e. e ≡ fails.Failed) k f fb fault → TellsStop o p stop → Ran j given k (parts i f c o) (parts i fb c p) (end_of_stop stop)
   ran-early fails.Failed stop becomes r w =
       let is = becomes.0 refl in
       let x = r.blamed refl in

@@ -10,7 +10,6 @@ ghost use Rattle.cp_program.specs.Answering.{Answered, IsAnswerTo, IsLogOf, IsVe
 ghost use Rattle.cp_interpreter.specs.Begins.{AnsweredAs, GaveAnswer, IsOpeningStop};
 ghost use Rattle.cp_interpreter.specs.Outside.{KnownInput, KnownClock, known_output};
 ghost use Rattle.cp_interpreter.specs.Story.{HasCauses, DiskCauses, result_of};
-ghost use Rattle.cp_interpreter.specs.Turns.{IsDiskStop};
 
 use crate::load::open_workspace;
 use cp_db::log_of;
@@ -33,7 +32,7 @@ fn reply_to_query<R: TreeRep, S: TreeRep, D: Disk>(
     ensures answered { IsTrue (D.known disk.old).known →
         AnsweredAs Opens (IsAnswerTo (stmt.Ask query)) (D.known disk.old) result }
     ensures rests { Rests (D.known disk.old) (D.known disk.new) }
-    ensures cause { UsesDisk IsDiskStop (D.known disk.old) (D.known disk.new) result }
+    ensures cause { UsesDisk (λ e. e ≡ Stop.Disk) (D.known disk.old) (D.known disk.new) result }
     ensures kinds { IfErr result IsOpeningStop }
 {
     match open_workspace::<R, S, D>(alloc, disk) {
@@ -58,7 +57,7 @@ fn reply_to_show<R: TreeRep, S: TreeRep, D: Disk>(
     ensures answered { IsTrue (D.known disk.old).known →
         AnsweredAs Opens (IsAnswerTo (stmt.Show place)) (D.known disk.old) result }
     ensures rests { Rests (D.known disk.old) (D.known disk.new) }
-    ensures cause { UsesDisk IsDiskStop (D.known disk.old) (D.known disk.new) result }
+    ensures cause { UsesDisk (λ e. e ≡ Stop.Disk) (D.known disk.old) (D.known disk.new) result }
     ensures kinds { IfErr result IsOpeningStop }
 {
     match open_workspace::<R, S, D>(alloc, disk) {
@@ -79,7 +78,7 @@ fn commits_in<R: TreeRep, S: TreeRep, D: Disk>(alloc: Global, disk: &mut D) -> R
     ensures answered { IsTrue (D.known disk.old).known →
         AnsweredAs OpensAndReplays IsLogOf (D.known disk.old) result }
     ensures rests { Rests (D.known disk.old) (D.known disk.new) }
-    ensures cause { UsesDisk IsDiskStop (D.known disk.old) (D.known disk.new) result }
+    ensures cause { UsesDisk (λ e. e ≡ Stop.Disk) (D.known disk.old) (D.known disk.new) result }
     ensures kinds { IfErr result IsOpeningStop }
 {
     let commits = log_of::<R, S, D>(alloc, disk)?;
@@ -91,7 +90,7 @@ fn verdict_on<R: TreeRep, S: TreeRep, D: Disk>(alloc: Global, disk: &mut D) -> R
     ensures answered { IsTrue (D.known disk.old).known →
         AnsweredAs OpensAndReplays IsVerdictOn (D.known disk.old) result }
     ensures rests { Rests (D.known disk.old) (D.known disk.new) }
-    ensures cause { UsesDisk IsDiskStop (D.known disk.old) (D.known disk.new) result }
+    ensures cause { UsesDisk (λ e. e ≡ Stop.Disk) (D.known disk.old) (D.known disk.new) result }
     ensures kinds { IfErr result IsOpeningStop }
 {
     let verdict = verify::<R, S, D>(alloc, disk)?;

@@ -9,7 +9,6 @@ ghost use Rattle.cp_interpreter.specs.Begins.{CreatedAs, StoreMade};
 ghost use Rattle.cp_scratch.specs.Starts.{start_given, start_reads};
 ghost use Rattle.cp_interpreter.specs.Outside.{KnownInput, KnownClock, known_output};
 ghost use Rattle.cp_interpreter.specs.Story.{Made, HasCauses, DiskCauses};
-ghost use Rattle.cp_interpreter.specs.Turns.{IsDiskStop, IsFileStop};
 
 use cp_db::{Db, InitFault};
 use cp_disk::Disk;
@@ -42,7 +41,7 @@ fn create<R: TreeRep, D: Disk>(
     ensures crash { Keeps (IsOldOrVacantOrStart (D.known disk.old).view kind (R.contents tree)) (D.known disk.old) (D.known disk.new) }
     ensures settles { IfKnown (D.known disk.old) (λ v.
         SettlesInto (IsVacantOrStart kind (R.contents tree)) v (D.known disk.new).view) }
-    ensures cause { UsesDisk IsDiskStop (D.known disk.old) (D.known disk.new) result }
+    ensures cause { UsesDisk (λ e. e ≡ Stop.Disk) (D.known disk.old) (D.known disk.new) result }
     ensures kinds { IfErr result (λ e. (e ≡ Stop.Disk) ⊎ (e ≡ Stop.Memory)) }
 {
     let nodes = tree.count();
@@ -66,8 +65,8 @@ fn make<R: TreeRep, D: Disk, F: Files>(
 ) -> Result<Reply, Stop>
     ensures made { StoreMade kind (λ t. start_given t start) (start_reads start)
         (known_files F.Files files.old) (known_files F.Files files.new) (D.known disk.old) (D.known disk.new) result }
-    ensures used { UsesFiles IsFileStop (known_files F.Files files.old) (known_files F.Files files.new) result }
-    ensures cause { UsesDisk IsDiskStop (D.known disk.old) (D.known disk.new) result }
+    ensures used { UsesFiles (λ e. e ≡ Stop.File) (known_files F.Files files.old) (known_files F.Files files.new) result }
+    ensures cause { UsesDisk (λ e. e ≡ Stop.Disk) (D.known disk.old) (D.known disk.new) result }
 {
     if !Journal::vacant(disk)? {
         return Ok(refused(Why::StoreExists));

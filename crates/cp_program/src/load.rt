@@ -9,7 +9,6 @@ ghost use Rattle.cp_interpreter.specs.Alone.{Loaded};
 ghost use Rattle.cp_interpreter.specs.Begins.{OpenedAlone, IsOpeningStop, LoadedAs};
 ghost use Rattle.cp_interpreter.specs.Outside.{KnownInput, KnownClock, known_output};
 ghost use Rattle.cp_interpreter.specs.Story.{HasCauses, DiskCauses};
-ghost use Rattle.cp_interpreter.specs.Turns.{IsDiskStop, IsFileStop};
 
 use cp_db::Db;
 use cp_disk::Disk;
@@ -31,7 +30,7 @@ pub(crate) fn open_workspace<R: TreeRep, S: TreeRep, D: Disk>(
         OpenedAlone R.contents S.contents (D.known disk.old) (D.known disk.new) result }
     ensures rests { Rests (D.known disk.old) (D.known disk.new) }
     ensures usable { IfOk result (λ d. IsUsable R.contents S.contents (D.known disk.new) d) }
-    ensures cause { UsesDisk IsDiskStop (D.known disk.old) (D.known disk.new) result }
+    ensures cause { UsesDisk (λ e. e ≡ Stop.Disk) (D.known disk.old) (D.known disk.new) result }
     ensures kinds { IfErr result IsOpeningStop }
 {
     let curator = no_curator(alloc)?;
@@ -48,9 +47,9 @@ fn reply_to_load<R: TreeRep, S: TreeRep, D: Disk, F: Files>(
 ) -> Result<Reply, Stop>
     requires other { label_eq source.name target ≡ false }
     ensures loaded { LoadedAs source (known_files F.Files files.old) (known_files F.Files files.new) (D.known disk.old) (D.known disk.new) result }
-    ensures used { UsesFiles IsFileStop (known_files F.Files files.old) (known_files F.Files files.new) result }
+    ensures used { UsesFiles (λ e. e ≡ Stop.File) (known_files F.Files files.old) (known_files F.Files files.new) result }
     ensures read { HasReadSome (known_files F.Files files.old) (known_files F.Files files.new) }
-    ensures cause { UsesDisk IsDiskStop (D.known disk.old) (D.known disk.new) result }
+    ensures cause { UsesDisk (λ e. e ≡ Stop.Disk) (D.known disk.old) (D.known disk.new) result }
 {
     match open_workspace::<R, S, D>(alloc, disk) {
         Ok(mut workspace) => {

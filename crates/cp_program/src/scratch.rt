@@ -4,7 +4,6 @@ ghost use Rattle.cp_disk.specs.MemoryDisks.{sure_view};
 ghost use Rattle.cp_journal.specs.NewStores.{IsVacant};
 ghost use Rattle.cp_model.specs.History.{start};
 ghost use Rattle.cp_outside.specs.FileReads.{FileTable};
-ghost use Rattle.cp_workspace.specs.Faults.{IsFailedFile};
 ghost use Rattle.cp_workspace.specs.Files.{known_files, IsTable, Reads, UsesFiles};
 ghost use Rattle.cp_scratch.specs.Sessions.{scratch_session, scratch_terms, sure_disk};
 ghost use Rattle.cp_program.specs.Begun.{Begun};
@@ -55,8 +54,8 @@ fn begin<R: TreeRep, S: TreeRep, F: Files>(
     ensures begun { IfOk result (λ r. (t : FileTable) → IsTable t (known_files F.Files files.old) (known_files F.Files files.new)
         → Begun R.contents S.contents (sure_disk disk.new) kind (start_given t start) r) }
     ensures goes_on { IfOk result (λ r. IfOk r (λ x. MayGoOn R.contents S.contents (sure_disk disk.new) x × (has_refused x ≡ false))) }
-    ensures used { UsesFiles IsFailedFile (known_files F.Files files.old) (known_files F.Files files.new) result }
-    ensures reads { Reads IsFailedFile (start_reads start) (known_files F.Files files.old) (known_files F.Files files.new) result }
+    ensures used { UsesFiles (λ e. e ≡ FilesFault.Failed) (known_files F.Files files.old) (known_files F.Files files.new) result }
+    ensures reads { Reads (λ e. e ≡ FilesFault.Failed) (start_reads start) (known_files F.Files files.old) (known_files F.Files files.new) result }
 {
     match start_tree::<R, F>(alloc, start, files)? {
         Ok(tree) => Ok(Ok(session_on(alloc, kind, tree, disk)?)),

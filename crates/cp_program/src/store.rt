@@ -6,7 +6,7 @@ ghost use Rattle.cp_db.specs.Databases.{IsDatabase, IsReady, is_spent, version_i
 ghost use Rattle.cp_interpreter.specs.Begins.{Migrated, OpenedAs, BegunOn, IsOpeningStop, LeavesStore};
 ghost use Rattle.cp_interpreter.specs.Outside.{known_outside};
 ghost use Rattle.cp_interpreter.specs.Story.{RanOn, HasCauses, DiskCauses};
-ghost use Rattle.cp_interpreter.specs.Turns.{MayGoOn, IsDiskStop, has_refused};
+ghost use Rattle.cp_interpreter.specs.Turns.{MayGoOn, has_refused};
 
 use cp_db::{Db, WriteFault};
 use cp_disk::Disk;
@@ -29,7 +29,7 @@ fn migrate<R: TreeRep, S: TreeRep, D: Disk>(
     ensures migrated { Migrated R.contents S.contents db (D.known disk.old) (D.known disk.new) result }
     ensures usable { IfOk result (λ d. IsDatabase R.contents S.contents d × (is_spent d ≡ false) × (version_in d ≡ 2)) }
     ensures ready { IfKnown (D.known disk.new) (λ v. IfOk result (λ d. IsReady d v)) }
-    ensures cause { UsesDisk IsDiskStop (D.known disk.old) (D.known disk.new) result }
+    ensures cause { UsesDisk (λ e. e ≡ Stop.Disk) (D.known disk.old) (D.known disk.new) result }
     ensures kinds { IfErr result (λ e. (e ≡ Stop.Disk) ⊎ (e ≡ Stop.Memory)) }
 {
     if db.version() == 2 {
@@ -56,7 +56,7 @@ fn open_db<R: TreeRep, S: TreeRep, D: Disk>(alloc: Global, disk: &mut D) -> Resu
     ensures leaves { LeavesStore (D.known disk.old) (D.known disk.new) }
     ensures usable { IfOk result (λ d. IsDatabase R.contents S.contents d × (is_spent d ≡ false) × (version_in d ≡ 2)) }
     ensures ready { IfKnown (D.known disk.new) (λ v. IfOk result (λ d. IsReady d v)) }
-    ensures cause { UsesDisk IsDiskStop (D.known disk.old) (D.known disk.new) result }
+    ensures cause { UsesDisk (λ e. e ≡ Stop.Disk) (D.known disk.old) (D.known disk.new) result }
     ensures kinds { IfErr result IsOpeningStop }
 {
     let db = Db::open_on(alloc, disk)?;
@@ -73,7 +73,7 @@ pub(crate) fn begin<R: TreeRep, S: TreeRep, D: Disk>(
         BegunOn R.contents S.contents curator (D.known disk.old) (D.known disk.new) result }
     ensures leaves { LeavesStore (D.known disk.old) (D.known disk.new) }
     ensures goes_on { IfOk result (λ x. MayGoOn R.contents S.contents (D.known disk.new) x × (has_refused x ≡ false)) }
-    ensures cause { UsesDisk IsDiskStop (D.known disk.old) (D.known disk.new) result }
+    ensures cause { UsesDisk (λ e. e ≡ Stop.Disk) (D.known disk.old) (D.known disk.new) result }
     ensures kinds { IfErr result IsOpeningStop }
 {
     let db = open_db(alloc, disk)?;

@@ -12,7 +12,6 @@ ghost use Rattle.cp_program.specs.Using.{IsUsesOf, OpenedToRead, TellsUsers, has
 ghost use Rattle.cp_interpreter.specs.Begins.{AnsweredAs, IsOpeningStop};
 ghost use Rattle.cp_interpreter.specs.Outside.{KnownInput, KnownClock, known_output};
 ghost use Rattle.cp_interpreter.specs.Story.{HasCauses, DiskCauses};
-ghost use Rattle.cp_interpreter.specs.Turns.{IsDiskStop};
 
 use crate::answer::give_answer;
 use cp_db::Db;
@@ -78,7 +77,7 @@ fn open_to_read<R: TreeRep, S: TreeRep, D: Disk>(
     ensures opened { IsTrue (D.known disk.old).known →
         OpenedToRead R.contents S.contents (D.known disk.old) result }
     ensures rests { Rests (D.known disk.old) (D.known disk.new) }
-    ensures cause { UsesDisk IsDiskStop (D.known disk.old) (D.known disk.new) result }
+    ensures cause { UsesDisk (λ e. e ≡ Stop.Disk) (D.known disk.old) (D.known disk.new) result }
     ensures kinds { IfErr result IsOpeningStop }
 {
     Ok(Db::open_on(alloc, disk)?)
@@ -93,7 +92,7 @@ fn reply_to_uses<R: TreeRep, S: TreeRep, D: Disk>(
     ensures answered { IsTrue (D.known disk.old).known →
         AnsweredAs Opens (IsUsesOf place) (D.known disk.old) result }
     ensures rests { Rests (D.known disk.old) (D.known disk.new) }
-    ensures cause { UsesDisk IsDiskStop (D.known disk.old) (D.known disk.new) result }
+    ensures cause { UsesDisk (λ e. e ≡ Stop.Disk) (D.known disk.old) (D.known disk.new) result }
     ensures kinds { IfErr result IsOpeningStop }
 {
     match open_to_read::<R, S, D>(alloc, disk) {

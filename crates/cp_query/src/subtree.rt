@@ -1,5 +1,5 @@
 //! The steps that changed a place or one below it.
-ghost use Rattle.std.specs.Prelude.{◌≡◌, ◌<◌, ◌≤◌, ◌+◌, ◌&&◌, true, List, length, not, IfOk, OnOk};
+ghost use Rattle.std.specs.Prelude.{◌≡◌, ◌<◌, ◌+◌, ◌&&◌, true, List, length, not, IfOk, OnOk};
 ghost use Rattle.std.specs.List.{list_all};
 ghost use Rattle.std.specs.Option.{option_map};
 ghost use Rattle.cp_path.specs.declared.limits.TheConstants.{LABELS_MAX};
@@ -7,7 +7,6 @@ ghost use Rattle.cp_model.specs.Place.{in_target, child_place};
 ghost use Rattle.cp_model.specs.Subtrees.{is_there};
 ghost use Rattle.cp_model.specs.Below.{tells_below};
 ghost use Rattle.cp_store.specs.Calls.{Asks, ReadsAtMost};
-ghost use Rattle.cp_store.specs.Questions.{BlamesDisk};
 ghost use Rattle.cp_query.specs.Events.{has_room, HasEvent, Gathers};
 ghost use Rattle.cp_query.specs.Bounds.{past_cost, paths_in, sum_below};
 ghost use Rattle.cp_model.specs.Records.{reads, loses};
@@ -62,7 +61,7 @@ fn is_quiet<P: ProvStore>(
     ensures quiet { (rs : List Record) → P.keeps store.old rs → IfOk result (λ b. b ≡ true
         → list_all (λ q. not (tells_below rs (option_map (λ a. a.now) label.entry) q)) places.now ≡ true) }
     ensures reads { P.reads store.new ≡ P.reads store.old }
-    ensures asks { Asks P.ProvStore BlamesDisk store.old store.new result }
+    ensures asks { Asks P.ProvStore (λ e. e ≡ StoreFault.Disk) store.old store.new result }
 {
     for place in places {
         if store.tells_below(alloc, place, label)? {
@@ -85,7 +84,7 @@ fn came_along<P: ProvStore>(
     ensures along { (rs : List Record) → P.keeps store.old rs → IfOk result (λ b. b ≡ true → (together
         && list_all (λ q. not (tells_below rs (option_map (λ a. a.now) label.entry) q)) places.now) ≡ true) }
     ensures reads { P.reads store.new ≡ P.reads store.old }
-    ensures asks { Asks P.ProvStore BlamesDisk store.old store.new result }
+    ensures asks { Asks P.ProvStore (λ e. e ≡ StoreFault.Disk) store.old store.new result }
 {
     if !together {
         return Ok(false);
@@ -113,7 +112,7 @@ pub(crate) fn visit<P: ProvStore, R: TreeRep>(
         found.old.keys found.new.keys) }
     ensures reads { ReadsAtMost P.ProvStore
         (λ k rs c. sum_below (past_cost k rs c walk.high) walk.at.path (paths_in (R.contents tree.now))) store.old store.new }
-    ensures asks { Asks P.ProvStore BlamesDisk store.old store.new result }
+    ensures asks { Asks P.ProvStore (λ e. e ≡ StoreFault.Disk) store.old store.new result }
 {
     let is_node = tree.is_node(&walk.at.path);
     let high = walk.high;

@@ -1,7 +1,6 @@
 //! What a history starts from, and the curator of calls that have none.
 ghost use Rattle.std.specs.Prelude.{◌≡◌, [], IfOk};
 ghost use Rattle.cp_outside.specs.FileReads.{FileTable};
-ghost use Rattle.cp_workspace.specs.Faults.{IsFailedFile};
 ghost use Rattle.cp_workspace.specs.Fetched.{Gives};
 ghost use Rattle.cp_workspace.specs.Files.{known_files, IsTable, Reads, UsesFiles};
 ghost use Rattle.cp_scratch.specs.Starts.{start_given, start_reads};
@@ -23,8 +22,8 @@ pub fn start_tree<R: TreeRep, F: Files>(
 ) -> Result<Result<R, Why>, FilesFault>
     ensures gives { IfOk result (λ r. (t : FileTable) → IsTable t (known_files F.Files files.old) (known_files F.Files files.new)
         → Gives R.contents (start_given t start) r) }
-    ensures used { UsesFiles IsFailedFile (known_files F.Files files.old) (known_files F.Files files.new) result }
-    ensures reads { Reads IsFailedFile (start_reads start) (known_files F.Files files.old) (known_files F.Files files.new) result }
+    ensures used { UsesFiles (λ e. e ≡ FilesFault.Failed) (known_files F.Files files.old) (known_files F.Files files.new) result }
+    ensures reads { Reads (λ e. e ≡ FilesFault.Failed) (start_reads start) (known_files F.Files files.old) (known_files F.Files files.new) result }
 {
     match start {
         Start::Alone => Ok(Ok(R::single(alloc, &Content::Node)?)),

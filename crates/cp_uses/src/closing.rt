@@ -4,7 +4,6 @@ ghost use Rattle.cp_path.specs.declared.loc.Loc.{Loc as Place};
 ghost use Rattle.cp_model.specs.declared.record.Record.{Record as Row};
 ghost use Rattle.cp_store.specs.Calls.{Asks};
 ghost use Rattle.cp_store.specs.Counts.{store_in, calls_in, counted};
-ghost use Rattle.cp_store.specs.Questions.{BlamesDisk};
 ghost use Rattle.cp_uses.specs.Front.{IsFront};
 ghost use Rattle.cp_uses.specs.Carrying.{fan, calls_for};
 ghost use Rattle.cp_uses.specs.Closing.{nexts, Closes};
@@ -67,7 +66,7 @@ fn visit<P: ProvStore, R: TreeRep>(
         → OnOk result ((p : Place) → is_among p users.new.keys ≡ (is_among p users.old.keys
         || stands_now kind rs (P.last_tid (store_in store.old)) (R.contents tree.now) (from.now ∷ []) p)) }
     ensures calls { OnOk result (calls_in store.new ≤ calls_in store.old + (1 + 2 * fan kind index.now from.now)) }
-    ensures asks { Asks (counted P.ProvStore) BlamesDisk store.old store.new result }
+    ensures asks { Asks (counted P.ProvStore) (λ e. e ≡ StoreFault.Disk) store.old store.new result }
 {
     let mut stay = Stay::of(from);
     spread(alloc, index, store, kind, from, &mut stay, front)?;
@@ -95,7 +94,7 @@ pub(crate) fn close<P: ProvStore, R: TreeRep>(
         || stands_now kind rs (P.last_tid (store_in store.old)) (R.contents tree.now) front.new.found.items p)) }
     ensures calls { OnOk result (calls_in store.new
         ≤ calls_in store.old + calls_for kind index.now front.new.found.items) }
-    ensures asks { Asks (counted P.ProvStore) BlamesDisk store.old store.new result }
+    ensures asks { Asks (counted P.ProvStore) (λ e. e ≡ StoreFault.Disk) store.old store.new result }
 {
     let mut next = 0;
     while next < front.found.len() {

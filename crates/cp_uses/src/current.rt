@@ -3,7 +3,6 @@ ghost use Rattle.std.specs.Prelude.{◌≡◌, ◌≤◌, ◌+◌, List, IfOk};
 ghost use Rattle.cp_model.specs.declared.record.Record.{Record as Row};
 ghost use Rattle.cp_store.specs.Calls.{Asks};
 ghost use Rattle.cp_store.specs.Counts.{store_in, calls_in, counted};
-ghost use Rattle.cp_store.specs.Questions.{BlamesDisk};
 ghost use Rattle.cp_uses.specs.Current.{is_current};
 ghost use Rattle.cp_uses.specs.Stays.{IsKnown};
 
@@ -26,7 +25,7 @@ pub(crate) fn is_current<P: ProvStore, R: TreeRep>(
         → IfOk result (λ b. b ≡ is_current (P.kept_kind (store_in store.old)) rs
         (P.last_tid (store_in store.old)) (R.contents tree.now) reached.now) }
     ensures calls { calls_in store.new ≤ calls_in store.old + 1 }
-    ensures asks { Asks (counted P.ProvStore) BlamesDisk store.old store.new result }
+    ensures asks { Asks (counted P.ProvStore) (λ e. e ≡ StoreFault.Disk) store.old store.new result }
 {
     if !reached.place.db.is_target() || !tree.is_there(&reached.place.path) {
         return Ok(false);

@@ -6,7 +6,6 @@ ghost use Rattle.cp_model.specs.Place.{place_eq};
 ghost use Rattle.cp_model.specs.declared.record.Record.{Record as Row};
 ghost use Rattle.cp_store.specs.Calls.{Asks};
 ghost use Rattle.cp_store.specs.Counts.{store_in, calls_in, counted};
-ghost use Rattle.cp_store.specs.Questions.{BlamesDisk};
 ghost use Rattle.cp_uses.specs.Current.{stands_now};
 ghost use Rattle.cp_uses.specs.Stays.{IsKnown};
 ghost use Rattle.cp_uses.specs.Users.{is_among, place_cmp};
@@ -43,7 +42,7 @@ pub(crate) fn note_current<P: ProvStore, R: TreeRep>(
         || stands_now (P.kept_kind (store_in store.old)) rs (P.last_tid (store_in store.old))
         (R.contents tree.now) (reached.now ∷ []) p)) }
     ensures calls { calls_in store.new ≤ calls_in store.old + 1 }
-    ensures asks { Asks (counted P.ProvStore) BlamesDisk store.old store.new result }
+    ensures asks { Asks (counted P.ProvStore) (λ e. e ≡ StoreFault.Disk) store.old store.new result }
 {
     if is_current(alloc, store, tree, reached, stay)? {
         note_user(users, &reached.place)?;

@@ -4,7 +4,6 @@ ghost use Rattle.cp_model.specs.Changes.{reading_of_what};
 ghost use Rattle.cp_model.specs.declared.record.Record.{Record as Row};
 ghost use Rattle.cp_store.specs.Calls.{Asks};
 ghost use Rattle.cp_store.specs.Counts.{store_in, calls_in, counted};
-ghost use Rattle.cp_store.specs.Questions.{BlamesDisk};
 ghost use Rattle.cp_uses.specs.Front.{IsFront};
 ghost use Rattle.cp_uses.specs.Onward.{is_from, came, if_came, onward, AddsLater};
 ghost use Rattle.cp_uses.specs.Stays.{stands, IsKnown, Finds};
@@ -38,7 +37,7 @@ fn came<P: ProvStore>(
     ensures came { (rs : List Row) → P.keeps (store_in store.old) rs
         → IfOk result (λ b. b ≡ came (P.kept_kind (store_in store.old)) rs reached.now from.now) }
     ensures calls { calls_in store.new ≤ calls_in store.old + 1 }
-    ensures asks { Asks (counted P.ProvStore) BlamesDisk store.old store.new result }
+    ensures asks { Asks (counted P.ProvStore) (λ e. e ≡ StoreFault.Disk) store.old store.new result }
 {
     match store.last_change(alloc, &reached.place, reached.tid)? {
         Some(change) => Ok(change.tid == reached.tid && is_from(&change.what, from)),
@@ -68,7 +67,7 @@ fn carry<P: ProvStore>(
         → IsKnown (P.kept_kind (store_in store.old)) rs from.now stay.old
         → IfOk result (λ on. on ≡ false → stands (P.kept_kind (store_in store.old)) rs from.now (to.tid - 1) ≡ false) }
     ensures calls { calls_in store.new ≤ calls_in store.old + 2 }
-    ensures asks { Asks (counted P.ProvStore) BlamesDisk store.old store.new result }
+    ensures asks { Asks (counted P.ProvStore) (λ e. e ≡ StoreFault.Disk) store.old store.new result }
 {
     if front.has(&to) {
         return Ok(true);
@@ -104,7 +103,7 @@ pub(crate) fn follow<P: ProvStore>(
     ensures ends { (rs : List Row) → P.keeps (store_in store.old) rs → IsKnown kind rs from.now stay.old
         → IfOk result (λ on. on ≡ false → stands kind rs from.now (row.now.tid - 1) ≡ false) }
     ensures calls { calls_in store.new ≤ calls_in store.old + 2 }
-    ensures asks { Asks (counted P.ProvStore) BlamesDisk store.old store.new result }
+    ensures asks { Asks (counted P.ProvStore) (λ e. e ≡ StoreFault.Disk) store.old store.new result }
 {
     if row.tid <= from.tid {
         return Ok(true);

@@ -4,7 +4,6 @@ ghost use Rattle.cp_model.specs.Changes.{reading_of_what};
 ghost use Rattle.cp_model.specs.declared.record.Record.{Record as Row};
 ghost use Rattle.cp_store.specs.Calls.{Asks};
 ghost use Rattle.cp_store.specs.Counts.{store_in, calls_in, counted};
-ghost use Rattle.cp_store.specs.Questions.{BlamesDisk};
 ghost use Rattle.cp_uses.specs.Reach.{is_new_data};
 ghost use Rattle.cp_uses.specs.Front.{IsFront};
 ghost use Rattle.cp_uses.specs.Renewals.{if_new, renewals_at, changes_at};
@@ -60,7 +59,7 @@ pub(crate) fn renew<P: ProvStore>(
     ensures calls { (rs : List Row) → P.keeps (store_in store.old) rs
         → OnOk result (calls_in store.new ≤ calls_in store.old
         + (changes_at (P.kept_kind (store_in store.old)) rs place.now (P.last_tid (store_in store.old)) + 1)) }
-    ensures asks { Asks (counted P.ProvStore) BlamesDisk store.old store.new result }
+    ensures asks { Asks (counted P.ProvStore) (λ e. e ≡ StoreFault.Disk) store.old store.new result }
 {
     let mut high = store.upto();
     while let Some(change) = store.last_change(alloc, place, high)? {

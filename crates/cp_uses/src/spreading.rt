@@ -1,11 +1,9 @@
 //! From what was reached on, by all copies that took it along.
-ghost use Rattle.std.specs.Prelude.{◌≡◌, ◌≤◌, ◌+◌, ◌*◌, ◌⊎◌, ℕ, List, [], ◌∷◌, length, OnOk};
+ghost use Rattle.std.specs.Prelude.{◌≡◌, ◌≤◌, ◌+◌, ◌*◌, List, length, OnOk};
 ghost use Rattle.std.specs.List.{flat_map};
-ghost use Rattle.cp_path.specs.declared.loc.Loc.{Loc as Place};
 ghost use Rattle.cp_model.specs.declared.record.Record.{Record as Row};
 ghost use Rattle.cp_store.specs.Calls.{Asks};
 ghost use Rattle.cp_store.specs.Counts.{store_in, calls_in, counted};
-ghost use Rattle.cp_store.specs.Questions.{BlamesDisk};
 ghost use Rattle.cp_uses.specs.Carrying.{fan};
 ghost use Rattle.cp_uses.specs.Front.{IsFront};
 ghost use Rattle.cp_uses.specs.Index.{copies_by};
@@ -46,7 +44,7 @@ fn spread_by<P: ProvStore>(
         (flat_map (onward kind rs from.now) (copies_by index.now key.now from.now.tid))
         front.old.found.items front.new.found.items stay.new) }
     ensures calls { calls_in store.new ≤ calls_in store.old + 2 * length (copies_by index.now key.now from.now.tid) }
-    ensures asks { Asks (counted P.ProvStore) BlamesDisk store.old store.new result }
+    ensures asks { Asks (counted P.ProvStore) (λ e. e ≡ StoreFault.Disk) store.old store.new result }
 {
     let steps = index.copies_by(key, from.tid);
     for step in steps {
@@ -80,7 +78,7 @@ fn spread_above<P: ProvStore>(
         front.old.found.items front.new.found.items stay.new) }
     ensures calls { calls_in store.new
         ≤ calls_in store.old + 2 * length (copies_from index.now (places_above from.now.place) from.now.tid) }
-    ensures asks { Asks (counted P.ProvStore) BlamesDisk store.old store.new result }
+    ensures asks { Asks (counted P.ProvStore) (λ e. e ≡ StoreFault.Disk) store.old store.new result }
 {
     let mut key = root_key(alloc, &from.place.db)?;
     spread_by(alloc, index, store, kind, key.as_slice(), from, stay, front)?;
@@ -112,7 +110,7 @@ pub(crate) fn spread<P: ProvStore>(
         → OnOk result (Finds kind rs from.now (nexts kind rs index.now from.now)
         front.old.found.items front.new.found.items stay.new) }
     ensures calls { calls_in store.new ≤ calls_in store.old + 2 * fan kind index.now from.now }
-    ensures asks { Asks (counted P.ProvStore) BlamesDisk store.old store.new result }
+    ensures asks { Asks (counted P.ProvStore) (λ e. e ≡ StoreFault.Disk) store.old store.new result }
 {
     match kind {
         Kind::N | Kind::T => {

@@ -4,7 +4,6 @@ ghost use Rattle.cp_model.specs.declared.kind.Kind.{Kind};
 ghost use Rattle.cp_model.specs.declared.record.Record.{Record as Row};
 ghost use Rattle.cp_store.specs.Calls.{Asks};
 ghost use Rattle.cp_store.specs.Counts.{store_in, calls_in, counted};
-ghost use Rattle.cp_store.specs.Questions.{BlamesDisk};
 ghost use Rattle.cp_model.specs.Changes.{change_at};
 ghost use Rattle.cp_uses.specs.Stays.{stands, is_over, step_of, IsKnown};
 
@@ -57,7 +56,7 @@ fn last_step<P: ProvStore>(
     ensures step { (rs : List Row) → P.keeps (store_in store.old) rs
         → IfOk result (λ n. n ≡ step_of (change_at (P.kept_kind (store_in store.old)) rs version reached.now.place)) }
     ensures calls { calls_in store.new ≤ calls_in store.old + 1 }
-    ensures asks { Asks (counted P.ProvStore) BlamesDisk store.old store.new result }
+    ensures asks { Asks (counted P.ProvStore) (λ e. e ≡ StoreFault.Disk) store.old store.new result }
 {
     match store.last_change(alloc, &reached.place, version)? {
         Some(change) => Ok(change.tid),
@@ -80,7 +79,7 @@ pub(crate) fn stands<P: ProvStore>(
         → IsKnown (P.kept_kind (store_in store.old)) rs reached.now stay.old
         → OnOk result (IsKnown (P.kept_kind (store_in store.old)) rs reached.now stay.new) }
     ensures calls { calls_in store.new ≤ calls_in store.old + 1 }
-    ensures asks { Asks (counted P.ProvStore) BlamesDisk store.old store.new result }
+    ensures asks { Asks (counted P.ProvStore) (λ e. e ≡ StoreFault.Disk) store.old store.new result }
 {
     if stay.is_over(version) {
         return Ok(false);

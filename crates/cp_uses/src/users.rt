@@ -1,10 +1,9 @@
 //! The places whose trace passes through a place.
-ghost use Rattle.std.specs.Prelude.{IfOk, OnOk};
+ghost use Rattle.std.specs.Prelude.{◌≡◌, IfOk, OnOk};
 ghost use Rattle.cp_model.specs.History.{State};
 ghost use Rattle.cp_query.specs.Asked.{IsStateOf};
 ghost use Rattle.cp_store.specs.Calls.{Asks};
 ghost use Rattle.cp_store.specs.Counts.{calls_in, counted};
-ghost use Rattle.cp_store.specs.Questions.{BlamesDisk};
 ghost use Rattle.cp_uses.specs.Users.{AreOf, AreUsers, IsServed};
 
 use crate::closing::close;
@@ -37,7 +36,7 @@ pub fn uses<P: ProvStore, R: TreeRep>(
         → IfOk result (λ places. AreUsers s place.now places.items) }
     ensures calls { (s : State) → AreOf (counted P.ProvStore) R.TreeRep index.now store.old tree.now s
         → OnOk result (IsServed s place.now (calls_in store.old) (calls_in store.new)) }
-    ensures asks { Asks (counted P.ProvStore) BlamesDisk store.old store.new result }
+    ensures asks { Asks (counted P.ProvStore) (λ e. e ≡ StoreFault.Disk) store.old store.new result }
 {
     let kind = store.kind();
     let mut front = Front::new(alloc);

@@ -29,7 +29,7 @@ use Rattle.cp_outside.specs.FileReads.{FileTable}
 use Rattle.cp_disk.specs.Views.{KnownDisk, ViewKeeps}
 use Rattle.cp_disk.specs.declared.disk.Disk as disk
 use Rattle.cp_disk.proofs.Composing.{keeps_wider}
-use Rattle.cp_frame.specs.Stands.{StandsFor}
+use Rattle.cp_frame.specs.Stands.{StandsFor, StandsForEither}
 use Rattle.cp_frame.specs.Sizes.{end_of, has_room, stamped_size}
 use Rattle.cp_db.specs.Databases.{IsDatabase, IsKept, HasCome, end_in}
 use Rattle.cp_db.specs.Writing.{commit_size, HasCommitted, IsBeforeOrCommitted}
@@ -38,7 +38,6 @@ use Rattle.cp_db.specs.declared.database.Tids.{Tids}
 use Rattle.cp_db.specs.declared.fault.CommitFault.{CommitFault}
 use Rattle.cp_db.specs.declared.fault.CommitFault.TheVariants as fault
 use Rattle.cp_workspace.specs.Texts.{Terms, setting}
-use Rattle.cp_workspace.specs.Disks.{LeavesEither}
 use Rattle.cp_workspace.specs.Workspaces.{Stands, Opens, HoldsFile, IsBegun, Turned, TurnsAs, holding}
 use Rattle.cp_workspace.specs.declared.fault.WorkspaceFault.{WorkspaceFault}
 use Rattle.cp_workspace.specs.declared.workspace.Workspace.{Workspace}
@@ -237,11 +236,11 @@ module _ {R S D : Type 0} (view : R → Tree) (source_view : S → Tree) (g : di
         stands_after : Stands view source_view terms m (with_opened s closed) → Stands view source_view terms m (after_moment s)
         stands_after h = record { db = h.db; ends = h.ends; curator = h.curator; opened = h.opened }
 
-    leaves_by : (b : Bool) → has_room (end_in d.db) (commit_size at stamp ops) ≡ b → (b ≡ false → l ≡ k) → HoldsFile (holding d x) s.history v → ViewKeeps (IsBeforeOrCommitted s.history stamp (txn.going ops)) v.view w.view → LeavesEither s.history the_turn.next.history v w
-    leaves_by true e still file crash = subst (λ (t : Turn). LeavesEither s.history t.next.history v w) (sym (turn_if true e)) crash
+    leaves_by : (b : Bool) → has_room (end_in d.db) (commit_size at stamp ops) ≡ b → (b ≡ false → l ≡ k) → HoldsFile (holding d x) s.history v → ViewKeeps (IsBeforeOrCommitted s.history stamp (txn.going ops)) v.view w.view → ViewKeeps (StandsForEither s.history the_turn.next.history) v.view w.view
+    leaves_by true e still file crash = subst (λ (t : Turn). ViewKeeps (StandsForEither s.history t.next.history) v.view w.view) (sym (turn_if true e)) crash
     leaves_by false e still file crash =
-        subst (λ (t : Turn). LeavesEither s.history t.next.history v w) (sym (turn_if false e))
-        (subst (λ (i : D). LeavesEither s.history s.history v (g.known i)) (sym (still refl)) (leaves-still view source_view (λ (r : Reply). Some r) terms full s rest (holding d x) m v s.history file))
+        subst (λ (t : Turn). ViewKeeps (StandsForEither s.history t.next.history) v.view w.view) (sym (turn_if false e))
+        (subst (λ (i : D). ViewKeeps (StandsForEither s.history s.history) v.view (g.known i).view) (sym (still refl)) (leaves-still view source_view (λ (r : Reply). Some r) terms full s rest (holding d x) m v s.history file))
 
   -- the operations are committed
   pub turns-committed : (tids : Tids) → m.curator ≡ d.curator → m.transaction ≡ None
@@ -277,6 +276,6 @@ module _ {R S D : Type 0} (view : R → Tree) (source_view : S → Tree) (g : di
       → TurnsAs view source_view (λ r. Some r) terms the_turn s rest (holding d x) m v w result
   turns-uncommitted result p crash room =
       turns-failed view source_view (λ r. Some r) terms the_turn s rest (holding d x) m v w result p (λ known held.
-      by_opened (LeavesEither s.history the_turn.next.history v w)
+      by_opened (ViewKeeps (StandsForEither s.history the_turn.next.history) v.view w.view)
       (λ ops o come some. leaves_by ops o come some (has_room (end_in d.db) (commit_size at stamp ops)) refl (room ops come) held (crash known (txn.going ops) come held))
       (λ j b o come. keeps_wider (StandsFor s.history) (λ f. StandsFor s.history f ⊎ StandsFor the_turn.next.history f) v.view w.view (crash known (txn.failed j b) come held) (λ f h. inl h)) s.opened refl z.opened)

@@ -22,7 +22,6 @@ use Rattle.cp_reply.specs.Session.{Session, OpenTransaction, closed, going, fail
 use Rattle.cp_disk.specs.Views.{KnownDisk, ViewKeeps}
 use Rattle.cp_disk.specs.declared.disk.Disk as disk
 use Rattle.cp_engine.specs.declared.txn.Txn.{Txn}
-use Rattle.cp_frame.specs.Stands.{StandsWithOrWithout}
 use Rattle.cp_frame.specs.Sizes.{has_room, load_size}
 use Rattle.cp_db.specs.Databases.{HoldsState, IsKept, end_in}
 use Rattle.cp_db.specs.Writing.{HasLoaded, in_the_way}
@@ -31,12 +30,12 @@ use Rattle.cp_db.specs.declared.fault.LoadFault.{LoadFault}
 use Rattle.cp_db.specs.declared.fault.LoadFault.TheVariants as fault
 use Rattle.cp_workspace.specs.Fetching.{fetch}
 use Rattle.cp_workspace.specs.Texts.{Terms, setting}
-use Rattle.cp_workspace.specs.Disks.{LeavesEither}
 use Rattle.cp_workspace.specs.Loads.{why_not_loaded, load_reads, reads_unless}
 use Rattle.cp_workspace.specs.Workspaces.{Stands, Opens, HoldsFile, MayLoad, TurnsAs}
 use Rattle.cp_workspace.specs.declared.fault.WorkspaceFault.{WorkspaceFault}
 use Rattle.cp_workspace.specs.declared.workspace.Workspace.{Workspace}
 use Rattle.cp_workspace.proofs.Standing.{turn-is, none-opens, stands-added, leaves-still, turns-still, turns-failed}
+use Rattle.cp_frame.specs.Stands.{StandsForEither}
 
 -- ---- why nothing is loaded
 
@@ -145,7 +144,7 @@ module _ {R S D : Type 0} (view : R → Tree) (source_view : S → Tree) (g : di
   -- the tree is a source of the session's history
   pub turns-loaded : (loaded : List ℕ) (nodes : ℕ) → loaded ≡ name → nodes ≡ len u → m.curator ≡ d.curator → m.transaction ≡ d.transaction → HasLoaded view source_view d.db z.db.state name u m.db (Ok tt)
       → (IsTrue v.known → IsKept true d.db s.history v.view → IsKept true m.db (s.history ++ load name u ∷ []) w.view)
-      → (IsTrue v.known → IsKept true d.db s.history v.view → ViewKeeps (StandsWithOrWithout s.history (load name u)) v.view w.view)
+      → (IsTrue v.known → IsKept true d.db s.history v.view → ViewKeeps (StandsForEither s.history (s.history ++ load name u ∷ [])) v.view w.view)
       → TurnsAs view source_view (λ r. Some r) terms the_turn s s.moments d m v w (Ok (reply.Loaded loaded nodes))
   turns-loaded loaded nodes named counted signed same is kept crash =
       subst (λ (t : Turn). TurnsAs view source_view (λ r. Some r) terms t s s.moments d m v w (Ok (reply.Loaded loaded nodes))) (sym (turn_if true is.1)) (record {
@@ -168,15 +167,15 @@ module _ {R S D : Type 0} (view : R → Tree) (source_view : S → Tree) (g : di
       (subst (λ (b : Workspace R S). TurnsAs view source_view (λ r. Some r) terms full s s.moments d b v v (Ok (reply.Refused of.Load why.StoreTooLarge))) (sym same)
       (turns-still view source_view (λ r. Some r) terms full s s.moments d d v (Ok (reply.Refused of.Load why.StoreTooLarge)) refl refl refl (refl, z))))
 
-  leaves_by : (b : Bool) → has_room (end_in d.db) (load_size name u) ≡ b → (b ≡ false → l ≡ k) → HoldsFile d s.history v → ViewKeeps (StandsWithOrWithout s.history (load name u)) v.view w.view → LeavesEither s.history the_turn.next.history v w
-  leaves_by true e still held crash = subst (λ (t : Turn). LeavesEither s.history t.next.history v w) (sym (turn_if true e)) crash
+  leaves_by : (b : Bool) → has_room (end_in d.db) (load_size name u) ≡ b → (b ≡ false → l ≡ k) → HoldsFile d s.history v → ViewKeeps (StandsForEither s.history (s.history ++ load name u ∷ [])) v.view w.view → ViewKeeps (StandsForEither s.history the_turn.next.history) v.view w.view
+  leaves_by true e still held crash = subst (λ (t : Turn). ViewKeeps (StandsForEither s.history t.next.history) v.view w.view) (sym (turn_if true e)) crash
   leaves_by false e still held crash =
-      subst (λ (t : Turn). LeavesEither s.history t.next.history v w) (sym (turn_if false e))
-      (subst (λ (i : D). LeavesEither s.history s.history v (g.known i)) (sym (still refl)) (leaves-still view source_view (λ (r : Reply). Some r) terms full s s.moments d m v s.history held))
+      subst (λ (t : Turn). ViewKeeps (StandsForEither s.history t.next.history) v.view w.view) (sym (turn_if false e))
+      (subst (λ (i : D). ViewKeeps (StandsForEither s.history s.history) v.view (g.known i).view) (sym (still refl)) (leaves-still view source_view (λ (r : Reply). Some r) terms full s s.moments d m v s.history held))
 
   -- the disk failed, or memory ran out
   pub turns-unloaded : (result : Result Reply WorkspaceFault) → (y : WorkspaceFault) × (result ≡ Err y)
-      → (IsTrue v.known → IsKept true d.db s.history v.view → ViewKeeps (StandsWithOrWithout s.history (load name u)) v.view w.view)
+      → (IsTrue v.known → IsKept true d.db s.history v.view → ViewKeeps (StandsForEither s.history (s.history ++ load name u ∷ [])) v.view w.view)
       → (has_room (end_in d.db) (load_size name u) ≡ false → l ≡ k)
       → TurnsAs view source_view (λ r. Some r) terms the_turn s s.moments d m v w result
   turns-unloaded result p crash room =

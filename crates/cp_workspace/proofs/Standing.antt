@@ -6,12 +6,12 @@ use Rattle.std.specs.declared.option.Option.TheVariants.{None, Some}
 use Rattle.cp_model.specs.Tree.{Tree}
 use Rattle.cp_model.specs.History.{Entry, State, replay}
 use Rattle.cp_lang.specs.declared.syntax_tree.Stmt.{Stmt}
-use Rattle.cp_disk.specs.Views.{KnownDisk}
+use Rattle.cp_disk.specs.Views.{KnownDisk, ViewKeeps}
 use Rattle.cp_reply.specs.declared.reply.Reply.{Reply}
 use Rattle.cp_reply.specs.Session.{Session, OpenTransaction, closed, going, failed, with_opened, Setting, Turn, says, turn_of, turn_by, turn_on}
 use Rattle.cp_disk.specs.declared.disk.Disk as disk
 use Rattle.cp_disk.proofs.Composing.{keeps_none}
-use Rattle.cp_frame.specs.Stands.{StandsFor}
+use Rattle.cp_frame.specs.Stands.{StandsFor, StandsForEither}
 use Rattle.cp_frame.specs.Sizes.{FrameEnd, end_after, end_of, entry_size}
 use Rattle.cp_frame.proofs.Ends.{end_of-snoc, end_of-none}
 use Rattle.cp_db.specs.Databases as database
@@ -20,7 +20,6 @@ use Rattle.cp_db.specs.Writing.{HasAdded}
 use Rattle.cp_db.specs.declared.database.Db.{Db}
 use Rattle.cp_db.proofs.Keeping.{kept-images, stands-then}
 use Rattle.cp_workspace.specs.Texts.{Terms}
-use Rattle.cp_workspace.specs.Disks.{LeavesEither}
 use Rattle.cp_workspace.specs.Workspaces.{Stands, Opens, EndsAt, IsWorkspace, IsUsable, IsBegun, HoldsFile, Turned, TurnsAs, end_now}
 use Rattle.cp_workspace.specs.declared.fault.WorkspaceFault.{WorkspaceFault}
 use Rattle.cp_workspace.specs.declared.workspace.Workspace.{Workspace}
@@ -117,7 +116,7 @@ module _ {R S : Type 0} (view : R → Tree) (source_view : S → Tree) (d m : Wo
 
 module _ {R S A : Type 0} (view : R → Tree) (source_view : S → Tree) (given : A → Option Reply) (terms : Terms) (t : Turn) (s : Session) (rest : List ℕ) (old new : Workspace R S) where
   -- where the disk is as it was, each file that a crash leaves stands for the history before
-  pub leaves-still : (v : KnownDisk) (i : List Entry) → HoldsFile old s.history v → LeavesEither s.history i v v
+  pub leaves-still : (v : KnownDisk) (i : List Entry) → HoldsFile old s.history v → ViewKeeps (StandsForEither s.history i) v.view v.view
   leaves-still v i k = keeps_none (λ c. StandsFor s.history c ⊎ StandsFor i c) v.view (λ c x. inl (kept-images old.db s.history v.view k c x))
 
   -- a call left the database and the disk as they were, in a turn that adds no entry
@@ -131,7 +130,7 @@ module _ {R S A : Type 0} (view : R → Tree) (source_view : S → Tree) (given 
   }
 
   -- a call gave an error
-  pub turns-failed : (v w : KnownDisk) (result : Result A WorkspaceFault) → (y : WorkspaceFault) × (result ≡ Err y) → (IsTrue v.known → HoldsFile old s.history v → LeavesEither s.history t.next.history v w)
+  pub turns-failed : (v w : KnownDisk) (result : Result A WorkspaceFault) → (y : WorkspaceFault) × (result ≡ Err y) → (IsTrue v.known → HoldsFile old s.history v → ViewKeeps (StandsForEither s.history t.next.history) v.view w.view)
       → TurnsAs view source_view given terms t s rest old new v w result
   turns-failed v w result p leaves = subst (TurnsAs view source_view given terms t s rest old new v w) (sym p.1) (record { turned = tt; asked = tt; kept = λ known k. tt; leaves = leaves })
 

@@ -16,7 +16,7 @@ use Rattle.cp_model.specs.declared.query.Query.{Query}
 use Rattle.cp_model.specs.declared.refusal.Refusal.{Refusal}
 use Rattle.cp_lang.specs.declared.syntax_tree.Stmt.{Stmt}
 use Rattle.cp_lang.specs.declared.syntax_tree.Stmt.TheVariants as stmt
-use Rattle.cp_disk.specs.Views.{KnownDisk}
+use Rattle.cp_disk.specs.Views.{KnownDisk, ViewKeeps}
 use Rattle.cp_reply.specs.declared.reply.Reply.{Reply}
 use Rattle.cp_reply.specs.declared.reply.Reply.TheVariants as reply
 use Rattle.cp_reply.specs.declared.reply.Why.{Why}
@@ -24,13 +24,12 @@ use Rattle.cp_reply.specs.declared.reply.Why.TheVariants as why
 use Rattle.cp_reply.specs.Session.{Session, Setting, OpenTransaction, closed, going, failed, Turn, with_opened, says, turn_of, turn_by, turn_on, not_read, decide_op, on_operation, refusal_after, answer_or_refuse, show_at, current_tree, row_of, replies, refuses}
 use Rattle.cp_disk.proofs.Composing.{keeps_none}
 use Rattle.cp_outside.specs.FileReads.{FileTable}
-use Rattle.cp_frame.specs.Stands.{StandsFor}
+use Rattle.cp_frame.specs.Stands.{StandsFor, StandsForEither}
 use Rattle.cp_db.specs.Databases as database
 use Rattle.cp_db.specs.Databases.{IsDatabase, IsReady, IsSameFile, end_in, is_spent}
 use Rattle.cp_db.specs.declared.database.Db.{Db}
 use Rattle.cp_db.proofs.Keeping.{kept-images, kept-same}
 use Rattle.cp_workspace.specs.Texts.{Terms, setting}
-use Rattle.cp_workspace.specs.Disks.{LeavesEither}
 use Rattle.cp_workspace.specs.Workspaces.{Stands, Opens, EndsAt, IsBegun, IsWorkspace, IsUsable, HoldsFile, Turned, TurnsAs, HasTurned}
 use Rattle.cp_workspace.specs.declared.fault.WorkspaceFault.{WorkspaceFault}
 use Rattle.cp_workspace.specs.declared.workspace.Workspace.{Workspace}
@@ -134,7 +133,7 @@ module _ (s : Session) where
 
 module _ {R S : Type 0} (view : R → Tree) (source_view : S → Tree) (turning : FileTable → Terms → Session → Turn) (old new : Workspace R S) (v : KnownDisk) where
   -- where nothing was written, a crash leaves the history as it was
-  leaves_same : (h i : List Entry) → HoldsFile old h v → LeavesEither h i v v
+  leaves_same : (h i : List Entry) → HoldsFile old h v → ViewKeeps (StandsForEither h i) v.view v.view
   leaves_same h i k = keeps_none (λ c. StandsFor h c ⊎ StandsFor i c) v.view (λ c image. inl (kept-images old.db h v.view k c image))
 
   module _ {A : Type 0} (given : A → Option Reply) (IsKnown : FileTable → Type 0) (clock : Option (List ℕ)) (result : Result A WorkspaceFault) where

@@ -3,9 +3,7 @@ pub mod Fetched
 pub mod Texts
 pub mod Files
 pub mod Clocks
-pub mod Disks
 pub mod Loads
 pub mod Commits
 pub mod Spending
-pub mod Faults
 pub mod Workspaces

@@ -1,5 +1,5 @@
 -- What a workspace keeps of a session: the database with its history, and the open transaction.
-use Rattle.std.specs.Prelude.{ℕ, ◌≡◌, ◌+◌, ◌≤◌, ◌++◌, Bool, true, false, IsTrue, List, [], length, map, is_some, if◌then◌else◌, Result, IfOk, OnOk, ⊤}
+use Rattle.std.specs.Prelude.{ℕ, ◌≡◌, ◌+◌, ◌≤◌, ◌++◌, true, false, IsTrue, List, [], length, map, is_some, if◌then◌else◌, Result, IfOk, OnOk, ⊤}
 use Rattle.std.specs.declared.option.Option.{Option}
 use Rattle.std.specs.declared.option.Option.TheVariants.{None, Some}
 use Rattle.cp_path.specs.declared.loc.Loc.{Loc}
@@ -8,7 +8,7 @@ use Rattle.cp_model.specs.declared.limits.TheConstants.{SOURCES_MAX}
 use Rattle.cp_model.specs.Tree.{Tree, source}
 use Rattle.cp_model.specs.Subtrees.{is_there, below}
 use Rattle.cp_model.specs.History.{Entry, State}
-use Rattle.cp_disk.specs.Views.{KnownDisk}
+use Rattle.cp_disk.specs.Views.{KnownDisk, ViewKeeps}
 use Rattle.cp_reply.specs.declared.reply.Reply.{Reply}
 use Rattle.cp_reply.specs.declared.reply.Of.TheVariants as of
 use Rattle.cp_reply.specs.declared.reply.Why.TheVariants as why
@@ -23,9 +23,9 @@ use Rattle.cp_db.specs.Databases as database
 use Rattle.cp_db.specs.Databases.{HoldsState, IsDatabase, IsReady, IsKept, HasCome, IsSameFile, end_in, is_spent, version_in}
 use Rattle.cp_db.specs.declared.database.Db.{Db}
 use Rattle.cp_workspace.specs.Texts.{Terms}
-use Rattle.cp_workspace.specs.Disks.{LeavesEither}
 use Rattle.cp_workspace.specs.declared.fault.WorkspaceFault.{WorkspaceFault}
 use Rattle.cp_workspace.specs.declared.workspace.Workspace.{Workspace}
+use Rattle.cp_frame.specs.Stands.{StandsForEither}
 pub use Rattle.cp_lang.specs.Written.{IsWrittenStmt}
 
 -- ---- what it stands for
@@ -98,7 +98,7 @@ pub record TurnsAs {R S A : Type 0} (view : R → Tree) (source_view : S → Tre
   pub turned : IfOk result (λ r. Turned view source_view terms t new (given r))
   pub asked : OnOk result (t.next.moments ≡ rest)
   pub kept : IsTrue v.known → HoldsFile old s.history v → OnOk result (HoldsFile new t.next.history w)
-  pub leaves : IsTrue v.known → HoldsFile old s.history v → LeavesEither s.history t.next.history v w
+  pub leaves : IsTrue v.known → HoldsFile old s.history v → ViewKeeps (StandsForEither s.history t.next.history) v.view w.view
 
 -- The clock told some moments; and with files that are known well enough, and whatever moments come after those, the turn was made.
 pub record HasTurned {R S A : Type 0} (view : R → Tree) (source_view : S → Tree) (given : A → Option Reply) (turning : FileTable → Terms → Session → Turn) (IsKnown : FileTable → Type 0) (old new : Workspace R S) (v w : KnownDisk) (cb ca : Option (List ℕ)) (result : Result A WorkspaceFault) : Type 0 where

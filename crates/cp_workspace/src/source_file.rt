@@ -4,7 +4,6 @@ ghost use Rattle.std.specs.Option.{option_map};
 ghost use Rattle.cp_outside.specs.FileReads.{FileTable};
 ghost use Rattle.cp_workspace.specs.Fetching.{file_gives, form_given, json_why, csv_why};
 ghost use Rattle.cp_workspace.specs.Fetched.{Gives, FitsUnder};
-ghost use Rattle.cp_workspace.specs.Faults.{IsFailedFile};
 ghost use Rattle.cp_workspace.specs.Files.{known_files, HasRead, IsTable, UsesFiles};
 
 use crate::limits::FILE_MAX;
@@ -114,7 +113,7 @@ pub fn fetch<R: TreeRep, F: Files>(
     ensures gives { IfOk result (λ r. (t : FileTable) → IsTable t (known_files F.Files files.old) (known_files F.Files files.new)
         → Gives R.contents (file_gives name.now form.now (t file.now)) r) }
     ensures fits { IfOk result (λ r. IfOk r (λ t. FitsUnder name.now (R.contents t))) }
-    ensures used { UsesFiles IsFailedFile (known_files F.Files files.old) (known_files F.Files files.new) result }
+    ensures used { UsesFiles (λ e. e ≡ FilesFault.Failed) (known_files F.Files files.old) (known_files F.Files files.new) result }
     ensures read { HasRead (known_files F.Files files.old) (known_files F.Files files.new) 1 }
 {
     let mut bytes = Vec::new(alloc);

@@ -10,7 +10,6 @@ ghost use Rattle.cp_reply.specs.Session.{Session, says, turn_of};
 ghost use Rattle.cp_workspace.specs.Texts.{Terms, setting};
 ghost use Rattle.cp_workspace.specs.Clocks.{known_clock};
 ghost use Rattle.cp_workspace.specs.Commits.{commit_asks};
-ghost use Rattle.cp_workspace.specs.Faults.{IsDiskFault, IsClockFault};
 ghost use Rattle.cp_workspace.specs.Files.{KnownFiles};
 ghost use Rattle.cp_workspace.specs.Spending.{Spends};
 ghost use Rattle.cp_workspace.specs.Workspaces.{Stands, IsWorkspace, IsUsable, HasStamps, HasTurned, Turned, db_in, holding};
@@ -45,8 +44,8 @@ impl<R: TreeRep, S: TreeRep> Workspace<R, S> {
             (holding self.old transaction) self.new (D.known disk.old) (D.known disk.new) (K.left clock.old) (K.left clock.new) result }
         ensures stays { OnOk result (IsUsable R.contents S.contents (D.known disk.new) self.new) }
         ensures version { version_in (db_in self.new) ≡ version_in (db_in self.old) }
-        ensures disk { UsesDisk IsDiskFault (D.known disk.old) (D.known disk.new) result }
-        ensures clock { Accounts IsClockFault (K.faults clock.old) (K.faults clock.new) result }
+        ensures disk { UsesDisk (λ e. e ≡ WorkspaceFault.Disk) (D.known disk.old) (D.known disk.new) result }
+        ensures clock { Accounts (λ e. e ≡ WorkspaceFault.Clock) (K.faults clock.old) (K.faults clock.new) result }
         ensures spent { (f : KnownFiles) → Spends 0 1 f f (known_clock K.Clock clock.old) (known_clock K.Clock clock.new) result }
         ensures kinds { IsErrOf result WorkspaceFault.File → ⊥ }
         ensures untouched { IsErrOf result WorkspaceFault.Clock → disk.new ≡ disk.old }
@@ -84,8 +83,8 @@ impl<R: TreeRep, S: TreeRep> Workspace<R, S> {
             self.old self.new (D.known disk.old) (D.known disk.new) (K.left clock.old) (K.left clock.new) result }
         ensures stays { OnOk result (IsUsable R.contents S.contents (D.known disk.new) self.new) }
         ensures version { version_in (db_in self.new) ≡ version_in (db_in self.old) }
-        ensures disk { UsesDisk IsDiskFault (D.known disk.old) (D.known disk.new) result }
-        ensures clock { Accounts IsClockFault (K.faults clock.old) (K.faults clock.new) result }
+        ensures disk { UsesDisk (λ e. e ≡ WorkspaceFault.Disk) (D.known disk.old) (D.known disk.new) result }
+        ensures clock { Accounts (λ e. e ≡ WorkspaceFault.Clock) (K.faults clock.old) (K.faults clock.new) result }
         ensures spent { (terms : Terms) (s : Session) → Stands R.contents S.contents terms self.old s → (f : KnownFiles)
             → Spends 0 (commit_asks s.opened) f f (known_clock K.Clock clock.old) (known_clock K.Clock clock.new) result }
         ensures kinds { IsErrOf result WorkspaceFault.File → ⊥ }

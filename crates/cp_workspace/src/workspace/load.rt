@@ -10,7 +10,6 @@ ghost use Rattle.cp_workspace.specs.Fetched.{FitsUnder};
 ghost use Rattle.cp_workspace.specs.Texts.{Terms, setting};
 ghost use Rattle.cp_workspace.specs.Loads.{why_not_loaded, statement_reads};
 ghost use Rattle.cp_workspace.specs.Clocks.{KnownClock};
-ghost use Rattle.cp_workspace.specs.Faults.{IsFileFault, IsDiskFault};
 ghost use Rattle.cp_workspace.specs.Files.{known_files, HasReadSome, IsTable, UsesFiles};
 ghost use Rattle.cp_workspace.specs.Spending.{Spends};
 ghost use Rattle.cp_workspace.specs.Workspaces.{Stands, IsWorkspace, IsUsable, MayLoad, TurnsAs, db_in};
@@ -47,7 +46,7 @@ impl<R: TreeRep, S: TreeRep> Workspace<R, S> {
             (D.known disk.old) (D.known disk.new) result }
         ensures stays { OnOk result (IsUsable R.contents S.contents (D.known disk.new) self.new) }
         ensures version { version_in (db_in self.new) ≡ version_in (db_in self.old) }
-        ensures disk { UsesDisk IsDiskFault (D.known disk.old) (D.known disk.new) result }
+        ensures disk { UsesDisk (λ e. e ≡ WorkspaceFault.Disk) (D.known disk.old) (D.known disk.new) result }
         ensures kinds { (IsErrOf result WorkspaceFault.File → ⊥) × (IsErrOf result WorkspaceFault.Clock → ⊥) }
     {
         // Its text says that the name is one.
@@ -109,8 +108,8 @@ impl<R: TreeRep, S: TreeRep> Workspace<R, S> {
         ensures spent { (terms : Terms) (s : Session) → Stands R.contents S.contents terms self.old s → (k : KnownClock)
             → Spends (statement_reads s (Stmt.Load load)) 0 (known_files F.Files files.old) (known_files F.Files files.new) k k result }
         ensures read { HasReadSome (known_files F.Files files.old) (known_files F.Files files.new) }
-        ensures used { UsesFiles IsFileFault (known_files F.Files files.old) (known_files F.Files files.new) result }
-        ensures disk { UsesDisk IsDiskFault (D.known disk.old) (D.known disk.new) result }
+        ensures used { UsesFiles (λ e. e ≡ WorkspaceFault.File) (known_files F.Files files.old) (known_files F.Files files.new) result }
+        ensures disk { UsesDisk (λ e. e ≡ WorkspaceFault.Disk) (D.known disk.old) (D.known disk.new) result }
         ensures kinds { IsErrOf result WorkspaceFault.Clock → ⊥ }
         ensures untouched { IsErrOf result WorkspaceFault.File → disk.new ≡ disk.old }
     {

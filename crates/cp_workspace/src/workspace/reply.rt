@@ -10,7 +10,6 @@ ghost use Rattle.cp_workspace.specs.Clocks.{known_clock};
 ghost use Rattle.cp_workspace.specs.Commits.{text_asks, cut_asks};
 ghost use Rattle.cp_workspace.specs.Files.{known_files, HasReadSome, IsTable, UsesFiles};
 ghost use Rattle.cp_workspace.specs.Spending.{Spends};
-ghost use Rattle.cp_workspace.specs.Faults.{IsFileFault, IsDiskFault, IsClockFault};
 ghost use Rattle.cp_workspace.specs.Workspaces.{Stands, IsWorkspace, IsUsable, HasStamps, HasTurned, Turned};
 
 use crate::fault::WorkspaceFault;
@@ -62,9 +61,9 @@ impl<R: TreeRep, S: TreeRep> Workspace<R, S> {
             → Spends (text_reads s (reading text.now)) (text_asks s (reading text.now)) (known_files F.Files files.old) (known_files F.Files files.new)
             (known_clock K.Clock clock.old) (known_clock K.Clock clock.new) result }
         ensures read { HasReadSome (known_files F.Files files.old) (known_files F.Files files.new) }
-        ensures used { UsesFiles IsFileFault (known_files F.Files files.old) (known_files F.Files files.new) result }
-        ensures disk { UsesDisk IsDiskFault (D.known disk.old) (D.known disk.new) result }
-        ensures clock { Accounts IsClockFault (K.faults clock.old) (K.faults clock.new) result }
+        ensures used { UsesFiles (λ e. e ≡ WorkspaceFault.File) (known_files F.Files files.old) (known_files F.Files files.new) result }
+        ensures disk { UsesDisk (λ e. e ≡ WorkspaceFault.Disk) (D.known disk.old) (D.known disk.new) result }
+        ensures clock { Accounts (λ e. e ≡ WorkspaceFault.Clock) (K.faults clock.old) (K.faults clock.new) result }
         ensures same { IsErrOf result WorkspaceFault.File → disk.new ≡ disk.old }
         ensures untouched { IsErrOf result WorkspaceFault.Clock → disk.new ≡ disk.old }
     {
@@ -98,9 +97,9 @@ impl<R: TreeRep, S: TreeRep> Workspace<R, S> {
             → Spends (cut_reads s cut) (cut_asks s cut) (known_files F.Files files.old) (known_files F.Files files.new)
             (known_clock K.Clock clock.old) (known_clock K.Clock clock.new) result }
         ensures read { HasReadSome (known_files F.Files files.old) (known_files F.Files files.new) }
-        ensures used { UsesFiles IsFileFault (known_files F.Files files.old) (known_files F.Files files.new) result }
-        ensures disk { UsesDisk IsDiskFault (D.known disk.old) (D.known disk.new) result }
-        ensures clock { Accounts IsClockFault (K.faults clock.old) (K.faults clock.new) result }
+        ensures used { UsesFiles (λ e. e ≡ WorkspaceFault.File) (known_files F.Files files.old) (known_files F.Files files.new) result }
+        ensures disk { UsesDisk (λ e. e ≡ WorkspaceFault.Disk) (D.known disk.old) (D.known disk.new) result }
+        ensures clock { Accounts (λ e. e ≡ WorkspaceFault.Clock) (K.faults clock.old) (K.faults clock.new) result }
         ensures same { IsErrOf result WorkspaceFault.File → disk.new ≡ disk.old }
         ensures untouched { IsErrOf result WorkspaceFault.Clock → disk.new ≡ disk.old }
     {

@@ -1,3 +1,4 @@
+use Rattle.std.specs.Prelude.{◌≡◌}
 use Rattle.std.proofs.Common.{sym, subst}
 use Rattle.cp_reply.specs.Lines.{lines}
 use Rattle.cp_workspace.specs.Files.{known_files, UsesFiles}
@@ -6,10 +7,10 @@ use Rattle.cp_interpreter.specs.Begins.{LoadedAs}
 use Rattle.cp_interpreter.specs.Job.{is_refusal}
 use Rattle.cp_interpreter.specs.Outside.{Outside, known_output}
 use Rattle.cp_interpreter.specs.Story.{HasCauses, DiskCauses}
-use Rattle.cp_interpreter.specs.Turns.{IsFileStop}
 use Rattle.cp_interpreter.proofs.Said.{causes-said, disk-said}
 use Rattle.cp_interpreter.proofs.LoadedAlone.{load-said, load-stopped, causes-stopped, disk-stopped}
 use Rattle.cp_program.proofs.load.load.Goals as goal
+use Rattle.cp_interpreter.specs.declared.stop.Stop.TheVariants.{File}
 
 pub returns-in-Ok-clause-ran : goal.returns-in-Ok-clause-ran
 returns-in-Ok-clause-ran g c = λ i k.
@@ -53,7 +54,7 @@ returns-in-Err-clause-causes g c = λ i k.
     let p = known_output g.O.Sink c.stopped.new.output in
     let b : Outside = record { input = i; files = f; clock = k; output = o } in
     let a : Outside = record { input = i; files = h; clock = k; output = p } in
-    let used = subst (λ r. UsesFiles IsFileStop f h r) c.in-Err.is c.reply_to_load.ensures.used in
+    let used = subst (λ r. UsesFiles (λ e. e ≡ File) f h r) c.in-Err.is c.reply_to_load.ensures.used in
     subst (λ e. HasCauses b a e) (sym c.stopped.ensures.end) (causes-stopped i f h k o p c.in-Err.stop c.in-Err.ensures.loaded.kinds used c.stopped.ensures.later)
 
 pub returns-in-Err-clause-disk : goal.returns-in-Err-clause-disk
