@@ -1,10 +1,11 @@
 -- An archive with one version more.
-use Rattle.std.specs.Prelude.{ℕ, suc, ◌+◌, ◌≡◌, ◌≤◌, ◌||◌, Bool, true, false, List, [], ◌∷◌, ◌++◌, length, fold, map, is_some, refl, if◌then◌else◌}
+use Rattle.std.specs.Prelude.{ℕ, zero, suc, ◌+◌, ◌≡◌, ◌≤◌, ◌||◌, Bool, true, false, List, [], ◌∷◌, ◌++◌, length, fold, map, is_some, refl, if◌then◌else◌}
 use Rattle.std.proofs.Common.{sym, ap, subst, ◌∙◌, T, arith, length-append, add-one}
-use Rattle.std.specs.List.{All, flat_map, filter_map, list_any, count_by, AllByRecursion}
+use Rattle.std.specs.List.{All, flat_map, filter_map, list_any, count_by, slice_get, AllByRecursion}
 use Rattle.std.specs.declared.option.Option.{Option}
 use Rattle.std.specs.declared.option.Option.TheVariants.{None, Some}
 use Rattle.std.proofs.lemmas.List.Sums.{fold-append}
+use Rattle.std.proofs.lemmas.Option.{same_Some}
 use Rattle.std.proofs.lemmas.List.Elements.{All-from_recursion}
 use Rattle.cp_path.specs.declared.limits.TheConstants.{LABELS_MAX, TEXT_MAX}
 use Rattle.std.specs.FinMap.Entries.{is_sorted}
@@ -32,7 +33,7 @@ use Rattle.cp_archive.specs.Differences.{FitsBelow, CanDiffer, differences_at, b
 use Rattle.cp_archive.specs.Touching.{is_covered, IsToldOf, Leads}
 use Rattle.cp_archive.specs.Trees.{newest_after, newest}
 use Rattle.cp_archive.proofs.PhaseLemmas.{begun-phase, no-phase}
-use Rattle.cp_archive.proofs.VersionTrees.{version-get, version-same, versions-same, version-before, newest-version}
+use Rattle.cp_archive.proofs.VersionTrees.{version-get, version-same, versions-same, version-before, versions-at, newest-version}
 use Rattle.cp_archive.proofs.Differing.{Says, all-flat, all-found, rows-found, says-at, kept}
 use Rattle.cp_archive.proofs.Counting.{count-begun}
 
@@ -131,6 +132,19 @@ ranges-more t (u ∷ us) x = let h = ranges-more u us x in omega (arith, h)
 
 -- ---- what is kept
 
+all-with : (P : Tree → Type 0) (ts : List Tree) (x : Tree) → AllByRecursion P ts → P x → AllByRecursion P (ts ++ x ∷ [])
+all-with P [] x h y = (y, tt)
+all-with P (t ∷ ts) x h y = (h.0, all-with P ts x h.1 y)
+
+all-at : (P : Tree → Type 0) (ts : List Tree) (i : ℕ) (x : Tree) → AllByRecursion P ts → slice_get ts i ≡ Some x → P x
+all-at P [] i x h e = absurd (cc)
+all-at P (t ∷ ts) zero x h e = subst P (same_Some t x e) h.0
+all-at P (t ∷ ts) (suc i) x h e = all-at P ts i x h.1 e
+
+-- each version up to the last is within the limits
+pub tree-within : (m : Paths) (n r t : ℕ) → IsKept m n r → t ≤ n → IsTree (tree_of_version m t)
+tree-within m n r t h l = all-at IsTree (versions m n) t (tree_of_version m t) h.trees (versions-at m n t l)
+
 -- after a step
 pub step-kept : (m k : Paths) (n r ranges : ℕ) (xs : List Touched) (new : Tree) → IsKept m n r → Leads xs (newest (versions m n)) new → AreNoted m k (suc n) (flat_map differences_at xs) → ranges ≡ r + count_by begins (flat_map differences_at xs)
     → (versions k (suc n) ≡ versions m n ++ new ∷ []) × IsKept k (suc n) ranges
@@ -150,7 +164,7 @@ step-kept m k n r ranges xs new h leads noted count =
             ∙ ap (λ i. range_count (versions m n) + i) (count-begun (newest (versions m n)) new xs leads)
             ∙ sym (ranges-more keyed.empty (versions m n) new)
             ∙ ap range_count (sym all);
-        tree = subst IsTree (sym added) leads.tree;
+        trees = subst (AllByRecursion IsTree) (sym all) (all-with IsTree (versions m n) new h.trees leads.tree);
       },
     )
 
@@ -170,7 +184,7 @@ start-kept m k ranges xs new none leads noted count =
             count ∙ ap (λ i. 0 + i) (count-begun keyed.empty new xs leads)
             ∙ (let z : 0 + length (begun (keyed.entries keyed.empty) (keyed.entries new)) ≡ range_count (new ∷ []) = omega arith in z)
             ∙ ap range_count (sym all);
-        tree = subst IsTree (sym added) leads.tree;
+        trees = subst (AllByRecursion IsTree) (sym all) (leads.tree, tt);
       },
     )
 
@@ -183,7 +197,7 @@ same-kept m k n r same h =
         rise = λ p. subst IsRising (sym (same p)) (h.rise p);
         upto = λ p. subst (IsUpto n) (sym (same p)) (h.upto p);
         counted = h.counted ∙ ap range_count (sym all);
-        tree = subst IsTree (sym (version-same m k same n)) h.tree;
+        trees = subst (AllByRecursion IsTree) (sym all) h.trees;
       },
     )
 
@@ -227,7 +241,7 @@ below_root : {X : Type 0} (es : List (Path × X)) → filter_map (entry_below []
 below_root [] = refl
 below_root (e ∷ es) = ap (λ xs. e ∷ xs) (below_root es)
 
-below-whole : (t : Tree) → below [] t ≡ keyed.entries t
+pub below-whole : (t : Tree) → below [] t ≡ keyed.entries t
 unfolding below
 below-whole t = below_root (keyed.entries t)
 
@@ -251,7 +265,7 @@ next-kept m k n r ranges xs new ts v h leads noted count =
 -- what a step touched can be compared
 pub step-differs : (m : Paths) (n r : ℕ) (xs : List Touched) (new : Tree) (ts : List Tree) → versions m n ≡ ts → IsKept m n r → Leads xs (newest ts) new → All CanDiffer xs
 step-differs m n r xs new ts v h leads =
-    can-differ xs (newest ts) new (limited-tree (newest ts) (subst IsTree (sym (newest-version m n) ∙ ap newest v) h.tree)) (limited-tree new leads.tree) leads.told
+    can-differ xs (newest ts) new (limited-tree (newest ts) (subst IsTree (sym (newest-version m n) ∙ ap newest v) (tree-within m n r n h (omega arith)))) (limited-tree new leads.tree) leads.told
 
 -- ---- the whole trees of the public calls
 

@@ -8,6 +8,7 @@ mod Following
 mod Forgetting
 pub mod HistoryTrees
 mod Listing
+mod Making
 mod Noted
 mod PhaseLemmas
 mod VersionTrees

@@ -58,9 +58,9 @@ IsRising (x ∷ xs) = AllByRecursion (λ y. x.since ≤ y.since) xs × IsRising 
 abbrev pub IsUpto : ℕ → List Phase → Type 0
 IsUpto n xs = AllByRecursion (λ x. x.since ≤ n) xs
 
--- the phases of each path are of rising versions up to n, the ranges are counted, and the last tree is within the limits
+-- the phases of each path are of rising versions up to n, the ranges are counted, and each tree is within the limits
 pub record IsKept (m : Paths) (n ranges : ℕ) : Type 0 where
   pub rise : (p : Path) → IsRising (phases_of m p)
   pub upto : (p : Path) → IsUpto n (phases_of m p)
   pub counted : ranges ≡ range_count (versions m n)
-  pub tree : IsTree (tree_of_version m n)
+  pub trees : AllByRecursion IsTree (versions m n)

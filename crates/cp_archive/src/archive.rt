@@ -1,18 +1,16 @@
 //! The archive of all versions.
-ghost use Rattle.std.specs.Prelude.{◌≡◌, ◌+◌, ◌<◌, ◌^◌, ◌++◌, ◌∷◌, [], List, map, length, IfOk, OnOk, OnErr};
+ghost use Rattle.std.specs.Prelude.{◌≡◌, ◌+◌, ◌<◌, ◌^◌, ◌++◌, ◌∷◌, [], List, length, IfOk, OnOk, OnErr};
 ghost use Rattle.std.specs.List.{slice_get};
 ghost use Rattle.std.specs.Option.{option_map};
 ghost use Rattle.std.specs.declared.option.Option.TheVariants.{Some};
-ghost use Rattle.cp_model.specs.Keyed.{entries};
 ghost use Rattle.cp_model.specs.Tree.{Tree};
-ghost use Rattle.cp_tree.specs.Rows.{entry_row};
 ghost use Rattle.cp_archive.specs.Ranges.{range_count};
 ghost use Rattle.cp_archive.specs.Trees.{newest, is_there_in, rows_of_tree};
 ghost use Rattle.cp_archive.specs.Touching.{Leads};
 
 use crate::paths::{Paths, content_of, note_step, rows_of};
 use crate::touched::Touched;
-use cp_model::RowList;
+use cp_model::{Content, RowList};
 use cp_path::Path;
 use cp_tree::TreeRep;
 use std::alloc::{AllocError, Global};
@@ -139,5 +137,16 @@ impl Archive {
         ensures { IfOk result (λ v. option_map rows_of_tree (slice_get self.now version) ≡ Some v) }
     {
         rows_of(&self.paths, alloc, version)
+    }
+
+    /// Makes the tree of a version. Costs as `rows_at`, and the tree.
+    pub fn tree_at<R: TreeRep>(&self, alloc: Global, version: u64) -> Result<R, AllocError>
+        requires { version < length self.now }
+        ensures { IfOk result (λ t. slice_get self.now version ≡ Some (R.contents t)) }
+    {
+        let rows = rows_of(&self.paths, alloc, version)?;
+        let mut tree = R::single(alloc, &Content::Node)?;
+        tree.put_rows(alloc, &Path::root(alloc), rows.items.as_slice())?;
+        Ok(tree)
     }
 }
