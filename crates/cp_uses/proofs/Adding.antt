@@ -1,6 +1,6 @@
 -- Adding what was reached, one after another.
-use Rattle.std.specs.Prelude.{ℕ, suc, ◌+◌, ◌≡◌, ◌≤◌, ◌<◌, ◌&&◌, Bool, true, false, List, [], ◌∷◌, ◌++◌, length, take, drop, nat_lt, refl, if◌then◌else◌}
-use Rattle.std.proofs.Common.{sym, ap, subst, ◌∙◌, arith, append_assoc, length-append}
+use Rattle.std.specs.Prelude.{ℕ, ◌+◌, ◌≡◌, ◌≤◌, ◌<◌, ◌&&◌, true, List, [], ◌∷◌, ◌++◌, length, take, drop, nat_lt, refl}
+use Rattle.std.proofs.Common.{sym, ap, ◌∙◌, arith, append_assoc, length-append}
 use Rattle.std.specs.List.{list_all, flat_map}
 use Rattle.std.proofs.lemmas.Bool.Decides.{nat_tests}
 use Rattle.std.proofs.lemmas.List.{append-nil, take_more, take-append-drop}
@@ -10,7 +10,6 @@ use Rattle.std.proofs.Math.ListN.{get_or}
 use Rattle.std.proofs.Math.Seq.{take-length}
 use Rattle.cp_model.specs.declared.record.Record.{Record}
 use Rattle.cp_uses.specs.declared.reached.Reached.{Reached}
-use Rattle.cp_uses.specs.Front.{is_reached}
 use Rattle.cp_uses.specs.Onward.{add_one, add_new, AddsLater}
 
 -- ---- at most so many, from later steps on
@@ -67,3 +66,11 @@ cut-rest f rows i r init mid new none here m n =
     ∙ ap (add_new mid) here
     ∙ m
     ∙ ap (add_new init) (sym (append-nil (flat_map f (take i rows))) ∙ ap (λ l. flat_map f (take i rows) ++ l) (sym none) ∙ sym (flat_map-append f (take i rows) (drop i rows)) ∙ ap (flat_map f) (take-append-drop i rows))
+
+-- what is new, one part more
+pub part-more : (f : Record → List Reached) (xs ys zs : List Record) (init mid new : List Reached) → zs ≡ xs ++ ys → mid ≡ add_new init (flat_map f xs) → new ≡ add_new mid (flat_map f ys) → new ≡ add_new init (flat_map f zs)
+part-more f xs ys zs init mid new e m n =
+    n
+    ∙ ap (λ l. add_new l (flat_map f ys)) m
+    ∙ sym (add_new-append init (flat_map f xs) (flat_map f ys))
+    ∙ ap (add_new init) (sym (ap (flat_map f) e ∙ flat_map-append f xs ys))

@@ -1,5 +1,5 @@
 -- What the way forward finds is the reach.
-use Rattle.std.specs.Prelude.{ℕ, zero, suc, ◌+◌, ◌-◌, ◌≤◌, ◌<◌, ◌≡◌, ◌⊎◌, ◌==◌, ◌&&◌, Bool, true, false, List, [], ◌∷◌, ◌++◌, refl, nat_lt, if◌then◌else◌}
+use Rattle.std.specs.Prelude.{ℕ, suc, ◌+◌, ◌-◌, ◌≤◌, ◌<◌, ◌≡◌, ◌⊎◌, ◌==◌, ◌&&◌, Bool, true, false, List, [], ◌∷◌, ◌++◌, refl, nat_lt, if◌then◌else◌}
 use Rattle.std.proofs.Common.{sym, ap, subst, ◌∙◌, arith, inl, inr}
 use Rattle.std.specs.List.{flat_map}
 use Rattle.std.proofs.lemmas.Bool.{and_parts}
@@ -73,7 +73,7 @@ module _ (k : Kind) (rs : List Record) where
   from-is c (left (from q)) h = ap (λ x. left (from x)) (place_eq-same q c h)
   from-is c gone h = absurd (cc)
 
-  came-is : (y : Reached) (c : Loc) → in_target y.place ≡ true → came k rs y c ≡ true → E y.tid y.place.path ≡ left (from c)
+  pub came-is : (y : Reached) (c : Loc) → in_target y.place ≡ true → came k rs y c ≡ true → E y.tid y.place.path ≡ left (from c)
   unfolding Says
   came-is y c i h = by (last E y.tid y.place.path) (last-says E y.tid y.place.path) (ap (is_copy_in y.tid c) (sym (of-target y.tid y.place i)) ∙ h)
     where

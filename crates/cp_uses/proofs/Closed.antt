@@ -1,7 +1,7 @@
 -- What was reached, while it is followed one after another.
-use Rattle.std.specs.Prelude.{ℕ, zero, suc, ◌+◌, ◌*◌, ◌^◌, ◌≤◌, ◌<◌, ◌≡◌, ◌⊎◌, ◌||◌, ◌&&◌, ◌==◌, Bool, true, false, List, [], ◌∷◌, ◌++◌, refl, sum_by, length, take, drop, if◌then◌else◌}
-use Rattle.std.proofs.Common.{sym, ap, subst, ◌∙◌, arith, append_assoc, length-append, inl, inr}
-use Rattle.std.proofs.lemmas.List.{take_more, append-nil, take-append-le, take-append-drop, drop-append-le}
+use Rattle.std.specs.Prelude.{ℕ, zero, suc, ◌+◌, ◌≤◌, ◌<◌, ◌≡◌, ◌⊎◌, ◌||◌, ◌&&◌, ◌==◌, Bool, true, false, List, [], ◌∷◌, ◌++◌, refl, sum_by, length, take, drop, if◌then◌else◌}
+use Rattle.std.proofs.Common.{sym, ap, subst, ◌∙◌, arith, append_assoc, inl, inr}
+use Rattle.std.proofs.lemmas.List.{append-nil, take-append-drop}
 use Rattle.std.proofs.lemmas.List.Sums.{sum_by-append}
 use Rattle.std.proofs.lemmas.List.Folds.{list_any-append}
 use Rattle.std.proofs.Math.Seq.{drop-cons, take-length}
@@ -17,7 +17,6 @@ use Rattle.std.proofs.Math.Bool.{or-false}
 use Rattle.cp_model.specs.declared.kind.Kind.{Kind}
 use Rattle.cp_model.specs.declared.record.Record.{Record}
 use Rattle.cp_uses.specs.declared.reached.Reached.{Reached}
-use Rattle.cp_uses.specs.Carrying.{fan, calls_for}
 use Rattle.cp_uses.specs.Front.{same_reached, is_reached}
 use Rattle.cp_uses.specs.Onward.{add_one, add_new}
 use Rattle.cp_uses.specs.Closing.{nexts, Stands, AreApart, Closes}
@@ -181,11 +180,11 @@ module _ (k : Kind) (rs rows : List Record) (now later : List Reached) (n : ℕ)
       }
 
 -- one more is asked for
-pub calls-more : (k : Kind) (rows : List Record) (now later : List Reached) (n : ℕ) (x : Reached) → take (n + 1) later ≡ take n now ++ x ∷ [] → (a b c : ℕ) → b ≤ a + calls_for k rows (take n now) → c ≤ b + (1 + 2 * fan k rows x) → c ≤ a + calls_for k rows (take (n + 1) later)
-calls-more k rows now later n x first a b c f g =
-    let h : calls_for k rows (take (n + 1) later) ≡ calls_for k rows (take n now) + calls_for k rows (x ∷ []) = ap (calls_for k rows) first ∙ sum_by-append (λ y. 1 + 2 * fan k rows y) (take n now) (x ∷ []) in
-    let o : calls_for k rows (x ∷ []) ≡ (1 + 2 * fan k rows x) + 0 = sum-cons (λ y. 1 + 2 * fan k rows y) x [] in
-    omega (arith, f, g, h, o)
+pub calls-more : (f : Reached → ℕ) (now later : List Reached) (n : ℕ) (x : Reached) → take (n + 1) later ≡ take n now ++ x ∷ [] → (a b c : ℕ) → b ≤ a + sum_by f (take n now) → c ≤ b + f x → c ≤ a + sum_by f (take (n + 1) later)
+calls-more f now later n x first a b c g h =
+    let more : sum_by f (take (n + 1) later) ≡ sum_by f (take n now) + sum_by f (x ∷ []) = ap (sum_by f) first ∙ sum_by-append f (take n now) (x ∷ []) in
+    let one : sum_by f (x ∷ []) ≡ f x + 0 = sum-cons f x [] in
+    omega (arith, g, h, more, one)
 
 -- all of a list, at the end
 pub taken-all : (now : List Reached) (n : ℕ) → length now ≤ n → n ≤ length now → take n now ≡ now

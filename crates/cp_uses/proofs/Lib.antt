@@ -21,3 +21,7 @@ mod Noted
 mod UseLemmas
 mod Renewing
 mod Staying
+mod Telling
+mod OwnCopies
+mod Costs
+mod Following

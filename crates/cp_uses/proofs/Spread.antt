@@ -14,10 +14,8 @@ use Rattle.cp_model.specs.declared.kind.Kind.{Kind}
 use Rattle.cp_model.specs.declared.kind.Kind.TheVariants as kind
 use Rattle.cp_uses.specs.declared.reached.Reached.{Reached}
 use Rattle.cp_uses.specs.Index.{copies_by}
-use Rattle.cp_uses.specs.Onward.{add_new}
 use Rattle.cp_uses.specs.Sources.{source_key, fronts, places_above, copies_after, copies_from, copies_along}
 use Rattle.cp_uses.proofs.Keys.{copies-by}
-use Rattle.cp_uses.proofs.Adding.{add_new-append}
 
 -- the place at the first n labels
 abbrev pub front_at : Loc → ℕ → Loc
@@ -68,6 +66,12 @@ module _ (c : Loc) (i : ℕ) (a : Label) (b : i < length c.path) (is : a ≡ get
       ∙ from-more rs (places_above (front_at c i)) (at_place c.db (take i c.path ++ a ∷ [])) t
       ∙ ap (λ p. copies_from rs (places_above (front_at c i)) t ++ copies_after rs (at_place c.db p) t) (sym path-more)
 
+  pub places-more : places_above (front_at c (i + 1)) ≡ places_above (front_at c i) ++ front_at c (i + 1) ∷ []
+  places-more =
+      ap (λ p. places_above (at_place c.db p)) path-more
+      ∙ above-more c.db (take i c.path) a
+      ∙ ap (λ p. places_above (front_at c i) ++ at_place c.db p ∷ []) (sym path-more)
+
 -- ---- by keys
 
 pub root-copies : (rs : List Record) (c : Loc) (key : List ℕ) (t : ℕ) → key ≡ source_key (front_at c 0) → copies_by rs key t ≡ copies_from rs (places_above (front_at c 0)) t
@@ -81,14 +85,6 @@ more-copies rs c i a key t b is e =
 -- the whole place
 pub front-all : (c : Loc) (i : ℕ) → i ≡ length c.path → front_at c i ≡ c
 front-all c i e = let p : take i c.path ≡ c.path = ap (λ n. take n c.path) e ∙ take-length c.path in λ i. record { db = c.db; path = p i }
-
--- what is new, one part more
-pub part-more : (f : Record → List Reached) (xs ys zs : List Record) (init mid new : List Reached) → zs ≡ xs ++ ys → mid ≡ add_new init (flat_map f xs) → new ≡ add_new mid (flat_map f ys) → new ≡ add_new init (flat_map f zs)
-part-more f xs ys zs init mid new e m n =
-    n
-    ∙ ap (λ l. add_new l (flat_map f ys)) m
-    ∙ sym (add_new-append init (flat_map f xs) (flat_map f ys))
-    ∙ ap (add_new init) (sym (ap (flat_map f) e ∙ flat_map-append f xs ys))
 
 pub parts-length : (xs ys zs : List Record) → zs ≡ xs ++ ys → length xs + length ys ≡ length zs
 parts-length xs ys zs e = sym (ap length e ∙ length-append xs ys)

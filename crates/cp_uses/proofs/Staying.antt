@@ -1,10 +1,10 @@
 -- What a look-up tells of how long what was reached stood.
-use Rattle.std.specs.Prelude.{ℕ, zero, suc, ◌+◌, ◌-◌, ◌≤◌, ◌<◌, ◌≡◌, ◌&&◌, Bool, true, false, List, [], ◌∷◌, ◌++◌, length, drop, refl, nat_lt, nat_le, if◌then◌else◌}
+use Rattle.std.specs.Prelude.{ℕ, zero, suc, ◌+◌, ◌-◌, ◌^◌, ◌≤◌, ◌<◌, ◌≡◌, ◌&&◌, Bool, true, false, List, [], ◌∷◌, ◌++◌, length, drop, refl, nat_lt, if◌then◌else◌}
 use Rattle.std.proofs.Common.{sym, ap, subst, ◌∙◌, arith, get_or}
 use Rattle.std.specs.List.{flat_map, AllByRecursion}
 use Rattle.std.specs.List.Sorted.{IsNonDecreasingBy}
 use Rattle.std.proofs.lemmas.Bool.Decides.{nat_tests}
-use Rattle.std.proofs.lemmas.Option.{none-some, same_Some}
+use Rattle.std.proofs.lemmas.Option.{none-some}
 use Rattle.std.specs.declared.option.Option.{Option}
 use Rattle.std.specs.declared.option.Option.TheVariants.{None, Some}
 use Rattle.cp_path.specs.declared.loc.Loc.{Loc}
@@ -44,9 +44,14 @@ module _ (k : Kind) (rs : List Record) (x : Reached) where
         | true ↦ λ e. let t : stands k rs x v ≡ true = stood-before w v l e in absurd (cc)
       ] refl
 
+  apart : in_target x.place ≡ true → in_target x.place ≡ false → ⊥
+  apart t f = absurd (cc)
+
   -- before the store is asked
-  pub known-first : (s : Stay) → s.still ≡ x.tid → s.changed ≡ None → IsKnown k rs x s
-  known-first s e n = record {
+  pub known-first : (s : Stay) → in_target x.place ≡ true → s.still ≡ x.tid → s.changed ≡ None → IsKnown k rs x s
+  known-first s i e n = record {
+    own = λ _. omega (arith, e);
+    source = λ f. absurd (apart i f);
     still = λ v l. of-quiet v (λ i u a b. absurd (omega (arith, a, b, l, e)));
     changed = λ v o. absurd (none-over v (ap (is_over v) (sym n) ∙ o));
   }
@@ -54,8 +59,10 @@ module _ (k : Kind) (rs : List Record) (x : Reached) where
       none-over : (v : ℕ) → is_over v None ≡ true → ⊥
       none-over v h = absurd (cc)
 
-  pub known-source : (s : Stay) → in_target x.place ≡ false → s.changed ≡ None → IsKnown k rs x s
-  known-source s i n = record {
+  pub known-source : (s : Stay) → in_target x.place ≡ false → 2 ^ 64 ≤ s.still + 1 → s.changed ≡ None → IsKnown k rs x s
+  known-source s i l n = record {
+    own = λ t. absurd (apart t i);
+    source = λ _. l;
     still = λ v l. of-quiet v (λ t u a b. absurd (cc));
     changed = λ v o. absurd (none-over v (ap (is_over v) (sym n) ∙ o));
   }
@@ -97,14 +104,18 @@ module _ (k : Kind) (rs : List Record) (x : Reached) where
           absurd (cc (sym s.3 ∙ ap tells_same m))
 
   -- what is known after a look-up
-  pub known-still : (s z : Stay) (v n : ℕ) → IsKnown k rs x s → n ≡ step_of (change_at k rs v x.place) → n ≤ x.tid → z.still ≡ v → z.changed ≡ s.changed → IsKnown k rs x z
-  known-still s z v n h e l a c = record {
+  pub known-still : (s z : Stay) (v n : ℕ) → IsKnown k rs x s → s.still < v → v < 2 ^ 64 → n ≡ step_of (change_at k rs v x.place) → n ≤ x.tid → z.still ≡ v → z.changed ≡ s.changed → IsKnown k rs x z
+  known-still s z v n h g b e l a c = record {
+    own = λ i. let o = h.own i in omega (arith, o, g, a);
+    source = λ i. let o = h.source i in absurd (omega (arith, o, g, b));
     still = λ w b. stood-before v w (omega (arith, a, b)) (told-stands v n e l);
     changed = λ w o. h.changed w (ap (is_over w) (sym c) ∙ o);
   }
 
   pub known-changed : (s z : Stay) (v n : ℕ) → IsKnown k rs x s → n ≡ step_of (change_at k rs v x.place) → x.tid < n → z.still ≡ s.still → z.changed ≡ Some n → IsKnown k rs x z
   known-changed s z v n h e l a c = record {
+    own = λ i. let o = h.own i in omega (arith, o, a);
+    source = λ i. let o = h.source i in omega (arith, o, a);
     still = λ w b. h.still w (omega (arith, a, b));
     changed = λ w o. changed-after n w (within n w (ap (is_over w) (sym c) ∙ o)) (ap (stands k rs x) e ∙ by-change v (change_at k rs v x.place) refl (omega (arith, e, l)));
   }
@@ -139,9 +150,9 @@ module _ (k : Kind) (rs : List Record) (x : Reached) where
   all-from (r ∷ rows) (suc i) v h f = all-from rows i v (λ j d a b. h (suc j) d (omega (arith, a)) (omega (arith, b))) f
 
   -- where a row in order was one after the place had changed, so are all that follow it
-  pub rest-none : (rows : List Record) (i : ℕ) (r : Record) → IsNonDecreasingBy (λ r. r.tid) rows → r ≡ get_or rows i r → i < length rows → stands k rs x (r.tid - 1) ≡ false → flat_map (onward k rs x) (drop i rows) ≡ []
-  rest-none rows i r o e l f =
-      none-onward (drop i rows) (all-from rows i r.tid (λ j d a b. rising i j r d o e l a b) f)
+  pub rest-late : (rows : List Record) (i : ℕ) (r : Record) → IsNonDecreasingBy (λ r. r.tid) rows → r ≡ get_or rows i r → i < length rows → stands k rs x (r.tid - 1) ≡ false → AllByRecursion (λ r. stands k rs x (r.tid - 1) ≡ false) (drop i rows)
+  rest-late rows i r o e l f =
+      all-from rows i r.tid (λ j d a b. rising i j r d o e l a b) f
     where
       same_default : (xs : List Record) (i : ℕ) (d e : Record) → i < length xs → get_or xs i d ≡ get_or xs i e
       same_default [] i d e h = absurd (omega (arith, h))
@@ -150,3 +161,6 @@ module _ (k : Kind) (rs : List Record) (x : Reached) where
 
       rising : (i j : ℕ) (r d : Record) → IsNonDecreasingBy (λ r. r.tid) rows → r ≡ get_or rows i r → i < length rows → i ≤ j → j < length rows → r.tid ≤ (get_or rows j d).tid
       rising i j r d o e l a b = let z : r.tid ≡ (get_or rows i d).tid = ap (λ (q : Record). q.tid) (e ∙ same_default rows i r d l) in let m = o i j d a b in omega (arith, z, m)
+
+  pub rest-none : (rows : List Record) (i : ℕ) (r : Record) → IsNonDecreasingBy (λ r. r.tid) rows → r ≡ get_or rows i r → i < length rows → stands k rs x (r.tid - 1) ≡ false → flat_map (onward k rs x) (drop i rows) ≡ []
+  rest-none rows i r o e l f = none-onward (drop i rows) (rest-late rows i r o e l f)

@@ -1,7 +1,6 @@
 -- The copies that took a place along, place by place, are as many as its fan.
 use Rattle.std.specs.Prelude.{ℕ, suc, ◌+◌, ◌≡◌, ◌≤◌, ◌&&◌, Bool, true, false, cond, List, [], ◌∷◌, ◌++◌, map, filter, length, nat_lt, refl, if◌then◌else◌}
 use Rattle.std.proofs.Common.{sym, ap, subst, ◌∙◌, arith, length-append, inl, inr}
-use Rattle.std.specs.List.{flat_map}
 use Rattle.std.specs.Cmp.Lexicographic.{nat_list_eq_equiv}
 use Rattle.std.specs.declared.option.Option.TheVariants.{None, Some}
 use Rattle.std.proofs.lemmas.Option.{none-some}
@@ -10,7 +9,7 @@ use Rattle.cp_path.specs.Text.{text_eq}
 use Rattle.cp_path.specs.Place.{lies_below, starts_with, moved_place}
 use Rattle.cp_path.specs.declared.loc.Loc.{Loc}
 use Rattle.cp_path.proofs.Same.{text_eq-same, place_eq-same, place_eq-refl}
-use Rattle.cp_model.specs.Place.{Path, Label, path_eq, place_eq, in_target}
+use Rattle.cp_model.specs.Place.{Path, path_eq, place_eq, in_target}
 use Rattle.cp_model.specs.declared.record.RowMark.{RowMark as Mark}
 use Rattle.cp_model.specs.declared.record.RowMark.TheVariants.{Made, Copied, Gone, Kept}
 use Rattle.cp_model.specs.Records.{mark_by}
@@ -19,7 +18,7 @@ use Rattle.cp_model.specs.declared.kind.Kind.TheVariants as kind
 use Rattle.cp_model.specs.declared.record.Record.{Record}
 use Rattle.cp_uses.specs.declared.reached.Reached.{Reached}
 use Rattle.cp_uses.specs.Sources.{source_by, is_place, is_copy_of, copies_after, copies_from, copies_along, fronts, sources}
-use Rattle.cp_uses.specs.Carrying.{goes_along, if_within, landing_by, landing_at, landing, takes_by, is_in_fan, fan}
+use Rattle.cp_uses.specs.Carrying.{goes_along, if_within, landing_at, landing, takes_by, is_in_fan, fan}
 use Rattle.cp_uses.proofs.Members.{Has, has-mapped, has-filtered, has-flat}
 
 -- ---- how often a place is among the sources

@@ -1,5 +1,5 @@
 -- The places that use another are those of the reach that stand now.
-use Rattle.std.specs.Prelude.{ℕ, zero, suc, ◌+◌, ◌-◌, ◌*◌, ◌≤◌, ◌<◌, ◌≡◌, ◌==◌, ◌&&◌, ◌||◌, Bool, true, false, List, [], ◌∷◌, ◌++◌, refl, nat_lt, length, if◌then◌else◌}
+use Rattle.std.specs.Prelude.{ℕ, zero, suc, ◌+◌, ◌-◌, ◌≤◌, ◌<◌, ◌≡◌, ◌==◌, ◌&&◌, ◌||◌, Bool, true, false, List, [], ◌∷◌, ◌++◌, refl, nat_lt, sum_by, if◌then◌else◌}
 use Rattle.std.proofs.Common.{sym, ap, subst, ◌∙◌, arith, inl, inr}
 use Rattle.std.specs.List.{list_any}
 use Rattle.std.proofs.lemmas.Bool.{and_parts}
@@ -20,18 +20,20 @@ use Rattle.cp_model.specs.History.{Entry, State, IsLegal, replay, read_rows}
 use Rattle.cp_model.specs.Past.{tree_of}
 use Rattle.cp_model.specs.Records.{reads, rows_at}
 use Rattle.cp_model.specs.Answers.{trace}
-use Rattle.cp_model.specs.Changes.{change_at}
+use Rattle.cp_model.specs.Changes.{change_at, AreNext}
 use Rattle.cp_model.specs.declared.kind.Kind.{Kind}
 use Rattle.cp_model.specs.declared.kind.Kind.TheVariants as kind
 use Rattle.cp_model.specs.declared.record.Record.{Record}
 use Rattle.cp_model.proofs.Lookups.{there-mapped}
 use Rattle.cp_model.proofs.Pasts.{legal-walked}
+use Rattle.cp_model.proofs.Rising.{records-rise}
+use Rattle.cp_store.specs.declared.store.ProvStore.{Ghosts}
 use Rattle.cp_uses.specs.declared.reached.Reached.{Reached}
 use Rattle.cp_uses.specs.Reach.{Reaches, begins, renewed, carried, passes, is_new_data}
 use Rattle.cp_uses.specs.Laws.{IsReachedAt}
-use Rattle.cp_uses.specs.Carrying.{calls_for}
 use Rattle.cp_uses.specs.Onward.{is_early}
 use Rattle.cp_uses.specs.Closing.{Stands, AreApart, Closes}
+use Rattle.cp_uses.specs.Following.{IsKept}
 use Rattle.cp_uses.specs.Front.{is_reached}
 use Rattle.cp_model.specs.Leaps.{Readings}
 use Rattle.cp_uses.specs.Current.{is_current, stands_now}
@@ -187,26 +189,30 @@ module _ (h : List Entry) (s : State) (legal : IsLegal h) (replayed : replay h �
         (ap in_target at ∙ d.0, there p.path ∙ ap (λ (l : Loc). is_there (tree_of s.tree) l.path) at ∙ d.1);
   }
 
-  pub serves : ServesFor s q (2 + changes_at s.kind s.rows q s.now + calls_for s.kind s.rows xs)
-  serves = record { pairs = xs; apart = c.apart (firsts-apart s.kind s.rows q s.now); reached = found-reached s.kind s.rows q s.now xs c; served = refl }
+  serves : (cost : Reached → ℕ) → ServesFor s q cost (1 + changes_at s.kind s.rows q s.now + sum_by cost xs)
+  serves cost = record { pairs = xs; apart = c.apart (firsts-apart s.kind s.rows q s.now); reached = found-reached s.kind s.rows q s.now xs c; served = refl }
 
-  pub is-served : (a b d : ℕ) → b ≤ a + (changes_at s.kind s.rows q s.now + 1) → d ≤ b + calls_for s.kind s.rows xs → IsServed s q a d
-  is-served a b d x y = record { calls = 2 + changes_at s.kind s.rows q s.now + calls_for s.kind s.rows xs; serves = serves; rose = omega (arith, x, y) }
+  pub is-served : (cost : Reached → ℕ) (a b d most : ℕ) → b ≤ a + (changes_at s.kind s.rows q s.now + 1) → d ≤ b + most → most ≤ sum_by cost xs → IsServed s q cost a d
+  is-served cost a b d most x y z = record { calls = 1 + changes_at s.kind s.rows q s.now + sum_by cost xs; serves = serves cost; rose = omega (arith, x, y, z) }
 
 -- ---- a whole run
 
+-- a store that keeps the rows of a legal history keeps them in order
+pub kept-in-order : {P : Type 0} (p : Ghosts P) (at : P) (h : List Entry) (s : State) (rows : List Record) → IsLegal h → replay h ≡ Some s → p.keeps at s.rows → p.last_tid at ≡ s.now → rows ≡ s.rows → IsKept p at rows
+kept-in-order p at h s rows legal replayed k n e = record { keeps = subst (p.keeps at) (sym e) k; next = subst (λ m. AreNext 0 m rows) (sym n) (subst (AreNext 0 s.now) (sym e) (records-rise h s legal replayed)) }
+
 -- what a walk over the state's own rows has found, by what the functions say of a store and an index that keep them
 pub closes-all : (s : State) (k j : Kind) (last : ℕ) (rows : List Record) (q start : Loc) (none one two all : List Reached) → none ≡ [] → one ≡ none ++ record { place = start; tid = 0 } ∷ [] → (start.db ≡ q.db) × (start.path ≡ q.path) →
-    two ≡ one ++ renewals_at k s.rows q last → Closes j s.rows rows two all → k ≡ s.kind → j ≡ s.kind → last ≡ s.now → rows ≡ s.rows → Closes s.kind s.rows s.rows (firsts s.kind s.rows q s.now) all
+    two ≡ one ++ renewals_at k s.rows q last → Closes j rows rows two all → k ≡ s.kind → j ≡ s.kind → last ≡ s.now → rows ≡ s.rows → Closes s.kind s.rows s.rows (firsts s.kind s.rows q s.now) all
 closes-all s k j last rows q start none one two all a b e c h d f n r =
     let first : one ≡ record { place = q; tid = 0 } ∷ [] = b ∙ ap (λ xs. xs ++ record { place = start; tid = 0 } ∷ []) a ∙ ap (λ l. record { place = l; tid = 0 } ∷ []) (same-loc start q e) in
     let is : two ≡ firsts s.kind s.rows q s.now = c ∙ ap (λ xs. xs ++ renewals_at k s.rows q last) first ∙ ap (λ j. record { place = q; tid = 0 } ∷ renewals_at j s.rows q last) d ∙ ap (λ m. record { place = q; tid = 0 } ∷ renewals_at s.kind s.rows q m) n in
-    subst (λ xs. Closes s.kind s.rows s.rows xs all) is (subst (λ z. Closes s.kind s.rows z two all) r (subst (λ z. Closes z s.rows rows two all) f h))
+    subst (λ xs. Closes s.kind s.rows s.rows xs all) is (subst (λ z. Closes s.kind z z two all) r (subst (λ z. Closes z rows rows two all) f h))
 
-pub noted-all : (s : State) (k : Kind) (last : ℕ) (t : Tree) (all : List Reached) (none keys places : List Loc) → none ≡ [] → places ≡ keys → k ≡ s.kind → last ≡ s.now → t ≡ tree_of s.tree →
-    ((p : Loc) → is_among p keys ≡ (is_among p none || stands_now k s.rows last t all p)) → (p : Loc) → is_among p places ≡ stands_now s.kind s.rows s.now (tree_of s.tree) all p
-noted-all s k last t all none keys places e l d n r h p =
+pub noted-all : (s : State) (k : Kind) (rows : List Record) (last : ℕ) (t : Tree) (all : List Reached) (none keys places : List Loc) → none ≡ [] → places ≡ keys → k ≡ s.kind → rows ≡ s.rows → last ≡ s.now → t ≡ tree_of s.tree →
+    ((p : Loc) → is_among p keys ≡ (is_among p none || stands_now k rows last t all p)) → (p : Loc) → is_among p places ≡ stands_now s.kind s.rows s.now (tree_of s.tree) all p
+noted-all s k rows last t all none keys places e l d w n r h p =
     ap (is_among p) l
     ∙ h p
-    ∙ ap (λ ks. is_among p ks || stands_now k s.rows last t all p) e
-    ∙ ap (λ j. stands_now j s.rows last t all p) d ∙ ap (λ m. stands_now s.kind s.rows m t all p) n ∙ ap (λ u. stands_now s.kind s.rows s.now u all p) r
+    ∙ ap (λ ks. is_among p ks || stands_now k rows last t all p) e
+    ∙ ap (λ j. stands_now j rows last t all p) d ∙ ap (λ z. stands_now s.kind z last t all p) w ∙ ap (λ m. stands_now s.kind s.rows m t all p) n ∙ ap (λ u. stands_now s.kind s.rows s.now u all p) r

@@ -10,3 +10,5 @@ pub mod Renewals
 pub mod Users
 pub mod Laws
 pub mod Stays
+pub mod InTime
+pub mod Following

@@ -1,5 +1,5 @@
 -- The reach of a place: where its data went, from copy to copy, and which traces pass through it.
-use Rattle.std.specs.Prelude.{ℕ, zero, suc, ◌≡◌, ◌<◌, ◌||◌, Bool, true, false, List, [], ◌∷◌, ◌++◌, map, ⊤, if◌then◌else◌}
+use Rattle.std.specs.Prelude.{ℕ, zero, suc, ◌≡◌, ◌<◌, ◌||◌, Bool, true, false, ⊤, if◌then◌else◌}
 use Rattle.std.specs.List.{list_any}
 use Rattle.cp_path.specs.declared.loc.Loc.{Loc}
 use Rattle.cp_model.specs.Place.{Path, at_target, in_target, place_eq, over_limit}

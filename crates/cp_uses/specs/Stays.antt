@@ -1,14 +1,15 @@
 -- How long what was reached stood at its place.
-use Rattle.std.specs.Prelude.{ℕ, ◌≡◌, ◌≤◌, Bool, true, false, List, nat_le}
+use Rattle.std.specs.Prelude.{ℕ, ◌≡◌, ◌≤◌, ◌+◌, ◌^◌, Bool, true, false, List, nat_le}
 use Rattle.std.specs.declared.option.Option.{Option}
 use Rattle.std.specs.declared.option.Option.TheVariants.{None, Some}
+use Rattle.cp_model.specs.Place.{in_target}
 use Rattle.cp_model.specs.Rows.{Reading}
 use Rattle.cp_model.specs.Changes.{change_at}
 use Rattle.cp_model.specs.declared.kind.Kind.{Kind}
 use Rattle.cp_model.specs.declared.record.Record.{Record}
 use Rattle.cp_uses.specs.declared.reached.Reached.{Reached}
 use Rattle.cp_uses.specs.declared.stay.Stay.{Stay}
-use Rattle.cp_uses.specs.Onward.{is_early, add_new}
+use Rattle.cp_uses.specs.Onward.{is_early}
 
 -- no step after its own, up to version v, changed its place
 abbrev pub stands : Kind → List Record → Reached → ℕ → Bool
@@ -24,12 +25,9 @@ abbrev pub is_over : ℕ → Option ℕ → Bool
 is_over v None = false
 is_over v (Some u) = nat_le u v
 
--- what is known is so
+-- what is known is so; before the store is asked that is its own step, and all of them where its place is one of a source
 pub record IsKnown (k : Kind) (rs : List Record) (x : Reached) (s : Stay) : Type 0 where
+  pub own : in_target x.place ≡ true → x.tid ≤ s.still
+  pub source : in_target x.place ≡ false → 2 ^ 64 ≤ s.still + 1
   pub still : (v : ℕ) → v ≤ s.still → stands k rs x v ≡ true
   pub changed : (v : ℕ) → is_over v s.changed ≡ true → stands k rs x v ≡ false
-
--- what followed was added where it wasn't there, and what is known is so
-pub record Finds (k : Kind) (rs : List Record) (x : Reached) (ys old new : List Reached) (s : Stay) : Type 0 where
-  pub found : new ≡ add_new old ys
-  pub known : IsKnown k rs x s

@@ -1,5 +1,5 @@
 -- The places that use another, and what asking for them may cost.
-use Rattle.std.specs.Prelude.{ℕ, ◌+◌, ◌≡◌, ◌≤◌, Bool, true, List}
+use Rattle.std.specs.Prelude.{ℕ, ◌+◌, ◌≡◌, ◌≤◌, Bool, true, List, sum_by}
 use Rattle.std.specs.List.{list_any}
 use Rattle.std.specs.List.Sorted.{IsStrictlySortedBy}
 use Rattle.std.specs.Ordering.{ordering_then}
@@ -17,7 +17,6 @@ use Rattle.cp_tree.specs.declared.rep.TreeRep as tree
 use Rattle.cp_query.specs.Asked.{IsStateOf}
 use Rattle.cp_uses.specs.declared.reached.Reached.{Reached}
 use Rattle.cp_uses.specs.Reach.{Reaches, passes}
-use Rattle.cp_uses.specs.Carrying.{calls_for}
 use Rattle.cp_uses.specs.Closing.{Stands, AreApart}
 use Rattle.cp_uses.specs.Renewals.{changes_at}
 
@@ -46,15 +45,15 @@ pub record AreOf {P R : Type 0} (p : store.Ghosts P) (r : tree.Ghosts R) (copies
 
 -- ---- the cost
 
--- a list of what is reached from q, each once, for which so many calls serve: 2, the changes of q, and for each of the list 1 and twice its fan
-pub record ServesFor (s : State) (q : Loc) (calls : ℕ) : Type 0 where
+-- a list of what is reached from q, each once, for which so many calls serve: 1, the changes of q, and what each of the list costs
+pub record ServesFor (s : State) (q : Loc) (cost : Reached → ℕ) (calls : ℕ) : Type 0 where
   pub pairs : List Reached
   pub apart : AreApart pairs
   pub reached : (x : Reached) → Stands pairs x → Reaches (reads s.kind s.rows) q x.place x.tid
-  pub served : calls ≡ 2 + changes_at s.kind s.rows q s.now + calls_for s.kind s.rows pairs
+  pub served : calls ≡ 1 + changes_at s.kind s.rows q s.now + sum_by cost pairs
 
 -- the count of calls rose by no more than serve for q
-pub record IsServed (s : State) (q : Loc) (old new : ℕ) : Type 0 where
+pub record IsServed (s : State) (q : Loc) (cost : Reached → ℕ) (old new : ℕ) : Type 0 where
   pub calls : ℕ
-  pub serves : ServesFor s q calls
+  pub serves : ServesFor s q cost calls
   pub rose : new ≤ old + calls

@@ -1,13 +1,14 @@
 //! From what was reached on and on, until nothing new is reached.
-ghost use Rattle.std.specs.Prelude.{◌≡◌, ◌<◌, ◌≤◌, ◌+◌, ◌*◌, ◌^◌, ◌||◌, ◌∷◌, [], List, IfOk, OnOk};
+ghost use Rattle.std.specs.Prelude.{◌≡◌, ◌<◌, ◌≤◌, ◌+◌, ◌^◌, ◌||◌, ◌∷◌, [], sum_by, IfOk, OnOk};
 ghost use Rattle.cp_path.specs.declared.loc.Loc.{Loc as Place};
-ghost use Rattle.cp_model.specs.declared.record.Record.{Record as Row};
 ghost use Rattle.cp_store.specs.Calls.{Asks};
 ghost use Rattle.cp_store.specs.Counts.{store_in, calls_in, counted};
 ghost use Rattle.cp_uses.specs.Front.{IsFront};
-ghost use Rattle.cp_uses.specs.Carrying.{fan, calls_for};
+ghost use Rattle.cp_uses.specs.Carrying.{fan};
 ghost use Rattle.cp_uses.specs.Closing.{nexts, Closes};
 ghost use Rattle.cp_uses.specs.Current.{stands_now};
+ghost use Rattle.cp_uses.specs.InTime.{calls_in_time};
+ghost use Rattle.cp_uses.specs.Following.{IsKept};
 ghost use Rattle.cp_uses.specs.Onward.{add_new, AddsLater};
 ghost use Rattle.cp_uses.specs.Users.{is_among};
 
@@ -44,7 +45,7 @@ fn copy_of(reached: &Reached) -> Result<Reached, AllocError>
 }
 
 /// Follows all copies that took along what was reached, and notes its place if it stands there now. Costs what `spread` costs, and
-/// a look-up at most.
+/// a look-up where no copy came too late.
 fn visit<P: ProvStore, R: TreeRep>(
     alloc: Global,
     index: &UseIndex<'_>,
@@ -60,12 +61,13 @@ fn visit<P: ProvStore, R: TreeRep>(
     ensures front { OnOk result (IsFront front.new) }
     ensures later { OnOk result (AddsLater from.now.tid (fan kind index.now from.now)
         front.old.found.items front.new.found.items) }
-    ensures found { (rs : List Row) → P.keeps (store_in store.old) rs
-        → OnOk result (front.new.found.items ≡ add_new front.old.found.items (nexts kind rs index.now from.now)) }
-    ensures users { (rs : List Row) → P.keeps (store_in store.old) rs
+    ensures found { IsKept P.ProvStore (store_in store.old) index.now
+        → OnOk result (front.new.found.items ≡ add_new front.old.found.items (nexts kind index.now index.now from.now)) }
+    ensures users { IsKept P.ProvStore (store_in store.old) index.now
         → OnOk result ((p : Place) → is_among p users.new.keys ≡ (is_among p users.old.keys
-        || stands_now kind rs (P.last_tid (store_in store.old)) (R.contents tree.now) (from.now ∷ []) p)) }
-    ensures calls { OnOk result (calls_in store.new ≤ calls_in store.old + (1 + 2 * fan kind index.now from.now)) }
+        || stands_now kind index.now (P.last_tid (store_in store.old)) (R.contents tree.now) (from.now ∷ []) p)) }
+    ensures calls { IsKept P.ProvStore (store_in store.old) index.now
+        → OnOk result (calls_in store.new ≤ calls_in store.old + calls_in_time kind index.now from.now) }
     ensures asks { Asks (counted P.ProvStore) (λ e. e ≡ StoreFault.Disk) store.old store.new result }
 {
     let mut stay = Stay::of(from);
@@ -87,13 +89,13 @@ pub(crate) fn close<P: ProvStore, R: TreeRep>(
 ) -> Result<(), StoreFault>
     requires kind { kind ≡ P.kept_kind (store_in store.old) }
     requires front { IsFront front.old }
-    ensures closed { (rs : List Row) → P.keeps (store_in store.old) rs
-        → OnOk result (Closes kind rs index.now front.old.found.items front.new.found.items) }
-    ensures users { (rs : List Row) → P.keeps (store_in store.old) rs
+    ensures closed { IsKept P.ProvStore (store_in store.old) index.now
+        → OnOk result (Closes kind index.now index.now front.old.found.items front.new.found.items) }
+    ensures users { IsKept P.ProvStore (store_in store.old) index.now
         → OnOk result ((p : Place) → is_among p users.new.keys ≡ (is_among p users.old.keys
-        || stands_now kind rs (P.last_tid (store_in store.old)) (R.contents tree.now) front.new.found.items p)) }
-    ensures calls { OnOk result (calls_in store.new
-        ≤ calls_in store.old + calls_for kind index.now front.new.found.items) }
+        || stands_now kind index.now (P.last_tid (store_in store.old)) (R.contents tree.now) front.new.found.items p)) }
+    ensures calls { IsKept P.ProvStore (store_in store.old) index.now
+        → OnOk result (calls_in store.new ≤ calls_in store.old + sum_by (calls_in_time kind index.now) front.new.found.items) }
     ensures asks { Asks (counted P.ProvStore) (λ e. e ≡ StoreFault.Disk) store.old store.new result }
 {
     let mut next = 0;

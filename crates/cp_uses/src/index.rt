@@ -37,7 +37,7 @@ impl<'a> Model for UseIndex<'a> {
 }
 
 /// The place from which a row was copied, if it was.
-fn source_of(row: &Record) -> Option<&Loc>
+pub(crate) fn source_of(row: &Record) -> Option<&Loc>
     ensures { option_copied result ≡ source_of row.now }
 {
     match row.op {

@@ -1,5 +1,5 @@
 //! The places at which what was reached stands now.
-ghost use Rattle.std.specs.Prelude.{◌≡◌, ◌≤◌, ◌+◌, ◌||◌, ◌∷◌, [], List, IfOk, OnOk};
+ghost use Rattle.std.specs.Prelude.{◌≡◌, ◌≤◌, ◌+◌, ◌||◌, ◌∷◌, [], true, List, IfOk, OnOk};
 ghost use Rattle.std.specs.List.Sorted.{IsStrictlySortedBy};
 ghost use Rattle.cp_path.specs.declared.loc.Loc.{Loc as Place};
 ghost use Rattle.cp_model.specs.Place.{place_eq};
@@ -7,7 +7,7 @@ ghost use Rattle.cp_model.specs.declared.record.Record.{Record as Row};
 ghost use Rattle.cp_store.specs.Calls.{Asks};
 ghost use Rattle.cp_store.specs.Counts.{store_in, calls_in, counted};
 ghost use Rattle.cp_uses.specs.Current.{stands_now};
-ghost use Rattle.cp_uses.specs.Stays.{IsKnown};
+ghost use Rattle.cp_uses.specs.Stays.{is_over, IsKnown};
 ghost use Rattle.cp_uses.specs.Users.{is_among, place_cmp};
 
 use crate::current::is_current;
@@ -27,7 +27,8 @@ fn note_user(users: &mut BTreeSet<Loc>, place: &Loc) -> Result<(), AllocError>
     Ok(())
 }
 
-/// Notes the place, if what was reached stands there now. Costs a look-up at most.
+/// Notes the place, if what was reached stands there now. Costs a look-up at most, and none where the place is known to have
+/// changed.
 pub(crate) fn note_current<P: ProvStore, R: TreeRep>(
     alloc: Global,
     store: &mut Counted<P>,
@@ -42,6 +43,7 @@ pub(crate) fn note_current<P: ProvStore, R: TreeRep>(
         || stands_now (P.kept_kind (store_in store.old)) rs (P.last_tid (store_in store.old))
         (R.contents tree.now) (reached.now ∷ []) p)) }
     ensures calls { calls_in store.new ≤ calls_in store.old + 1 }
+    ensures known { is_over (P.last_tid (store_in store.old)) stay.old.changed ≡ true → calls_in store.new ≡ calls_in store.old }
     ensures asks { Asks (counted P.ProvStore) (λ e. e ≡ StoreFault.Disk) store.old store.new result }
 {
     if is_current(alloc, store, tree, reached, stay)? {

@@ -1,19 +1,27 @@
 //! From what was reached on, by one copy.
-ghost use Rattle.std.specs.Prelude.{◌≡◌, ◌<◌, ◌≤◌, ◌+◌, ◌-◌, false, List, IfOk, OnOk};
+ghost use Rattle.std.specs.Prelude.{◌≡◌, ◌<◌, ◌≤◌, ◌+◌, ℕ, not, List, IfOk, OnOk};
+ghost use Rattle.std.specs.List.{slice_get};
+ghost use Rattle.std.specs.declared.option.Option.TheVariants.{Some};
+ghost use Rattle.cp_model.specs.Place.{over_limit};
 ghost use Rattle.cp_model.specs.Changes.{reading_of_what};
 ghost use Rattle.cp_model.specs.declared.record.Record.{Record as Row};
 ghost use Rattle.cp_store.specs.Calls.{Asks};
 ghost use Rattle.cp_store.specs.Counts.{store_in, calls_in, counted};
 ghost use Rattle.cp_uses.specs.Front.{IsFront};
-ghost use Rattle.cp_uses.specs.Onward.{is_from, came, if_came, onward, AddsLater};
-ghost use Rattle.cp_uses.specs.Stays.{stands, IsKnown, Finds};
+ghost use Rattle.cp_uses.specs.Carrying.{landing};
+ghost use Rattle.cp_uses.specs.InTime.{calls_to_bring};
+ghost use Rattle.cp_uses.specs.Following.{if_brought, progress, Follows, IsKept};
+ghost use Rattle.cp_uses.specs.Onward.{is_from, came, add_new, AddsLater};
+ghost use Rattle.cp_uses.specs.Sources.{is_copy_of};
+ghost use Rattle.cp_uses.specs.Stays.{IsKnown};
 
 use crate::front::Front;
+use crate::index::source_of;
 use crate::landing::landing;
 use crate::reached::Reached;
 use crate::stay::{Stay, stands};
 use cp_model::{Kind, Record, What};
-use cp_path::Loc;
+use cp_path::{LABELS_MAX, LOC_MAX, Loc};
 use cp_store::{Counted, ProvStore, StoreFault};
 use std::alloc::Global;
 
@@ -45,44 +53,81 @@ fn came<P: ProvStore>(
     }
 }
 
-/// Adds this, if it came from what was reached and wasn't reached before; says whether what was reached may have stood there until
-/// then. Costs at most two look-ups.
+/// Whether a row is that of a copy of the place itself.
+fn is_copy_of(row: &Record, place: &Loc) -> bool
+    ensures { result ≡ is_copy_of place.now row.now }
+{
+    match source_of(row) {
+        Some(source) => place.is_at(source),
+        None => false,
+    }
+}
+
+/// Whether a place is within the limits of places. Costs its labels.
+fn is_within_limits(place: &Loc) -> bool
+    ensures { result ≡ not (over_limit place.now) }
+{
+    place.path.labels().len() <= LABELS_MAX && place.size() <= LOC_MAX as u32
+}
+
+/// Whether what was reached came to where the copy of a row took it. Costs a look-up, and none where the copy was of the place
+/// itself: that of a place over a limit brings nothing.
+fn came_by<P: ProvStore>(
+    alloc: Global,
+    store: &mut Counted<P>,
+    row: &Record,
+    from: &Reached,
+    to: &Reached,
+) -> Result<bool, StoreFault>
+    requires tid { to.now.tid ≡ row.now.tid }
+    requires place { landing (P.kept_kind (store_in store.old)) row.now from.now.place ≡ Some to.now.place }
+    requires later { from.now.tid < to.now.tid }
+    ensures came { (rs : List Row) → IsKept P.ProvStore (store_in store.old) rs → (n : ℕ) → slice_get rs n ≡ Some row.now
+        → IfOk result (λ b. b ≡ came (P.kept_kind (store_in store.old)) rs to.now from.now.place) }
+    ensures calls { calls_in store.new ≤ calls_in store.old + calls_to_bring from.now row.now }
+    ensures asks { Asks (counted P.ProvStore) (λ e. e ≡ StoreFault.Disk) store.old store.new result }
+{
+    if is_copy_of(row, &from.place) {
+        return Ok(is_within_limits(&from.place));
+    }
+    came(alloc, store, to, &from.place)
+}
+
+/// Adds what was reached where the copy of a row took it, if it came there and wasn't reached there before. Costs a look-up, and
+/// none where the copy was of the place itself.
 fn carry<P: ProvStore>(
     alloc: Global,
     store: &mut Counted<P>,
+    kind: Kind,
+    row: &Record,
     from: &Reached,
-    to: Reached,
-    stay: &mut Stay,
     front: &mut Front,
-) -> Result<bool, StoreFault>
-    requires later { from.now.tid < to.tid }
+) -> Result<(), StoreFault>
+    requires kind { kind ≡ P.kept_kind (store_in store.old) }
+    requires later { from.now.tid < row.now.tid }
     requires front { IsFront front.old }
     ensures front { OnOk result (IsFront front.new) }
     ensures later { OnOk result (AddsLater from.now.tid 1 front.old.found.items front.new.found.items) }
-    ensures found { (rs : List Row) → P.keeps (store_in store.old) rs
-        → IsKnown (P.kept_kind (store_in store.old)) rs from.now stay.old
-        → OnOk result (Finds (P.kept_kind (store_in store.old)) rs from.now
-        (if_came (P.kept_kind (store_in store.old)) rs from.now to) front.old.found.items front.new.found.items stay.new) }
-    ensures ends { (rs : List Row) → P.keeps (store_in store.old) rs
-        → IsKnown (P.kept_kind (store_in store.old)) rs from.now stay.old
-        → IfOk result (λ on. on ≡ false → stands (P.kept_kind (store_in store.old)) rs from.now (to.tid - 1) ≡ false) }
-    ensures calls { calls_in store.new ≤ calls_in store.old + 2 }
+    ensures found { (rs : List Row) → IsKept P.ProvStore (store_in store.old) rs → (n : ℕ) → slice_get rs n ≡ Some row.now
+        → OnOk result (front.new.found.items ≡ add_new front.old.found.items
+        (if_brought kind rs from.now row.now.tid (landing kind row.now from.now.place))) }
+    ensures calls { calls_in store.new ≤ calls_in store.old + calls_to_bring from.now row.now }
     ensures asks { Asks (counted P.ProvStore) (λ e. e ≡ StoreFault.Disk) store.old store.new result }
 {
-    if front.has(&to) {
-        return Ok(true);
-    }
-    let stood = stands(alloc, store, from, to.tid - 1, stay)?;
-    if !stood {
-        return Ok(false);
-    }
-    if came(alloc, store, &to, &from.place)? {
+    let Some(place) = landing(kind, row, &from.place)? else {
+        return Ok(());
+    };
+    let to = Reached {
+        place,
+        tid: row.tid,
+    };
+    if !front.has(&to) && came_by(alloc, store, row, from, &to)? {
         front.add(to)?;
     }
-    Ok(true)
+    Ok(())
 }
 
-/// Follows the copy of a row from what was reached; says whether what was reached may have stood there until then. Costs at most
+/// Follows the copy of a row from what was reached, if that stood at its place until then, and says whether it did. Costs at most
 /// two look-ups.
 pub(crate) fn follow<P: ProvStore>(
     alloc: Global,
@@ -94,23 +139,19 @@ pub(crate) fn follow<P: ProvStore>(
     front: &mut Front,
 ) -> Result<bool, StoreFault>
     requires kind { kind ≡ P.kept_kind (store_in store.old) }
+    requires later { from.now.tid < row.now.tid }
     requires front { IsFront front.old }
     ensures front { OnOk result (IsFront front.new) }
     ensures later { OnOk result (AddsLater from.now.tid 1 front.old.found.items front.new.found.items) }
-    ensures found { (rs : List Row) → P.keeps (store_in store.old) rs → IsKnown kind rs from.now stay.old
-        → OnOk result (Finds kind rs from.now (onward kind rs from.now row.now)
-        front.old.found.items front.new.found.items stay.new) }
-    ensures ends { (rs : List Row) → P.keeps (store_in store.old) rs → IsKnown kind rs from.now stay.old
-        → IfOk result (λ on. on ≡ false → stands kind rs from.now (row.now.tid - 1) ≡ false) }
-    ensures calls { calls_in store.new ≤ calls_in store.old + 2 }
+    ensures follows { (rs : List Row) → IsKept P.ProvStore (store_in store.old) rs → (n : ℕ) → slice_get rs n ≡ Some row.now
+        → IsKnown kind rs from.now stay.old
+        → IfOk result (λ b. Follows kind rs from.now row.now b
+        (progress front.old stay.old store.old) (progress front.new stay.new store.new)) }
     ensures asks { Asks (counted P.ProvStore) (λ e. e ≡ StoreFault.Disk) store.old store.new result }
 {
-    if row.tid <= from.tid {
-        return Ok(true);
+    let stood = stands(alloc, store, from, row.tid - 1, stay)?;
+    if stood {
+        carry(alloc, store, kind, row, from, front)?;
     }
-    let Some(place) = landing(kind, row, &from.place)? else {
-        return Ok(true);
-    };
-    let tid = row.tid;
-    carry(alloc, store, from, Reached { place, tid }, stay, front)
+    Ok(stood)
 }

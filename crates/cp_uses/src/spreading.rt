@@ -1,16 +1,15 @@
 //! From what was reached on, by all copies that took it along.
-ghost use Rattle.std.specs.Prelude.{◌≡◌, ◌≤◌, ◌+◌, ◌*◌, List, length, OnOk};
-ghost use Rattle.std.specs.List.{flat_map};
-ghost use Rattle.cp_model.specs.declared.record.Record.{Record as Row};
+ghost use Rattle.std.specs.Prelude.{◌≡◌, length, OnOk, if◌then◌else◌};
 ghost use Rattle.cp_store.specs.Calls.{Asks};
-ghost use Rattle.cp_store.specs.Counts.{store_in, calls_in, counted};
+ghost use Rattle.cp_store.specs.Counts.{store_in, counted};
 ghost use Rattle.cp_uses.specs.Carrying.{fan};
 ghost use Rattle.cp_uses.specs.Front.{IsFront};
 ghost use Rattle.cp_uses.specs.Index.{copies_by};
-ghost use Rattle.cp_uses.specs.Onward.{onward, AddsLater};
-ghost use Rattle.cp_uses.specs.Stays.{IsKnown, Finds};
-ghost use Rattle.cp_uses.specs.Sources.{copies_from, places_above};
-ghost use Rattle.cp_uses.specs.Closing.{nexts};
+ghost use Rattle.cp_uses.specs.InTime.{has_late, late_sources};
+ghost use Rattle.cp_uses.specs.Following.{progress, IsKept, Spreads};
+ghost use Rattle.cp_uses.specs.Onward.{AddsLater};
+ghost use Rattle.cp_uses.specs.Stays.{IsKnown};
+ghost use Rattle.cp_uses.specs.Sources.{copies_along, copies_from, places_above, sources};
 
 use crate::front::Front;
 use crate::index::UseIndex;
@@ -23,7 +22,7 @@ use cp_store::{Counted, ProvStore, StoreFault};
 use std::alloc::Global;
 
 /// Follows the copies from the place with this key, up to the first before which what was reached had changed. Costs a logarithm
-/// of the places, and at most two look-ups for each copy of a later step.
+/// of the places, at most two look-ups for each copy that it follows, and one where there is one too late.
 fn spread_by<P: ProvStore>(
     alloc: Global,
     index: &UseIndex<'_>,
@@ -39,11 +38,11 @@ fn spread_by<P: ProvStore>(
     ensures front { OnOk result (IsFront front.new) }
     ensures later { OnOk result (AddsLater from.now.tid (length (copies_by index.now key.now from.now.tid))
         front.old.found.items front.new.found.items) }
-    ensures found { (rs : List Row) → P.keeps (store_in store.old) rs → IsKnown kind rs from.now stay.old
-        → OnOk result (Finds kind rs from.now
-        (flat_map (onward kind rs from.now) (copies_by index.now key.now from.now.tid))
-        front.old.found.items front.new.found.items stay.new) }
-    ensures calls { calls_in store.new ≤ calls_in store.old + 2 * length (copies_by index.now key.now from.now.tid) }
+    ensures spreads { IsKept P.ProvStore (store_in store.old) index.now → IsKnown kind index.now from.now stay.old
+        → OnOk result (Spreads kind index.now from.now (copies_by index.now key.now from.now.tid)
+        (if has_late kind index.now from.now (copies_by index.now key.now from.now.tid) then 1 else 0)
+        (P.last_tid (store_in store.old))
+        (progress front.old stay.old store.old) (progress front.new stay.new store.new)) }
     ensures asks { Asks (counted P.ProvStore) (λ e. e ≡ StoreFault.Disk) store.old store.new result }
 {
     let steps = index.copies_by(key, from.tid);
@@ -56,8 +55,7 @@ fn spread_by<P: ProvStore>(
     Ok(())
 }
 
-/// Follows the copies from the place and from all places above it. Costs for each of these a logarithm of the places, and at most
-/// two look-ups for each copy of a later step.
+/// Follows the copies from the place and from all places above it. Costs for each of these what `spread_by` costs.
 fn spread_above<P: ProvStore>(
     alloc: Global,
     index: &UseIndex<'_>,
@@ -72,12 +70,11 @@ fn spread_above<P: ProvStore>(
     ensures front { OnOk result (IsFront front.new) }
     ensures later { OnOk result (AddsLater from.now.tid (length (copies_from index.now (places_above from.now.place) from.now.tid))
         front.old.found.items front.new.found.items) }
-    ensures found { (rs : List Row) → P.keeps (store_in store.old) rs → IsKnown kind rs from.now stay.old
-        → OnOk result (Finds kind rs from.now
-        (flat_map (onward kind rs from.now) (copies_from index.now (places_above from.now.place) from.now.tid))
-        front.old.found.items front.new.found.items stay.new) }
-    ensures calls { calls_in store.new
-        ≤ calls_in store.old + 2 * length (copies_from index.now (places_above from.now.place) from.now.tid) }
+    ensures spreads { IsKept P.ProvStore (store_in store.old) index.now → IsKnown kind index.now from.now stay.old
+        → OnOk result (Spreads kind index.now from.now (copies_from index.now (places_above from.now.place) from.now.tid)
+        (late_sources kind index.now from.now (places_above from.now.place))
+        (P.last_tid (store_in store.old))
+        (progress front.old stay.old store.old) (progress front.new stay.new store.new)) }
     ensures asks { Asks (counted P.ProvStore) (λ e. e ≡ StoreFault.Disk) store.old store.new result }
 {
     let mut key = root_key(alloc, &from.place.db)?;
@@ -90,8 +87,8 @@ fn spread_above<P: ProvStore>(
     Ok(())
 }
 
-/// Follows all copies that took along what was reached. Costs a logarithm of the places, for each of its labels where a copy
-/// takes along what lies below, and at most two look-ups for each such copy of a later step.
+/// Follows all copies that took along what was reached, while it stood at its place. Costs what `spread_by` costs, for each of its
+/// labels where a copy takes along what lies below.
 pub(crate) fn spread<P: ProvStore>(
     alloc: Global,
     index: &UseIndex<'_>,
@@ -106,10 +103,11 @@ pub(crate) fn spread<P: ProvStore>(
     ensures front { OnOk result (IsFront front.new) }
     ensures later { OnOk result (AddsLater from.now.tid (fan kind index.now from.now)
         front.old.found.items front.new.found.items) }
-    ensures found { (rs : List Row) → P.keeps (store_in store.old) rs → IsKnown kind rs from.now stay.old
-        → OnOk result (Finds kind rs from.now (nexts kind rs index.now from.now)
-        front.old.found.items front.new.found.items stay.new) }
-    ensures calls { calls_in store.new ≤ calls_in store.old + 2 * fan kind index.now from.now }
+    ensures spreads { IsKept P.ProvStore (store_in store.old) index.now → IsKnown kind index.now from.now stay.old
+        → OnOk result (Spreads kind index.now from.now (copies_along kind index.now from.now)
+        (late_sources kind index.now from.now (sources kind from.now.place))
+        (P.last_tid (store_in store.old))
+        (progress front.old stay.old store.old) (progress front.new stay.new store.new)) }
     ensures asks { Asks (counted P.ProvStore) (λ e. e ≡ StoreFault.Disk) store.old store.new result }
 {
     match kind {

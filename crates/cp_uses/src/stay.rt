@@ -1,11 +1,14 @@
 //! How long what was reached stood at its place.
-ghost use Rattle.std.specs.Prelude.{◌≡◌, ◌≤◌, ◌+◌, List, IfOk, OnOk};
+ghost use Rattle.std.specs.Prelude.{◌≡◌, ◌≤◌, ◌+◌, true, List, IfOk};
+ghost use Rattle.std.specs.declared.option.Option.TheVariants.{None};
 ghost use Rattle.cp_model.specs.declared.kind.Kind.{Kind};
 ghost use Rattle.cp_model.specs.declared.record.Record.{Record as Row};
 ghost use Rattle.cp_store.specs.Calls.{Asks};
 ghost use Rattle.cp_store.specs.Counts.{store_in, calls_in, counted};
 ghost use Rattle.cp_model.specs.Changes.{change_at};
-ghost use Rattle.cp_uses.specs.Stays.{stands, is_over, step_of, IsKnown};
+ghost use Rattle.cp_uses.specs.InTime.{calls_to_tell};
+ghost use Rattle.cp_uses.specs.Following.{Tells};
+ghost use Rattle.cp_uses.specs.Stays.{is_over, step_of, IsKnown};
 
 use crate::reached::Reached;
 use cp_store::{Counted, ProvStore, StoreFault};
@@ -23,7 +26,8 @@ pub(crate) struct Stay {
 impl Stay {
     /// What is known before the store is asked: a place stands from the step of what was reached on, that of a source always.
     pub(crate) fn of(reached: &Reached) -> Stay
-        ensures { (k : Kind) (rs : List Row) → IsKnown k rs reached.now result }
+        ensures known { (k : Kind) (rs : List Row) → IsKnown k rs reached.now result }
+        ensures changed { result.changed ≡ None }
     {
         let changed = None;
         if reached.place.db.is_target() {
@@ -55,6 +59,7 @@ fn last_step<P: ProvStore>(
 ) -> Result<u64, StoreFault>
     ensures step { (rs : List Row) → P.keeps (store_in store.old) rs
         → IfOk result (λ n. n ≡ step_of (change_at (P.kept_kind (store_in store.old)) rs version reached.now.place)) }
+    ensures within { IfOk result (λ n. n ≤ version) }
     ensures calls { calls_in store.new ≤ calls_in store.old + 1 }
     ensures asks { Asks (counted P.ProvStore) (λ e. e ≡ StoreFault.Disk) store.old store.new result }
 {
@@ -64,7 +69,8 @@ fn last_step<P: ProvStore>(
     }
 }
 
-/// Whether what was reached stood at its place up to this version. Costs a look-up at most, and none where it is known.
+/// Whether what was reached stood at its place up to this version. Costs a look-up at most, and none where it is known, as it is of
+/// its own step.
 pub(crate) fn stands<P: ProvStore>(
     alloc: Global,
     store: &mut Counted<P>,
@@ -72,13 +78,12 @@ pub(crate) fn stands<P: ProvStore>(
     version: u64,
     stay: &mut Stay,
 ) -> Result<bool, StoreFault>
-    ensures stands { (rs : List Row) → P.keeps (store_in store.old) rs
+    ensures tells { (rs : List Row) → P.keeps (store_in store.old) rs
         → IsKnown (P.kept_kind (store_in store.old)) rs reached.now stay.old
-        → IfOk result (λ b. b ≡ stands (P.kept_kind (store_in store.old)) rs reached.now version) }
-    ensures known { (rs : List Row) → P.keeps (store_in store.old) rs
-        → IsKnown (P.kept_kind (store_in store.old)) rs reached.now stay.old
-        → OnOk result (IsKnown (P.kept_kind (store_in store.old)) rs reached.now stay.new) }
+        → IfOk result (λ b. Tells (P.kept_kind (store_in store.old)) rs reached.now version
+        (calls_to_tell reached.now version) b stay.old stay.new (calls_in store.old) (calls_in store.new)) }
     ensures calls { calls_in store.new ≤ calls_in store.old + 1 }
+    ensures known { is_over version stay.old.changed ≡ true → calls_in store.new ≡ calls_in store.old }
     ensures asks { Asks (counted P.ProvStore) (λ e. e ≡ StoreFault.Disk) store.old store.new result }
 {
     if stay.is_over(version) {

@@ -4,6 +4,7 @@ ghost use Rattle.cp_model.specs.History.{State};
 ghost use Rattle.cp_query.specs.Asked.{IsStateOf};
 ghost use Rattle.cp_store.specs.Calls.{Asks};
 ghost use Rattle.cp_store.specs.Counts.{calls_in, counted};
+ghost use Rattle.cp_uses.specs.InTime.{calls_by_fan, calls_in_time};
 ghost use Rattle.cp_uses.specs.Users.{AreOf, AreUsers, IsServed};
 
 use crate::closing::close;
@@ -24,7 +25,8 @@ use std::collections::BTreeSet;
 ///
 /// Costs a look-up for each step that changed the place, and one; for each place that its data reached, from each step on that
 /// brought it there, a look-up, a logarithm of the places for it and for each place above it, and at most two look-ups for each
-/// copy of a later step that took it along. Fails with `Memory` or, where the store's disk fails, with `Disk`.
+/// copy of a later step that took it along before it changed. Where copies of places above it came after that, one for each such
+/// place. Fails with `Memory` or, where the store's disk fails, with `Disk`.
 pub fn uses<P: ProvStore, R: TreeRep>(
     alloc: Global,
     index: &UseIndex<'_>,
@@ -35,7 +37,9 @@ pub fn uses<P: ProvStore, R: TreeRep>(
     ensures users { (s : State) → AreOf (counted P.ProvStore) R.TreeRep index.now store.old tree.now s
         → IfOk result (λ places. AreUsers s place.now places.items) }
     ensures calls { (s : State) → AreOf (counted P.ProvStore) R.TreeRep index.now store.old tree.now s
-        → OnOk result (IsServed s place.now (calls_in store.old) (calls_in store.new)) }
+        → OnOk result (IsServed s place.now (calls_by_fan s.kind s.rows) (calls_in store.old) (calls_in store.new)) }
+    ensures early { (s : State) → AreOf (counted P.ProvStore) R.TreeRep index.now store.old tree.now s
+        → OnOk result (IsServed s place.now (calls_in_time s.kind s.rows) (calls_in store.old) (calls_in store.new)) }
     ensures asks { Asks (counted P.ProvStore) (λ e. e ≡ StoreFault.Disk) store.old store.new result }
 {
     let kind = store.kind();

@@ -1,4 +1,4 @@
-use Rattle.std.proofs.Common.{sym, subst, ◌∙◌}
+use Rattle.std.proofs.Common.{sym, subst}
 use Rattle.std.specs.List.Sorted.{IsStrictlySortedBy}
 use Rattle.cp_uses.specs.Users.{place_cmp}
 use Rattle.cp_uses.proofs.Noted.{all-listed, listed-more}

@@ -1,7 +1,6 @@
-use Rattle.std.proofs.Common.{◌≡◌, ◌≤◌, ◌+◌, ◌++◌, refl, ap, sym, subst, ◌∙◌, arith}
-use Rattle.std.specs.Prelude.{IfSome}
-use Rattle.cp_model.specs.Changes.{change_at, reading_of_what}
-use Rattle.cp_store.specs.Counts.{store_in, calls_in, counted}
+use Rattle.std.proofs.Common.{◌++◌, ap, arith}
+use Rattle.cp_model.specs.Changes.{reading_of_what}
+use Rattle.cp_store.specs.Counts.{store_in, counted}
 use Rattle.cp_store.proofs.AskLemmas.{not-asked, asked-on}
 use Rattle.cp_uses.specs.Renewals.{renewals_at, changes_at}
 use Rattle.cp_uses.proofs.Renewing.{told-some, told-none, found-more, found-all, calls-more, calls-all, one-call, some-within}

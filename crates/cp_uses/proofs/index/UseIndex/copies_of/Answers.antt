@@ -1,4 +1,4 @@
-use Rattle.std.proofs.Common.{◌≡◌, ◌≤◌, refl, sym, ap, subst, ◌∙◌, arith, length}
+use Rattle.std.proofs.Common.{subst, ◌∙◌, arith}
 use Rattle.cp_uses.specs.Index.{copies_by, AreStepsOf}
 use Rattle.cp_uses.specs.Sources.{source_key}
 use Rattle.cp_uses.proofs.Adding.{take-whole, taken-more}
