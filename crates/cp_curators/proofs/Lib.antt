@@ -1,0 +1,6 @@
+mod Current
+pub mod DeskLaws
+pub mod DeskLemmas
+mod Open
+mod Operating
+pub mod OverLemmas

@@ -1,0 +1,3 @@
+pub mod Curators
+pub mod Desks
+pub mod Laws
