@@ -189,6 +189,7 @@ why_text o (why.Ragged n) = codes "row " ++ (decimal n ++ codes " is ragged")
 why_text o (why.RepeatedKey n) = codes "repeated key at row " ++ decimal n
 why_text o why.StoreTooLarge = codes "store too large"
 why_text o why.StoreExists = codes "store exists"
+why_text o (why.NoVersion n) = codes "no version " ++ decimal n
 
 -- what is refused
 abbrev pub refused_front : Of → List ℕ
@@ -231,4 +232,5 @@ lines (reply.Logged commits) = flat_map (λ c. line (commit_text c)) commits ++ 
 lines (reply.Gen s places born copies) =
     line (stats_text s) ++ line (codes "gen: places " ++ (decimal places ++ (codes ", born " ++ (decimal born ++ (codes ", copies " ++ decimal copies)))))
 lines (reply.Uses q qs) = line (codes "uses " ++ (place_text q ++ (codes ": " ++ places_text qs)))
+lines (reply.Archive versions ranges) = line (codes "archive: versions " ++ (decimal versions ++ (codes ", ranges " ++ decimal ranges)))
 lines (reply.Refused o w) = line (refused_front o ++ why_text o w)

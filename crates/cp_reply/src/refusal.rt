@@ -137,5 +137,6 @@ pub(crate) fn why_text(alloc: Global, of: Of, why: &Why) -> Result<String, Alloc
         Why::RepeatedKey(row) => with_number(alloc, "repeated key at row ", *row),
         Why::StoreTooLarge => words(alloc, "store too large"),
         Why::StoreExists => words(alloc, "store exists"),
+        Why::NoVersion(number) => with_number(alloc, "no version ", *number),
     }
 }

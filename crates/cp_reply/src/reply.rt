@@ -55,6 +55,8 @@ pub enum Why {
     RepeatedKey(u64),
     StoreTooLarge,
     StoreExists,
+    /// The store has no version of this number.
+    NoVersion(u64),
 }
 
 /// Places, in order and each once.
@@ -120,6 +122,11 @@ pub enum Reply {
     Uses {
         place: Loc,
         places: PlaceList,
+    },
+    /// How many versions a store has, and how many ranges of versions in which a path is there with one content.
+    Archive {
+        versions: u64,
+        ranges: u64,
     },
     Refused {
         of: Of,

@@ -1,4 +1,4 @@
-ghost use Rattle.std.specs.Prelude.{◌≡◌, ◌++◌, ◌∷◌, [], ℕ, List, OnOk, IfOk, codes, decimal, flat_map, length, string_bytes};
+ghost use Rattle.std.specs.Prelude.{◌≡◌, ◌++◌, ℕ, List, OnOk, IfOk, codes, decimal, flat_map, length, string_bytes};
 ghost use Rattle.cp_path.specs.Spelling.{place_text};
 ghost use Rattle.cp_model.specs.Trees.{tree_text};
 ghost use Rattle.cp_reply.specs.Front.{Begins};
@@ -57,6 +57,12 @@ fn checkpoint(alloc: Global, tid: u64) -> Result<String, AllocError>
     ensures { IfOk result (λ s. string_bytes s ≡ codes "checkpoint " ++ decimal tid) }
 {
     format!(in alloc; "checkpoint {tid}")
+}
+
+fn archive(alloc: Global, versions: u64, ranges: u64) -> Result<String, AllocError>
+    ensures { IfOk result (λ s. string_bytes s ≡ codes "archive: versions " ++ (decimal versions ++ (codes ", ranges " ++ decimal ranges))) }
+{
+    format!(in alloc; "archive: versions {versions}, ranges {ranges}")
 }
 
 fn refused(alloc: Global, of: Of, why: &Why) -> Result<String, AllocError>
@@ -261,6 +267,7 @@ pub fn lines(alloc: Global, reply: &Reply, out: &mut Vec<u8>) -> Result<(), Allo
             copies,
         } => put_summary(alloc, stats, *places, *born, *copies, out),
         Reply::Uses { place, places } => put_made(uses_text(alloc, place, &places.items), out),
+        Reply::Archive { versions, ranges } => put_made(archive(alloc, *versions, *ranges), out),
         Reply::Refused { of, why } => put_made(refused(alloc, *of, why), out),
     }
 }

@@ -36,3 +36,7 @@ returns-in-Uses-clause-ok c =
     ∙ ap (λ qs. c.args.out.now.items ++ line (codes "uses " ++ (place_text c.in-Uses.place ++ (codes ": " ++ places_text qs)))) same
     ∙ ap (λ r. c.args.out.now.items ++ lines r) (sym c.in-Uses.is))
     c.put_made-in-Uses.ensures.ok
+
+pub returns-in-Archive-clause-ok : goal.returns-in-Archive-clause-ok
+unfolding lines
+returns-in-Archive-clause-ok c = on_ok c.put_made-in-Archive.result _ _ (λ put. put _ c.archive.ensures ∙ ap (λ r. c.args.out.now.items ++ lines r) (sym c.in-Archive.is)) c.put_made-in-Archive.ensures.ok
