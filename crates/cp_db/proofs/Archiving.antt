@@ -182,6 +182,7 @@ module _ (c : List ℕ) (kept : Kept) (f : HasFound HasArchived c kept) (right :
   archived =
       let are = f.done refl in
       record {
+        legal = legal_history c right h told;
         state = f.state;
         replayed = replayed;
         of_kind = are.of_kind f.state (ap (fold after_item None) same_items ∙ leads);

@@ -10,6 +10,7 @@ pub mod Walking
 mod WalkingFrames
 mod Logging
 mod Archiving
+mod Versioned
 mod WritingStanding
 mod WritingFrames
 mod WritingLoads

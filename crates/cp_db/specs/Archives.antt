@@ -4,7 +4,8 @@ use Rattle.std.specs.List.{flat_map}
 use Rattle.std.specs.declared.option.Option.TheVariants.{None, Some}
 use Rattle.cp_archive.specs.Histories.{AreVersions, trees_of_history}
 use Rattle.cp_archive.specs.Trees.{newest}
-use Rattle.cp_model.specs.History.{State, replay}
+use Rattle.cp_model.specs.Changes.{AreNext}
+use Rattle.cp_model.specs.History.{State, replay, IsLegal}
 use Rattle.cp_model.specs.History.{Entry as History}
 use Rattle.cp_model.specs.Tree.{Tree}
 use Rattle.cp_model.specs.declared.kind.Kind.{Kind}
@@ -17,11 +18,17 @@ use Rattle.cp_db.specs.declared.fault.OpenFault.TheVariants.{NoStore, Disk, Memo
 
 -- ---- item by item
 
--- versions that may go on in this kind, after this Tid, from this tree, which is the last
+-- versions that may go on in this kind, after this Tid, from this tree, which is the last; and records of steps up to there
 pub record GoesOnFrom (kept : Kept) (kind : Kind) (last : ℕ) (t : Tree) : Type 0 where
   pub of_kind : kept.kind ≡ kind
   pub few : length kept.archive ≤ last + 1
   pub newest : newest kept.archive ≡ t
+  pub next : AreNext 0 last kept.rows
+
+-- records of steps up to some Tid, in order
+pub record HasNextRows (kept : Kept) : Type 0 where
+  pub last : ℕ
+  pub next : AreNext 0 last kept.rows
 
 -- the kind, the versions and the records of the history that these items tell
 pub record AreVersionsOf (items : List Item) (kept : Kept) : Type 0 where
@@ -31,8 +38,9 @@ pub record AreVersionsOf (items : List Item) (kept : Kept) : Type 0 where
 
 -- ---- a file
 
--- the kind and the versions of the history, and the records that these items hold; where they are right, they are the history's rows
+-- the kind and the versions of the history, which is legal, and the records that these items hold; where they are right, they are the history's rows
 pub record HasVersions (right : Bool) (h : List History) (items : List Item) (kept : Kept) : Type 0 where
+  pub legal : IsLegal h
   pub state : State
   pub replayed : replay h ≡ Some state
   pub of_kind : kept.kind ≡ state.kind

@@ -1,12 +1,19 @@
 //! The archive of a file: the trees of all versions of its history, and the records of its steps.
-ghost use Rattle.std.specs.Prelude.{◌≡◌, ◌++◌, OnOk};
-ghost use Rattle.std.specs.declared.option.Option.TheVariants.{None};
+ghost use Rattle.std.specs.Prelude.{◌≡◌, ◌<◌, ◌++◌, true, List, filter, length, IfOk, OnOk};
+ghost use Rattle.std.specs.declared.option.Option.TheVariants.{None, Some};
+ghost use Rattle.cp_model.specs.History.{Entry, State};
+ghost use Rattle.cp_model.specs.Laws.{is_upto};
+ghost use Rattle.cp_model.specs.Versions.{version};
 ghost use Rattle.cp_disk.specs.Counts.{UsesDisk};
 ghost use Rattle.cp_disk.specs.Views.{IfKnown, Rests};
-ghost use Rattle.cp_db.specs.Archives.{ArchivesAs, AreVersionsOf, GoesOnFrom};
+ghost use Rattle.cp_frame.specs.Items.{Item};
+ghost use Rattle.cp_query.specs.Asked.{IsStateOf};
+ghost use Rattle.cp_store.specs.Stores.{in_memory};
+ghost use Rattle.cp_db.specs.Archives.{ArchivesAs, AreVersionsOf, GoesOnFrom, HasNextRows, HasVersions};
 ghost use Rattle.cp_db.specs.Opening.{IsOpenDisk};
 
 use crate::committed::tids_lie_between;
+use crate::parts::Parts;
 use crate::fault::OpenFault;
 use crate::walk::work_over;
 use crate::work::{CommitAt, Passed, Work};
@@ -16,6 +23,7 @@ use cp_engine::steps_of;
 use cp_model::Kind;
 use cp_operation::Sources;
 use cp_record::PackedRecords;
+use cp_store::{MemoryStore, ProvStore};
 use cp_tree::TreeRep;
 use std::alloc::{AllocError, Global};
 
@@ -94,8 +102,51 @@ pub fn archive_of<R: TreeRep, S: TreeRep, D: Disk>(
     disk: &mut D,
 ) -> Result<Kept, OpenFault>
     ensures archived { IfKnown (D.known disk.old) (λ v. ArchivesAs v.content result) }
+    ensures next { IfOk result HasNextRows }
     ensures rests { Rests (D.known disk.old) (D.known disk.new) }
     ensures cause { UsesDisk IsOpenDisk (D.known disk.old) (D.known disk.new) result }
 {
     work_over::<R, S, Kept, D>(alloc, disk)
+}
+
+/// The records of the steps up to this one. Costs the labels of all, and the bytes of those.
+fn rows_upto(alloc: Global, rows: &PackedRecords, tid: u64) -> Result<PackedRecords, AllocError>
+    ensures { IfOk result (λ v. v ≡ filter (is_upto tid) rows.now) }
+{
+    let mut kept = PackedRecords::new(alloc);
+    let mut rest = rows.iter();
+    loop {
+        let Some(record) = rest.next() else {
+            return Ok(kept);
+        };
+        if record.tid() <= tid {
+            kept.push_packed(&record)?;
+        }
+    }
+}
+
+impl Kept {
+    /// What the history leads to after this step: the tree of the version, and the rows of the steps up to it. Costs a logarithm of
+    /// the phases of each path that was ever there, the tree, the labels of all records, and a logarithm of the places for each
+    /// record up to the step.
+    pub fn at_version<R: TreeRep>(self, alloc: Global, tid: u64) -> Result<Parts<R>, AllocError>
+        requires there { tid < length self.archive }
+        requires next { HasNextRows self }
+        ensures { (h : List Entry) (items : List Item) (z : State) → HasVersions true h items self → version h tid ≡ Some z
+            → IfOk result (λ parts. IsStateOf in_memory R.TreeRep parts.store parts.tree z) }
+    {
+        let Kept {
+            kind,
+            archive,
+            rows,
+        } = self;
+        let tree = archive.tree_at::<R>(alloc, tid)?;
+        drop(archive);
+        let rows = rows_upto(alloc, &rows, tid)?;
+        let mut store = MemoryStore::new(alloc, kind, 0);
+        match store.absorb_packed(alloc, tid, &rows) {
+            Ok(()) => Ok(Parts { tree, store }),
+            Err(_) => Err(AllocError),
+        }
+    }
 }

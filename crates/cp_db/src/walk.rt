@@ -1,6 +1,8 @@
 //! A walk over the history in a file: what its entries lead to, without their records, and what is found on the way.
 ghost use Rattle.std.specs.Prelude.{◌≡◌, ◌≤◌, ◌<◌, ◌∷◌, ◌++◌, [], false, Bool, IsTrue, List, ℕ, length, IfOk, IfErr, OnOk, None, Some};
 ghost use Rattle.cp_model.specs.History.{State, commit as commit_entry};
+ghost use Rattle.cp_model.specs.Tree.{Tree as TreeValue};
+ghost use Rattle.cp_model.specs.declared.kind.Kind.{Kind as KindValue};
 ghost use Rattle.cp_disk.specs.Counts.{UsesDisk};
 ghost use Rattle.cp_disk.specs.Views.{IfKnown, Rests};
 ghost use Rattle.cp_journal.specs.Frames.{Frame};
@@ -314,6 +316,7 @@ pub fn work_over<R: TreeRep, S: TreeRep, W: Work, D: Disk>(
     disk: &mut D,
 ) -> Result<W, OpenFault>
     ensures found { IfKnown (D.known disk.old) (λ v. FindsAs W.done v.content result) }
+    ensures fits { IfOk result (λ w. (kind : KindValue) × (last : ℕ) × (tree : TreeValue) × W.fits w kind last tree) }
     ensures rests { Rests (D.known disk.old) (D.known disk.new) }
     ensures cause { UsesDisk IsOpenDisk (D.known disk.old) (D.known disk.new) result }
 {

@@ -86,6 +86,11 @@ returns-clause-found g c = λ known.
     subst (λ found. FindsAs g.W.Work.done u.content (Ok found)) (sym c.into_work.ensures)
     (finds view source_view g.W.Work.fits g.W.Work.done u.content c.in_ok-header.header header.0 header.1 (sym c.open_slot.ensures ∙ c.in_default.is) j c.in_ok-walk.walk (walked_first u v w x uv vw wx j walked) tells whole)
 
+pub returns-clause-fits : goal.returns-clause-fits
+returns-clause-fits g c =
+    let w = c.in_ok-walk.walk in
+    (w.kind, w.last, g.R.TreeRep.contents w.tree, subst (λ found. g.W.Work.fits found w.kind w.last (g.R.TreeRep.contents w.tree)) (sym c.into_work.ensures) c.in_ok-walk.ensures.reached.1.fits)
+
 pub returns-clause-rests : goal.returns-clause-rests
 returns-clause-rests g c = λ known.
     let headed = still c.in_ok-header.ensures.cause.same known in

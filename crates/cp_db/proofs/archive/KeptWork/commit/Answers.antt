@@ -1,10 +1,13 @@
-use Rattle.std.proofs.Common.{◌≡◌, ◌+◌, ◌++◌, ◌∙◌, refl, ap, subst, rules}
+use Rattle.std.proofs.Common.{◌≡◌, ◌+◌, ◌++◌, ◌∙◌, refl, sym, ap, subst, arith, rules}
+use Rattle.cp_model.specs.Changes.{AreNext}
 use Rattle.cp_operation.specs.Loaded.{sources_in}
 use Rattle.cp_operation.specs.Passed.{AllAccepted, tree_until}
 use Rattle.cp_archive.specs.Histories.{trees_of_steps}
 use Rattle.cp_db.specs.Committed.{TidsLieBetween}
 use Rattle.cp_db.specs.declared.work.CommitAt.{CommitAt}
 use Rattle.cp_db.proofs.Archiving.{versions-commit, versions-few, versions-replayed}
+use Rattle.cp_db.proofs.TakingLists.{records-next}
+use Rattle.cp_db.proofs.Versioned.{next-append}
 use Rattle.cp_db.proofs.archive.KeptWork.commit.Goals as goal
 
 pub returns-clause-replayed : goal.returns-clause-replayed
@@ -29,6 +32,12 @@ returns-clause-fits g c =
           (c.in_ok-replay_commit.ensures.added c.if-not-branch.false ∙ ap (λ os. c.args.self.now.archive ++ trees_of_steps c.args.kind ss t os) same)
           (c.steps_of-tids.ensures c.args.commit.ops (search rules));
       newest = c.in_ok-replay_commit.ensures.newest c.if-not-branch.false;
+      next =
+          let records = c.args.commit.records in
+          let high = c.args.last + c.steps_of-tids.result in
+          let between = subst (TidsLieBetween c.args.last high) (ap (λ (x : CommitAt). x.records) c.commit.view_is) (c.if-not-tids_lie_between.ensures.0 refl) in
+          subst (AreNext 0 high) (sym (c.in_ok-append.ensures ∙ ap (λ (x : CommitAt). c.args.self.now.rows ++ x.records) c.commit.view_is))
+          (next-append 0 c.args.last high (omega arith) (omega arith) c.args.self.now.rows records c.requires.fits.next (records-next c.requires.sound.0 c.args.commit.ops c.args.last high records c.requires.sound.1 between));
     }
 
 pub returns-clause-done : goal.returns-clause-done
