@@ -138,16 +138,21 @@ module _ (t : ℕ) where
 
 -- ---- what the history leads to
 
-module _ (h : List Entry) (items : List Item) (kept : Kept) (k : HasVersions true h items kept) (t : ℕ) (z : State) (is : version h t ≡ Some z) (there : t < length kept.archive) where
+module _ (right : Bool) (h : List Entry) (items : List Item) (kept : Kept) (k : HasVersions right h items kept) (t : ℕ) (z : State) (is : version h t ≡ Some z) (there : t < length kept.archive) where
   within : t ≤ k.state.now
   within = let counted = k.versions.count in omega (arith, counted, there)
 
   after : IsAfterStep k.state z t
   after = let v = versions-are-states h k.state t k.legal k.replayed within in subst (λ (y : State). IsAfterStep k.state y t) (same_Some v.0 z (sym v.1 ∙ is)) v.2
 
+  -- the tree that is kept of it
+  pub version-tree : (tree : Tree) → slice_get kept.archive t ≡ Some tree → tree_of z.tree ≡ tree
+  version-tree tree found = same_Some (tree_of z.tree) tree (sym (k.versions.each t z within is) ∙ found)
+
+module _ (h : List Entry) (items : List Item) (kept : Kept) (k : HasVersions true h items kept) (t : ℕ) (z : State) (is : version h t ≡ Some z) (there : t < length kept.archive) where
   -- the rows that are kept of it
   pub version-rows : z.rows ≡ filter (is_upto t) kept.rows
-  version-rows = after.rows ∙ ap (filter (is_upto t)) (sym (k.rows refl))
+  version-rows = (after true h items kept k t z is there).rows ∙ ap (filter (is_upto t)) (sym (k.rows refl))
 
   -- a legal history leads there
   pub version-committed : (kind : Kind) (n : ℕ) (tree : Tree) → kind ≡ kept.kind → n ≡ t → slice_get kept.archive t ≡ Some tree → IsCommitted kind n z.rows tree z
@@ -156,8 +161,8 @@ module _ (h : List Entry) (items : List Item) (kept : Kept) (k : HasVersions tru
     history = history_upto h t;
     legal = versions-are-legal h t k.legal;
     replayed = is;
-    kind = after.kind ∙ sym k.of_kind ∙ sym of_kind;
-    now = after.now ∙ sym upto;
+    kind = (after true h items kept k t z is there).kind ∙ sym k.of_kind ∙ sym of_kind;
+    now = (after true h items kept k t z is there).now ∙ sym upto;
     rows = refl;
-    tree = same_Some (tree_of z.tree) tree (sym (k.versions.each t z within is) ∙ found);
+    tree = version-tree true h items kept k t z is there tree found;
   }

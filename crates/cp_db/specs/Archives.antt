@@ -13,6 +13,7 @@ use Rattle.cp_frame.specs.Items.{Item, after_item, entries_in, records_in}
 use Rattle.cp_frame.specs.Stands.{IsTold, OpensAndReplays}
 use Rattle.cp_frame.specs.Stops.{IsNot}
 use Rattle.cp_db.specs.declared.archive.Kept.{Kept}
+use Rattle.cp_db.specs.declared.limits.TheConstants.{TIDS_MAX}
 use Rattle.cp_db.specs.declared.fault.OpenFault.{OpenFault}
 use Rattle.cp_db.specs.declared.fault.OpenFault.TheVariants.{NoStore, Disk, Memory}
 
@@ -25,9 +26,11 @@ pub record GoesOnFrom (kept : Kept) (kind : Kind) (last : ℕ) (t : Tree) : Type
   pub newest : newest kept.archive ≡ t
   pub next : AreNext 0 last kept.rows
 
--- records of steps up to some Tid, in order
-pub record HasNextRows (kept : Kept) : Type 0 where
+-- versions of steps up to some Tid within the limit, and records of these steps, in order
+pub record IsWithinTids (kept : Kept) : Type 0 where
   pub last : ℕ
+  pub limit : last ≤ TIDS_MAX
+  pub few : length kept.archive ≤ last + 1
   pub next : AreNext 0 last kept.rows
 
 -- the kind, the versions and the records of the history that these items tell

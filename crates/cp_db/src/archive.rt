@@ -1,15 +1,16 @@
 //! The archive of a file: the trees of all versions of its history, and the records of its steps.
-ghost use Rattle.std.specs.Prelude.{◌≡◌, ◌<◌, ◌++◌, true, List, filter, length, IfOk, OnOk};
+ghost use Rattle.std.specs.Prelude.{◌≡◌, ◌<◌, ◌++◌, Bool, true, List, filter, length, IfOk, OnOk};
 ghost use Rattle.std.specs.declared.option.Option.TheVariants.{None, Some};
 ghost use Rattle.cp_model.specs.History.{Entry, State};
 ghost use Rattle.cp_model.specs.Laws.{is_upto};
+ghost use Rattle.cp_model.specs.Past.{tree_of};
 ghost use Rattle.cp_model.specs.Versions.{version};
 ghost use Rattle.cp_disk.specs.Counts.{UsesDisk};
 ghost use Rattle.cp_disk.specs.Views.{IfKnown, Rests};
 ghost use Rattle.cp_frame.specs.Items.{Item};
 ghost use Rattle.cp_query.specs.Asked.{IsStateOf};
 ghost use Rattle.cp_store.specs.Stores.{in_memory};
-ghost use Rattle.cp_db.specs.Archives.{ArchivesAs, AreVersionsOf, GoesOnFrom, HasNextRows, HasVersions};
+ghost use Rattle.cp_db.specs.Archives.{ArchivesAs, AreVersionsOf, GoesOnFrom, HasVersions, IsWithinTids};
 ghost use Rattle.cp_db.specs.Opening.{IsOpenDisk};
 
 use crate::committed::tids_lie_between;
@@ -102,7 +103,7 @@ pub fn archive_of<R: TreeRep, S: TreeRep, D: Disk>(
     disk: &mut D,
 ) -> Result<Kept, OpenFault>
     ensures archived { IfKnown (D.known disk.old) (λ v. ArchivesAs v.content result) }
-    ensures next { IfOk result HasNextRows }
+    ensures tids { IfOk result IsWithinTids }
     ensures rests { Rests (D.known disk.old) (D.known disk.new) }
     ensures cause { UsesDisk IsOpenDisk (D.known disk.old) (D.known disk.new) result }
 {
@@ -131,9 +132,11 @@ impl Kept {
     /// record up to the step.
     pub fn at_version<R: TreeRep>(self, alloc: Global, tid: u64) -> Result<Parts<R>, AllocError>
         requires there { tid < length self.archive }
-        requires next { HasNextRows self }
-        ensures { (h : List Entry) (items : List Item) (z : State) → HasVersions true h items self → version h tid ≡ Some z
+        requires tids { IsWithinTids self }
+        ensures state { (h : List Entry) (items : List Item) (z : State) → HasVersions true h items self → version h tid ≡ Some z
             → IfOk result (λ parts. IsStateOf in_memory R.TreeRep parts.store parts.tree z) }
+        ensures tree { (right : Bool) (h : List Entry) (items : List Item) (z : State) → HasVersions right h items self
+            → version h tid ≡ Some z → IfOk result (λ parts. R.contents parts.tree ≡ tree_of z.tree) }
     {
         let Kept {
             kind,

@@ -15,6 +15,7 @@ ghost use Rattle.std.specs.declared.option.Option.{Option as OptionValue};
 ghost use Rattle.std.specs.List.{flat_map, slice_get};
 ghost use Rattle.cp_db.specs.Committed.{HasTaken, HoldsBatch, KeepsState};
 ghost use Rattle.cp_db.specs.Opening.{IsOpenDisk, IsStartOf};
+ghost use Rattle.cp_db.specs.declared.limits.TheConstants.{TIDS_MAX};
 ghost use Rattle.cp_db.specs.Walk.{CanReach, FindsAs, GoesOnAs, HasCome, HasPassed, HasReached, PassesFrameAs, TellsPassedAs, frame_place};
 
 use crate::committed::{Committed, load_source};
@@ -316,7 +317,7 @@ pub fn work_over<R: TreeRep, S: TreeRep, W: Work, D: Disk>(
     disk: &mut D,
 ) -> Result<W, OpenFault>
     ensures found { IfKnown (D.known disk.old) (λ v. FindsAs W.done v.content result) }
-    ensures fits { IfOk result (λ w. (kind : KindValue) × (last : ℕ) × (tree : TreeValue) × W.fits w kind last tree) }
+    ensures fits { IfOk result (λ w. (kind : KindValue) × (last : ℕ) × (tree : TreeValue) × (last ≤ TIDS_MAX) × W.fits w kind last tree) }
     ensures rests { Rests (D.known disk.old) (D.known disk.new) }
     ensures cause { UsesDisk IsOpenDisk (D.known disk.old) (D.known disk.new) result }
 {

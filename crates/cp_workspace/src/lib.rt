@@ -12,4 +12,4 @@ mod workspace;
 pub use fault::WorkspaceFault;
 pub use limits::FILE_MAX;
 pub use source_file::fetch;
-pub use workspace::Workspace;
+pub use workspace::{Workspace, shown, unanswered};

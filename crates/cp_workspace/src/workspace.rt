@@ -21,6 +21,9 @@ mod refusal;
 mod reply;
 mod show;
 
+pub use answer::unanswered;
+pub use show::shown;
+
 use crate::fault::WorkspaceFault;
 use cp_db::Db;
 use cp_disk::Disk;

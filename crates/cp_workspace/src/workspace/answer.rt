@@ -28,8 +28,8 @@ fn no_place_of(query: Query) -> Why
     }
 }
 
-/// What is replied where a query got no answer.
-fn unanswered(fault: QueryFault, query: Query) -> Result<Reply, AllocError>
+/// What is replied where a query got no answer: that its place isn't there, unless memory ran out.
+pub fn unanswered(fault: QueryFault, query: Query) -> Result<Reply, AllocError>
     requires disk { ¬ (fault ≡ QueryFault.Disk) }
     ensures place { IfOk result (λ r. (fault ≡ QueryFault.NoPlace)
         × (r ≡ Reply.Refused Of.Statement (no_place_of query))) }

@@ -15,7 +15,7 @@ use cp_tree::TreeRep;
 use std::alloc::{AllocError, Global};
 
 /// What stands at and below a place of a tree. Costs the rows' bytes.
-fn shown<T: TreeRep>(alloc: Global, tree: &T, place: Loc) -> Result<Reply, AllocError>
+pub fn shown<T: TreeRep>(alloc: Global, tree: &T, place: Loc) -> Result<Reply, AllocError>
     ensures { IfOk result (λ r. r ≡ shown_reply place (T.contents tree.now)) }
 {
     if !tree.is_there(&place.path) {

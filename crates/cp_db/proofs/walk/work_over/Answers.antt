@@ -1,9 +1,10 @@
-use Rattle.std.proofs.Common.{◌≡◌, ◌∙◌, ℕ, drop, take, sym, subst, Ok, Err, None}
+use Rattle.std.proofs.Common.{◌≡◌, ◌≤◌, ◌∙◌, ℕ, drop, take, sym, subst, Ok, Err, None}
 use Rattle.std.proofs.lemmas.Result.{err_from_is_err_and}
 use Rattle.cp_disk.proofs.Composing.{still, rests_then}
 use Rattle.cp_journal.specs.Frames.{frames_of}
 use Rattle.cp_journal.specs.declared.limits.TheConstants.{HEADER_SIZE}
 use Rattle.cp_db.specs.Walk.{FindsAs, TellsPassedAs}
+use Rattle.cp_db.specs.declared.limits.TheConstants.{TIDS_MAX}
 use Rattle.cp_db.proofs.WalkingFrames.{finds, finds_broken, finds_not}
 use Rattle.cp_db.proofs.OpeningItems.{passed}
 use Rattle.cp_db.proofs.OpeningStores.{lists_after, stops_at_slot, version_kept, walked_first, whole_not}
@@ -89,7 +90,14 @@ returns-clause-found g c = λ known.
 pub returns-clause-fits : goal.returns-clause-fits
 returns-clause-fits g c =
     let w = c.in_ok-walk.walk in
-    (w.kind, w.last, g.R.TreeRep.contents w.tree, subst (λ found. g.W.Work.fits found w.kind w.last (g.R.TreeRep.contents w.tree)) (sym c.into_work.ensures) c.in_ok-walk.ensures.reached.1.fits)
+    let r = c.in_ok-walk.ensures.reached.1 in
+    (
+      w.kind,
+      w.last,
+      g.R.TreeRep.contents w.tree,
+      subst (λ (n : ℕ). n ≤ TIDS_MAX) (sym r.taken.keeps.upto) r.taken.keeps.few,
+      subst (λ found. g.W.Work.fits found w.kind w.last (g.R.TreeRep.contents w.tree)) (sym c.into_work.ensures) r.fits,
+    )
 
 pub returns-clause-rests : goal.returns-clause-rests
 returns-clause-rests g c = λ known.
