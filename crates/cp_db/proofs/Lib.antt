@@ -18,3 +18,4 @@ mod WritingWithin
 mod WritingCommits
 mod WritingTransactions
 mod WritingStarts
+pub mod FileVersions

@@ -32,7 +32,7 @@ use Rattle.cp_db.proofs.Taking.{taken-leads}
 -- ---- headers
 
 -- a header says version 1 or 2
-version_said : (bytes : List ℕ) → ((header_in bytes).version ≡ 1) ⊎ ((header_in bytes).version ≡ 2)
+pub version_said : (bytes : List ℕ) → ((header_in bytes).version ≡ 1) ⊎ ((header_in bytes).version ≡ 2)
 version_said bytes = elim (cases_Bool (get_or bytes VERSION_AT 0 == 1)) [
   | inl two ↦ inr (rw two refl)
   | inr one ↦ inl (rw one refl)

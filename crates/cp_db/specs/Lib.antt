@@ -6,3 +6,4 @@ pub mod Work
 pub mod Walk
 pub mod Log
 pub mod Archives
+pub mod FileVersions

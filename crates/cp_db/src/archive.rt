@@ -14,8 +14,8 @@ ghost use Rattle.cp_db.specs.Archives.{ArchivesAs, AreVersionsOf, GoesOnFrom, Ha
 ghost use Rattle.cp_db.specs.Opening.{IsOpenDisk};
 
 use crate::committed::tids_lie_between;
-use crate::parts::Parts;
 use crate::fault::OpenFault;
+use crate::parts::Parts;
 use crate::walk::work_over;
 use crate::work::{CommitAt, Passed, Work};
 use cp_archive::Archive;

@@ -8,6 +8,7 @@ ghost use Rattle.cp_frame.specs.Entries.{WrittenEntry, IsEntry};
 ghost use Rattle.cp_frame.specs.Sound.{IsSoundEntry};
 ghost use Rattle.cp_frame.specs.Stops.{open_slot};
 ghost use Rattle.cp_db.specs.Databases.{IsDatabase, IsReady, is_spent, version_in};
+ghost use Rattle.cp_db.specs.FileVersions.{IsAtVersion};
 ghost use Rattle.cp_db.specs.Opening.{OpensAs, IsOpenDisk, SpellsAs};
 
 use crate::database::Db;
@@ -82,6 +83,7 @@ impl<R: TreeRep, S: TreeRep> Db<R, S> {
         ensures ready { IfKnown (D.known disk.new) (λ v. IfOk result (λ d. IsReady d v)) }
         ensures usable { IfOk result (λ d. is_spent d ≡ false) }
         ensures version { IfOk result (λ d. (version_in d ≡ 1) ⊎ (version_in d ≡ 2)) }
+        ensures gate { IfOk result (λ d. IsAtVersion (version_in d) (D.known disk.new)) }
         ensures durable { OnOk result (IsSettled (D.known disk.new)) }
         ensures rests { Rests (D.known disk.old) (D.known disk.new) }
         ensures cause { UsesDisk IsOpenDisk (D.known disk.old) (D.known disk.new) result }

@@ -23,6 +23,7 @@ ghost use Rattle.cp_frame.specs.Items.{Tell};
 ghost use Rattle.cp_frame.specs.Stands.{StandsFor, StandsForEither};
 ghost use Rattle.cp_frame.specs.Sizes.{has_room, load_size, start_size};
 ghost use Rattle.cp_db.specs.Databases.{HoldsState, HoldsSame, Stands, IsDatabase, IsReady, IsKept, HasCome, end_in, is_spent, version_in};
+ghost use Rattle.cp_db.specs.FileVersions.{newest_version, HasVersionOrNewest, IsAtVersion, IsVacantOrNewest, KeepsVersion, LeavesFiles};
 ghost use Rattle.cp_db.specs.Writing.{commit_size, HasCommitted, HasLoaded, HasMade, HasStepped, IsBeforeOrCommitted, IsCommitDisk, IsInitDisk, IsLoadDisk, IsOldOrVacantOrStart, IsVacantOrStart, IsWriteDisk, in_the_way};
 
 use crate::committed::Committed;
@@ -113,6 +114,9 @@ impl<R: TreeRep, S: TreeRep> Db<R, S> {
         ensures exists { IfKnown (D.known disk.old) (λ v. IsErrOf result InitFault.Exists
             → (IsVacant v.content → ⊥) × ViewRests v (D.known disk.new).view) }
         ensures durable { OnOk result (IsSettled (D.known disk.new)) }
+        ensures file { IfKnown (D.known disk.old) (λ v. IsVacant v.content
+            → LeavesFiles IsVacantOrNewest v (D.known disk.new).view) }
+        ensures newest { OnOk result (IsAtVersion newest_version (D.known disk.new)) }
         ensures crash { Keeps (IsOldOrVacantOrStart (D.known disk.old).view kind (R.contents tree)) (D.known disk.old) (D.known disk.new) }
         ensures settles { IfKnown (D.known disk.old) (λ v.
             SettlesInto (IsVacantOrStart kind (R.contents tree)) v (D.known disk.new).view) }
@@ -187,6 +191,7 @@ impl<R: TreeRep, S: TreeRep> Db<R, S> {
         ensures ready { OnOk result (IfKnown (D.known disk.new) (λ v. IsReady self.new v)) }
         ensures durable { OnOk result (IsSettled (D.known disk.new)) }
         ensures version { version_in self.new ≡ version_in self.old }
+        ensures file { KeepsVersion (D.known disk.old) (D.known disk.new) }
         ensures unchanged { ¬ (IsOk result) → ¬ (IsErrOf result LoadFault.Disk)
             → ¬ (IsErrOf result LoadFault.Memory) → disk.new ≡ disk.old }
         ensures spent { IsTrue (is_spent self.new)
@@ -244,6 +249,7 @@ impl<R: TreeRep, S: TreeRep> Db<R, S> {
         ensures ready { OnOk result (IfKnown (D.known disk.new) (λ v. IsReady self.new v)) }
         ensures durable { OnOk result (IsSettled (D.known disk.new)) }
         ensures version { version_in self.new ≡ version_in self.old }
+        ensures file { KeepsVersion (D.known disk.old) (D.known disk.new) }
         ensures unchanged { ¬ (IsOk result) → ¬ (IsErrOf result CommitFault.Disk) → ¬ (IsErrOf result CommitFault.Memory)
             → disk.new ≡ disk.old }
         ensures spent { IsTrue (is_spent self.new)
@@ -280,12 +286,17 @@ impl<R: TreeRep, S: TreeRep> Db<R, S> {
         ensures crash { IfKnown (D.known disk.old) (λ v. (h : List HistoryEntry) → IsKept true self.old h v
             → ViewKeeps (StandsFor h) v (D.known disk.new).view) }
         ensures version { OnOk result (version_in self.new ≡ 2) }
+        ensures file { IfKnown (D.known disk.old) (λ v.
+            LeavesFiles (HasVersionOrNewest (version_in self.old)) v (D.known disk.new).view) }
+        ensures newest { OnOk result (IsAtVersion newest_version (D.known disk.new)) }
         ensures end { end_in self.new ≡ end_in self.old }
         ensures ready { OnOk result (IfKnown (D.known disk.new) (λ v. IsReady self.new v)) }
         ensures durable { OnOk result (IsSettled (D.known disk.new)) }
         ensures kinds { IsErrOf result WriteFault.TooLarge → ⊥ }
         ensures spent { IsTrue (is_spent self.new) ↔ (IsErrOf result WriteFault.Disk ⊎ IsErrOf result WriteFault.Memory) }
         ensures cause { UsesDisk IsWriteDisk (D.known disk.old) (D.known disk.new) result }
+        ensures memory { IsErrOf result WriteFault.Memory
+            → Rose (D.known disk.old).counts.wants (D.known disk.new).counts.wants }
     {
         match self.journal.upgrade(disk) {
             Ok(()) => {
@@ -312,6 +323,7 @@ impl<R: TreeRep, S: TreeRep> Db<R, S> {
         requires ready { IfKnown (D.known disk.old) (λ v. IsReady self.old v) }
         requires room { has_room (end_in self.old) (length body.now) ≡ true }
         ensures same { self.new ≡ record self.old { journal = self.new.journal } }
+        ensures file { KeepsVersion (D.known disk.old) (D.known disk.new) }
         ensures whole { self.new.journal.broken ≡ None }
         ensures idle { self.new.journal.begun ≡ None }
         ensures usable { OnOk result (self.new.journal.spent ≡ false) }
@@ -357,6 +369,7 @@ impl<R: TreeRep, S: TreeRep> Db<R, S> {
         ensures ready { OnOk result (IfKnown (D.known disk.new) (λ v. IsReady self.new v)) }
         ensures durable { OnOk result (IsSettled (D.known disk.new)) }
         ensures version { version_in self.new ≡ version_in self.old }
+        ensures file { KeepsVersion (D.known disk.old) (D.known disk.new) }
         ensures spent { is_spent self.new ≡ is_spent self.old }
         ensures unchanged { ¬ (IsOk result) → ¬ (IsErrOf result LoadFault.Disk)
             → ¬ (IsErrOf result LoadFault.Memory) → disk.new ≡ disk.old }
@@ -407,6 +420,7 @@ impl<R: TreeRep, S: TreeRep> Db<R, S> {
         ensures ready { OnOk result (IfKnown (D.known disk.new) (λ v. IsReady self.new v)) }
         ensures durable { OnOk result (IsSettled (D.known disk.new)) }
         ensures version { version_in self.new ≡ version_in self.old }
+        ensures file { KeepsVersion (D.known disk.old) (D.known disk.new) }
         ensures unchanged { ¬ (IsOk result) → ¬ (IsErrOf result CommitFault.Disk) → ¬ (IsErrOf result CommitFault.Memory)
             → disk.new ≡ disk.old }
         ensures spent { is_spent self.new ≡ is_spent self.old }
@@ -448,6 +462,7 @@ impl<R: TreeRep, S: TreeRep> Db<R, S> {
         ensures ready { OnOk result (IfKnown (D.known disk.new) (λ v. IsReady self.new v)) }
         ensures durable { OnOk result (IsSettled (D.known disk.new)) }
         ensures version { version_in self.new ≡ version_in self.old }
+        ensures file { KeepsVersion (D.known disk.old) (D.known disk.new) }
         ensures spent { is_spent self.new ≡ is_spent self.old }
         ensures unchanged { IsErrOf result WriteFault.TooLarge → disk.new ≡ disk.old }
         ensures cause { UsesDisk IsWriteDisk (D.known disk.old) (D.known disk.new) result }

@@ -90,8 +90,7 @@ returns-clause-found g c = λ known.
 pub returns-clause-fits : goal.returns-clause-fits
 returns-clause-fits g c =
     let w = c.in_ok-walk.walk in
-    let r = c.in_ok-walk.ensures.reached.1 in
-    (
+    let r = c.in_ok-walk.ensures.reached.1 in (
       w.kind,
       w.last,
       g.R.TreeRep.contents w.tree,

@@ -5,6 +5,9 @@ use Rattle.cp_model.specs.History.{start}
 use Rattle.cp_journal.specs.Frames.{entry}
 use Rattle.cp_frame.specs.Items.{Tell}
 use Rattle.cp_db.specs.declared.fault.InitFault.TheVariants as init
+use Rattle.cp_journal.specs.NewStores.{IsVacant}
+use Rattle.cp_db.specs.FileVersions.{IsVacantOrNewest}
+use Rattle.cp_db.proofs.FileVersions.{leaves-after, vacant-made, version-made}
 use Rattle.cp_db.proofs.WritingStarts.{kept-started, crash-started, settles-started, memory-started, stands-started}
 use Rattle.cp_db.proofs.database.Db.init.Goals as goal
 
@@ -56,3 +59,24 @@ returns-clause-settles g c = λ known.
     let tree = g.R.TreeRep.contents c.args.tree in
     let told = subst (λ (b : List ℕ). Tell true 2 (entry b ∷ []) (start c.args.kind tree ∷ [])) (sym c.deref.ensures.value) c.in_ok-body.ensures.told in
     settles-started c.args.kind tree c.deref.result.now told _ _ _ (c.vacant.ensures.rests known) (c.create.ensures.settles (still c.vacant.ensures.cause.same known))
+
+pub returns-in_err-journal-clause-file : goal.returns-in_err-journal-clause-file
+returns-in_err-journal-clause-file g c = λ known vacant.
+    let rests = c.vacant.ensures.rests known in
+    let looked = still c.vacant.ensures.cause.same known in
+    let made = still c.create.ensures.cause.same looked in
+    leaves-after IsVacantOrNewest _ _ _ rests
+    (vacant-made (entry c.deref.result.now) _ _ (subst IsVacant (sym rests.content) vacant) (c.create.ensures.crash looked) (c.create.ensures.settles looked)
+    (λ t x. g.met.D.Disk.counts_now c.vacant.new.disk t x looked) (λ t x. g.met.D.Disk.counts_now c.create.new.disk t x made) (g.met.D.Disk.leaves_content c.create.new.disk made))
+
+pub returns-clause-file : goal.returns-clause-file
+returns-clause-file g c = λ known vacant.
+    let rests = c.vacant.ensures.rests known in
+    let looked = still c.vacant.ensures.cause.same known in
+    let made = still c.create.ensures.cause.same looked in
+    leaves-after IsVacantOrNewest _ _ _ rests
+    (vacant-made (entry c.deref.result.now) _ _ (subst IsVacant (sym rests.content) vacant) (c.create.ensures.crash looked) (c.create.ensures.settles looked)
+    (λ t x. g.met.D.Disk.counts_now c.vacant.new.disk t x looked) (λ t x. g.met.D.Disk.counts_now c.create.new.disk t x made) (g.met.D.Disk.leaves_content c.create.new.disk made))
+
+pub returns-clause-newest : goal.returns-clause-newest
+returns-clause-newest g c = λ now. version-made (entry c.deref.result.now) _ (c.in_ok-journal.ensures.durable now)

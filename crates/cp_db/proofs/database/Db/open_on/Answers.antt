@@ -1,4 +1,4 @@
-use Rattle.std.proofs.Common.{◌≡◌, ◌∙◌, ℕ, drop, take, sym, subst, Ok, Err, None}
+use Rattle.std.proofs.Common.{◌≡◌, ◌∙◌, ℕ, drop, take, ap, sym, subst, Ok, Err, None}
 use Rattle.std.proofs.lemmas.Result.{err_from_is_err_and}
 use Rattle.cp_disk.proofs.Composing.{still, rests_then}
 use Rattle.cp_journal.specs.Frames.{frames_of}
@@ -7,6 +7,7 @@ use Rattle.cp_db.specs.Opening.{OpensAs}
 use Rattle.cp_db.specs.Walk.{TellsPassedAs, frame_place}
 use Rattle.cp_db.proofs.OpeningItems.{passed}
 use Rattle.cp_db.proofs.OpeningStores.{described_last, has_opened, is_ready, lists_after, opens_not, stops_at_slot, version_kept, walked_first}
+use Rattle.cp_db.proofs.FileVersions.{version-opened}
 use Rattle.cp_db.proofs.Walking.{RowsDone, RowsFit}
 use Rattle.cp_db.proofs.WalkingFrames.{held_all, opens_broken, opens_stopped}
 use Rattle.cp_db.proofs.database.Db.open_on.Goals as goal
@@ -113,3 +114,13 @@ pub returns-clause-stands : goal.returns-clause-stands
 returns-clause-stands g c =
     let t = c.in_ok-walk.ensures.reached in
     (t.1.taken.state, record { committed = c.into_committed.ensures.keeps _ t.0 t.1; whole = sym c.broken.ensures ∙ c.in_default-broken.is; usable = c.in_ok-journal.ensures.usable; idle = c.in_ok-journal.ensures.idle })
+
+pub returns-clause-gate : goal.returns-clause-gate
+returns-clause-gate g c = λ now.
+    let known = still (sym c.in_ok-header.ensures.cause.same) (still (sym c.in_ok-journal.ensures.cause.same) (still (sym c.in_ok-walk.ensures.cause.same) now)) in
+    let headed = still c.in_ok-header.ensures.cause.same known in
+    let listed = still c.in_ok-journal.ensures.cause.same headed in
+    let u = (g.D.Disk.known c.args.disk.now).view in
+    let header = c.in_ok-header.ensures.header known in
+    let same = version_kept (take HEADER_SIZE u.content) c.in_ok-header.header _ header.1 c.version_of-version.ensures.said in
+    version-opened u _ _ _ c.version_of-version.result (sym (same ∙ ap (λ h. h.version) header.1)) (c.in_ok-header.ensures.rests known) (c.in_ok-header.ensures.durable headed) (c.in_ok-journal.ensures.rests headed) (c.in_ok-walk.ensures.rests listed)
