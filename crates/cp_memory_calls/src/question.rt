@@ -49,7 +49,7 @@ fn change(alloc: Global, store: &mut MemoryStore, words: &str) -> Result<String,
 }
 
 /// Adds a part of an answer, after a semicolon where it isn't the first.
-fn add_part(text: &mut String, part: &str) -> Result<(), AllocError> {
+pub(crate) fn add_part(text: &mut String, part: &str) -> Result<(), AllocError> {
     if !text.as_str().is_empty() {
         text.push_str("; ")?;
     }
@@ -57,7 +57,7 @@ fn add_part(text: &mut String, part: &str) -> Result<(), AllocError> {
 }
 
 /// The answer, or `none` where it is empty.
-fn or_none(alloc: Global, text: String) -> Result<String, AllocError> {
+pub(crate) fn or_none(alloc: Global, text: String) -> Result<String, AllocError> {
     if text.as_str().is_empty() {
         return "none".to_string(alloc);
     }

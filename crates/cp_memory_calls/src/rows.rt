@@ -1,7 +1,7 @@
 //! Calls of rows: what the stores tell of them, and what is made of the rows of a step.
 
 use crate::fault::Fault;
-use crate::{counted, length, modified, packed, row, step as steps, store};
+use crate::{counted, length, modified, packed, pages, row, step as steps, store, uses};
 use cp_cases::{Step, number_of};
 use std::alloc::{AllocError, Global};
 
@@ -14,12 +14,14 @@ fn add_answer(alloc: Global, step: &Step, lines: &mut String) -> Result<bool, Fa
         "store" => store::add_answers(alloc, words, text, lines),
         "counted" => counted::add_counted(alloc, words, text, lines),
         "modified" => modified::add_modified(alloc, words, text, lines),
+        "uses" => uses::add_uses(alloc, words, text, lines),
+        "turns" => uses::add_turns(alloc, words, text, lines),
         "reduce" => steps::add_reduced(alloc, words, text, lines),
         "expand" => steps::add_expanded(alloc, text, lines),
         "effects" => steps::add_effects(alloc, text, lines),
         "packed" => packed::add_packed(alloc, number_of(words) as usize, text, lines),
         "length" => length::add_length(alloc, text, lines),
-        _ => return Ok(false),
+        _ => return pages::add_told(alloc, step, text, lines),
     };
     added?;
     Ok(true)
