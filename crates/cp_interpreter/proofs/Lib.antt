@@ -2,6 +2,7 @@ mod Blame
 mod Lines
 mod Plays
 pub mod Runs
+pub mod Replied
 pub mod Whole
 pub mod Opened
 pub mod Made

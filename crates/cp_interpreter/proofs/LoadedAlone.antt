@@ -1,9 +1,8 @@
 -- Workspaces that commit nothing, and sources that a call loads by itself.
 use Rattle.std.proofs.Common.{◌≡◌, ℕ, List, [], Bool, true, Ok, Err, inl, inr, refl, sym, ap, subst, ◌∙◌, arith}
 use Rattle.std.specs.Prelude.{IsTrue, Result, ◌⊎◌, ◌≤◌}
-use Rattle.std.specs.declared.option.Option.TheVariants.{None, Some}
+use Rattle.std.specs.declared.option.Option.TheVariants.{Some}
 use Rattle.cp_outside.specs.Causes.{Accounts, Rose}
-use Rattle.cp_outside.specs.FileReads.{FileTable}
 use Rattle.cp_model.specs.Tree.{Tree}
 use Rattle.cp_model.specs.History.{Entry}
 use Rattle.cp_disk.specs.Counts.{UsesDisk}
@@ -21,12 +20,12 @@ use Rattle.cp_lang.specs.declared.syntax_tree.Load.{Load}
 use Rattle.cp_lang.specs.declared.syntax_tree.Stmt.TheVariants as stmt
 use Rattle.cp_reply.specs.Lines.{lines}
 use Rattle.cp_reply.specs.declared.reply.Reply.{Reply}
-use Rattle.cp_reply.specs.Session.{Session, says, turn_of, session_after_statements}
+use Rattle.cp_reply.specs.Session.{Supply, no_supply, followed_by, Session, says, turn_of, session_after_statements}
 use Rattle.cp_workspace.specs.Texts.{Terms, setting}
 use Rattle.cp_workspace.specs.Loads.{statement_reads}
-use Rattle.cp_workspace.specs.Files.{KnownFiles, HasRead, IsTable, UsesFiles}
+use Rattle.cp_workspace.specs.Files.{KnownFiles, HasRead, UsesFiles}
 use Rattle.cp_workspace.specs.Spending.{Spends}
-use Rattle.cp_workspace.specs.Workspaces.{Stands, HoldsFile, TurnsAs, db_in, end_now, opened_session}
+use Rattle.cp_workspace.specs.Workspaces.{Stands, HoldsFile, HasTurned, db_in, end_now, opened_session}
 use Rattle.cp_workspace.specs.declared.fault.WorkspaceFault.{WorkspaceFault}
 use Rattle.cp_workspace.specs.declared.fault.WorkspaceFault.TheVariants as fails
 use Rattle.cp_workspace.specs.declared.workspace.Workspace.{Workspace}
@@ -40,6 +39,7 @@ use Rattle.cp_interpreter.specs.declared.end.End.{End}
 use Rattle.cp_interpreter.specs.declared.end.End.TheVariants as how
 use Rattle.cp_interpreter.specs.declared.stop.Stop.{Stop}
 use Rattle.cp_interpreter.specs.declared.stop.Stop.TheVariants.{Output, Full, File, Disk, NoStore, Clock, Memory}
+use Rattle.cp_workspace.proofs.Supplied.{supplied-none}
 use Rattle.cp_interpreter.proofs.Opened.{kept-end, stop-early}
 use Rattle.cp_interpreter.proofs.Said.{statement-said, said-short, said-fitting, said-opened}
 
@@ -48,15 +48,15 @@ use Rattle.cp_interpreter.proofs.Said.{statement-said, said-short, said-fitting,
 -- a workspace on the database that was opened
 pub alone-opened : {R S : Type 0} (view : R → Tree) (source_view : S → Tree) (v w : KnownDisk) (db : Db R S) (d : Workspace R S) (curator : List ℕ) → curator ≡ [] → db_in d ≡ db
     → HasOpened view source_view db v.view.content w.view → ViewRests v.view w.view → w.view.images w.view.content
-    → ((h : List Entry) (moments : List ℕ) → database.Stands view source_view true db h → Stands view source_view (record { ends = end_now h db; curator = curator }) d (opened_session h moments))
+    → ((h : List Entry) (supply : Supply) → database.Stands view source_view true db h → Stands view source_view (record { ends = end_now h db; curator = curator }) d (opened_session h supply))
     → OpenedAlone view source_view v w (Ok d)
 alone-opened view source_view v w db d curator none same o r i f = (
   o.opens,
-  λ h moments store. (
+  λ h supply store. (
       let x = o.stands true h store.told in
       let ends = kept-end db h w.view x.1 i ∙ ap frames_end r.content in (
-        subst (λ n. Stands view source_view (record { ends = record { entries = h; at = n }; curator = [] }) d (opened_session h moments)) ends
-            (subst (λ u. Stands view source_view (record { ends = end_now h db; curator = u }) d (opened_session h moments)) none (f h moments x.0)),
+        subst (λ n. Stands view source_view (record { ends = record { entries = h; at = n }; curator = [] }) d (opened_session h supply)) ends
+            (subst (λ u. Stands view source_view (record { ends = end_now h db; curator = u }) d (opened_session h supply)) none (f h supply x.0)),
         subst (λ y. IsKept true y h w.view) (sym same) x.1,
       )
       ),
@@ -108,103 +108,110 @@ opening-files f stop kind = record {
   account = record { later = omega arith; blamed = opening-is (λ s. s ≡ File → Rose f.faults f.faults) stop kind (λ h. absurd (cc)) (λ at h. absurd (cc)) (λ h. absurd (cc)); steady = tt };
 }
 
-module _ {R S : Type 0} (view : R → Tree) (source_view : S → Tree) (l : Load) (f g : KnownFiles) (v m w : KnownDisk) where
+module _ {R S : Type 0} (view : R → Tree) (source_view : S → Tree) (l : Load) (k : KnownClock) (f g : KnownFiles) (v m w : KnownDisk) where
   -- no store was opened
-  pub loaded-not : (stop : Stop) → IsOpeningStop stop → (IsTrue v.known → ViewRests v.view m.view) → (IsTrue v.known → OpenedAlone {R = R} {S = S} view source_view v m (Err stop)) → LoadedAs l f f v m (Err stop)
+  pub loaded-not : (stop : Stop) → IsOpeningStop stop → (IsTrue v.known → ViewRests v.view m.view) → (IsTrue v.known → OpenedAlone {R = R} {S = S} view source_view v m (Err stop)) → LoadedAs l k f f v m (Err stop)
   loaded-not stop kind rests opened = record {
+    supply = no_supply;
+    supplied = supplied-none f k;
     no_store = λ known at h. (not_opened known, not-store Reply view source_view v m stop at h (opened known));
     unopened = λ known never. not_opened known;
-    did = λ known files t h store. inl (not_opened known);
-    later = λ known files t h store. (rests known).later;
-    crash = λ known files t h store. λ s c le x. inl ((rests known).since s c le x);
+    did = λ known h store rest. inl (not_opened known);
+    later = λ known h store. (rests known).later;
+    crash = λ known h store rest. λ s c le x. inl ((rests known).since s c le x);
     kinds = opening-is (λ s. (s ≡ Output → ⊥) × (s ≡ Full → ⊥) × (s ≡ Clock → ⊥)) stop kind
         (λ h. absurd (cc), λ h. absurd (cc), λ h. absurd (cc)) (λ at. (λ h. absurd (cc), λ h. absurd (cc), λ h. absurd (cc))) (λ h. absurd (cc), λ h. absurd (cc), λ h. absurd (cc));
   }
     where
-      not_opened : IsTrue v.known → NotOpened f f v m (Err stop)
-      not_opened known = record { stop = stop; is = refl; opening = kind; files = refl; rests = rests known }
+      not_opened : IsTrue v.known → NotOpened no_supply f f v m (Err stop)
+      not_opened known = record { stop = stop; is = refl; opening = kind; none_told = refl; files = refl; rests = rests known }
 
   module _ (old new : Workspace R S) (same : IsTrue v.known → IsTrue m.known) (rests : IsTrue v.known → ViewRests v.view m.view) (opened : IsTrue v.known → OpenedAlone view source_view v m (Ok old)) where
     -- the load made its turn
     abbrev MadeTurn : Result Reply WorkspaceFault → Type 0
-    MadeTurn r = (t : FileTable) → IsTable t f g → (terms : Terms) (s : Session) → Stands view source_view terms old s
-        → TurnsAs view source_view (λ (y : Reply). Some y) terms (turn_of (setting t terms) s (says (stmt.Load l))) s s.moments old new m w r
+    MadeTurn r = HasTurned view source_view (λ (y : Reply). Some y) (λ terms s. turn_of (setting terms) s (says (stmt.Load l))) f k k old new m w r
 
     -- and read its file, or none
-    -- a clock beside a load, which asks none
-    abbrev no_clock : KnownClock
-    no_clock = record { left = None; asked = 0; faults = 0 }
-
     abbrev HasSpentAs : Result Reply WorkspaceFault → Type 0
-    HasSpentAs r = (terms : Terms) (s : Session) → Stands view source_view terms old s → (k : KnownClock) → Spends (statement_reads s (stmt.Load l)) 0 f g k k r
+    HasSpentAs r = (terms : Terms) (s : Session) → Stands view source_view terms old s → Spends (statement_reads s (stmt.Load l)) 0 f g k k r
 
-    module _ (known : IsTrue v.known) (files : FileTable) (t : IsTable files f g) (h : List Entry) (store : IsStore h v.view.content) where
+    module _ (known : IsTrue v.known) (h : List Entry) (store : IsStore h v.view.content) where
       abbrev terms : Terms
       terms = store_terms h v.view.content []
 
-      abbrev session : Session
-      session = opened_session h []
+      -- the session, to which this is told
+      abbrev session : Supply → Session
+      session x = opened_session h x
 
-      abbrev report : Report
-      report = report_on files h v.view.content (stmt.Load l)
+      abbrev report : Supply → Report
+      report x = report_on x h v.view.content (stmt.Load l)
 
-      here : Stands view source_view terms old session × HoldsFile old h m
-      here = (opened known).1 h [] store
+      here : (x : Supply) → Stands view source_view terms old (session x) × HoldsFile old h m
+      here x = (opened known).1 h x store
 
-      left : (r : Result Reply WorkspaceFault) → MadeTurn r → ViewKeeps (StandsForEither h report.history) m.view w.view
+      left : (r : Result Reply WorkspaceFault) (turned : MadeTurn r) (rest : Supply) → ViewKeeps (StandsForEither h (report (followed_by turned.supply rest)).history) m.view w.view
       unfolding session_after_statements
-      left r turned = (turned files t terms session here.0).leaves (same known) here.1
+      left r turned rest = let x = followed_by turned.supply rest in (turned.turns terms (session x) rest (here x).0 refl).leaves (same known) (here x).1
 
       later : (r : Result Reply WorkspaceFault) → MadeTurn r → v.view.moment ≤ w.view.moment
-      later r turned = omega (arith, (rests known).later, (left r turned).later)
+      later r turned = omega (arith, (rests known).later, (left r turned no_supply).later)
 
-      crash : (r : Result Reply WorkspaceFault) → MadeTurn r → ViewLeaves (StandsForEither h report.history) v.view w.view
-      crash r turned n c le x = elim ((left r turned).since n c (omega (arith, le, (rests known).later)) x) [
+      crash : (r : Result Reply WorkspaceFault) (turned : MadeTurn r) (rest : Supply) → ViewLeaves (StandsForEither h (report (followed_by turned.supply rest)).history) v.view w.view
+      crash r turned rest n c le x = elim ((left r turned rest).since n c (omega (arith, le, (rests known).later)) x) [
         | inl before ↦ inl ((rests known).since n c le before)
         | inr after ↦ inr after
       ]
 
-      said : (y : Reply) → MadeTurn (Ok y) → HasSpentAs (Ok y) → LoadGives report h f g w (Ok y)
+      said : (y : Reply) (turned : MadeTurn (Ok y)) → HasSpentAs (Ok y) → (rest : Supply) → LoadGives (report (followed_by turned.supply rest)) h f g w (Ok y)
       unfolding session_after_statements
-      said y turned reads =
-          let x = turned files t terms session here.0 in
-          let r = statement-said files terms session (stmt.Load l) y x.turned.0 in
-          (r.0, r.1, (reads terms session here.0 no_clock).read, λ told c image. inl (kept-images (db_in new) report.history w.view (x.kept (same known) here.1) c image))
+      said y turned reads rest =
+          let u = followed_by turned.supply rest in
+          let x = turned.turns terms (session u) rest (here u).0 refl in
+          let r = statement-said terms (session u) (stmt.Load l) y x.turned.0 in
+          (r.0, r.1, (reads terms (session u) (here u).0).read, λ told c image. inl (kept-images (db_in new) (report u).history w.view (x.kept (same known) (here u).1) c image))
 
       stopped : (fault : WorkspaceFault) (stop : Stop) → (fault ≡ fails.File → stop ≡ File) × (fault ≡ fails.Disk → stop ≡ Disk) × (fault ≡ fails.Clock → stop ≡ Clock) × (fault ≡ fails.Memory → stop ≡ Memory)
-          → MadeTurn (Err fault) → HasSpentAs (Err fault) → (fault ≡ fails.File → (c : List ℕ) → w.view.images c → m.view.images c) → (fault ≡ fails.Clock → ⊥) → LoadGives report h f g w (Err stop)
-      stopped fails.File stop becomes turned reads still clock =
-          let x = reads terms session here.0 no_clock in
-          subst (λ z. LoadGives report h f g w (Err z)) (sym (becomes.0 refl)) (x.0, subst (HasRead f g) x.0 x.1.read, λ told c image. inl (kept-images (db_in old) h m.view here.1 c (still refl c image)))
-      stopped fails.Disk stop becomes turned reads still clock =
-          let x = reads terms session here.0 no_clock in
-          let one : report.reads ≡ 1 = omega (arith, x.0) in
-          subst (λ z. LoadGives report h f g w (Err z)) (sym (becomes.1 refl)) (one, subst (HasRead f g) one x.1.read, λ told c image. (left (Err fails.Disk) turned).now c image)
-      stopped fails.Clock stop becomes turned reads still clock = absurd (clock refl)
-      stopped fails.Memory stop becomes turned reads still clock =
-          subst (λ z. LoadGives report h f g w (Err z)) (sym (becomes.3 refl))
-          (elim (reads terms session here.0 no_clock) [ inl none ↦ inl none.read | inr all ↦ inr all.read ], λ told c image. (left (Err fails.Memory) turned).now c image)
+          → (turned : MadeTurn (Err fault)) → HasSpentAs (Err fault) → (fault ≡ fails.File → (c : List ℕ) → w.view.images c → m.view.images c) → (fault ≡ fails.Clock → ⊥) → (rest : Supply)
+          → LoadGives (report (followed_by turned.supply rest)) h f g w (Err stop)
+      stopped fails.File stop becomes turned reads still clock rest =
+          let u = followed_by turned.supply rest in
+          let x = reads terms (session u) (here u).0 in
+          subst (λ z. LoadGives (report u) h f g w (Err z)) (sym (becomes.0 refl)) (x.0, subst (HasRead f g) x.0 x.1.read, λ told c image. inl (kept-images (db_in old) h m.view (here u).1 c (still refl c image)))
+      stopped fails.Disk stop becomes turned reads still clock rest =
+          let u = followed_by turned.supply rest in
+          let x = reads terms (session u) (here u).0 in
+          let one : (report u).reads ≡ 1 = omega (arith, x.0) in
+          subst (λ z. LoadGives (report u) h f g w (Err z)) (sym (becomes.1 refl)) (one, subst (HasRead f g) one x.1.read, λ told c image. (left (Err fails.Disk) turned rest).now c image)
+      stopped fails.Clock stop becomes turned reads still clock rest = absurd (clock refl)
+      stopped fails.Memory stop becomes turned reads still clock rest =
+          let u = followed_by turned.supply rest in
+          subst (λ z. LoadGives (report u) h f g w (Err z)) (sym (becomes.3 refl))
+          (elim (reads terms (session u) (here u).0) [ inl none ↦ inl none.read | inr all ↦ inr all.read ], λ told c image. (left (Err fails.Memory) turned rest).now c image)
 
     -- the load was replied to
-    pub loaded-said : (y : Reply) → MadeTurn (Ok y) → HasSpentAs (Ok y) → LoadedAs l f g v w (Ok y)
+    pub loaded-said : (y : Reply) → MadeTurn (Ok y) → HasSpentAs (Ok y) → LoadedAs l k f g v w (Ok y)
     loaded-said y turned reads = record {
+      supply = turned.supply;
+      supplied = turned.supplied;
       no_store = λ known at h. absurd (cc);
       unopened = λ known never. absurd (never (opened known).0);
-      did = λ known files t h store. inr (said known files t h store y turned reads);
-      later = λ known files t h store. later known files t h store (Ok y) turned;
-      crash = λ known files t h store. crash known files t h store (Ok y) turned;
+      did = λ known h store rest. inr (said known h store y turned reads rest);
+      later = λ known h store. later known h store (Ok y) turned;
+      crash = λ known h store rest. crash known h store (Ok y) turned rest;
       kinds = tt;
     }
 
     -- it stopped the call
     pub loaded-stopped : (fault : WorkspaceFault) (stop : Stop) → (fault ≡ fails.File → stop ≡ File) × (fault ≡ fails.Disk → stop ≡ Disk) × (fault ≡ fails.Clock → stop ≡ Clock) × (fault ≡ fails.Memory → stop ≡ Memory)
-        → MadeTurn (Err fault) → HasSpentAs (Err fault) → (fault ≡ fails.File → (c : List ℕ) → w.view.images c → m.view.images c) → (fault ≡ fails.Clock → ⊥) → LoadedAs l f g v w (Err stop)
+        → MadeTurn (Err fault) → HasSpentAs (Err fault) → (fault ≡ fails.File → (c : List ℕ) → w.view.images c → m.view.images c) → (fault ≡ fails.Clock → ⊥) → LoadedAs l k f g v w (Err stop)
     loaded-stopped fault stop becomes turned reads still clock = record {
+      supply = turned.supply;
+      supplied = turned.supplied;
       no_store = λ known at h. absurd (workspace-is (λ s. stopped-by Reply s ≡ Err (NoStore at) → ⊥) fault stop becomes clock (λ e. absurd (cc)) (λ e. absurd (cc)) (λ e. absurd (cc)) h);
       unopened = λ known never. absurd (never (opened known).0);
-      did = λ known files t h store. inr (stopped known files t h store fault stop becomes turned reads still clock);
-      later = λ known files t h store. later known files t h store (Err fault) turned;
-      crash = λ known files t h store. crash known files t h store (Err fault) turned;
+      did = λ known h store rest. inr (stopped known h store fault stop becomes turned reads still clock rest);
+      later = λ known h store. later known h store (Err fault) turned;
+      crash = λ known h store rest. crash known h store (Err fault) turned rest;
       kinds = workspace-is (λ s. (s ≡ Output → ⊥) × (s ≡ Full → ⊥) × (s ≡ Clock → ⊥)) fault stop becomes clock
           (λ h. absurd (cc), λ h. absurd (cc), λ h. absurd (cc)) (λ h. absurd (cc), λ h. absurd (cc), λ h. absurd (cc)) (λ h. absurd (cc), λ h. absurd (cc), λ h. absurd (cc));
     }
@@ -331,11 +338,11 @@ module _ (i : KnownInput) (f g : KnownFiles) (k : KnownClock) (o p : KnownOutput
     stop-statement r h Memory x t = inr (t, x.0, x.1)
 
     -- the store wasn't opened
-    not-begun : (stop : Stop) → NotOpened f g v w (Err stop) → TellsStop o p stop → HasNotBegun [] [] b a (end_of_stop stop) × ViewRests v.view w.view
-    not-begun stop n t =
+    not-begun : (supply : Supply) (stop : Stop) → NotOpened supply f g v w (Err stop) → TellsStop o p stop → HasNotBegun [] supply b a (end_of_stop stop) × ViewRests v.view w.view
+    not-begun supply stop n t =
         let same : n.stop ≡ stop = (let x = n.is in cc) in
         let early = stop-early o p stop (subst IsOpeningStop same n.opening) t in
-        (record { early = early.0; none_taken = refl; none_told = refl; files = n.files; clock = refl; wrote = early.1 }, n.rests)
+        (record { early = early.0; none_taken = refl; none_told = n.none_told; files = n.files; clock = refl; wrote = early.1 }, n.rests)
 
     -- why it ended so
     none-stop : (stop : Stop) (at : ℕ) → end_of_stop stop ≡ how.NoStore at → stopped-by Reply stop ≡ Err (NoStore at)
@@ -348,42 +355,46 @@ module _ (i : KnownInput) (f g : KnownFiles) (k : KnownClock) (o p : KnownOutput
     none-stop Memory at h = absurd (cc)
 
     -- a load was replied to
-    pub load-said : (y : Reply) (e : End) → LoadedAs l f g v w (Ok y) → SaidLine (lines y) (is_refusal y) o p e → Loaded l b a v w e
+    pub load-said : (y : Reply) (e : End) → LoadedAs l k f g v w (Ok y) → SaidLine (lines y) (is_refusal y) o p e → Loaded l b a v w e
     load-said y e x s = record {
       input = refl;
       clock = refl;
+      supply = x.supply;
+      supplied = x.supplied;
       fitting = said-fitting (lines y) (is_refusal y) o p e s;
       short = said-short (lines y) (is_refusal y) o p e s;
       no_store = λ known at h. absurd (said-opened (lines y) (is_refusal y) o p e at s h);
       unopened = λ known never. absurd (opened-after-all (x.unopened known never));
-      did = λ known files t h store. record {
-        did = elim (x.did known files t h store) [
+      did = λ known h store rest. record {
+        did = elim (x.did known h store rest) [
           | inl n ↦ absurd (opened-after-all n)
-          | inr q ↦ inr (said-statement (report_on files h v.view.content (stmt.Load l)) h (lines y) (is_refusal y) e q.2 q.3 (sym q.0) (sym q.1) s)
+          | inr q ↦ inr (said-statement (report_on (followed_by x.supply rest) h v.view.content (stmt.Load l)) h (lines y) (is_refusal y) e q.2 q.3 (sym q.0) (sym q.1) s)
         ];
-        later = x.later known files t h store;
-        crash = x.crash known files t h store;
+        later = x.later known h store;
+        crash = x.crash known h store rest;
       };
     }
       where
-        opened-after-all : NotOpened f g v w (Ok y) → ⊥
+        opened-after-all : NotOpened x.supply f g v w (Ok y) → ⊥
         opened-after-all n = let z = n.is in absurd (cc)
 
     -- it was stopped
-    pub load-stopped : (stop : Stop) → LoadedAs l f g v w (Err stop) → TellsStop o p stop → Loaded l b a v w (end_of_stop stop)
+    pub load-stopped : (stop : Stop) → LoadedAs l k f g v w (Err stop) → TellsStop o p stop → Loaded l b a v w (end_of_stop stop)
     load-stopped stop x t = record {
       input = refl;
       clock = refl;
+      supply = x.supply;
+      supplied = x.supplied;
       fitting = stop-fitting stop;
       short = stop-short stop;
-      no_store = λ known at h. (let q = x.no_store known at (none-stop stop at h) in let n = not-begun stop q.0 t in (n.0, n.1, q.1));
-      unopened = λ known never. not-begun stop (x.unopened known never) t;
-      did = λ known files tab h store. record {
-        did = elim (x.did known files tab h store) [
-          | inl n ↦ inl (not-begun stop n t)
-          | inr q ↦ inr (stop-statement (report_on files h v.view.content (stmt.Load l)) h stop q t)
+      no_store = λ known at h. (let q = x.no_store known at (none-stop stop at h) in let n = not-begun x.supply stop q.0 t in (n.0, n.1, q.1));
+      unopened = λ known never. not-begun x.supply stop (x.unopened known never) t;
+      did = λ known h store rest. record {
+        did = elim (x.did known h store rest) [
+          | inl n ↦ inl (not-begun x.supply stop n t)
+          | inr q ↦ inr (stop-statement (report_on (followed_by x.supply rest) h v.view.content (stmt.Load l)) h stop q t)
         ];
-        later = x.later known files tab h store;
-        crash = x.crash known files tab h store;
+        later = x.later known h store;
+        crash = x.crash known h store rest;
       };
     }

@@ -17,9 +17,10 @@ use Rattle.cp_reply.specs.declared.reply.Why.TheVariants as why
 use Rattle.cp_reply.specs.declared.reply.Reply.{Reply}
 use Rattle.cp_reply.specs.declared.reply.Reply.TheVariants as reply
 use Rattle.cp_reply.specs.Session.{FetchedFile, gives, withholds}
-use Rattle.cp_workspace.specs.Fetched.{Gives}
-use Rattle.cp_workspace.specs.Files.{KnownFiles, HasRead, IsTable, ReadsBefore, ReadsOrNone, UsesFiles}
+use Rattle.cp_workspace.specs.Fetched.{Gives, GivesFound}
+use Rattle.cp_workspace.specs.Files.{KnownFiles, HasRead, IsFound, ReadsBefore, ReadsOrNone, UsesFiles}
 use Rattle.cp_workspace.proofs.ReadCounts.{reads-all}
+use Rattle.cp_workspace.proofs.Supplied.{found-any}
 use Rattle.cp_interpreter.specs.Job.{is_refusal}
 use Rattle.cp_interpreter.specs.Outside.{KnownInput, KnownClock, KnownOutput, Outside}
 use Rattle.cp_interpreter.specs.Story.{LeavesStart, IsRunning, SaidLine, Made, MadeFrom, EndedEarly, FileOfStartFailed, result_of}
@@ -69,11 +70,17 @@ making_of : (stop : Stop) → (stop ≡ Disk) ⊎ (stop ≡ Memory) → IsMaking
 making_of stop k = inr k
 
 module _ (k : Kind) (given : FileTable → FetchedFile) (reads : ℕ) (b a : KnownFiles) (v m : KnownDisk) (rests : IsTrue v.known → ViewRests v.view m.view) where
+  -- the files, which weren't read
+  unread : (t : FileTable) × IsFound b t
+  unread = found-any b
+
   -- there is a store
   pub made-there : (IsTrue v.known → IsVacant v.view.content → ⊥) → StoreMade k given reads b b v m (Ok (reply.Refused of.Init why.StoreExists))
   made-there never = record {
+    table = unread.0;
+    found = unread.1;
     exists = λ known no. (refl, rests known, refl);
-    made = λ known vacant files t. absurd (never known vacant);
+    made = λ known vacant. absurd (never known vacant);
     read = λ known vacant. absurd (never known vacant);
     stops = tt;
   }
@@ -81,8 +88,10 @@ module _ (k : Kind) (given : FileTable → FetchedFile) (reads : ℕ) (b a : Kno
   -- it wasn't found out
   pub made-unknown : (stop : Stop) → (stop ≡ Disk) ⊎ (stop ≡ Memory) → StoreMade k given reads b b v m (Err stop)
   made-unknown stop s = record {
+    table = unread.0;
+    found = unread.1;
     exists = λ known no. (refl, rests known, s);
-    made = λ known vacant files t. (making k (given files) reads b b m stop (making_of stop s) (no_file stop _ s), leaves-start k (given files) v.view m.view (rests known));
+    made = λ known vacant. (making k (given unread.0) reads b b m stop (making_of stop s) (no_file stop _ s), leaves-start k (given unread.0) v.view m.view (rests known));
     read = λ known vacant. inl refl;
     stops = making_of stop s;
   }
@@ -91,14 +100,18 @@ module _ (k : Kind) (given : FileTable → FetchedFile) (reads : ℕ) (b a : Kno
     -- the start tree's file failed, or memory ran out
     pub made-unread : (fault : FilesFault) (stop : Stop) → (fault ≡ fails.Failed → stop ≡ File) × (fault ≡ fails.Memory → stop ≡ Memory) → ReadsBefore (λ e. e ≡ fails.Failed) reads b a fault → StoreMade k given reads b a v m (Err stop)
     made-unread fails.Failed stop becomes r = record {
+      table = unread.0;
+      found = unread.1;
       exists = λ known no. absurd (no (vacant known));
-      made = λ known is files t. (making k (given files) reads b a m stop (inl (becomes.0 refl)) (λ e. r.blamed refl), leaves-start k (given files) v.view m.view (rests known));
+      made = λ known is. (making k (given unread.0) reads b a m stop (inl (becomes.0 refl)) (λ e. r.blamed refl), leaves-start k (given unread.0) v.view m.view (rests known));
       read = λ known is. r.either;
       stops = inl (becomes.0 refl);
     }
     made-unread fails.Memory stop becomes r = record {
+      table = unread.0;
+      found = unread.1;
       exists = λ known no. absurd (no (vacant known));
-      made = λ known is files t. (making k (given files) reads b a m stop (inr (inr (becomes.1 refl))) (no_file stop _ (inr (becomes.1 refl))), leaves-start k (given files) v.view m.view (rests known));
+      made = λ known is. (making k (given unread.0) reads b a m stop (inr (inr (becomes.1 refl))) (no_file stop _ (inr (becomes.1 refl))), leaves-start k (given unread.0) v.view m.view (rests known));
       read = λ known is. r.either;
       stops = inr (inr (becomes.1 refl));
     }
@@ -108,10 +121,12 @@ module _ (k : Kind) (given : FileTable → FetchedFile) (reads : ℕ) (b a : Kno
     refused_as (withholds z) y view h = ap (λ u. reply.Refused of.Init u) h
 
     -- there is no start tree
-    pub made-refused : (y : Why) {R : Type 0} (view : R → Tree) → HasRead b a reads → ((files : FileTable) → IsTable files b a → Gives view (given files) (Err y)) → StoreMade k given reads b a v m (Ok (reply.Refused of.Init y))
+    pub made-refused : (y : Why) {R : Type 0} (view : R → Tree) → HasRead b a reads → GivesFound view b given (Err y) → StoreMade k given reads b a v m (Ok (reply.Refused of.Init y))
     made-refused y view read h = record {
+      table = h.0;
+      found = h.1;
       exists = λ known no. absurd (no (vacant known));
-      made = λ known is files t. (refused_as (given files) y view (h files t), leaves-start k (given files) v.view m.view (rests known));
+      made = λ known is. (refused_as (given h.0) y view h.2, leaves-start k (given h.0) v.view m.view (rests known));
       read = λ known is. read;
       stops = tt;
     }
@@ -130,10 +145,12 @@ module _ (k : Kind) (given : FileTable → FetchedFile) (reads : ℕ) (b a : Kno
       leaves_as (withholds z) h known = absurd h
 
       -- the store was made
-      pub made-created : HasRead b a reads → IfErr r IsMakingStop → ((files : FileTable) → IsTable files b a → Gives view (given files) (Ok tree)) → StoreMade k given reads b a v w r
+      pub made-created : HasRead b a reads → IfErr r IsMakingStop → GivesFound view b given (Ok tree) → StoreMade k given reads b a v w r
       made-created read s h = record {
+        table = h.0;
+        found = h.1;
         exists = λ known no. absurd (no (vacant known));
-        made = λ known is files t. (created_as (given files) r (h files t) (created known), leaves_as (given files) (h files t) known);
+        made = λ known is. (created_as (given h.0) r h.2 (created known), leaves_as (given h.0) h.2 known);
         read = λ known is. reads-all reads b a r read;
         stops = s;
       }
@@ -181,10 +198,12 @@ module _ (k : Kind) (given : FileTable → FetchedFile) (reads : ℕ) (i : Known
     running = said-running (lines r) (is_refusal r) o p e s;
     input = refl;
     clock = refl;
+    table = m.table;
+    found = m.found;
     exists = λ known no. (let x = m.exists known no in (x.0, x.1, inl (subst (λ z. SaidLine (lines z) (is_refusal z) o p e) x.2 s)));
-    did = λ known vacant files t. inr (inr (made_of (given files) r e (m.made known vacant files t).0 s));
+    did = λ known vacant. inr (inr (made_of (given m.table) r e (m.made known vacant).0 s));
     read = λ known vacant. reads-all reads f g (result_of e) (m.read known vacant);
-    crash = λ known vacant files t. (m.made known vacant files t).1;
+    crash = λ known vacant. (m.made known vacant).1;
   }
 
   early_of : (stop : Stop) → (stop ≡ Disk) ⊎ (stop ≡ Memory) → TellsStop o p stop → EndedEarly b a (end_of_stop stop)
@@ -218,10 +237,12 @@ module _ (k : Kind) (given : FileTable → FetchedFile) (reads : ℕ) (i : Known
     running = stop-running stop m.stops;
     input = refl;
     clock = refl;
+    table = m.table;
+    found = m.found;
     exists = λ known no. (let x = m.exists known no in (x.0, x.1, inr (early_of stop x.2 t)));
-    did = λ known vacant files tab. elim (did_stop stop (stop_of (given files) stop (m.made known vacant files tab).0) t) [ inl q ↦ inl q | inr q ↦ inr (inl q) ];
+    did = λ known vacant. elim (did_stop stop (stop_of (given m.table) stop (m.made known vacant).0) t) [ inl q ↦ inl q | inr q ↦ inr (inl q) ];
     read = λ known vacant. stop_read stop (m.read known vacant);
-    crash = λ known vacant files tab. (m.made known vacant files tab).1;
+    crash = λ known vacant. (m.made known vacant).1;
   }
 
 -- ---- the files of a call that makes a store

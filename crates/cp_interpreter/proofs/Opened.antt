@@ -1,12 +1,11 @@
 -- Stores that are opened, and sessions that begin on them.
 use Rattle.std.proofs.Common.{Bool, ◌≡◌, ℕ, ◌+◌, List, [], drop, take, length, true, false, Ok, Err, inl, inr, refl, sym, ap, subst, ◌∙◌, arith}
-use Rattle.std.specs.Prelude.{IsTrue, IfErr, Result, ◌⊎◌, ◌≤◌, ◌++◌, OnOk}
+use Rattle.std.specs.Prelude.{IsTrue, IfErr, Result, ◌⊎◌, ◌≤◌, OnOk}
 use Rattle.std.specs.Io.KnownBytes.{IsAtEnd}
 use Rattle.std.proofs.KnownBytes.{Consumes-nil}
 use Rattle.cp_outside.specs.Causes.{Accounts}
 use Rattle.cp_model.specs.Tree.{Tree}
 use Rattle.cp_model.specs.History.{Entry}
-use Rattle.cp_outside.specs.FileReads.{FileTable}
 use Rattle.cp_disk.specs.Counts.{UsesDisk}
 use Rattle.cp_disk.specs.Views.{View, ViewRests, ViewKeeps, KnownDisk, ViewLeaves}
 use Rattle.cp_lang.specs.Cuts.{scan_start, scan_bytes}
@@ -23,15 +22,16 @@ use Rattle.cp_db.specs.declared.database.Db.{Db}
 use Rattle.cp_db.specs.declared.fault.OpenFault.{OpenFault}
 use Rattle.cp_db.specs.declared.fault.OpenFault.TheVariants as opens
 use Rattle.cp_db.proofs.Keeping.{kept-images}
-use Rattle.cp_reply.specs.Session.{Session, session_after}
+use Rattle.cp_reply.specs.Session.{Supply, no_supply, followed_by, Session, session_after}
 use Rattle.cp_workspace.specs.Texts.{Terms}
 use Rattle.cp_workspace.specs.Workspaces.{Stands, IsUsable, HasStamps, HoldsFile, end_now, opened_session}
 use Rattle.cp_workspace.specs.declared.workspace.Workspace.{Workspace}
 use Rattle.cp_interpreter.specs.Job.{job_so_far, job}
 use Rattle.cp_interpreter.specs.Play.{begun, plays, plays_all}
-use Rattle.cp_workspace.specs.Files.{KnownFiles, IsTable}
+use Rattle.cp_workspace.specs.Files.{KnownFiles}
 use Rattle.cp_workspace.specs.Spending.{HasSpent}
 use Rattle.cp_workspace.proofs.Spent.{spent-as}
+use Rattle.cp_workspace.proofs.Supplied.{supplied-none}
 use Rattle.cp_interpreter.specs.Outside.{KnownInput, KnownClock, KnownOutput, Outside}
 use Rattle.cp_interpreter.specs.Story.{LeavesHistory, WritesLast, frames_end, store_terms, left_on, DidOn, session_on, work_on, Leaving, Did, IsEarly, early_line, HasNotBegun, RanOn, HasCauses, DiskCauses, result_of, StandsForFront}
 use Rattle.cp_interpreter.specs.Turns.{Follows, MayGoOn, LeavesAlong, RanFrom, TellsStop, end_of_stop, work_from}
@@ -112,13 +112,13 @@ opened-fault view source_view v w (opens.NoStore at) stop becomes o r = subst (�
 
 -- the session on each history that the content tells
 pub begun-on : {R S : Type 0} (view : R → Tree) (source_view : S → Tree) (curator : List ℕ) (v w : KnownDisk) (d : Db R S) (x : Interpreter R S) → OpenedAs view source_view v w (Ok d)
-    → ((h : List Entry) (moments : List ℕ) → database.Stands view source_view true d h → IsKept true d h w.view → Follows view source_view w x (begun (record { ends = end_now h d; curator = curator }) (opened_session h moments)))
+    → ((h : List Entry) (supply : Supply) → database.Stands view source_view true d h → IsKept true d h w.view → Follows view source_view w x (begun (record { ends = end_now h d; curator = curator }) (opened_session h supply)))
     → BegunOn view source_view curator v w (Ok x)
 begun-on view source_view curator v w d x o f = (
   o.0,
-  λ h moments store. (
+  λ h supply store. (
       let y = o.1 h store in
-      subst (λ n. Follows view source_view w x (begun (record { ends = record { entries = h; at = n }; curator = curator }) (opened_session h moments))) y.is_end (f h moments y.stands y.kept)
+      subst (λ n. Follows view source_view w x (begun (record { ends = record { entries = h; at = n }; curator = curator }) (opened_session h supply))) y.is_end (f h supply y.stands y.kept)
       ),
 )
 
@@ -133,17 +133,17 @@ begun-not view source_view curator v w stop k o = elim k [
 ]
 
 -- no byte leads on
-first-history : (files : FileTable) (h : List Entry) (c curator moments : List ℕ) → ((session_on files h c curator moments).so_far []).history ≡ h
+first-history : (h : List Entry) (c curator : List ℕ) (supply : Supply) → ((session_on h c curator supply).so_far []).history ≡ h
 unfolding plays job_so_far scan_bytes session_after
-first-history files h c curator moments = refl
+first-history h c curator supply = refl
 
 -- no reads before others
 no_more : (b a : Outside) {n k : ℕ} → HasSpent n k b.files a.files b.clock a.clock → HasSpent (0 + n) k b.files a.files b.clock a.clock
 no_more b a {n} {k} spent = spent-as b.files a.files b.clock a.clock n k (0 + n) k (omega arith) refl spent
 
 -- what a session does from its beginning on is what the session on the history does
-module _ (files : FileTable) (terms : Terms) (s : Session) (Leaves : Leaving) (taken : List ℕ) (b a : Outside) where
-  did-on : (e : End) → Did (work_from files (begun terms s) false) Leaves 0 taken b a e → Did (work_on files terms s 0) Leaves 0 taken b a e
+module _ (terms : Terms) (s : Session) (Leaves : Leaving) (taken : List ℕ) (b a : Outside) where
+  did-on : (e : End) → Did (work_from (begun terms s) false) Leaves 0 taken b a e → Did (work_on terms s 0) Leaves 0 taken b a e
   unfolding plays plays_all job_so_far job
   did-on how.Done w = record { refused_is = w.refused_is; wrote = w.wrote; spent = no_more b a w.spent; left = w.left }
   did-on how.Refused w = record { refused_is = w.refused_is; wrote = w.wrote; spent = no_more b a w.spent; left = w.left }
@@ -179,9 +179,9 @@ module _ (files : FileTable) (terms : Terms) (s : Session) (Leaves : Leaving) (t
   did-on how.TooLong w = record { at = w.at; within = w.within; last_piece = w.last_piece; wrote = w.wrote; spent = no_more b a w.spent; left = w.left }
   did-on how.Clock w = record { at = w.at; inside = w.inside; commit = w.commit; wrote = w.wrote; spent = no_more b a w.spent; left = w.left }
 
-along-on : (files : FileTable) (terms : Terms) (s : Session) (taken : List ℕ) (k : ℕ) (c : List ℕ) → StandsFor (plays files (begun terms s) (take k taken)).history c → StandsFor ((work_on files terms s 0).so_far (take k taken)).history c
+along-on : (terms : Terms) (s : Session) (taken : List ℕ) (k : ℕ) (c : List ℕ) → StandsFor (plays (begun terms s) (take k taken)).history c → StandsFor ((work_on terms s 0).so_far (take k taken)).history c
 unfolding plays job_so_far
-along-on files terms s taken k c x = x
+along-on terms s taken k c x = x
 
 -- ---- calls that end early
 
@@ -244,56 +244,56 @@ ran-early-on curator i f k o p v w e early wrote none never leaves = record {
   took = Consumes-nil i.left;
   counted = omega arith;
   too_much = (λ h. absurd (early-not-long e early h), λ l. absurd (omega (arith, l)));
-  moments = [];
-  told = refl;
+  supply = no_supply;
+  supplied = supplied-none f k;
   fitting = early-not-usage e early;
   ended = early-ended (IsAtEnd i.left) e early;
   no_store = λ known at h. (let x = none known at h in (not_begun, x.1, x.0));
   unopened = λ known h. (not_begun, never known h);
-  did = λ known files t h store. (let l = leaves known h store in record {
+  did = λ known h store. (let l = leaves known h store in record {
     did = λ rest. inl (not_begun, l);
     later = l.later;
     crash = λ rest t c le x. elim (l.since t c le x) [
       | inl old ↦ inl old
-      | inr s ↦ inr (0, omega arith, subst (λ g. StandsFor g c) (sym (first-history files h v.view.content curator ([] ++ rest))) s)
+      | inr s ↦ inr (0, omega arith, subst (λ g. StandsFor g c) (sym (first-history h v.view.content curator (followed_by no_supply rest))) s)
     ];
   });
 }
   where
-    not_begun : HasNotBegun [] [] (record { input = i; files = f; clock = k; output = o }) (record { input = i; files = f; clock = k; output = p }) e
+    not_begun : HasNotBegun [] no_supply (record { input = i; files = f; clock = k; output = o }) (record { input = i; files = f; clock = k; output = p }) e
     not_begun = record { early = early; none_taken = refl; none_told = refl; files = refl; clock = refl; wrote = wrote }
 
 -- a call that ran a session on its store
 module _ {R S : Type 0} (view : R → Tree) (source_view : S → Tree) (curator : List ℕ) (x : Interpreter R S) (b a : Outside) (v m w : KnownDisk) (e : End)
     (none : x.refused ≡ false) (same : IsTrue v.known → IsTrue m.known) (opened : IsTrue v.known → BegunOn view source_view curator v m (Ok x)) (leaves : LeavesStore v m) (r : RanFrom view source_view x 0 b a m w e) where
-  module _ (known : IsTrue v.known) (files : FileTable) (t : IsTable files b.files a.files) (h : List Entry) (store : IsStore h v.view.content) where
+  module _ (known : IsTrue v.known) (h : List Entry) (store : IsStore h v.view.content) where
     abbrev terms : Terms
     terms = store_terms h v.view.content curator
 
-    abbrev session : List ℕ → Session
-    session rest = opened_session h (r.moments ++ rest)
+    abbrev session : Supply → Session
+    session rest = opened_session h (followed_by r.supply rest)
 
-    went : (rest : List ℕ) → Did (work_from files (begun terms (session rest)) x.refused) (left_on w) 0 r.taken b a e × LeavesAlong files (begun terms (session rest)) r.taken m w
-    went rest = r.did files t (begun terms (session rest)) rest ((opened known).1 h (r.moments ++ rest) store) refl
+    went : (rest : Supply) → Did (work_from (begun terms (session rest)) x.refused) (left_on w) 0 r.taken b a e × LeavesAlong (begun terms (session rest)) r.taken m w
+    went rest = r.did (begun terms (session rest)) rest ((opened known).1 h (followed_by r.supply rest) store) refl
 
     left : LeavesHistory h v m
     left = leaves known h store
 
-    crashed : (rest : List ℕ) → ViewLeaves (StandsForFront (session_on files h v.view.content curator (r.moments ++ rest)) r.taken) v.view w.view
+    crashed : (rest : Supply) → ViewLeaves (StandsForFront (session_on h v.view.content curator (followed_by r.supply rest)) r.taken) v.view w.view
     crashed rest t c le i =
         let y = (went rest).1 (same known) in
         elim (y.1 t c (omega (arith, le, left.later)) i) [
           | inl old ↦ elim (left.since t c le old) [
             | inl o ↦ inl o
-            | inr s ↦ inr (0, omega arith, subst (λ g. StandsFor g c) (sym (first-history files h v.view.content curator (r.moments ++ rest))) s)
+            | inr s ↦ inr (0, omega arith, subst (λ g. StandsFor g c) (sym (first-history h v.view.content curator (followed_by r.supply rest))) s)
           ]
-          | inr f ↦ inr (f.0, f.1, along-on files terms (session rest) r.taken f.0 c f.2)
+          | inr f ↦ inr (f.0, f.1, along-on terms (session rest) r.taken f.0 c f.2)
         ]
 
-    did_on : DidOn files h curator r.taken r.moments b a v w e
+    did_on : DidOn h curator r.taken r.supply b a v w e
     did_on = record {
-      did = λ rest. inr (did-on files terms (session rest) (left_on w) r.taken b a e (subst (λ z. Did (work_from files (begun terms (session rest)) z) (left_on w) 0 r.taken b a e) none (went rest).0));
-      later = omega (arith, left.later, ((went []).1 (same known)).0);
+      did = λ rest. inr (did-on terms (session rest) (left_on w) r.taken b a e (subst (λ z. Did (work_from (begun terms (session rest)) z) (left_on w) 0 r.taken b a e) none (went rest).0));
+      later = omega (arith, left.later, ((went no_supply).1 (same known)).0);
       crash = crashed;
     }
 
@@ -303,8 +303,8 @@ module _ {R S : Type 0} (view : R → Tree) (source_view : S → Tree) (curator 
     took = r.took;
     counted = r.counted;
     too_much = (λ h. omega (arith, r.too_much.0 h), λ l. r.too_much.1 (omega (arith, l)));
-    moments = r.moments;
-    told = r.told;
+    supply = r.supply;
+    supplied = r.supplied;
     fitting = r.running.fitting;
     ended = r.ended;
     no_store = λ known at h. absurd (r.running.opened at h);

@@ -9,14 +9,15 @@ use Rattle.std.proofs.lemmas.List.{length-append}
 use Rattle.std.specs.Io.KnownBytes.{Appends, Consumes, Keeps, IsAtEnd}
 use Rattle.std.proofs.KnownBytes.{Appends-trans, Consumes-trans, Consumes-nil, Consumes-kept}
 use Rattle.cp_outside.specs.Causes.{Accounts}
-use Rattle.cp_outside.specs.FileReads.{FileTable}
-use Rattle.cp_outside.proofs.Telling.{told-none, told-then}
+use Rattle.cp_reply.specs.Session.{Supply, no_supply, followed_by}
+use Rattle.cp_reply.proofs.Supplies.{followed-assoc}
 use Rattle.cp_model.specs.Tree.{Tree}
 use Rattle.cp_frame.specs.Stands.{StandsFor, StandsForEither}
 use Rattle.cp_db.proofs.Keeping.{kept-images}
 use Rattle.cp_disk.specs.Views.{KnownDisk, Leaves}
-use Rattle.cp_workspace.specs.Files.{KnownFiles, HasReadSome}
-use Rattle.cp_workspace.proofs.ReadCounts.{some-then, table-first, table-second}
+use Rattle.cp_workspace.specs.Files.{KnownFiles}
+use Rattle.cp_workspace.proofs.ReadCounts.{some-then}
+use Rattle.cp_workspace.proofs.Supplied.{supplied-none, supplied-then}
 use Rattle.cp_workspace.proofs.Spent.{spent-none, spent-sum, spent-as}
 use Rattle.cp_workspace.proofs.Standing.{on-ok}
 use Rattle.cp_interpreter.specs.Texts.{input_line, file_line, disk_line, clock_line, memory_line, too_long_line}
@@ -75,328 +76,326 @@ stops-after b m a xs first ys h w = (
 pub left-here : {R S : Type 0} (view : R → Tree) (source_view : S → Tree) (v : KnownDisk) (x : Interpreter R S) (s : Seen) → Follows view source_view v x s → left_on v s.session.history s.session.history
 left-here view source_view v x s f = λ known c i. inl (kept-images x.workspace.db s.session.history v.view (f.holds known) c i)
 
-module _ (files : FileTable) where
-  -- of a disk that no step touches nothing else
-  pub along-still : (s : Seen) (bytes : List ℕ) (v : KnownDisk) → LeavesAlong files s bytes v v
-  along-still s bytes v = λ known. (omega arith, λ t c le h. inl h)
+-- of a disk that no step touches nothing else
+pub along-still : (s : Seen) (bytes : List ℕ) (v : KnownDisk) → LeavesAlong s bytes v v
+along-still s bytes v = λ known. (omega arith, λ t c le h. inl h)
 
-  -- at the end of the input the history stays
-  pub along-closed : (s : Seen) (v w : KnownDisk) → Leaves (StandsForEither s.session.history s.session.history) v w → LeavesAlong files s [] v w
-  along-closed s v w l = λ known. (
-    (l known).0,
-    λ t c le h. elim ((l known).1 t c le h) [
-      | inl before ↦ inl before
-      | inr now ↦ inr (0, omega arith, here c now)
-    ],
-  )
-    where
-      here : (c : List ℕ) → StandsFor s.session.history c ⊎ StandsFor s.session.history c → StandsFor (plays files s []).history c
-      here c (inl x) = subst (λ h. StandsFor h c) (sym (history-none files s)) x
-      here c (inr x) = subst (λ h. StandsFor h c) (sym (history-none files s)) x
+-- at the end of the input the history stays
+pub along-closed : (s : Seen) (v w : KnownDisk) → Leaves (StandsForEither s.session.history s.session.history) v w → LeavesAlong s [] v w
+along-closed s v w l = λ known. (
+  (l known).0,
+  λ t c le h. elim ((l known).1 t c le h) [
+    | inl before ↦ inl before
+    | inr now ↦ inr (0, omega arith, here c now)
+  ],
+)
+  where
+    here : (c : List ℕ) → StandsFor s.session.history c ⊎ StandsFor s.session.history c → StandsFor (plays s []).history c
+    here c (inl x) = subst (λ h. StandsFor h c) (sym (history-none s)) x
+    here c (inr x) = subst (λ h. StandsFor h c) (sym (history-none s)) x
 
 -- ---- sessions that go on
 
-module _ (files : FileTable) where
-  -- a last line after no byte
-  last-first : (b a : KnownOutput) (s : Seen) (last : List ℕ) → WritesLast b a [] last → WritesLast b a (plays files s []).out last
-  last-first b a s last w = subst (λ z. WritesLast b a z last) (sym (plays-none files s).0) w
+-- a last line after no byte
+last-first : (b a : KnownOutput) (s : Seen) (last : List ℕ) → WritesLast b a [] last → WritesLast b a (plays s []).out last
+last-first b a s last w = subst (λ z. WritesLast b a z last) (sym (plays-none s).0) w
 
-  -- what is left after no byte
-  left-first : (L : Leaving) (s : Seen) → L s.session.history s.session.history → L (plays files s []).history (plays files s []).history
-  left-first L s w = subst (λ z. L z z) (sym (history-none files s)) w
+-- what is left after no byte
+left-first : (L : Leaving) (s : Seen) → L s.session.history s.session.history → L (plays s []).history (plays s []).history
+left-first L s w = subst (λ z. L z z) (sym (history-none s)) w
 
-  -- whether a refusal was written, after the bytes and then the rest
-  refused-then : (s : Seen) (f : Bool) (xs ys : List ℕ) → (with_refusal f (plays_all files s (xs ++ ys))).refused ≡ (with_refusal (f || (plays files s xs).refused) (plays_all files (after_play files s xs) ys)).refused
-  refused-then s f xs ys = ap (λ (e : Report). f || e.refused) (all-append files s xs ys) ∙ sym (or_assoc f (plays files s xs).refused (plays_all files (after_play files s xs) ys).refused)
+-- whether a refusal was written, after the bytes and then the rest
+refused-then : (s : Seen) (f : Bool) (xs ys : List ℕ) → (with_refusal f (plays_all s (xs ++ ys))).refused ≡ (with_refusal (f || (plays s xs).refused) (plays_all (after_play s xs) ys)).refused
+refused-then s f xs ys = ap (λ (e : Report). f || e.refused) (all-append s xs ys) ∙ sym (or_assoc f (plays s xs).refused (plays_all (after_play s xs) ys).refused)
 
-  -- all that was written and spent, and the history, after the bytes and then the rest
-  out-then : (s : Seen) (xs ys : List ℕ) → (plays_all files s (xs ++ ys)).out ≡ (plays files s xs).out ++ (plays_all files (after_play files s xs) ys).out
-  out-then s xs ys = ap (λ (e : Report). e.out) (all-append files s xs ys)
+-- all that was written and spent, and the history, after the bytes and then the rest
+out-then : (s : Seen) (xs ys : List ℕ) → (plays_all s (xs ++ ys)).out ≡ (plays s xs).out ++ (plays_all (after_play s xs) ys).out
+out-then s xs ys = ap (λ (e : Report). e.out) (all-append s xs ys)
 
-  all_read-then : (s : Seen) (xs ys : List ℕ) → (plays_all files s (xs ++ ys)).reads ≡ (plays files s xs).reads + (plays_all files (after_play files s xs) ys).reads
-  all_read-then s xs ys = ap (λ (e : Report). e.reads) (all-append files s xs ys)
+all_read-then : (s : Seen) (xs ys : List ℕ) → (plays_all s (xs ++ ys)).reads ≡ (plays s xs).reads + (plays_all (after_play s xs) ys).reads
+all_read-then s xs ys = ap (λ (e : Report). e.reads) (all-append s xs ys)
 
-  all_asks-then : (s : Seen) (xs ys : List ℕ) → (plays_all files s (xs ++ ys)).asks ≡ (plays files s xs).asks + (plays_all files (after_play files s xs) ys).asks
-  all_asks-then s xs ys = ap (λ (e : Report). e.asks) (all-append files s xs ys)
+all_asks-then : (s : Seen) (xs ys : List ℕ) → (plays_all s (xs ++ ys)).asks ≡ (plays s xs).asks + (plays_all (after_play s xs) ys).asks
+all_asks-then s xs ys = ap (λ (e : Report). e.asks) (all-append s xs ys)
 
-  all_history-then : (s : Seen) (xs ys : List ℕ) → (plays_all files s (xs ++ ys)).history ≡ (plays_all files (after_play files s xs) ys).history
-  all_history-then s xs ys = ap (λ (e : Report). e.history) (all-append files s xs ys)
+all_history-then : (s : Seen) (xs ys : List ℕ) → (plays_all s (xs ++ ys)).history ≡ (plays_all (after_play s xs) ys).history
+all_history-then s xs ys = ap (λ (e : Report). e.history) (all-append s xs ys)
 
-  -- what the bytes write and spend, and then others, and the history to which they come
-  played-then : (s : Seen) (xs ys : List ℕ) → (plays files s (xs ++ ys)).out ≡ (plays files s xs).out ++ (plays files (after_play files s xs) ys).out
-  played-then s xs ys = ap (λ (e : Report). e.out) (plays-append files s xs ys)
+-- what the bytes write and spend, and then others, and the history to which they come
+played-then : (s : Seen) (xs ys : List ℕ) → (plays s (xs ++ ys)).out ≡ (plays s xs).out ++ (plays (after_play s xs) ys).out
+played-then s xs ys = ap (λ (e : Report). e.out) (plays-append s xs ys)
 
-  reads-then : (s : Seen) (xs ys : List ℕ) → (plays files s (xs ++ ys)).reads ≡ (plays files s xs).reads + (plays files (after_play files s xs) ys).reads
-  reads-then s xs ys = ap (λ (e : Report). e.reads) (plays-append files s xs ys)
+reads-then : (s : Seen) (xs ys : List ℕ) → (plays s (xs ++ ys)).reads ≡ (plays s xs).reads + (plays (after_play s xs) ys).reads
+reads-then s xs ys = ap (λ (e : Report). e.reads) (plays-append s xs ys)
 
-  asks-then : (s : Seen) (xs ys : List ℕ) → (plays files s (xs ++ ys)).asks ≡ (plays files s xs).asks + (plays files (after_play files s xs) ys).asks
-  asks-then s xs ys = ap (λ (e : Report). e.asks) (plays-append files s xs ys)
+asks-then : (s : Seen) (xs ys : List ℕ) → (plays s (xs ++ ys)).asks ≡ (plays s xs).asks + (plays (after_play s xs) ys).asks
+asks-then s xs ys = ap (λ (e : Report). e.asks) (plays-append s xs ys)
 
-  history-then : (s : Seen) (xs ys : List ℕ) → (plays files s (xs ++ ys)).history ≡ (plays files (after_play files s xs) ys).history
-  history-then s xs ys = ap (λ (e : Report). e.history) (plays-append files s xs ys)
+history-then : (s : Seen) (xs ys : List ℕ) → (plays s (xs ++ ys)).history ≡ (plays (after_play s xs) ys).history
+history-then s xs ys = ap (λ (e : Report). e.history) (plays-append s xs ys)
 
-  -- the same of a front part of the others
-  front-then : (s : Seen) (xs ys : List ℕ) (k : ℕ) → (plays files s (take (length xs + k) (xs ++ ys))).out ≡ (plays files s xs).out ++ (plays files (after_play files s xs) (take k ys)).out
-  front-then s xs ys k = ap (λ zs. (plays files s zs).out) (take-append-add xs ys k) ∙ played-then s xs (take k ys)
+-- the same of a front part of the others
+front-then : (s : Seen) (xs ys : List ℕ) (k : ℕ) → (plays s (take (length xs + k) (xs ++ ys))).out ≡ (plays s xs).out ++ (plays (after_play s xs) (take k ys)).out
+front-then s xs ys k = ap (λ zs. (plays s zs).out) (take-append-add xs ys k) ∙ played-then s xs (take k ys)
 
-  front_reads-then : (s : Seen) (xs ys : List ℕ) (k : ℕ) → (plays files s (take (length xs + k) (xs ++ ys))).reads ≡ (plays files s xs).reads + (plays files (after_play files s xs) (take k ys)).reads
-  front_reads-then s xs ys k = ap (λ zs. (plays files s zs).reads) (take-append-add xs ys k) ∙ reads-then s xs (take k ys)
+front_reads-then : (s : Seen) (xs ys : List ℕ) (k : ℕ) → (plays s (take (length xs + k) (xs ++ ys))).reads ≡ (plays s xs).reads + (plays (after_play s xs) (take k ys)).reads
+front_reads-then s xs ys k = ap (λ zs. (plays s zs).reads) (take-append-add xs ys k) ∙ reads-then s xs (take k ys)
 
-  front_asks-then : (s : Seen) (xs ys : List ℕ) (k : ℕ) → (plays files s (take (length xs + k) (xs ++ ys))).asks ≡ (plays files s xs).asks + (plays files (after_play files s xs) (take k ys)).asks
-  front_asks-then s xs ys k = ap (λ zs. (plays files s zs).asks) (take-append-add xs ys k) ∙ asks-then s xs (take k ys)
+front_asks-then : (s : Seen) (xs ys : List ℕ) (k : ℕ) → (plays s (take (length xs + k) (xs ++ ys))).asks ≡ (plays s xs).asks + (plays (after_play s xs) (take k ys)).asks
+front_asks-then s xs ys k = ap (λ zs. (plays s zs).asks) (take-append-add xs ys k) ∙ asks-then s xs (take k ys)
 
-  front_history-then : (s : Seen) (xs ys : List ℕ) (k : ℕ) → (plays files s (take (length xs + k) (xs ++ ys))).history ≡ (plays files (after_play files s xs) (take k ys)).history
-  front_history-then s xs ys k = ap (λ zs. (plays files s zs).history) (take-append-add xs ys k) ∙ history-then s xs (take k ys)
+front_history-then : (s : Seen) (xs ys : List ℕ) (k : ℕ) → (plays s (take (length xs + k) (xs ++ ys))).history ≡ (plays (after_play s xs) (take k ys)).history
+front_history-then s xs ys k = ap (λ zs. (plays s zs).history) (take-append-add xs ys k) ∙ history-then s xs (take k ys)
 
-  -- what is left after a front part of the others
-  front_left-then : (L : Leaving) (s : Seen) (xs ys : List ℕ) (k j n : ℕ) → n ≡ length xs + j → L (plays files (after_play files s xs) (take k ys)).history (plays files (after_play files s xs) (take j ys)).history
-      → L (plays files s (take (length xs + k) (xs ++ ys))).history (plays files s (take n (xs ++ ys))).history
-  front_left-then L s xs ys k j n e w =
-      subst (λ z. L (plays files s (take (length xs + k) (xs ++ ys))).history z) (sym (ap (λ z. (plays files s (take z (xs ++ ys))).history) e ∙ front_history-then s xs ys j))
-      (subst (λ z. L z (plays files (after_play files s xs) (take j ys)).history) (sym (front_history-then s xs ys k)) w)
+-- what is left after a front part of the others
+front_left-then : (L : Leaving) (s : Seen) (xs ys : List ℕ) (k j n : ℕ) → n ≡ length xs + j → L (plays (after_play s xs) (take k ys)).history (plays (after_play s xs) (take j ys)).history
+    → L (plays s (take (length xs + k) (xs ++ ys))).history (plays s (take n (xs ++ ys))).history
+front_left-then L s xs ys k j n e w =
+    subst (λ z. L (plays s (take (length xs + k) (xs ++ ys))).history z) (sym (ap (λ z. (plays s (take z (xs ++ ys))).history) e ∙ front_history-then s xs ys j))
+    (subst (λ z. L z (plays (after_play s xs) (take j ys)).history) (sym (front_history-then s xs ys k)) w)
 
-  module _ (s : Seen) (f : Bool) (count : ℕ) (xs ys : List ℕ) (b m a : Outside) (L : Leaving) (h : Writes b.output m.output (plays files s xs).out) (r : SpentAs (plays files s xs) (world_of b) (world_of m)) where
-    abbrev next : Seen
-    next = after_play files s xs
+module _ (s : Seen) (f : Bool) (count : ℕ) (xs ys : List ℕ) (b m a : Outside) (L : Leaving) (h : Writes b.output m.output (plays s xs).out) (r : SpentAs (plays s xs) (world_of b) (world_of m)) where
+  abbrev next : Seen
+  next = after_play s xs
 
-    abbrev flag : Bool
-    flag = f || (plays files s xs).refused
+  abbrev flag : Bool
+  flag = f || (plays s xs).refused
 
-    -- what was spent, and what was for the bytes before it
-    spent_all : (n k : Report) → k.reads ≡ (plays files s xs).reads + n.reads → k.asks ≡ (plays files s xs).asks + n.asks → SpentAs n (world_of m) (world_of a) → SpentAs k (world_of b) (world_of a)
-    spent_all n k reads asks w = spent-sum b.files m.files a.files b.clock m.clock a.clock (plays files s xs).reads (plays files s xs).asks n.reads n.asks k.reads k.asks reads asks r w
+  -- what was spent, and what was for the bytes before it
+  spent_all : (n k : Report) → k.reads ≡ (plays s xs).reads + n.reads → k.asks ≡ (plays s xs).asks + n.asks → SpentAs n (world_of m) (world_of a) → SpentAs k (world_of b) (world_of a)
+  spent_all n k reads asks w = spent-sum b.files m.files a.files b.clock m.clock a.clock (plays s xs).reads (plays s xs).asks n.reads n.asks k.reads k.asks reads asks r w
 
-    -- the same of a front part
-    spent_front : (j n : ℕ) → n ≡ length xs + j → SpentAs (plays files next (take j ys)) (world_of m) (world_of a) → SpentAs (plays files s (take n (xs ++ ys))) (world_of b) (world_of a)
-    spent_front j n e w =
-        subst (λ i. SpentAs (plays files s (take i (xs ++ ys))) (world_of b) (world_of a)) (sym e)
-        (spent_all (plays files next (take j ys)) (plays files s (take (length xs + j) (xs ++ ys))) (front_reads-then s xs ys j) (front_asks-then s xs ys j) w)
+  -- the same of a front part
+  spent_front : (j n : ℕ) → n ≡ length xs + j → SpentAs (plays next (take j ys)) (world_of m) (world_of a) → SpentAs (plays s (take n (xs ++ ys))) (world_of b) (world_of a)
+  spent_front j n e w =
+      subst (λ i. SpentAs (plays s (take i (xs ++ ys))) (world_of b) (world_of a)) (sym e)
+      (spent_all (plays next (take j ys)) (plays s (take (length xs + j) (xs ++ ys))) (front_reads-then s xs ys j) (front_asks-then s xs ys j) w)
 
-    -- and of the whole
-    spent_whole : SpentAs (plays_all files next ys) (world_of m) (world_of a) → SpentAs (plays_all files s (xs ++ ys)) (world_of b) (world_of a)
-    spent_whole w = spent_all (plays_all files next ys) (plays_all files s (xs ++ ys)) (all_read-then s xs ys) (all_asks-then s xs ys) w
+  -- and of the whole
+  spent_whole : SpentAs (plays_all next ys) (world_of m) (world_of a) → SpentAs (plays_all s (xs ++ ys)) (world_of b) (world_of a)
+  spent_whole w = spent_all (plays_all next ys) (plays_all s (xs ++ ys)) (all_read-then s xs ys) (all_asks-then s xs ys) w
 
-    -- what is spent up to a byte
-    reads_at : (k : ℕ) → (plays files s (take ((length xs + k) + 1) (xs ++ ys))).reads ≡ (plays files s xs).reads + (plays files next (take (k + 1) ys)).reads
-    reads_at k = let same : (length xs + k) + 1 ≡ length xs + (k + 1) = omega arith in ap (λ n. (plays files s (take n (xs ++ ys))).reads) same ∙ front_reads-then s xs ys (k + 1)
+  -- what is spent up to a byte
+  reads_at : (k : ℕ) → (plays s (take ((length xs + k) + 1) (xs ++ ys))).reads ≡ (plays s xs).reads + (plays next (take (k + 1) ys)).reads
+  reads_at k = let same : (length xs + k) + 1 ≡ length xs + (k + 1) = omega arith in ap (λ n. (plays s (take n (xs ++ ys))).reads) same ∙ front_reads-then s xs ys (k + 1)
 
-    asks_at : (k : ℕ) → (plays files s (take ((length xs + k) + 1) (xs ++ ys))).asks ≡ (plays files s xs).asks + (plays files next (take (k + 1) ys)).asks
-    asks_at k = let same : (length xs + k) + 1 ≡ length xs + (k + 1) = omega arith in ap (λ n. (plays files s (take n (xs ++ ys))).asks) same ∙ front_asks-then s xs ys (k + 1)
+  asks_at : (k : ℕ) → (plays s (take ((length xs + k) + 1) (xs ++ ys))).asks ≡ (plays s xs).asks + (plays next (take (k + 1) ys)).asks
+  asks_at k = let same : (length xs + k) + 1 ≡ length xs + (k + 1) = omega arith in ap (λ n. (plays s (take n (xs ++ ys))).asks) same ∙ front_asks-then s xs ys (k + 1)
 
-    -- a last line, and what was written before it
-    written_last : (k : ℕ) (last : List ℕ) → WritesLast m.output a.output (plays files next (take k ys)).out last → WritesLast b.output a.output (plays files s (take (length xs + k) (xs ++ ys))).out last
-    written_last k last w =
-        subst (λ z. WritesLast b.output a.output z last) (sym (front-then s xs ys k)) (last-after b.output m.output a.output (plays files s xs).out (plays files next (take k ys)).out last h w)
+  -- a last line, and what was written before it
+  written_last : (k : ℕ) (last : List ℕ) → WritesLast m.output a.output (plays next (take k ys)).out last → WritesLast b.output a.output (plays s (take (length xs + k) (xs ++ ys))).out last
+  written_last k last w =
+      subst (λ z. WritesLast b.output a.output z last) (sym (front-then s xs ys k)) (last-after b.output m.output a.output (plays s xs).out (plays next (take k ys)).out last h w)
 
-    -- what is left at the end
-    all_left : L (plays_all files next ys).history (plays_all files next ys).history → L (plays_all files s (xs ++ ys)).history (plays_all files s (xs ++ ys)).history
-    all_left w = subst (λ z. L z z) (sym (all_history-then s xs ys)) w
+  -- what is left at the end
+  all_left : L (plays_all next ys).history (plays_all next ys).history → L (plays_all s (xs ++ ys)).history (plays_all s (xs ++ ys)).history
+  all_left w = subst (λ z. L z z) (sym (all_history-then s xs ys)) w
 
-    -- and after a front part
-    front_left : (k : ℕ) → L (plays files next (take k ys)).history (plays files next (take k ys)).history → L (plays files s (take (length xs + k) (xs ++ ys))).history (plays files s (take (length xs + k) (xs ++ ys))).history
-    front_left k w = front_left-then L s xs ys k k (length xs + k) refl w
+  -- and after a front part
+  front_left : (k : ℕ) → L (plays next (take k ys)).history (plays next (take k ys)).history → L (plays s (take (length xs + k) (xs ++ ys))).history (plays s (take (length xs + k) (xs ++ ys))).history
+  front_left k w = front_left-then L s xs ys k k (length xs + k) refl w
 
-    all_done : (t : Bool) → AllDone (work_from files next flag) L ys m a t → AllDone (work_from files s f) L (xs ++ ys) b a t
-    all_done t w = record {
-      refused_is = refused-then s f xs ys ∙ w.refused_is;
-      wrote = (w.wrote.0 ∙ h.0, subst (Appends b.output.contents a.output.contents) (sym (out-then s xs ys)) (Appends-trans b.output.contents m.output.contents a.output.contents (plays files s xs).out (plays_all files next ys).out h.1 w.wrote.1));
-      spent = spent_whole w.spent;
-      left = all_left w.left;
-    }
-
-    stopped_after : (k : ℕ) → StopsAfter m.output a.output (plays files next (take k ys)).out (plays files next (take (k + 1) ys)).out
-        → StopsAfter b.output a.output (plays files s (take (length xs + k) (xs ++ ys))).out (plays files s (take (length xs + k + 1) (xs ++ ys))).out
-    stopped_after k w =
-        let same : length xs + (k + 1) ≡ length xs + k + 1 = omega arith in
-        subst (λ z. StopsAfter b.output a.output z (plays files s (take (length xs + k + 1) (xs ++ ys))).out) (sym (front-then s xs ys k))
-        (subst (λ n. StopsAfter b.output a.output ((plays files s xs).out ++ (plays files next (take k ys)).out) (plays files s (take n (xs ++ ys))).out) same
-        (subst (StopsAfter b.output a.output ((plays files s xs).out ++ (plays files next (take k ys)).out)) (sym (front-then s xs ys (k + 1)))
-        (stops-after b.output m.output a.output (plays files s xs).out (plays files next (take k ys)).out (plays files next (take (k + 1) ys)).out h w)))
-
-    stopped : OutputStopped (work_from files next flag) L ys m a → OutputStopped (work_from files s f) L (xs ++ ys) b a
-    stopped v = elim v [
-      | inl part ↦ inl (record {
-        at = length xs + part.at;
-        inside = omega (arith, part.inside, length-append xs ys);
-        wrote = stopped_after part.at part.wrote;
-        spent = spent_front (part.at + 1) ((length xs + part.at) + 1) (omega arith) part.spent;
-        left = subst (λ n. L (plays files s (take n (xs ++ ys))).history (plays files s (take n (xs ++ ys))).history) (omega arith) (front_left (part.at + 1) part.left);
-      })
-      | inr part ↦ inr (record {
-        ended = part.ended;
-        wrote = subst (λ z. StopsAfter b.output a.output z (plays_all files s (xs ++ ys)).out) (sym (played-then s xs ys))
-            (subst (StopsAfter b.output a.output ((plays files s xs).out ++ (plays files next ys).out)) (sym (out-then s xs ys))
-            (stops-after b.output m.output a.output (plays files s xs).out (plays files next ys).out (plays_all files next ys).out h part.wrote));
-        spent = spent_whole part.spent;
-        left = all_left part.left;
-      })
-    ]
-
-    -- what is left by a statement that was run or not
-    left_inside : (k : ℕ) → L (plays files next (take k ys)).history (plays files next (take (k + 1) ys)).history → L (plays files s (take (length xs + k) (xs ++ ys))).history (plays files s (take ((length xs + k) + 1) (xs ++ ys))).history
-    left_inside k w = front_left-then L s xs ys k (k + 1) ((length xs + k) + 1) (omega arith) w
-
-    inside : OutOfMemory (work_from files next flag) L ys m a → OutOfMemory (work_from files s f) L (xs ++ ys) b a
-    inside w = record {
-      at = length xs + w.at;
-      within = omega (arith, w.within, length-append xs ys);
-      wrote = written_last w.at memory_line w.wrote;
-      spent = elim w.spent [
-        | inl none ↦ inl (spent_front w.at (length xs + w.at) refl none)
-        | inr all ↦ inr (spent_front (w.at + 1) ((length xs + w.at) + 1) (omega arith) all)
-      ];
-      left = left_inside w.at w.left;
-    }
-
-    -- bytes, and then the end
-    pub did-then : (e : End) → Did (work_from files next flag) L (count + length xs) ys m a e → Did (work_from files s f) L count (xs ++ ys) b a e
-    did-then how.Done w = all_done _ w
-    did-then how.Refused w = all_done _ w
-    did-then how.Usage w = absurd w
-    did-then how.Input w = record {
-      wrote = subst (λ z. WritesLast b.output a.output z input_line) (sym (played-then s xs ys)) (last-after b.output m.output a.output (plays files s xs).out (plays files next ys).out input_line h w.wrote);
-      spent = spent_all (plays files next ys) (plays files s (xs ++ ys)) (reads-then s xs ys) (asks-then s xs ys) w.spent;
-      left = subst (λ z. L z z) (sym (history-then s xs ys)) w.left;
-    }
-    did-then how.File w = record {
-      at = length xs + w.at;
-      inside = omega (arith, w.inside, length-append xs ys);
-      load = omega (arith, front_reads-then s xs ys w.at, reads_at w.at, w.load);
-      wrote = written_last w.at file_line w.wrote;
-      spent = spent_front (w.at + 1) ((length xs + w.at) + 1) (omega arith) w.spent;
-      left = front_left w.at w.left;
-    }
-    did-then how.Output w = stopped w
-    did-then how.Disk w = record {
-      at = length xs + w.at;
-      inside = omega (arith, w.inside, length-append xs ys);
-      writing = omega (arith, front_reads-then s xs ys w.at, front_asks-then s xs ys w.at, reads_at w.at, asks_at w.at, w.writing);
-      wrote = written_last w.at disk_line w.wrote;
-      spent = spent_front (w.at + 1) ((length xs + w.at) + 1) (omega arith) w.spent;
-      left = left_inside w.at w.left;
-    }
-    did-then (how.NoStore at) w = absurd w
-    did-then how.Memory w = elim w [
-      | inl full ↦ inl (stopped full)
-      | inr ran ↦ inr (inside ran)
-    ]
-    did-then how.TooLong w = record {
-      at = length xs + w.at;
-      within = omega (arith, w.within);
-      last_piece = omega (arith, w.last_piece, length-append xs ys);
-      wrote = written_last w.at too_long_line w.wrote;
-      spent = spent_front w.at (length xs + w.at) refl w.spent;
-      left = front_left w.at w.left;
-    }
-    did-then how.Clock w = record {
-      at = length xs + w.at;
-      inside = omega (arith, w.inside, length-append xs ys);
-      commit = omega (arith, front_asks-then s xs ys w.at, asks_at w.at, w.commit);
-      wrote = written_last w.at clock_line w.wrote;
-      spent = spent_front (w.at + 1) ((length xs + w.at) + 1) (omega arith) w.spent;
-      left = front_left w.at w.left;
-    }
-
-  -- ---- sessions that end
-
-  -- no byte spends nothing
-  spent_first : (s : Seen) (b a : World) → SpentNothing b a → SpentAs (plays files s []) b a
-  spent_first s b a n = spent-as b.files a.files b.clock a.clock 0 0 (plays files s []).reads (plays files s []).asks (plays-none files s).1 (plays-none files s).2 n
-
-  -- nor does the end of the input
-  spent_closed : (s : Seen) (b a : World) → SpentNothing b a → SpentAs (plays_all files s []) b a
-  spent_closed s b a n =
-      spent-as b.files a.files b.clock a.clock 0 0 (plays_all files s []).reads (plays_all files s []).asks
-      (ap (λ (e : Report). e.reads) (all-none files s) ∙ closes-reads files s) (ap (λ (e : Report). e.asks) (all-none files s) ∙ closes-asks files s) n
-
-  -- the input failed
-  pub did-input : (L : Leaving) (s : Seen) (f : Bool) (count : ℕ) (b a : Outside) → WritesLast b.output a.output [] input_line → SpentNothing (world_of b) (world_of a) → L s.session.history s.session.history → Did (work_from files s f) L count [] b a how.Input
-  did-input L s f count b a w r l = record { wrote = last-first b.output a.output s input_line w; spent = spent_first s (world_of b) (world_of a) r; left = left-first L s l }
-
-  -- too much has come
-  pub did-too-long : (L : Leaving) (s : Seen) (f : Bool) (count : ℕ) (bytes : List ℕ) (b a : Outside) → count ≤ INPUT_MAX → length bytes ≤ PIECE_MAX → WritesLast b.output a.output [] too_long_line → SpentNothing (world_of b) (world_of a) → L s.session.history s.session.history
-      → Did (work_from files s f) L count bytes b a how.TooLong
-  did-too-long L s f count bytes b a le piece w r l = record {
-    at = 0;
-    within = omega (arith, le);
-    last_piece = omega (arith, piece);
-    wrote = last-first b.output a.output s too_long_line w;
-    spent = spent_first s (world_of b) (world_of a) r;
-    left = left-first L s l;
+  all_done : (t : Bool) → AllDone (work_from next flag) L ys m a t → AllDone (work_from s f) L (xs ++ ys) b a t
+  all_done t w = record {
+    refused_is = refused-then s f xs ys ∙ w.refused_is;
+    wrote = (w.wrote.0 ∙ h.0, subst (Appends b.output.contents a.output.contents) (sym (out-then s xs ys)) (Appends-trans b.output.contents m.output.contents a.output.contents (plays s xs).out (plays_all next ys).out h.1 w.wrote.1));
+    spent = spent_whole w.spent;
+    left = all_left w.left;
   }
 
-  -- the input has ended
-  module _ (s : Seen) (f : Bool) (count : ℕ) (b a : Outside) (w : KnownDisk) (end : IsAtEnd a.input.left) where
-    abbrev L : Leaving
-    L = left_on w
+  stopped_after : (k : ℕ) → StopsAfter m.output a.output (plays next (take k ys)).out (plays next (take (k + 1) ys)).out
+      → StopsAfter b.output a.output (plays s (take (length xs + k) (xs ++ ys))).out (plays s (take (length xs + k + 1) (xs ++ ys))).out
+  stopped_after k w =
+      let same : length xs + (k + 1) ≡ length xs + k + 1 = omega arith in
+      subst (λ z. StopsAfter b.output a.output z (plays s (take (length xs + k + 1) (xs ++ ys))).out) (sym (front-then s xs ys k))
+      (subst (λ n. StopsAfter b.output a.output ((plays s xs).out ++ (plays next (take k ys)).out) (plays s (take n (xs ++ ys))).out) same
+      (subst (StopsAfter b.output a.output ((plays s xs).out ++ (plays next (take k ys)).out)) (sym (front-then s xs ys (k + 1)))
+      (stops-after b.output m.output a.output (plays s xs).out (plays next (take k ys)).out (plays next (take (k + 1) ys)).out h w)))
 
-    left_closed : L s.session.history s.session.history → L (plays_all files s []).history (plays_all files s []).history
-    left_closed l = subst (λ z. L z z) (sym (ap (λ (e : Report). e.history) (all-none files s) ∙ closes-history files s)) l
-
-    all_closed : (t : Bool) → ((f || (closes files s).refused) ≡ t) × Writes b.output a.output (closes files s).out × SpentNothing (world_of b) (world_of a) × L s.session.history s.session.history → AllDone (work_from files s f) L [] b a t
-    all_closed t c = record {
-      refused_is = ap (λ (e : Report). f || e.refused) (all-none files s) ∙ c.0;
-      wrote = subst (λ (e : Report). Writes b.output a.output e.out) (sym (all-none files s)) c.1;
-      spent = spent_closed s (world_of b) (world_of a) c.2;
-      left = left_closed c.3;
-    }
-
-    ending : StopsIn b.output a.output (closes files s).out × SpentNothing (world_of b) (world_of a) × L s.session.history s.session.history → OutputStopped (work_from files s f) L [] b a
-    ending c = inr (record {
-      ended = end;
-      wrote = subst (λ xs. StopsAfter b.output a.output xs (plays_all files s []).out) (sym (plays-none files s).0)
-          (subst (λ (e : Report). StopsAfter b.output a.output [] e.out) (sym (all-none files s)) (c.0.0, (c.0.1.0, omega arith, c.0.1.1, c.0.1.2)));
-      spent = spent_closed s (world_of b) (world_of a) c.1;
-      left = left_closed c.2;
+  stopped : OutputStopped (work_from next flag) L ys m a → OutputStopped (work_from s f) L (xs ++ ys) b a
+  stopped v = elim v [
+    | inl part ↦ inl (record {
+      at = length xs + part.at;
+      inside = omega (arith, part.inside, length-append xs ys);
+      wrote = stopped_after part.at part.wrote;
+      spent = spent_front (part.at + 1) ((length xs + part.at) + 1) (omega arith) part.spent;
+      left = subst (λ n. L (plays s (take n (xs ++ ys))).history (plays s (take n (xs ++ ys))).history) (omega arith) (front_left (part.at + 1) part.left);
     })
+    | inr part ↦ inr (record {
+      ended = part.ended;
+      wrote = subst (λ z. StopsAfter b.output a.output z (plays_all s (xs ++ ys)).out) (sym (played-then s xs ys))
+          (subst (StopsAfter b.output a.output ((plays s xs).out ++ (plays next ys).out)) (sym (out-then s xs ys))
+          (stops-after b.output m.output a.output (plays s xs).out (plays next ys).out (plays_all next ys).out h part.wrote));
+      spent = spent_whole part.spent;
+      left = all_left part.left;
+    })
+  ]
 
-    closing : WritesLast b.output a.output [] memory_line × SpentNothing (world_of b) (world_of a) × L s.session.history s.session.history → OutOfMemory (work_from files s f) L [] b a
-    closing c = record { at = 0; within = omega arith; wrote = last-first b.output a.output s memory_line c.0; spent = inl (spent_first s (world_of b) (world_of a) c.1); left = left-first L s c.2 }
+  -- what is left by a statement that was run or not
+  left_inside : (k : ℕ) → L (plays next (take k ys)).history (plays next (take (k + 1) ys)).history → L (plays s (take (length xs + k) (xs ++ ys))).history (plays s (take ((length xs + k) + 1) (xs ++ ys))).history
+  left_inside k w = front_left-then L s xs ys k (k + 1) ((length xs + k) + 1) (omega arith) w
 
-    pub did-closed : (e : End) → Closes files s f (world_of b) (world_of a) w e → Did (work_from files s f) (left_on w) count [] b a e
-    did-closed how.Done c = all_closed _ c
-    did-closed how.Refused c = all_closed _ c
-    did-closed how.Usage c = absurd c
-    did-closed how.Input c = absurd c
-    did-closed how.File c = absurd c
-    did-closed how.Output c = ending c
-    did-closed how.Disk c = absurd c
-    did-closed (how.NoStore at) c = absurd c
-    did-closed how.Memory c = elim c [ inl full ↦ inl (ending full) | inr last ↦ inr (closing last) ]
-    did-closed how.TooLong c = absurd c
-    did-closed how.Clock c = absurd c
+  inside : OutOfMemory (work_from next flag) L ys m a → OutOfMemory (work_from s f) L (xs ++ ys) b a
+  inside w = record {
+    at = length xs + w.at;
+    within = omega (arith, w.within, length-append xs ys);
+    wrote = written_last w.at memory_line w.wrote;
+    spent = elim w.spent [
+      | inl none ↦ inl (spent_front w.at (length xs + w.at) refl none)
+      | inr all ↦ inr (spent_front (w.at + 1) ((length xs + w.at) + 1) (omega arith) all)
+    ];
+    left = left_inside w.at w.left;
+  }
 
-  -- the session was stopped
-  module _ {R S : Type 0} (view : R → Tree) (source_view : S → Tree) (s : Seen) (f : Bool) (rest : List ℕ) (old new : Interpreter R S) (count : ℕ) (bytes : List ℕ) (ib ia : KnownInput) (fb fm : KnownFiles) (cb cm : KnownClock) (ob om oa : KnownOutput) (w : KnownDisk) where
-    -- a last line behind what was written up to a byte
-    line_at : (at : ℕ) (last : List ℕ) → Writes ob om (plays files s (take at bytes)).out → WritesLast om oa [] last → WritesLast ob oa (plays files s (take at bytes)).out last
-    line_at at last g t = subst (λ z. WritesLast ob oa z last) (append-nil (plays files s (take at bytes)).out) (last-after ob om oa (plays files s (take at bytes)).out [] last g t)
+  -- bytes, and then the end
+  pub did-then : (e : End) → Did (work_from next flag) L (count + length xs) ys m a e → Did (work_from s f) L count (xs ++ ys) b a e
+  did-then how.Done w = all_done _ w
+  did-then how.Refused w = all_done _ w
+  did-then how.Usage w = absurd w
+  did-then how.Input w = record {
+    wrote = subst (λ z. WritesLast b.output a.output z input_line) (sym (played-then s xs ys)) (last-after b.output m.output a.output (plays s xs).out (plays next ys).out input_line h w.wrote);
+    spent = spent_all (plays next ys) (plays s (xs ++ ys)) (reads-then s xs ys) (asks-then s xs ys) w.spent;
+    left = subst (λ z. L z z) (sym (history-then s xs ys)) w.left;
+  }
+  did-then how.File w = record {
+    at = length xs + w.at;
+    inside = omega (arith, w.inside, length-append xs ys);
+    load = omega (arith, front_reads-then s xs ys w.at, reads_at w.at, w.load);
+    wrote = written_last w.at file_line w.wrote;
+    spent = spent_front (w.at + 1) ((length xs + w.at) + 1) (omega arith) w.spent;
+    left = front_left w.at w.left;
+  }
+  did-then how.Output w = stopped w
+  did-then how.Disk w = record {
+    at = length xs + w.at;
+    inside = omega (arith, w.inside, length-append xs ys);
+    writing = omega (arith, front_reads-then s xs ys w.at, front_asks-then s xs ys w.at, reads_at w.at, asks_at w.at, w.writing);
+    wrote = written_last w.at disk_line w.wrote;
+    spent = spent_front (w.at + 1) ((length xs + w.at) + 1) (omega arith) w.spent;
+    left = left_inside w.at w.left;
+  }
+  did-then (how.NoStore at) w = absurd w
+  did-then how.Memory w = elim w [
+    | inl full ↦ inl (stopped full)
+    | inr ran ↦ inr (inside ran)
+  ]
+  did-then how.TooLong w = record {
+    at = length xs + w.at;
+    within = omega (arith, w.within);
+    last_piece = omega (arith, w.last_piece, length-append xs ys);
+    wrote = written_last w.at too_long_line w.wrote;
+    spent = spent_front w.at (length xs + w.at) refl w.spent;
+    left = front_left w.at w.left;
+  }
+  did-then how.Clock w = record {
+    at = length xs + w.at;
+    inside = omega (arith, w.inside, length-append xs ys);
+    commit = omega (arith, front_asks-then s xs ys w.at, asks_at w.at, w.commit);
+    wrote = written_last w.at clock_line w.wrote;
+    spent = spent_front (w.at + 1) ((length xs + w.at) + 1) (omega arith) w.spent;
+    left = front_left w.at w.left;
+  }
 
-    writing : StopsWriting files s bytes (world fb cb ob) (world fm cm om) w → WasRefused ob om → oa ≡ om → OutputStopped (work_from files s f) (left_on w) bytes (parts ib fb cb ob) (parts ia fm cm oa)
-    writing g r t = inl (record { at = g.at; inside = g.inside; wrote = subst (λ o. StopsAfter ob o (plays files s (take g.at bytes)).out (plays files s (take (g.at + 1) bytes)).out) (sym t) (r, g.wrote); spent = g.spent; left = g.left })
+-- ---- sessions that end
 
-    pub did-stopped : (stop : Stop) → Fed view source_view files s bytes rest old new (world fb cb ob) (world fm cm om) w (Err stop) → StopRefusesWrite ob om stop → TellsStop om oa stop
-        → Did (work_from files s f) (left_on w) count bytes (parts ib fb cb ob) (parts ia fm cm oa) (end_of_stop stop)
-    did-stopped Output g r t = writing g r t
-    did-stopped Full g r t = inl (writing g r t)
-    did-stopped File g r t = record { at = g.at; inside = g.inside; load = g.load; wrote = line_at g.at file_line (r, g.wrote) t; spent = g.spent; left = g.left }
-    did-stopped Disk g r t = record { at = g.at; inside = g.inside; writing = g.writing; wrote = line_at g.at disk_line (r, g.wrote) t; spent = g.spent; left = g.left }
-    did-stopped (NoStore at) g r t = absurd g
-    did-stopped Clock g r t = record { at = g.at; inside = g.inside; commit = g.commit; wrote = line_at g.at clock_line (r, g.wrote) t; spent = g.spent; left = g.left }
-    did-stopped Memory g r t = inr (record { at = g.at; within = g.within; wrote = line_at g.at memory_line (r, g.wrote) t; spent = g.spent; left = g.left })
+-- no byte spends nothing
+spent_first : (s : Seen) (b a : World) → SpentNothing b a → SpentAs (plays s []) b a
+spent_first s b a n = spent-as b.files a.files b.clock a.clock 0 0 (plays s []).reads (plays s []).asks (plays-none s).1 (plays-none s).2 n
+
+-- nor does the end of the input
+spent_closed : (s : Seen) (b a : World) → SpentNothing b a → SpentAs (plays_all s []) b a
+spent_closed s b a n =
+    spent-as b.files a.files b.clock a.clock 0 0 (plays_all s []).reads (plays_all s []).asks
+    (ap (λ (e : Report). e.reads) (all-none s) ∙ closes-reads s) (ap (λ (e : Report). e.asks) (all-none s) ∙ closes-asks s) n
+
+-- the input failed
+pub did-input : (L : Leaving) (s : Seen) (f : Bool) (count : ℕ) (b a : Outside) → WritesLast b.output a.output [] input_line → SpentNothing (world_of b) (world_of a) → L s.session.history s.session.history → Did (work_from s f) L count [] b a how.Input
+did-input L s f count b a w r l = record { wrote = last-first b.output a.output s input_line w; spent = spent_first s (world_of b) (world_of a) r; left = left-first L s l }
+
+-- too much has come
+pub did-too-long : (L : Leaving) (s : Seen) (f : Bool) (count : ℕ) (bytes : List ℕ) (b a : Outside) → count ≤ INPUT_MAX → length bytes ≤ PIECE_MAX → WritesLast b.output a.output [] too_long_line → SpentNothing (world_of b) (world_of a) → L s.session.history s.session.history
+    → Did (work_from s f) L count bytes b a how.TooLong
+did-too-long L s f count bytes b a le piece w r l = record {
+  at = 0;
+  within = omega (arith, le);
+  last_piece = omega (arith, piece);
+  wrote = last-first b.output a.output s too_long_line w;
+  spent = spent_first s (world_of b) (world_of a) r;
+  left = left-first L s l;
+}
+
+-- the input has ended
+module _ (s : Seen) (f : Bool) (count : ℕ) (b a : Outside) (w : KnownDisk) (end : IsAtEnd a.input.left) where
+  abbrev L : Leaving
+  L = left_on w
+
+  left_closed : L s.session.history s.session.history → L (plays_all s []).history (plays_all s []).history
+  left_closed l = subst (λ z. L z z) (sym (ap (λ (e : Report). e.history) (all-none s) ∙ closes-history s)) l
+
+  all_closed : (t : Bool) → ((f || (closes s).refused) ≡ t) × Writes b.output a.output (closes s).out × SpentNothing (world_of b) (world_of a) × L s.session.history s.session.history → AllDone (work_from s f) L [] b a t
+  all_closed t c = record {
+    refused_is = ap (λ (e : Report). f || e.refused) (all-none s) ∙ c.0;
+    wrote = subst (λ (e : Report). Writes b.output a.output e.out) (sym (all-none s)) c.1;
+    spent = spent_closed s (world_of b) (world_of a) c.2;
+    left = left_closed c.3;
+  }
+
+  ending : StopsIn b.output a.output (closes s).out × SpentNothing (world_of b) (world_of a) × L s.session.history s.session.history → OutputStopped (work_from s f) L [] b a
+  ending c = inr (record {
+    ended = end;
+    wrote = subst (λ xs. StopsAfter b.output a.output xs (plays_all s []).out) (sym (plays-none s).0)
+        (subst (λ (e : Report). StopsAfter b.output a.output [] e.out) (sym (all-none s)) (c.0.0, (c.0.1.0, omega arith, c.0.1.1, c.0.1.2)));
+    spent = spent_closed s (world_of b) (world_of a) c.1;
+    left = left_closed c.2;
+  })
+
+  closing : WritesLast b.output a.output [] memory_line × SpentNothing (world_of b) (world_of a) × L s.session.history s.session.history → OutOfMemory (work_from s f) L [] b a
+  closing c = record { at = 0; within = omega arith; wrote = last-first b.output a.output s memory_line c.0; spent = inl (spent_first s (world_of b) (world_of a) c.1); left = left-first L s c.2 }
+
+  pub did-closed : (e : End) → Closes s f (world_of b) (world_of a) w e → Did (work_from s f) (left_on w) count [] b a e
+  did-closed how.Done c = all_closed _ c
+  did-closed how.Refused c = all_closed _ c
+  did-closed how.Usage c = absurd c
+  did-closed how.Input c = absurd c
+  did-closed how.File c = absurd c
+  did-closed how.Output c = ending c
+  did-closed how.Disk c = absurd c
+  did-closed (how.NoStore at) c = absurd c
+  did-closed how.Memory c = elim c [ inl full ↦ inl (ending full) | inr last ↦ inr (closing last) ]
+  did-closed how.TooLong c = absurd c
+  did-closed how.Clock c = absurd c
+
+-- the session was stopped
+module _ {R S : Type 0} (view : R → Tree) (source_view : S → Tree) (s : Seen) (f : Bool) (rest : Supply) (old new : Interpreter R S) (count : ℕ) (bytes : List ℕ) (ib ia : KnownInput) (fb fm : KnownFiles) (cb cm : KnownClock) (ob om oa : KnownOutput) (w : KnownDisk) where
+  -- a last line behind what was written up to a byte
+  line_at : (at : ℕ) (last : List ℕ) → Writes ob om (plays s (take at bytes)).out → WritesLast om oa [] last → WritesLast ob oa (plays s (take at bytes)).out last
+  line_at at last g t = subst (λ z. WritesLast ob oa z last) (append-nil (plays s (take at bytes)).out) (last-after ob om oa (plays s (take at bytes)).out [] last g t)
+
+  writing : StopsWriting s bytes (world fb cb ob) (world fm cm om) w → WasRefused ob om → oa ≡ om → OutputStopped (work_from s f) (left_on w) bytes (parts ib fb cb ob) (parts ia fm cm oa)
+  writing g r t = inl (record { at = g.at; inside = g.inside; wrote = subst (λ o. StopsAfter ob o (plays s (take g.at bytes)).out (plays s (take (g.at + 1) bytes)).out) (sym t) (r, g.wrote); spent = g.spent; left = g.left })
+
+  pub did-stopped : (stop : Stop) → Fed view source_view s bytes rest old new (world fb cb ob) (world fm cm om) w (Err stop) → StopRefusesWrite ob om stop → TellsStop om oa stop
+      → Did (work_from s f) (left_on w) count bytes (parts ib fb cb ob) (parts ia fm cm oa) (end_of_stop stop)
+  did-stopped Output g r t = writing g r t
+  did-stopped Full g r t = inl (writing g r t)
+  did-stopped File g r t = record { at = g.at; inside = g.inside; load = g.load; wrote = line_at g.at file_line (r, g.wrote) t; spent = g.spent; left = g.left }
+  did-stopped Disk g r t = record { at = g.at; inside = g.inside; writing = g.writing; wrote = line_at g.at disk_line (r, g.wrote) t; spent = g.spent; left = g.left }
+  did-stopped (NoStore at) g r t = absurd g
+  did-stopped Clock g r t = record { at = g.at; inside = g.inside; commit = g.commit; wrote = line_at g.at clock_line (r, g.wrote) t; spent = g.spent; left = g.left }
+  did-stopped Memory g r t = inr (record { at = g.at; within = g.within; wrote = line_at g.at memory_line (r, g.wrote) t; spent = g.spent; left = g.left })
 
 -- ---- sessions that were stopped
 
 -- a session was stopped at the end of its input
-pub closes-stopped : {R S : Type 0} (files : FileTable) (s : Seen) (f : Bool) (old new : Interpreter R S) (fb fm : KnownFiles) (cb cm : KnownClock) (ob om oa : KnownOutput) (w : KnownDisk) (stop : Stop) → RunsLast files s old new (world fb cb ob) (world fm cm om) w (Err stop)
-    → StopRefusesWrite ob om stop → TellsStop om oa stop → Closes files s f (world fb cb ob) (world fm cm oa) w (end_of_stop stop)
-closes-stopped files s f old new fb fm cb cm ob om oa w Output g r t = (subst (λ o. StopsIn ob o (closes files s).out) (sym t) (r, g.0), g.1, g.2)
-closes-stopped files s f old new fb fm cb cm ob om oa w Full g r t = inl (subst (λ o. StopsIn ob o (closes files s).out) (sym t) (r, g.0), g.1, g.2)
-closes-stopped files s f old new fb fm cb cm ob om oa w File g r t = absurd g
-closes-stopped files s f old new fb fm cb cm ob om oa w Disk g r t = absurd g
-closes-stopped files s f old new fb fm cb cm ob om oa w (NoStore at) g r t = absurd g
-closes-stopped files s f old new fb fm cb cm ob om oa w Clock g r t = absurd g
-closes-stopped files s f old new fb fm cb cm ob om oa w Memory g r t = inr (last-alone ob om oa memory_line (r, g.0) t, g.1, g.2)
+pub closes-stopped : {R S : Type 0} (s : Seen) (f : Bool) (old new : Interpreter R S) (fb fm : KnownFiles) (cb cm : KnownClock) (ob om oa : KnownOutput) (w : KnownDisk) (stop : Stop) → RunsLast s old new (world fb cb ob) (world fm cm om) w (Err stop)
+    → StopRefusesWrite ob om stop → TellsStop om oa stop → Closes s f (world fb cb ob) (world fm cm oa) w (end_of_stop stop)
+closes-stopped s f old new fb fm cb cm ob om oa w Output g r t = (subst (λ o. StopsIn ob o (closes s).out) (sym t) (r, g.0), g.1, g.2)
+closes-stopped s f old new fb fm cb cm ob om oa w Full g r t = inl (subst (λ o. StopsIn ob o (closes s).out) (sym t) (r, g.0), g.1, g.2)
+closes-stopped s f old new fb fm cb cm ob om oa w File g r t = absurd g
+closes-stopped s f old new fb fm cb cm ob om oa w Disk g r t = absurd g
+closes-stopped s f old new fb fm cb cm ob om oa w (NoStore at) g r t = absurd g
+closes-stopped s f old new fb fm cb cm ob om oa w Clock g r t = absurd g
+closes-stopped s f old new fb fm cb cm ob om oa w Memory g r t = inr (last-alone ob om oa memory_line (r, g.0) t, g.1, g.2)
 
 -- the end of a stop is an end of its own
 pub closing-stopped : (stop : Stop) → IsOpenedStop stop → IsClosing (end_of_stop stop)
@@ -425,28 +424,28 @@ module _ {R S : Type 0} (view : R → Tree) (source_view : S → Tree) (old new 
   pub closed-stopped : (stop : Stop) → IsOpenedStop stop → RanLast view source_view old new (world fb cb ob) (world fm cm om) v w (Err stop) → StopRefusesWrite ob om stop → TellsStop om oa stop
       → HasClosed view source_view old (world fb cb ob) (world fm cm oa) v w (end_of_stop stop)
   closed-stopped stop n g r t = record {
-    moments = g.moments;
-    told = g.told;
+    supply = g.supply;
+    supplied = g.supplied;
     closing = closing-stopped stop n;
-    closed = λ files is s rest f m. (let x = g.runs files is s rest f m in (closes-stopped files s old.refused old new fb fm cb cm ob om oa w stop x.0 r t, x.1));
+    closed = λ s rest f m. (let x = g.runs s rest f m in (closes-stopped s old.refused old new fb fm cb cm ob om oa w stop x.0 r t, x.1));
   }
 
   -- some line refuses a statement
   pub closed-refused : RanLast view source_view old new (world fb cb ob) (world fm cm om) v w (Ok tt) → om.refusals ≡ ob.refusals → new.refused ≡ true → HasClosed view source_view old (world fb cb ob) (world fm cm om) v w how.Refused
   closed-refused g r t = record {
-    moments = g.moments;
-    told = g.told;
+    supply = g.supply;
+    supplied = g.supplied;
     closing = record { running = record { fitting = λ e. absurd (cc); opened = λ at e. absurd (cc) }; input = λ e. absurd (cc); too_much = λ e. absurd (cc) };
-    closed = λ files is s rest f m. (let x = g.runs files is s rest f m in ((sym x.0.0 ∙ t, (r, x.0.1), x.0.2, x.0.3), x.1));
+    closed = λ s rest f m. (let x = g.runs s rest f m in ((sym x.0.0 ∙ t, (r, x.0.1), x.0.2, x.0.3), x.1));
   }
 
   -- none does
   pub closed-done : RanLast view source_view old new (world fb cb ob) (world fm cm om) v w (Ok tt) → om.refusals ≡ ob.refusals → new.refused ≡ false → HasClosed view source_view old (world fb cb ob) (world fm cm om) v w how.Done
   closed-done g r t = record {
-    moments = g.moments;
-    told = g.told;
+    supply = g.supply;
+    supplied = g.supplied;
     closing = record { running = record { fitting = λ e. absurd (cc); opened = λ at e. absurd (cc) }; input = λ e. absurd (cc); too_much = λ e. absurd (cc) };
-    closed = λ files is s rest f m. (let x = g.runs files is s rest f m in ((sym x.0.0 ∙ t, (r, x.0.1), x.0.2, x.0.3), x.1));
+    closed = λ s rest f m. (let x = g.runs s rest f m in ((sym x.0.0 ∙ t, (r, x.0.1), x.0.2, x.0.3), x.1));
   }
 
 -- ---- turns in which nothing failed
@@ -480,11 +479,11 @@ module _ {R S : Type 0} (view : R → Tree) (source_view : S → Tree) where
     took = Consumes-kept ib.left ib.left ia.left [] (Consumes-nil ib.left) kept;
     counted = omega (arith, given);
     too_much = (λ e. absurd (cc), λ l. absurd (omega (arith, le, l)));
-    moments = [];
-    told = told-none k.left;
+    supply = no_supply;
+    supplied = supplied-none f k;
     running = record { fitting = λ e. absurd (cc); opened = λ at e. absurd (cc) };
     ended = tt;
-    did = λ files t s rest z m. (did-input files (left_on v) s x.refused count (parts ib f k ob) (parts ia f k oa) w (spent-none f k) (left-here view source_view v x s z), along-still files s [] v);
+    did = λ s rest z m. (did-input (left_on v) s x.refused count (parts ib f k ob) (parts ia f k oa) w (spent-none f k) (left-here view source_view v x s z), along-still s [] v);
   }
 
   -- the input has ended
@@ -495,11 +494,11 @@ module _ {R S : Type 0} (view : R → Tree) (source_view : S → Tree) where
     took = took;
     counted = omega (arith, given);
     too_much = (λ h. absurd (c.closing.too_much h), λ l. absurd (omega (arith, le, l)));
-    moments = c.moments;
-    told = c.told;
+    supply = c.supply;
+    supplied = c.supplied;
     running = c.closing.running;
     ended = on-ok (result_of e) end;
-    did = λ files t s rest z m. (let d = c.closed files t s rest z m in (did-closed files s x.refused count b a w end e d.0, along-closed files s v w d.1));
+    did = λ s rest z m. (let d = c.closed s rest z m in (did-closed s x.refused count b a w end e d.0, along-closed s v w d.1));
   }
 
   -- too much has come
@@ -510,11 +509,11 @@ module _ {R S : Type 0} (view : R → Tree) (source_view : S → Tree) where
     took = took;
     counted = given;
     too_much = (λ e. past, λ l. refl);
-    moments = [];
-    told = told-none k.left;
+    supply = no_supply;
+    supplied = supplied-none f k;
     running = record { fitting = λ e. absurd (cc); opened = λ at e. absurd (cc) };
     ended = tt;
-    did = λ files t s rest z m. (did-too-long files (left_on v) s x.refused count bytes (parts ib f k ob) (parts ia f k oa) le piece w (spent-none f k) (left-here view source_view v x s z), along-still files s bytes v);
+    did = λ s rest z m. (did-too-long (left_on v) s x.refused count bytes (parts ib f k ob) (parts ia f k oa) le piece w (spent-none f k) (left-here view source_view v x s z), along-still s bytes v);
   }
 
   -- the session was stopped
@@ -529,11 +528,11 @@ module _ {R S : Type 0} (view : R → Tree) (source_view : S → Tree) where
         took = took;
         counted = given;
         too_much = (λ h. absurd (ends.too_much h), λ l. absurd (omega (arith, le, l)));
-        moments = g.moments;
-        told = g.told;
+        supply = g.supply;
+        supplied = g.supplied;
         running = ends.running;
         ended = stop-ended stop (IsAtEnd ia.left);
-        did = λ files is s rest z m. (let x = g.fed files is s rest z m in (did-stopped files view source_view s old.refused rest old new count bytes ib ia fb fm cb cm ob om oa w stop x.0 r t, x.1));
+        did = λ s rest z m. (let x = g.fed s rest z m in (did-stopped view source_view s old.refused rest old new count bytes ib ia fb fm cb cm ob om oa w stop x.0 r t, x.1));
       }
 
   -- ---- turns
@@ -545,49 +544,49 @@ module _ {R S : Type 0} (view : R → Tree) (source_view : S → Tree) where
     took = Consumes-nil o.input.left;
     counted = omega arith;
     sum = omega arith;
-    moments = [];
-    told = told-none o.clock.left;
-    played = λ files t s rest z m. (goes-none files view source_view s rest k (world_of o) v z m, along-still files s [] v);
+    supply = no_supply;
+    supplied = supplied-none o.files o.clock;
+    played = λ s rest z m. (goes-none view source_view s rest k (world_of o) v z m, along-still s [] v);
   }
 
   -- one turn more
-  pub piece-more : (old mid new : Interpreter R S) (count now later : ℕ) (b m a : Outside) (v u w : KnownDisk) → u.known ≡ v.known → IsSteady b m v u → HasReadSome m.files a.files → TookPiece view source_view old mid count now b m v u → TookPiece view source_view mid new now later m a u w
+  pub piece-more : (old mid new : Interpreter R S) (count now later : ℕ) (b m a : Outside) (v u w : KnownDisk) → u.known ≡ v.known → IsSteady b m v u → TookPiece view source_view old mid count now b m v u → TookPiece view source_view mid new now later m a u w
       → TookPiece view source_view old new count later b a v w
-  piece-more old mid new count now later b m a v u w same steady read x y = record {
+  piece-more old mid new count now later b m a v u w same steady x y = record {
     bytes = x.bytes ++ y.bytes;
     took = Consumes-trans b.input.left m.input.left a.input.left x.bytes y.bytes x.took y.took;
     counted = omega (arith, x.counted, y.counted, length-append x.bytes y.bytes);
     sum = omega (arith, x.sum, y.sum, length-append x.bytes y.bytes);
-    moments = x.moments ++ y.moments;
-    told = told-then b.clock.left m.clock.left a.clock.left x.moments y.moments x.told y.told;
-    played = λ files t s rest z e.
-        (let g = x.played files (table-first b.files m.files a.files steady.read read files t) s (y.moments ++ rest) z (e ∙ append_assoc x.moments y.moments rest) in
-        let next = after_play files s x.bytes in
-        let k = y.played files (table-second b.files m.files a.files steady.read read files steady.found t) next rest g.0.0 g.0.4 in (
-          goes-then files view source_view s x.bytes y.bytes (y.moments ++ rest) rest old mid new (world_of b) (world_of m) (world_of a) u w g.0 k.0,
-          along-then files s x.bytes y.bytes v u w (λ known. subst IsTrue (sym same) known) g.1 k.1,
+    supply = followed_by x.supply y.supply;
+    supplied = supplied-then b.files m.files b.clock m.clock a.clock x.supply y.supply steady.found x.supplied y.supplied;
+    played = λ s rest z e.
+        (let g = x.played s (followed_by y.supply rest) z (e ∙ followed-assoc x.supply y.supply rest) in
+        let next = after_play s x.bytes in
+        let k = y.played next rest g.0.0 g.0.4 in (
+          goes-then view source_view s x.bytes y.bytes (followed_by y.supply rest) rest old mid new (world_of b) (world_of m) (world_of a) u w g.0 k.0,
+          along-then s x.bytes y.bytes v u w (λ known. subst IsTrue (sym same) known) g.1 k.1,
         ));
   }
 
   -- turns, and then a run
-  pub piece-ran : (old mid : Interpreter R S) (now : ℕ) (b m a : Outside) (v u w : KnownDisk) (e : End) → u.known ≡ v.known → IsSteady b m v u → HasReadSome m.files a.files → TookPiece view source_view old mid 0 now b m v u → RanFrom view source_view mid now m a u w e
+  pub piece-ran : (old mid : Interpreter R S) (now : ℕ) (b m a : Outside) (v u w : KnownDisk) (e : End) → u.known ≡ v.known → IsSteady b m v u → TookPiece view source_view old mid 0 now b m v u → RanFrom view source_view mid now m a u w e
       → RanFrom view source_view old 0 b a v w e
-  piece-ran old mid now b m a v u w e same steady read x y = record {
+  piece-ran old mid now b m a v u w e same steady x y = record {
     taken = x.bytes ++ y.taken;
     took = Consumes-trans b.input.left m.input.left a.input.left x.bytes y.taken x.took y.took;
     counted = omega (arith, x.counted, y.counted, length-append x.bytes y.taken);
     too_much = (λ h. omega (arith, y.too_much.0 h, x.sum, length-append x.bytes y.taken), λ l. y.too_much.1 (omega (arith, l, x.sum, length-append x.bytes y.taken)));
-    moments = x.moments ++ y.moments;
-    told = told-then b.clock.left m.clock.left a.clock.left x.moments y.moments x.told y.told;
+    supply = followed_by x.supply y.supply;
+    supplied = supplied-then b.files m.files b.clock m.clock a.clock x.supply y.supply steady.found x.supplied y.supplied;
     running = y.running;
     ended = y.ended;
-    did = λ files t s rest z i.
-        (let g = x.played files (table-first b.files m.files a.files steady.read read files t) s (y.moments ++ rest) z (i ∙ append_assoc x.moments y.moments rest) in
-        let d = y.did files (table-second b.files m.files a.files steady.read read files steady.found t) (after_play files s x.bytes) rest g.0.0 g.0.4 in
-        let P : Bool → Type 0 = λ f. Did (work_from files (after_play files s x.bytes) f) (left_on w) now y.taken m a e in
-        let Q : ℕ → Type 0 = λ n. Did (work_from files (after_play files s x.bytes) (old.refused || (plays files s x.bytes).refused)) (left_on w) n y.taken m a e in (
-          did-then files s old.refused 0 x.bytes y.taken b m a (left_on w) (steady.refused, g.0.2) g.0.3 e (subst Q x.sum (subst P g.0.1 d.0)),
-          along-then files s x.bytes y.taken v u w (λ known. subst IsTrue (sym same) known) g.1 d.1,
+    did = λ s rest z i.
+        (let g = x.played s (followed_by y.supply rest) z (i ∙ followed-assoc x.supply y.supply rest) in
+        let d = y.did (after_play s x.bytes) rest g.0.0 g.0.4 in
+        let P : Bool → Type 0 = λ f. Did (work_from (after_play s x.bytes) f) (left_on w) now y.taken m a e in
+        let Q : ℕ → Type 0 = λ n. Did (work_from (after_play s x.bytes) (old.refused || (plays s x.bytes).refused)) (left_on w) n y.taken m a e in (
+          did-then s old.refused 0 x.bytes y.taken b m a (left_on w) (steady.refused, g.0.2) g.0.3 e (subst Q x.sum (subst P g.0.1 d.0)),
+          along-then s x.bytes y.taken v u w (λ known. subst IsTrue (sym same) known) g.1 d.1,
         ));
   }
 

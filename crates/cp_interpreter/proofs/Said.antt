@@ -4,7 +4,6 @@ use Rattle.std.specs.List.{flat_map, list_any}
 use Rattle.std.specs.declared.option.Option.{Option}
 use Rattle.std.specs.declared.option.Option.TheVariants.{Some}
 use Rattle.cp_outside.specs.Causes.{Accounts}
-use Rattle.cp_outside.specs.FileReads.{FileTable}
 use Rattle.cp_lang.specs.declared.syntax_tree.Stmt.{Stmt}
 use Rattle.cp_reply.specs.Lines.{lines}
 use Rattle.cp_reply.specs.declared.reply.Reply.{Reply}
@@ -27,10 +26,10 @@ one-reply : (o : Option Reply) (y : Reply) → Some y ≡ o → (lines y ≡ fla
 one-reply o y is = subst (λ z. (lines y ≡ flat_map lines (with_reply z [])) × (is_refusal y ≡ list_any is_refusal (with_reply z []))) is (sym (append-nil (lines y)), or-false (is_refusal y))
 
 -- the report of a statement that got this reply
-pub statement-said : (files : FileTable) (terms : Terms) (s : Session) (x : Stmt) (y : Reply) → Some y ≡ (turn_of (setting files terms) s (says x)).reply
-    → (lines y ≡ (statement_report files terms s x).out) × (is_refusal y ≡ (statement_report files terms s x).refused)
+pub statement-said : (terms : Terms) (s : Session) (x : Stmt) (y : Reply) → Some y ≡ (turn_of (setting terms) s (says x)).reply
+    → (lines y ≡ (statement_report terms s x).out) × (is_refusal y ≡ (statement_report terms s x).refused)
 unfolding replies_to_statements
-statement-said files terms s x y is = one-reply (turn_of (setting files terms) s (says x)).reply y is
+statement-said terms s x y is = one-reply (turn_of (setting terms) s (says x)).reply y is
 
 -- ---- ends of calls that say one line
 

@@ -2,7 +2,6 @@
 use Rattle.std.proofs.Common.{◌≡◌, ℕ, ◌+◌, ◌≤◌, List, [], Bool, true, false, refl, inl, inr, sym, ap, subst, ◌∙◌, arith}
 use Rattle.std.specs.Prelude.{IfErr}
 use Rattle.cp_outside.specs.Causes.{Accounts, Rose}
-use Rattle.cp_outside.specs.FileReads.{FileTable}
 use Rattle.cp_outside.specs.declared.files.FilesFault.{FilesFault}
 use Rattle.cp_outside.specs.declared.files.FilesFault.TheVariants as fails
 use Rattle.cp_reply.specs.Session.{Session}
@@ -25,31 +24,31 @@ use Rattle.cp_interpreter.proofs.Runs.{parts}
 use Rattle.cp_interpreter.proofs.Plays.{plays-none}
 
 -- no byte of the input writes nothing
-pub played-none : (files : FileTable) (terms : Terms) (s : Session) → (job_so_far files terms s []).out ≡ []
+pub played-none : (terms : Terms) (s : Session) → (job_so_far terms s []).out ≡ []
 unfolding plays job_so_far
-played-none files terms s = (plays-none files (begun terms s)).0
+played-none terms s = (plays-none (begun terms s)).0
 
 -- ---- from the start on
 
 -- what a session does from its start is what the whole session does, after what was read for its start
-module _ (files : FileTable) (terms : Terms) (s : Session) (k : ℕ) (taken : List ℕ) (i : KnownInput) (f fb : KnownFiles) (c : KnownClock) (o : KnownOutput) (a : Outside) (L : Leaving) (r : HasRead f fb k) where
+module _ (terms : Terms) (s : Session) (k : ℕ) (taken : List ℕ) (i : KnownInput) (f fb : KnownFiles) (c : KnownClock) (o : KnownOutput) (a : Outside) (L : Leaving) (r : HasRead f fb k) where
   spent_all : {n j : ℕ} → HasSpent n j fb a.files c a.clock → HasSpent (k + n) j f a.files c a.clock
   spent_all {n} {j} w = spent-sum f fb a.files c c a.clock k 0 n j (k + n) j refl (omega arith) (record { read = r; asked = refl }) w
 
-  start_done : (t : Bool) → AllDone (work_from files (begun terms s) false) L taken (parts i fb c o) a t → AllDone (work_on files terms s k) unseen taken (parts i f c o) a t
+  start_done : (t : Bool) → AllDone (work_from (begun terms s) false) L taken (parts i fb c o) a t → AllDone (work_on terms s k) unseen taken (parts i f c o) a t
   unfolding plays plays_all job_so_far job
   start_done t w = record { refused_is = w.refused_is; wrote = w.wrote; spent = spent_all w.spent; left = tt }
 
-  start_stopped : OutputStopped (work_from files (begun terms s) false) L taken (parts i fb c o) a → OutputStopped (work_on files terms s k) unseen taken (parts i f c o) a
+  start_stopped : OutputStopped (work_from (begun terms s) false) L taken (parts i fb c o) a → OutputStopped (work_on terms s k) unseen taken (parts i f c o) a
   unfolding plays plays_all job_so_far job
   start_stopped (inl w) = inl (record { at = w.at; inside = w.inside; wrote = w.wrote; spent = spent_all w.spent; left = tt })
   start_stopped (inr w) = inr (record { ended = w.ended; wrote = w.wrote; spent = spent_all w.spent; left = tt })
 
-  start_inside : OutOfMemory (work_from files (begun terms s) false) L taken (parts i fb c o) a → OutOfMemory (work_on files terms s k) unseen taken (parts i f c o) a
+  start_inside : OutOfMemory (work_from (begun terms s) false) L taken (parts i fb c o) a → OutOfMemory (work_on terms s k) unseen taken (parts i f c o) a
   unfolding plays plays_all job_so_far job
   start_inside w = record { at = w.at; within = w.within; wrote = w.wrote; spent = elim w.spent [ inl none ↦ inl (spent_all none) | inr all ↦ inr (spent_all all) ]; left = tt }
 
-  pub did-start : (e : End) → Did (work_from files (begun terms s) false) L 0 taken (parts i fb c o) a e → Did (work_on files terms s k) unseen 0 taken (parts i f c o) a e
+  pub did-start : (e : End) → Did (work_from (begun terms s) false) L 0 taken (parts i fb c o) a e → Did (work_on terms s k) unseen 0 taken (parts i f c o) a e
   unfolding plays plays_all job_so_far job
   did-start how.Done w = start_done _ w
   did-start how.Refused w = start_done _ w
@@ -121,7 +120,7 @@ module _ (i : KnownInput) (f fb : KnownFiles) (k : KnownClock) (o p : KnownOutpu
   }
 
   -- the causes where a call was stopped before it took a byte
-  pub causes-early : (fault : FilesFault) (stop : Stop) → (fault ≡ fails.Failed → stop ≡ File) × (fault ≡ fails.Memory → stop ≡ Memory) → fb.found ≡ f.found → f.faults ≤ fb.faults → ((λ e. e ≡ fails.Failed) fault → Rose f.faults fb.faults) → o.faults ≤ p.faults
+  pub causes-early : (fault : FilesFault) (stop : Stop) → (fault ≡ fails.Failed → stop ≡ File) × (fault ≡ fails.Memory → stop ≡ Memory) → fb.found ≡ f.found → f.faults ≤ fb.faults → (fault ≡ fails.Failed → Rose f.faults fb.faults) → o.faults ≤ p.faults
       → HasCauses (parts i f k o) (parts i fb k p) (end_of_stop stop)
   causes-early fails.Failed stop becomes found more rose later =
       subst (λ z. HasCauses (parts i f k o) (parts i fb k p) (end_of_stop z)) (sym (becomes.0 refl)) (record {

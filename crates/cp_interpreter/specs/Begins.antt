@@ -20,8 +20,10 @@ use Rattle.cp_reply.specs.declared.reply.Why.{Why}
 use Rattle.cp_reply.specs.declared.reply.Why.TheVariants as why
 use Rattle.cp_reply.specs.declared.reply.Reply.{Reply}
 use Rattle.cp_reply.specs.declared.reply.Reply.TheVariants as reply
-use Rattle.cp_reply.specs.Session.{FetchedFile, gives, withholds}
-use Rattle.cp_workspace.specs.Files.{KnownFiles, HasRead, IsTable, ReadsOrNone}
+use Rattle.cp_reply.specs.Session.{Supply, no_supply, followed_by, FetchedFile, gives, withholds}
+use Rattle.cp_workspace.specs.Files.{KnownFiles, HasRead, IsFound, ReadsOrNone}
+use Rattle.cp_workspace.specs.Clocks.{KnownClock}
+use Rattle.cp_workspace.specs.Supplies.{IsSupplied}
 use Rattle.cp_workspace.specs.Workspaces as workspace
 use Rattle.cp_workspace.specs.Workspaces.{HoldsFile, opened_session}
 use Rattle.cp_workspace.specs.declared.workspace.Workspace.{Workspace}
@@ -30,7 +32,7 @@ use Rattle.cp_interpreter.specs.Outside.{KnownOutput}
 use Rattle.cp_interpreter.specs.Play.{begun}
 use Rattle.cp_interpreter.specs.Story.{LeavesHistory, frames_end, left_on, store_terms, SaidLine, LeavesStart}
 use Rattle.cp_interpreter.specs.Alone.{report_on}
-use Rattle.cp_interpreter.specs.Scripts.{ScriptState}
+use Rattle.cp_interpreter.specs.Scripts.{ScriptState, script_of}
 use Rattle.cp_interpreter.specs.Turns.{Follows, TellsStop, end_of_stop}
 use Rattle.cp_interpreter.specs.declared.interpreter.Interpreter.{Interpreter}
 use Rattle.cp_interpreter.specs.declared.end.End.{End}
@@ -68,7 +70,7 @@ OpenedAs view source_view v w (Err stop) = (Opens v.view.content → ⊥) → Vi
 -- the same of its session
 abbrev pub BegunOn : {R S : Type 0} → (R → Tree) → (S → Tree) → List ℕ → KnownDisk → KnownDisk → Result (Interpreter R S) Stop → Type 0
 BegunOn view source_view curator v w (Ok x) = Opens v.view.content
-    × ((h : List Entry) (moments : List ℕ) → IsStore h v.view.content → Follows view source_view w x (begun (store_terms h v.view.content curator) (opened_session h moments)))
+    × ((h : List Entry) (supply : Supply) → IsStore h v.view.content → Follows view source_view w x (begun (store_terms h v.view.content curator) (opened_session h supply)))
 BegunOn view source_view curator v w (Err (NoStore at)) = IsNot Opens v.view.content at × ViewRests v.view w.view
 BegunOn view source_view curator v w (Err stop) = (Opens v.view.content → ⊥) → ViewRests v.view w.view
 
@@ -98,11 +100,12 @@ abbrev pub FoundAs : Result Reply Stop → Type 0
 FoundAs (Ok r) = r ≡ reply.Refused of.Init why.StoreExists
 FoundAs (Err stop) = (stop ≡ Disk) ⊎ (stop ≡ Memory)
 
--- what was replied to `init`, and what became of the files and of the disk
+-- what was replied to `init`, and what became of the files, which were found so, and of the disk
 pub record StoreMade (k : Kind) (given : FileTable → FetchedFile) (reads : ℕ) (before now : KnownFiles) (v w : KnownDisk) (result : Result Reply Stop) : Type 0 where
+  pub table : FileTable
+  pub found : IsFound before table
   pub exists : IsTrue v.known → (IsVacant v.view.content → ⊥) → (now ≡ before) × ViewRests v.view w.view × FoundAs result
-  pub made : IsTrue v.known → IsVacant v.view.content → (files : FileTable) → IsTable files before now
-      → MadeAs k (given files) reads before now w result × LeavesStart k (given files) v.view w.view
+  pub made : IsTrue v.known → IsVacant v.view.content → MadeAs k (given table) reads before now w result × LeavesStart k (given table) v.view w.view
   pub read : IsTrue v.known → IsVacant v.view.content → ReadsOrNone reads before now result
   pub stops : IfErr result IsMakingStop
 
@@ -115,20 +118,25 @@ GivesScript (Ok bytes) (Err w) = ⊥
 GivesScript (Err w) (Ok s) = ⊥
 GivesScript (Err w) (Err y) = y ≡ w
 
+-- these are the files, where they are known, and the one with this name gives the script
+abbrev pub GivesScriptOf : KnownFiles → List ℕ → Result ScriptState Why → Type 0
+GivesScriptOf known name r = (t : FileTable) × IsFound known t × GivesScript (script_of (t name)) r
+
 -- ---- calls that hand over one statement
 
 -- a content that opens gives its workspace, which commits nothing; of one that doesn't the offset is told at which it stops
 abbrev pub OpenedAlone : {R S : Type 0} → (R → Tree) → (S → Tree) → KnownDisk → KnownDisk → Result (Workspace R S) Stop → Type 0
 OpenedAlone view source_view v w (Ok d) = Opens v.view.content
-    × ((h : List Entry) (moments : List ℕ) → IsStore h v.view.content → workspace.Stands view source_view (store_terms h v.view.content []) d (opened_session h moments) × HoldsFile d h w)
+    × ((h : List Entry) (supply : Supply) → IsStore h v.view.content → workspace.Stands view source_view (store_terms h v.view.content []) d (opened_session h supply) × HoldsFile d h w)
 OpenedAlone view source_view v w (Err (NoStore at)) = IsNot Opens v.view.content at
 OpenedAlone view source_view v w (Err stop) = ⊤
 
--- the store wasn't opened, and nothing was read or written
-pub record NotOpened (before now : KnownFiles) (v w : KnownDisk) (result : Result Reply Stop) : Type 0 where
+-- the store wasn't opened, and nothing was told, read or written
+pub record NotOpened (supply : Supply) (before now : KnownFiles) (v w : KnownDisk) (result : Result Reply Stop) : Type 0 where
   pub stop : Stop
   pub is : result ≡ Err stop
   pub opening : IsOpeningStop stop
+  pub none_told : supply ≡ no_supply
   pub files : now ≡ before
   pub rests : ViewRests v.view w.view
 
@@ -143,15 +151,17 @@ LoadGives r h before now w (Err (NoStore at)) = ⊥
 LoadGives r h before now w (Err Clock) = ⊥
 LoadGives r h before now w (Err Memory) = (HasRead before now 0 ⊎ HasRead before now r.reads) × left_on w h r.history
 
--- what a load did to files and disk, whose report is expected on each history
-pub record LoadedAs (l : Load) (before now : KnownFiles) (v w : KnownDisk) (result : Result Reply Stop) : Type 0 where
-  pub no_store : IsTrue v.known → (at : ℕ) → result ≡ Err (NoStore at) → NotOpened before now v w result × IsNot Opens v.view.content at
-  pub unopened : IsTrue v.known → (Opens v.view.content → ⊥) → NotOpened before now v w result
-  pub did : IsTrue v.known → (files : FileTable) → IsTable files before now → (h : List Entry) → IsStore h v.view.content
-      → NotOpened before now v w result ⊎ LoadGives (report_on files h v.view.content (stmt.Load l)) h before now w result
-  pub later : IsTrue v.known → (files : FileTable) → IsTable files before now → (h : List Entry) → IsStore h v.view.content → v.view.moment ≤ w.view.moment
-  pub crash : IsTrue v.known → (files : FileTable) → IsTable files before now → (h : List Entry) → IsStore h v.view.content
-      → ViewLeaves (StandsForEither h (report_on files h v.view.content (stmt.Load l)).history) v.view w.view
+-- what a load did to files and disk, beside a clock that it doesn't ask, whose report is expected on each history, whatever would be told after this
+pub record LoadedAs (l : Load) (clock : KnownClock) (before now : KnownFiles) (v w : KnownDisk) (result : Result Reply Stop) : Type 0 where
+  pub supply : Supply
+  pub supplied : IsSupplied before clock clock supply
+  pub no_store : IsTrue v.known → (at : ℕ) → result ≡ Err (NoStore at) → NotOpened supply before now v w result × IsNot Opens v.view.content at
+  pub unopened : IsTrue v.known → (Opens v.view.content → ⊥) → NotOpened supply before now v w result
+  pub did : IsTrue v.known → (h : List Entry) → IsStore h v.view.content → (rest : Supply)
+      → NotOpened supply before now v w result ⊎ LoadGives (report_on (followed_by supply rest) h v.view.content (stmt.Load l)) h before now w result
+  pub later : IsTrue v.known → (h : List Entry) → IsStore h v.view.content → v.view.moment ≤ w.view.moment
+  pub crash : IsTrue v.known → (h : List Entry) → IsStore h v.view.content → (rest : Supply)
+      → ViewLeaves (StandsForEither h (report_on (followed_by supply rest) h v.view.content (stmt.Load l)).history) v.view w.view
   pub kinds : IfErr result (λ e. (e ≡ Output → ⊥) × (e ≡ Full → ⊥) × (e ≡ Clock → ⊥))
 
 -- a content from which the call answers has a reply of which this is so; of any other the offset is told at which it stops

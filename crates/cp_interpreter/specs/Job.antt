@@ -10,7 +10,6 @@ use Rattle.cp_reply.specs.Lines.{lines}
 use Rattle.cp_reply.specs.declared.reply.Reply.{Reply}
 use Rattle.cp_reply.specs.declared.reply.Reply.TheVariants as reply
 use Rattle.cp_reply.specs.Session.{Setting, Session, turn, replies_to, session_after}
-use Rattle.cp_outside.specs.FileReads.{FileTable}
 use Rattle.cp_workspace.specs.Texts.{Terms, setting}
 use Rattle.cp_workspace.specs.Loads.{cut_reads}
 use Rattle.cp_workspace.specs.Commits.{cut_asks}
@@ -44,22 +43,22 @@ pub record Report : Type 0 where
   pub asks : ℕ
   pub history : List Entry
 
--- what cuts do, with these files
-abbrev pub report_of : FileTable → Terms → Session → List Cut → Report
-report_of files terms s cuts =
-    let replies = replies_to (setting files terms) s cuts in
+-- what cuts do
+abbrev pub report_of : Terms → Session → List Cut → Report
+report_of terms s cuts =
+    let replies = replies_to (setting terms) s cuts in
     record {
       out = flat_map lines replies;
       refused = list_any is_refusal replies;
-      reads = reads_in (setting files terms) s cuts;
-      asks = asks_in (setting files terms) s cuts;
-      history = (session_after (setting files terms) s cuts).history;
+      reads = reads_in (setting terms) s cuts;
+      asks = asks_in (setting terms) s cuts;
+      history = (session_after (setting terms) s cuts).history;
     }
 
 -- what the statements do that end in these bytes
-unfoldable pub job_so_far : FileTable → Terms → Session → List ℕ → Report
-job_so_far files terms s bytes = report_of files terms s (cuts_in bytes)
+unfoldable pub job_so_far : Terms → Session → List ℕ → Report
+job_so_far terms s bytes = report_of terms s (cuts_in bytes)
 
 -- what all statements of a whole input do
-unfoldable pub job : FileTable → Terms → Session → List ℕ → Report
-job files terms s bytes = report_of files terms s (cuts_of bytes)
+unfoldable pub job : Terms → Session → List ℕ → Report
+job terms s bytes = report_of terms s (cuts_of bytes)

@@ -7,4 +7,5 @@ pub mod Story
 pub mod Alone
 pub mod Scripts
 pub mod Turns
+pub mod Replied
 pub mod Begins

@@ -2,7 +2,6 @@
 use Rattle.std.specs.Prelude.{ℕ, List, ◌++◌}
 use Rattle.cp_lang.specs.Cuts.{Scan, scan_start, scan_bytes, rest_of}
 use Rattle.cp_reply.specs.Session.{Session, session_after}
-use Rattle.cp_outside.specs.FileReads.{FileTable}
 use Rattle.cp_workspace.specs.Texts.{Terms, setting}
 use Rattle.cp_interpreter.specs.Job.{Report, report_of}
 
@@ -17,21 +16,21 @@ abbrev pub begun : Terms → Session → Seen
 begun terms s = record { scan = scan_start; terms = terms; session = s }
 
 -- what the cuts that end in the next bytes do
-unfoldable pub plays : FileTable → Seen → List ℕ → Report
-plays files s bytes = report_of files s.terms s.session (scan_bytes s.scan bytes).cuts
+unfoldable pub plays : Seen → List ℕ → Report
+plays s bytes = report_of s.terms s.session (scan_bytes s.scan bytes).cuts
 
 -- what is seen then
-unfoldable pub after_play : FileTable → Seen → List ℕ → Seen
-after_play files s bytes = record {
+unfoldable pub after_play : Seen → List ℕ → Seen
+after_play s bytes = record {
   scan = (scan_bytes s.scan bytes).scan;
   terms = s.terms;
-  session = session_after (setting files s.terms) s.session (scan_bytes s.scan bytes).cuts;
+  session = session_after (setting s.terms) s.session (scan_bytes s.scan bytes).cuts;
 }
 
 -- what the cut at the end of the input does
-unfoldable pub closes : FileTable → Seen → Report
-closes files s = report_of files s.terms s.session (rest_of s.scan)
+unfoldable pub closes : Seen → Report
+closes s = report_of s.terms s.session (rest_of s.scan)
 
 -- what all the rest of an input does
-unfoldable pub plays_all : FileTable → Seen → List ℕ → Report
-plays_all files s bytes = report_of files s.terms s.session ((scan_bytes s.scan bytes).cuts ++ rest_of (scan_bytes s.scan bytes).scan)
+unfoldable pub plays_all : Seen → List ℕ → Report
+plays_all s bytes = report_of s.terms s.session ((scan_bytes s.scan bytes).cuts ++ rest_of (scan_bytes s.scan bytes).scan)

@@ -2,8 +2,6 @@
 use Rattle.std.specs.Prelude.{◌≡◌, ◌⊎◌, ℕ, ◌≤◌, List, [], ◌++◌, codes, length, nat_lt, if◌then◌else◌, true, IsTrue, Result, Ok, Err, OnOk}
 use Rattle.std.specs.declared.option.Option.{Option}
 use Rattle.std.specs.declared.option.Option.TheVariants.{None, Some}
-use Rattle.cp_outside.specs.FileReads.{FileTable}
-use Rattle.cp_outside.specs.Moments.{HasTold}
 use Rattle.cp_model.specs.History.{Entry}
 use Rattle.cp_disk.specs.Views.{ViewRests, KnownDisk, ViewLeaves}
 use Rattle.cp_frame.specs.Stands.{IsStore, Opens}
@@ -13,8 +11,10 @@ use Rattle.cp_reply.specs.declared.reply.Of.TheVariants as of
 use Rattle.cp_reply.specs.declared.reply.Why.{Why}
 use Rattle.cp_reply.specs.declared.reply.Why.TheVariants as why
 use Rattle.cp_reply.specs.declared.reply.Reply.TheVariants as reply
+use Rattle.cp_reply.specs.Session.{Supply, no_supply, followed_by, next_table, after_read}
 use Rattle.cp_workspace.specs.declared.limits.TheConstants.{FILE_MAX}
-use Rattle.cp_workspace.specs.Files.{HasRead, IsTable}
+use Rattle.cp_workspace.specs.Files.{HasRead}
+use Rattle.cp_workspace.specs.Supplies.{IsSupplied}
 use Rattle.cp_workspace.specs.Workspaces.{opened_session}
 use Rattle.cp_interpreter.specs.Texts.{file_line, memory_line}
 use Rattle.cp_interpreter.specs.Outside.{World, Outside, world_of}
@@ -56,12 +56,12 @@ pub record PlayedScript (work : Work) (Leaves : Leaving) (script taken : List �
 -- ---- commits from files
 
 -- No session was run since the commit file failed, or memory ran out while it was read, which is all that was read; the clock wasn't asked, and a crash leaves the history.
-pub record ScriptFailed (h : List Entry) (Leaves : Leaving) (taken moments : List ℕ) (before now : World) (end : End) : Type 0 where
+pub record ScriptFailed (h : List Entry) (Leaves : Leaving) (taken : List ℕ) (supply : Supply) (before now : World) (end : End) : Type 0 where
   pub ended : ((end ≡ how.File) × WritesLast before.output now.output [] file_line) ⊎ ((end ≡ how.Memory) × WritesLast before.output now.output [] memory_line)
   pub read : HasRead before.files now.files 1
   pub clock : now.clock ≡ before.clock
   pub none_taken : taken ≡ []
-  pub none_told : moments ≡ []
+  pub none_told : supply ≡ no_supply
   pub left : Leaves h h
 
 -- What the script did, if there is one; else the line was written that says why there is none, and nothing was run, nor the clock asked.
@@ -70,29 +70,32 @@ DidScript (Ok script) work h Leaves taken moments before now end = PlayedScript 
 DidScript (Err w) work h Leaves taken moments before now end =
     (taken ≡ []) × (moments ≡ []) × SaidLine (refused_script w) true before.output now.output end × HasRead before.files now.files 1 × (now.clock ≡ before.clock) × Leaves h h
 
--- The session on the history h, which the content c tells, with the moments that were told and any after them; its commit file has been read.
-abbrev pub script_session : FileTable → List Entry → List ℕ → List ℕ → List ℕ → Work
-script_session files h c curator moments = work_on files (store_terms h c curator) (opened_session h moments) 1
+-- the script of the commit file with this name, which is the next file that is read
+abbrev pub next_script : List ℕ → Supply → Result (List ℕ) Why
+next_script file supply = script_of (next_table supply.tables file)
 
--- What was done on a store that stands for the history h, which the content tells at entry.
-pub record DidCommit (files : FileTable) (h : List Entry) (file curator taken moments : List ℕ) (before now : Outside) (v w : KnownDisk) (end : End) : Type 0 where
-  pub did : (rest : List ℕ) → (HasNotBegun taken moments before now end × LeavesHistory h v w)
-      ⊎ ScriptFailed h (left_on w) taken moments (world_of before) (world_of now) end
-      ⊎ DidScript (script_of (files file)) (script_session files h v.view.content curator (moments ++ rest)) h (left_on w) taken moments (world_of before) (world_of now) end
+-- The session on the history h, which the content c tells, to which this is told; its commit file is the first that was read.
+abbrev pub script_session : List Entry → List ℕ → List ℕ → Supply → Work
+script_session h c curator supply = work_on (store_terms h c curator) (after_read (opened_session h supply)) 1
+
+-- What was done on a store that stands for the history h, which the content tells at entry, whatever would be told after this.
+pub record DidCommit (h : List Entry) (file curator taken : List ℕ) (supply : Supply) (before now : Outside) (v w : KnownDisk) (end : End) : Type 0 where
+  pub did : (rest : Supply) → (HasNotBegun taken supply before now end × LeavesHistory h v w)
+      ⊎ ScriptFailed h (left_on w) taken supply (world_of before) (world_of now) end
+      ⊎ DidScript (next_script file (followed_by supply rest)) (script_session h v.view.content curator (followed_by supply rest)) h (left_on w) taken supply.moments (world_of before) (world_of now) end
   pub later : v.view.moment ≤ w.view.moment
-  pub crash : (rest : List ℕ) → ViewLeaves (StandsForFront (script_session files h v.view.content curator (moments ++ rest)) taken) v.view w.view
+  pub crash : (rest : Supply) → ViewLeaves (StandsForFront (script_session h v.view.content curator (followed_by supply rest)) taken) v.view w.view
 
 -- A call that was to run a commit file on a store took no input; the store is opened before the file is read.
--- What isn't opened is no store, and what is none isn't opened. What stands for a history has the session over the script.
+-- What isn't opened is no store, and what is none isn't opened. What stands for a history has the session over the script, to which the clock told some moments, and reads some files.
 pub record Committed (file curator : List ℕ) (before now : Outside) (v w : KnownDisk) (end : End) : Type 0 where
   pub input : now.input ≡ before.input
   pub taken : List ℕ
-  pub moments : List ℕ
-  pub told : HasTold before.clock.left now.clock.left moments
+  pub supply : Supply
+  pub supplied : IsSupplied before.files before.clock now.clock supply
   pub fitting : end ≡ how.Usage → ⊥
   pub fed : end ≡ how.Input → ⊥
   pub short : end ≡ how.TooLong → ⊥
-  pub no_store : IsTrue v.known → (at : ℕ) → end ≡ how.NoStore at → HasNotBegun taken moments before now end × ViewRests v.view w.view × IsNot Opens v.view.content at
-  pub unopened : IsTrue v.known → (Opens v.view.content → ⊥) → HasNotBegun taken moments before now end × ViewRests v.view w.view
-  pub did : IsTrue v.known → (files : FileTable) → IsTable files before.files now.files → (h : List Entry) → IsStore h v.view.content
-      → DidCommit files h file curator taken moments before now v w end
+  pub no_store : IsTrue v.known → (at : ℕ) → end ≡ how.NoStore at → HasNotBegun taken supply before now end × ViewRests v.view w.view × IsNot Opens v.view.content at
+  pub unopened : IsTrue v.known → (Opens v.view.content → ⊥) → HasNotBegun taken supply before now end × ViewRests v.view w.view
+  pub did : IsTrue v.known → (h : List Entry) → IsStore h v.view.content → DidCommit h file curator taken supply before now v w end

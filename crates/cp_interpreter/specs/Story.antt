@@ -6,7 +6,6 @@ use Rattle.std.specs.Io.KnownBytes.{Appends, Consumes, IsAtEnd}
 use Rattle.cp_outside.specs.Causes.{Accounts, Rose, one_more}
 use Rattle.cp_outside.specs.FileReads.{FileTable}
 use Rattle.cp_outside.specs.Sinks.{TakesLess}
-use Rattle.cp_outside.specs.Moments.{HasTold}
 use Rattle.cp_model.specs.Keyed.{len}
 use Rattle.cp_model.specs.History.{Entry, start}
 use Rattle.cp_model.specs.declared.kind.Kind.{Kind}
@@ -23,9 +22,10 @@ use Rattle.cp_reply.specs.Lines.{lines}
 use Rattle.cp_reply.specs.declared.reply.Of.TheVariants as of
 use Rattle.cp_reply.specs.declared.reply.Why.TheVariants as why
 use Rattle.cp_reply.specs.declared.reply.Reply.TheVariants as reply
-use Rattle.cp_reply.specs.Session.{Session, FetchedFile, gives, withholds}
+use Rattle.cp_reply.specs.Session.{Supply, no_supply, followed_by, Session, FetchedFile, gives, withholds}
 use Rattle.cp_workspace.specs.Texts.{Terms}
-use Rattle.cp_workspace.specs.Files.{HasRead, IsTable, ReadsOrNone}
+use Rattle.cp_workspace.specs.Files.{HasRead, IsFound, ReadsOrNone}
+use Rattle.cp_workspace.specs.Supplies.{IsSupplied}
 use Rattle.cp_workspace.specs.Spending.{HasSpent}
 use Rattle.cp_workspace.specs.Workspaces.{opened_session}
 use Rattle.cp_interpreter.specs.Texts.{input_line, file_line, disk_line, no_store_line, memory_line, too_long_line, clock_line}
@@ -231,11 +231,11 @@ abbrev pub after_reads : ℕ → Report → Report
 after_reads reads r = record r { reads = reads + r.reads }
 
 -- The session s, for which so many files were read.
-abbrev pub work_on : FileTable → Terms → Session → ℕ → Work
-work_on files terms s reads =
+abbrev pub work_on : Terms → Session → ℕ → Work
+work_on terms s reads =
     record {
-      so_far = λ bytes. after_reads reads (job_so_far files terms s bytes);
-      whole = λ bytes. after_reads reads (job files terms s bytes);
+      so_far = λ bytes. after_reads reads (job_so_far terms s bytes);
+      whole = λ bytes. after_reads reads (job terms s bytes);
     }
 
 -- ---- a session on a store
@@ -267,17 +267,17 @@ abbrev pub IsEarly : End → Type 0
 IsEarly end = (end ≡ how.Disk) ⊎ ((at : ℕ) × (end ≡ how.NoStore at)) ⊎ (end ≡ how.Memory)
 
 -- No session was run: the store is none, or the disk failed, or memory ran out, and the last line was written. No input was taken, no file was read, and the clock wasn't asked.
-pub record HasNotBegun (taken moments : List ℕ) (before now : Outside) (end : End) : Type 0 where
+pub record HasNotBegun (taken : List ℕ) (supply : Supply) (before now : Outside) (end : End) : Type 0 where
   pub early : IsEarly end
   pub none_taken : taken ≡ []
-  pub none_told : moments ≡ []
+  pub none_told : supply ≡ no_supply
   pub files : now.files ≡ before.files
   pub clock : now.clock ≡ before.clock
   pub wrote : WritesLast before.output now.output [] (early_line end)
 
--- The session on the history h, which the content c tells, with the moments that were told and any after them.
-abbrev pub session_on : FileTable → List Entry → List ℕ → List ℕ → List ℕ → Work
-session_on files h c curator moments = work_on files (store_terms h c curator) (opened_session h moments) 0
+-- The session on the history h, which the content c tells, to which this is told.
+abbrev pub session_on : List Entry → List ℕ → List ℕ → Supply → Work
+session_on h c curator supply = work_on (store_terms h c curator) (opened_session h supply) 0
 
 -- It stands for what the work makes of a front of the bytes that were taken.
 abbrev pub StandsForFront : Work → List ℕ → List ℕ → Type 0
@@ -290,28 +290,27 @@ pub record LeavesHistory (h : List Entry) (v w : KnownDisk) : Type 0 where
   pub since : (t : ℕ) (c : List ℕ) → t ≤ v.view.moment → w.view.since t c → v.view.since t c ⊎ StandsFor h c
   pub now : (c : List ℕ) → w.view.images c → v.view.images c ⊎ StandsFor h c
 
--- What was done on a store that stands for the history h, which the content tells at entry: its session; or none was run, and the history is left.
-pub record DidOn (files : FileTable) (h : List Entry) (curator taken moments : List ℕ) (before now : Outside) (v w : KnownDisk) (end : End) : Type 0 where
-  pub did : (rest : List ℕ) → (HasNotBegun taken moments before now end × LeavesHistory h v w)
-      ⊎ Did (session_on files h v.view.content curator (moments ++ rest)) (left_on w) 0 taken before now end
+-- What was done on a store that stands for the history h, which the content tells at entry: its session, whatever would be told after this; or none was run, and the history is left.
+pub record DidOn (h : List Entry) (curator taken : List ℕ) (supply : Supply) (before now : Outside) (v w : KnownDisk) (end : End) : Type 0 where
+  pub did : (rest : Supply) → (HasNotBegun taken supply before now end × LeavesHistory h v w)
+      ⊎ Did (session_on h v.view.content curator (followed_by supply rest)) (left_on w) 0 taken before now end
   pub later : v.view.moment ≤ w.view.moment
-  pub crash : (rest : List ℕ) → ViewLeaves (StandsForFront (session_on files h v.view.content curator (moments ++ rest)) taken) v.view w.view
+  pub crash : (rest : Supply) → ViewLeaves (StandsForFront (session_on h v.view.content curator (followed_by supply rest)) taken) v.view w.view
 
 -- A call that ran a session on a store took these bytes of the input, all of them where all was done; more than a call takes exactly at that end.
--- What isn't opened is no store, and what is none isn't opened. What stands for a history has its session.
+-- What isn't opened is no store, and what is none isn't opened. What stands for a history has its session, to which the clock told some moments, and reads some files.
 pub record RanOn (curator : List ℕ) (before now : Outside) (v w : KnownDisk) (end : End) : Type 0 where
   pub taken : List ℕ
   pub took : Consumes before.input.left now.input.left taken
   pub counted : now.input.given ≡ before.input.given + length taken
   pub too_much : (end ≡ how.TooLong) ↔ (INPUT_MAX < length taken)
-  pub moments : List ℕ
-  pub told : HasTold before.clock.left now.clock.left moments
+  pub supply : Supply
+  pub supplied : IsSupplied before.files before.clock now.clock supply
   pub fitting : end ≡ how.Usage → ⊥
   pub ended : OnOk (result_of end) (IsAtEnd now.input.left)
-  pub no_store : IsTrue v.known → (at : ℕ) → end ≡ how.NoStore at → HasNotBegun taken moments before now end × ViewRests v.view w.view × IsNot Opens v.view.content at
-  pub unopened : IsTrue v.known → (Opens v.view.content → ⊥) → HasNotBegun taken moments before now end × ViewRests v.view w.view
-  pub did : IsTrue v.known → (files : FileTable) → IsTable files before.files now.files → (h : List Entry) → IsStore h v.view.content
-      → DidOn files h curator taken moments before now v w end
+  pub no_store : IsTrue v.known → (at : ℕ) → end ≡ how.NoStore at → HasNotBegun taken supply before now end × ViewRests v.view w.view × IsNot Opens v.view.content at
+  pub unopened : IsTrue v.known → (Opens v.view.content → ⊥) → HasNotBegun taken supply before now end × ViewRests v.view w.view
+  pub did : IsTrue v.known → (h : List Entry) → IsStore h v.view.content → DidOn h curator taken supply before now v w end
 
 -- ---- a new store
 
@@ -339,17 +338,19 @@ EndedEarly before now end = IsEarly end × WritesLast before.output now.output [
 abbrev pub FileOfStartFailed : ℕ → Outside → Outside → End → Type 0
 FileOfStartFailed reads before now end = (end ≡ how.File) × (reads ≡ 1) × WritesLast before.output now.output [] file_line × HasRead before.files now.files 1
 
--- A call that was to make a store read no input and asked no clock. Where there is one, it says so, and reads no file; else it made one from the start tree, whose file it read once.
+-- A call that was to make a store read no input and asked no clock. Where there is one, it says so, and reads no file; else it made one from the start tree, whose file it read once, and found so.
 pub record Made (k : Kind) (given : FileTable → FetchedFile) (reads : ℕ) (before now : Outside) (v w : KnownDisk) (end : End) : Type 0 where
   pub running : IsRunning end
   pub input : now.input ≡ before.input
   pub clock : now.clock ≡ before.clock
+  pub table : FileTable
+  pub found : IsFound before.files table
   pub exists : IsTrue v.known → (IsVacant v.view.content → ⊥)
       → (now.files ≡ before.files) × ViewRests v.view w.view × (SaidLine store_exists true before.output now.output end ⊎ EndedEarly before now end)
-  pub did : IsTrue v.known → IsVacant v.view.content → (files : FileTable) → IsTable files before.files now.files
-      → FileOfStartFailed reads before now end ⊎ EndedEarly before now end ⊎ MadeFrom k (given files) before now v w end
+  pub did : IsTrue v.known → IsVacant v.view.content
+      → FileOfStartFailed reads before now end ⊎ EndedEarly before now end ⊎ MadeFrom k (given table) before now v w end
   pub read : IsTrue v.known → IsVacant v.view.content → ReadsOrNone reads before.files now.files (result_of end)
-  pub crash : IsTrue v.known → IsVacant v.view.content → (files : FileTable) → IsTable files before.files now.files → LeavesStart k (given files) v.view w.view
+  pub crash : IsTrue v.known → IsVacant v.view.content → LeavesStart k (given table) v.view w.view
 
 -- ---- causes
 

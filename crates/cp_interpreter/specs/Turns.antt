@@ -1,31 +1,30 @@
 -- What the steps of a session did to files, the clock, the output and the disk: for the program's own clauses.
 use Rattle.cp_interpreter.specs.declared.limits.TheConstants.{INPUT_MAX}
-use Rattle.std.specs.Prelude.{◌≡◌, ◌⊎◌, ◌↔◌, ℕ, ◌≤◌, ◌<◌, ◌+◌, List, [], ◌++◌, length, take, Bool, true, false, IsTrue, ◌||◌, Result, Ok, Err, ⊤, OnOk}
+use Rattle.std.specs.Prelude.{◌≡◌, ◌⊎◌, ◌↔◌, ℕ, ◌≤◌, ◌<◌, ◌+◌, List, [], length, take, Bool, true, false, IsTrue, ◌||◌, Result, Ok, Err, ⊤, OnOk}
 use Rattle.std.specs.declared.option.Option.{Option}
 use Rattle.std.specs.Io.KnownBytes.{Appends, Consumes, IsAtEnd}
 use Rattle.cp_outside.specs.Causes.{Accounts}
-use Rattle.cp_outside.specs.FileReads.{FileTable}
 use Rattle.cp_outside.specs.Sinks.{TakesLess}
-use Rattle.cp_outside.specs.Moments.{HasTold}
 use Rattle.cp_lang.specs.Cuts.{Scan}
 use Rattle.cp_lang.specs.CutterState.{CutterState, held_of}
 use Rattle.cp_lang.specs.declared.cut.Cut.{Cut}
 use Rattle.cp_model.specs.Tree.{Tree}
 use Rattle.cp_model.specs.History.{Entry}
 use Rattle.cp_frame.specs.Stands.{StandsFor, StandsForEither}
-use Rattle.cp_reply.specs.Session.{session_after}
+use Rattle.cp_reply.specs.Session.{Supply, followed_by, after_read, session_after}
 use Rattle.cp_interpreter.specs.Texts.{no_store_line, memory_line, file_line, disk_line, clock_line}
 use Rattle.cp_workspace.specs.Texts.{setting}
 use Rattle.cp_disk.specs.Counts.{UsesDisk}
 use Rattle.cp_disk.specs.Views.{KnownDisk, Leaves}
-use Rattle.cp_workspace.specs.Files.{HasReadSome, IsTable, UsesFiles}
+use Rattle.cp_workspace.specs.Files.{HasReadSome, UsesFiles}
+use Rattle.cp_workspace.specs.Supplies.{IsSupplied}
 use Rattle.cp_workspace.specs.Workspaces.{Stands, IsUsable, HasStamps, HoldsFile}
 use Rattle.cp_workspace.specs.declared.workspace.Workspace.{Workspace}
 use Rattle.cp_interpreter.specs.Job.{Report, report_of}
 use Rattle.cp_interpreter.specs.Play.{Seen, plays, after_play, closes, plays_all}
 use Rattle.cp_interpreter.specs.Outside.{KnownOutput, World, Outside, world_of}
 use Rattle.cp_interpreter.specs.Story.{Writes, WasRefused, StopsIn, TakesFrom, WritesLast, left_on, SpentAs, SpentNothing, spending, Work, Did, after_reads, IsRunning, result_of}
-use Rattle.cp_interpreter.specs.Scripts.{script_of, ScriptFailed, DidScript}
+use Rattle.cp_interpreter.specs.Scripts.{next_script, ScriptFailed, DidScript}
 use Rattle.cp_interpreter.specs.declared.interpreter.Interpreter.{Interpreter}
 use Rattle.cp_interpreter.specs.declared.end.End.{End}
 use Rattle.cp_interpreter.specs.declared.end.End.TheVariants as how
@@ -109,19 +108,19 @@ SendsOut text before after (Err Memory) = Appends before after []
 -- ---- what one cut does
 
 -- what these cuts do
-abbrev pub cuts_play : FileTable → Seen → List Cut → Report
-cuts_play files s cuts = report_of files s.terms s.session cuts
+abbrev pub cuts_play : Seen → List Cut → Report
+cuts_play s cuts = report_of s.terms s.session cuts
 
 -- the session after these cuts
-abbrev pub after_cuts : FileTable → Seen → List Cut → Seen
-after_cuts files s cuts = record { scan = s.scan; terms = s.terms; session = session_after (setting files s.terms) s.session cuts }
+abbrev pub after_cuts : Seen → List Cut → Seen
+after_cuts s cuts = record { scan = s.scan; terms = s.terms; session = session_after (setting s.terms) s.session cuts }
 
--- What is reported was written and spent, the moments after it are the rest, and the code follows what is seen then; or the output stopped in it, once its turn was made;
+-- What is reported was written and spent, the rest is still told after it, and the code follows what is seen then; or the output stopped in it, once its turn was made;
 -- or nothing was written: a file fails that is read, the clock where it is asked, and the disk where one of these is; where memory ran out nothing was spent or all.
 -- With a file or the clock the disk is as it was, else a crash leaves the history before or after.
-abbrev pub Goes : {R S : Type 0} → (R → Tree) → (S → Tree) → Report → Seen → List Entry → List ℕ → Interpreter R S → Interpreter R S → World → World → KnownDisk → Result ⊤ Stop → Type 0
+abbrev pub Goes : {R S : Type 0} → (R → Tree) → (S → Tree) → Report → Seen → List Entry → Supply → Interpreter R S → Interpreter R S → World → World → KnownDisk → Result ⊤ Stop → Type 0
 Goes view source_view r next h rest old new before now w (Ok x) =
-    Follows view source_view w new next × (new.refused ≡ (old.refused || r.refused)) × Appends before.output.contents now.output.contents r.out × SpentAs r before now × (next.session.moments ≡ rest)
+    Follows view source_view w new next × (new.refused ≡ (old.refused || r.refused)) × Appends before.output.contents now.output.contents r.out × SpentAs r before now × (next.session.supply ≡ rest)
 Goes view source_view r next h rest old new before now w (Err Output) =
     TakesLess before.output.contents now.output.contents r.out × SpentAs r before now × left_on w r.history r.history
 Goes view source_view r next h rest old new before now w (Err Full) =
@@ -136,105 +135,105 @@ Goes view source_view r next h rest old new before now w (Err Clock) =
 Goes view source_view r next h rest old new before now w (Err Memory) =
     Appends before.output.contents now.output.contents [] × (SpentNothing before now ⊎ SpentAs r before now) × left_on w h r.history
 
--- Cuts were run, as the sessions do that the code follows, with the moments that the clock told and any after them.
-pub record Went {R S : Type 0} (view : R → Tree) (source_view : S → Tree) (report : FileTable → Seen → Report) (after : FileTable → Seen → Seen) (old new : Interpreter R S) (before now : World) (v w : KnownDisk) (result : Result ⊤ Stop) : Type 0 where
-  pub moments : List ℕ
-  pub told : HasTold before.clock.left now.clock.left moments
-  pub goes : (files : FileTable) → IsTable files before.files now.files → (s : Seen) (rest : List ℕ) → Follows view source_view v old s → s.session.moments ≡ moments ++ rest
-      → Goes view source_view (report files s) (after files s) s.session.history rest old new before now w result × Leaves (StandsForEither s.session.history (report files s).history) v w
+-- Cuts were run, as the sessions do that the code follows, with what was told and whatever is told after that.
+pub record Went {R S : Type 0} (view : R → Tree) (source_view : S → Tree) (report : Seen → Report) (after : Seen → Seen) (old new : Interpreter R S) (before now : World) (v w : KnownDisk) (result : Result ⊤ Stop) : Type 0 where
+  pub supply : Supply
+  pub supplied : IsSupplied before.files before.clock now.clock supply
+  pub goes : (s : Seen) (rest : Supply) → Follows view source_view v old s → s.session.supply ≡ followed_by supply rest
+      → Goes view source_view (report s) (after s) s.session.history rest old new before now w result × Leaves (StandsForEither s.session.history (report s).history) v w
 
 -- ---- what the bytes of a piece do
 
 -- the output stopped in what is written for the statement that ends with the byte at this position: all before it was written
-pub record StopsWriting (files : FileTable) (s : Seen) (bytes : List ℕ) (before now : World) (w : KnownDisk) : Type 0 where
+pub record StopsWriting (s : Seen) (bytes : List ℕ) (before now : World) (w : KnownDisk) : Type 0 where
   pub at : ℕ
   pub inside : at < length bytes
-  pub wrote : TakesFrom (length (plays files s (take at bytes)).out) before.output.contents now.output.contents (plays files s (take (at + 1) bytes)).out
-  pub spent : SpentAs (plays files s (take (at + 1) bytes)) before now
-  pub left : left_on w (plays files s (take (at + 1) bytes)).history (plays files s (take (at + 1) bytes)).history
+  pub wrote : TakesFrom (length (plays s (take at bytes)).out) before.output.contents now.output.contents (plays s (take (at + 1) bytes)).out
+  pub spent : SpentAs (plays s (take (at + 1) bytes)) before now
+  pub left : left_on w (plays s (take (at + 1) bytes)).history (plays s (take (at + 1) bytes)).history
 
 -- a file failed at the load that ends with the byte at this position: all before it was written
-pub record StopsAtLoad (files : FileTable) (s : Seen) (bytes : List ℕ) (before now : World) (w : KnownDisk) : Type 0 where
+pub record StopsAtLoad (s : Seen) (bytes : List ℕ) (before now : World) (w : KnownDisk) : Type 0 where
   pub at : ℕ
   pub inside : at < length bytes
-  pub load : (plays files s (take (at + 1) bytes)).reads ≡ (plays files s (take at bytes)).reads + 1
-  pub wrote : Appends before.output.contents now.output.contents (plays files s (take at bytes)).out
-  pub spent : SpentAs (plays files s (take (at + 1) bytes)) before now
-  pub left : left_on w (plays files s (take at bytes)).history (plays files s (take at bytes)).history
+  pub load : (plays s (take (at + 1) bytes)).reads ≡ (plays s (take at bytes)).reads + 1
+  pub wrote : Appends before.output.contents now.output.contents (plays s (take at bytes)).out
+  pub spent : SpentAs (plays s (take (at + 1) bytes)) before now
+  pub left : left_on w (plays s (take at bytes)).history (plays s (take at bytes)).history
 
 -- the clock failed in the commit that ends with the byte at this position: all before it was written
-pub record StopsAtCommit (files : FileTable) (s : Seen) (bytes : List ℕ) (before now : World) (w : KnownDisk) : Type 0 where
+pub record StopsAtCommit (s : Seen) (bytes : List ℕ) (before now : World) (w : KnownDisk) : Type 0 where
   pub at : ℕ
   pub inside : at < length bytes
-  pub commit : (plays files s (take (at + 1) bytes)).asks ≡ (plays files s (take at bytes)).asks + 1
-  pub wrote : Appends before.output.contents now.output.contents (plays files s (take at bytes)).out
-  pub spent : SpentAs (plays files s (take (at + 1) bytes)) before now
-  pub left : left_on w (plays files s (take at bytes)).history (plays files s (take at bytes)).history
+  pub commit : (plays s (take (at + 1) bytes)).asks ≡ (plays s (take at bytes)).asks + 1
+  pub wrote : Appends before.output.contents now.output.contents (plays s (take at bytes)).out
+  pub spent : SpentAs (plays s (take (at + 1) bytes)) before now
+  pub left : left_on w (plays s (take at bytes)).history (plays s (take at bytes)).history
 
 -- the disk failed in the load or the commit that ends with the byte at this position: all before it was written
-pub record StopsOnDisk (files : FileTable) (s : Seen) (bytes : List ℕ) (before now : World) (w : KnownDisk) : Type 0 where
+pub record StopsOnDisk (s : Seen) (bytes : List ℕ) (before now : World) (w : KnownDisk) : Type 0 where
   pub at : ℕ
   pub inside : at < length bytes
-  pub writing : spending (plays files s (take (at + 1) bytes)) ≡ spending (plays files s (take at bytes)) + 1
-  pub wrote : Appends before.output.contents now.output.contents (plays files s (take at bytes)).out
-  pub spent : SpentAs (plays files s (take (at + 1) bytes)) before now
-  pub left : left_on w (plays files s (take at bytes)).history (plays files s (take (at + 1) bytes)).history
+  pub writing : spending (plays s (take (at + 1) bytes)) ≡ spending (plays s (take at bytes)) + 1
+  pub wrote : Appends before.output.contents now.output.contents (plays s (take at bytes)).out
+  pub spent : SpentAs (plays s (take (at + 1) bytes)) before now
+  pub left : left_on w (plays s (take at bytes)).history (plays s (take (at + 1) bytes)).history
 
 -- memory ran out in the statement that ends with the byte at this position: all before it was written
-pub record StopsInside (files : FileTable) (s : Seen) (bytes : List ℕ) (before now : World) (w : KnownDisk) : Type 0 where
+pub record StopsInside (s : Seen) (bytes : List ℕ) (before now : World) (w : KnownDisk) : Type 0 where
   pub at : ℕ
   pub within : at ≤ length bytes
-  pub wrote : Appends before.output.contents now.output.contents (plays files s (take at bytes)).out
-  pub spent : SpentAs (plays files s (take at bytes)) before now ⊎ SpentAs (plays files s (take (at + 1) bytes)) before now
-  pub left : left_on w (plays files s (take at bytes)).history (plays files s (take (at + 1) bytes)).history
+  pub wrote : Appends before.output.contents now.output.contents (plays s (take at bytes)).out
+  pub spent : SpentAs (plays s (take at bytes)) before now ⊎ SpentAs (plays s (take (at + 1) bytes)) before now
+  pub left : left_on w (plays s (take at bytes)).history (plays s (take (at + 1) bytes)).history
 
 -- Bytes were played, or a front part of them where something stopped the session.
-abbrev pub Fed : {R S : Type 0} → (R → Tree) → (S → Tree) → FileTable → Seen → List ℕ → List ℕ → Interpreter R S → Interpreter R S → World → World → KnownDisk → Result ⊤ Stop → Type 0
-Fed view source_view files s bytes rest old new before now w (Ok x) =
-    Goes view source_view (plays files s bytes) (after_play files s bytes) s.session.history rest old new before now w (Ok x)
-Fed view source_view files s bytes rest old new before now w (Err Output) = StopsWriting files s bytes before now w
-Fed view source_view files s bytes rest old new before now w (Err Full) = StopsWriting files s bytes before now w
-Fed view source_view files s bytes rest old new before now w (Err File) = StopsAtLoad files s bytes before now w
-Fed view source_view files s bytes rest old new before now w (Err Disk) = StopsOnDisk files s bytes before now w
-Fed view source_view files s bytes rest old new before now w (Err (NoStore at)) = ⊥
-Fed view source_view files s bytes rest old new before now w (Err Clock) = StopsAtCommit files s bytes before now w
-Fed view source_view files s bytes rest old new before now w (Err Memory) = StopsInside files s bytes before now w
+abbrev pub Fed : {R S : Type 0} → (R → Tree) → (S → Tree) → Seen → List ℕ → Supply → Interpreter R S → Interpreter R S → World → World → KnownDisk → Result ⊤ Stop → Type 0
+Fed view source_view s bytes rest old new before now w (Ok x) =
+    Goes view source_view (plays s bytes) (after_play s bytes) s.session.history rest old new before now w (Ok x)
+Fed view source_view s bytes rest old new before now w (Err Output) = StopsWriting s bytes before now w
+Fed view source_view s bytes rest old new before now w (Err Full) = StopsWriting s bytes before now w
+Fed view source_view s bytes rest old new before now w (Err File) = StopsAtLoad s bytes before now w
+Fed view source_view s bytes rest old new before now w (Err Disk) = StopsOnDisk s bytes before now w
+Fed view source_view s bytes rest old new before now w (Err (NoStore at)) = ⊥
+Fed view source_view s bytes rest old new before now w (Err Clock) = StopsAtCommit s bytes before now w
+Fed view source_view s bytes rest old new before now w (Err Memory) = StopsInside s bytes before now w
 
 -- Each file that a crash leaves meanwhile is one that it could leave before, or stands for the history after a front part of the bytes.
-abbrev pub LeavesAlong : FileTable → Seen → List ℕ → KnownDisk → KnownDisk → Type 0
-LeavesAlong files s bytes v w = IsTrue v.known → (v.view.moment ≤ w.view.moment)
-    × ((t : ℕ) (c : List ℕ) → t ≤ v.view.moment → w.view.since t c → v.view.since t c ⊎ ((k : ℕ) × (k ≤ length bytes) × StandsFor (plays files s (take k bytes)).history c))
+abbrev pub LeavesAlong : Seen → List ℕ → KnownDisk → KnownDisk → Type 0
+LeavesAlong s bytes v w = IsTrue v.known → (v.view.moment ≤ w.view.moment)
+    × ((t : ℕ) (c : List ℕ) → t ≤ v.view.moment → w.view.since t c → v.view.since t c ⊎ ((k : ℕ) × (k ≤ length bytes) × StandsFor (plays s (take k bytes)).history c))
 
--- A piece was fed, as to the sessions that the code follows, with the moments that the clock told and any after them.
+-- A piece was fed, as to the sessions that the code follows, with what was told and whatever is told after that.
 pub record WasFed {R S : Type 0} (view : R → Tree) (source_view : S → Tree) (bytes : List ℕ) (old new : Interpreter R S) (before now : World) (v w : KnownDisk) (result : Result ⊤ Stop) : Type 0 where
-  pub moments : List ℕ
-  pub told : HasTold before.clock.left now.clock.left moments
-  pub fed : (files : FileTable) → IsTable files before.files now.files → (s : Seen) (rest : List ℕ) → Follows view source_view v old s → s.session.moments ≡ moments ++ rest
-      → Fed view source_view files s bytes rest old new before now w result × LeavesAlong files s bytes v w
+  pub supply : Supply
+  pub supplied : IsSupplied before.files before.clock now.clock supply
+  pub fed : (s : Seen) (rest : Supply) → Follows view source_view v old s → s.session.supply ≡ followed_by supply rest
+      → Fed view source_view s bytes rest old new before now w result × LeavesAlong s bytes v w
 
 -- ---- the input's end
 
 -- The cut at the end of the input was run, and the code knows whether a refusal was written; or as with other lines. It reads no file, asks no clock, writes nothing to the disk and adds no entry.
-abbrev pub RunsLast : {R S : Type 0} → FileTable → Seen → Interpreter R S → Interpreter R S → World → World → KnownDisk → Result ⊤ Stop → Type 0
-RunsLast files s old new before now w (Ok x) =
-    (new.refused ≡ (old.refused || (closes files s).refused)) × Appends before.output.contents now.output.contents (closes files s).out × SpentNothing before now × left_on w s.session.history s.session.history
-RunsLast files s old new before now w (Err Output) =
-    TakesLess before.output.contents now.output.contents (closes files s).out × SpentNothing before now × left_on w s.session.history s.session.history
-RunsLast files s old new before now w (Err Full) =
-    TakesLess before.output.contents now.output.contents (closes files s).out × SpentNothing before now × left_on w s.session.history s.session.history
-RunsLast files s old new before now w (Err File) = ⊥
-RunsLast files s old new before now w (Err Disk) = ⊥
-RunsLast files s old new before now w (Err (NoStore at)) = ⊥
-RunsLast files s old new before now w (Err Clock) = ⊥
-RunsLast files s old new before now w (Err Memory) =
+abbrev pub RunsLast : {R S : Type 0} → Seen → Interpreter R S → Interpreter R S → World → World → KnownDisk → Result ⊤ Stop → Type 0
+RunsLast s old new before now w (Ok x) =
+    (new.refused ≡ (old.refused || (closes s).refused)) × Appends before.output.contents now.output.contents (closes s).out × SpentNothing before now × left_on w s.session.history s.session.history
+RunsLast s old new before now w (Err Output) =
+    TakesLess before.output.contents now.output.contents (closes s).out × SpentNothing before now × left_on w s.session.history s.session.history
+RunsLast s old new before now w (Err Full) =
+    TakesLess before.output.contents now.output.contents (closes s).out × SpentNothing before now × left_on w s.session.history s.session.history
+RunsLast s old new before now w (Err File) = ⊥
+RunsLast s old new before now w (Err Disk) = ⊥
+RunsLast s old new before now w (Err (NoStore at)) = ⊥
+RunsLast s old new before now w (Err Clock) = ⊥
+RunsLast s old new before now w (Err Memory) =
     Appends before.output.contents now.output.contents [] × SpentNothing before now × left_on w s.session.history s.session.history
 
--- The last cut was run, as the sessions do that the code follows, with the moments that the clock told and any after them.
+-- The last cut was run, as the sessions do that the code follows, with what was told and whatever is told after that.
 pub record RanLast {R S : Type 0} (view : R → Tree) (source_view : S → Tree) (old new : Interpreter R S) (before now : World) (v w : KnownDisk) (result : Result ⊤ Stop) : Type 0 where
-  pub moments : List ℕ
-  pub told : HasTold before.clock.left now.clock.left moments
-  pub runs : (files : FileTable) → IsTable files before.files now.files → (s : Seen) (rest : List ℕ) → Follows view source_view v old s → s.session.moments ≡ moments ++ rest
-      → RunsLast files s old new before now w result × Leaves (StandsForEither s.session.history s.session.history) v w
+  pub supply : Supply
+  pub supplied : IsSupplied before.files before.clock now.clock supply
+  pub runs : (s : Seen) (rest : Supply) → Follows view source_view v old s → s.session.supply ≡ followed_by supply rest
+      → RunsLast s old new before now w result × Leaves (StandsForEither s.session.history s.session.history) v w
 
 -- ---- how a session ends
 
@@ -269,8 +268,8 @@ pub record IsClosing (end : End) : Type 0 where
   pub too_much : end ≡ how.TooLong → ⊥
 
 -- the work of a session that stands at s, and maybe wrote a refusal
-abbrev pub work_from : FileTable → Seen → Bool → Work
-work_from files s refused = record { so_far = λ bytes. plays files s bytes; whole = λ bytes. with_refusal refused (plays_all files s bytes) }
+abbrev pub work_from : Seen → Bool → Work
+work_from s refused = record { so_far = λ bytes. plays s bytes; whole = λ bytes. with_refusal refused (plays_all s bytes) }
 
 -- The session of x, after so many bytes, ran to this end.
 pub record RanFrom {R S : Type 0} (view : R → Tree) (source_view : S → Tree) (x : Interpreter R S) (count : ℕ) (before now : Outside) (v w : KnownDisk) (end : End) : Type 0 where
@@ -278,38 +277,38 @@ pub record RanFrom {R S : Type 0} (view : R → Tree) (source_view : S → Tree)
   pub took : Consumes before.input.left now.input.left taken
   pub counted : now.input.given ≡ before.input.given + length taken
   pub too_much : (end ≡ how.TooLong) ↔ (INPUT_MAX < count + length taken)
-  pub moments : List ℕ
-  pub told : HasTold before.clock.left now.clock.left moments
+  pub supply : Supply
+  pub supplied : IsSupplied before.files before.clock now.clock supply
   pub running : IsRunning end
   pub ended : OnOk (result_of end) (IsAtEnd now.input.left)
-  pub did : (files : FileTable) → IsTable files before.files now.files → (s : Seen) (rest : List ℕ) → Follows view source_view v x s → s.session.moments ≡ moments ++ rest
-      → Did (work_from files s x.refused) (left_on w) count taken before now end × LeavesAlong files s taken v w
+  pub did : (s : Seen) (rest : Supply) → Follows view source_view v x s → s.session.supply ≡ followed_by supply rest
+      → Did (work_from s x.refused) (left_on w) count taken before now end × LeavesAlong s taken v w
 
 -- The session is over.
-abbrev pub Closes : FileTable → Seen → Bool → World → World → KnownDisk → End → Type 0
-Closes files s refused before now w how.Done =
-    ((refused || (closes files s).refused) ≡ false) × Writes before.output now.output (closes files s).out × SpentNothing before now × left_on w s.session.history s.session.history
-Closes files s refused before now w how.Refused =
-    ((refused || (closes files s).refused) ≡ true) × Writes before.output now.output (closes files s).out × SpentNothing before now × left_on w s.session.history s.session.history
-Closes files s refused before now w how.Usage = ⊥
-Closes files s refused before now w how.Input = ⊥
-Closes files s refused before now w how.File = ⊥
-Closes files s refused before now w how.Output = StopsIn before.output now.output (closes files s).out × SpentNothing before now × left_on w s.session.history s.session.history
-Closes files s refused before now w how.Disk = ⊥
-Closes files s refused before now w (how.NoStore at) = ⊥
-Closes files s refused before now w how.Memory =
-    (StopsIn before.output now.output (closes files s).out × SpentNothing before now × left_on w s.session.history s.session.history)
+abbrev pub Closes : Seen → Bool → World → World → KnownDisk → End → Type 0
+Closes s refused before now w how.Done =
+    ((refused || (closes s).refused) ≡ false) × Writes before.output now.output (closes s).out × SpentNothing before now × left_on w s.session.history s.session.history
+Closes s refused before now w how.Refused =
+    ((refused || (closes s).refused) ≡ true) × Writes before.output now.output (closes s).out × SpentNothing before now × left_on w s.session.history s.session.history
+Closes s refused before now w how.Usage = ⊥
+Closes s refused before now w how.Input = ⊥
+Closes s refused before now w how.File = ⊥
+Closes s refused before now w how.Output = StopsIn before.output now.output (closes s).out × SpentNothing before now × left_on w s.session.history s.session.history
+Closes s refused before now w how.Disk = ⊥
+Closes s refused before now w (how.NoStore at) = ⊥
+Closes s refused before now w how.Memory =
+    (StopsIn before.output now.output (closes s).out × SpentNothing before now × left_on w s.session.history s.session.history)
     ⊎ (WritesLast before.output now.output [] memory_line × SpentNothing before now × left_on w s.session.history s.session.history)
-Closes files s refused before now w how.TooLong = ⊥
-Closes files s refused before now w how.Clock = ⊥
+Closes s refused before now w how.TooLong = ⊥
+Closes s refused before now w how.Clock = ⊥
 
--- The same, as to the sessions that the code follows, with the moments that the clock told and any after them.
+-- The same, as to the sessions that the code follows, with what was told and whatever is told after that.
 pub record HasClosed {R S : Type 0} (view : R → Tree) (source_view : S → Tree) (x : Interpreter R S) (before now : World) (v w : KnownDisk) (end : End) : Type 0 where
-  pub moments : List ℕ
-  pub told : HasTold before.clock.left now.clock.left moments
+  pub supply : Supply
+  pub supplied : IsSupplied before.files before.clock now.clock supply
   pub closing : IsClosing end
-  pub closed : (files : FileTable) → IsTable files before.files now.files → (s : Seen) (rest : List ℕ) → Follows view source_view v x s → s.session.moments ≡ moments ++ rest
-      → Closes files s x.refused before now w end × Leaves (StandsForEither s.session.history s.session.history) v w
+  pub closed : (s : Seen) (rest : Supply) → Follows view source_view v x s → s.session.supply ≡ followed_by supply rest
+      → Closes s x.refused before now w end × Leaves (StandsForEither s.session.history s.session.history) v w
 
 -- The next bytes were taken and played.
 pub record TookPiece {R S : Type 0} (view : R → Tree) (source_view : S → Tree) (old new : Interpreter R S) (count later : ℕ) (before now : Outside) (v w : KnownDisk) : Type 0 where
@@ -317,10 +316,10 @@ pub record TookPiece {R S : Type 0} (view : R → Tree) (source_view : S → Tre
   pub took : Consumes before.input.left now.input.left bytes
   pub counted : now.input.given ≡ before.input.given + length bytes
   pub sum : later ≡ count + length bytes
-  pub moments : List ℕ
-  pub told : HasTold before.clock.left now.clock.left moments
-  pub played : (files : FileTable) → IsTable files before.files now.files → (s : Seen) (rest : List ℕ) → Follows view source_view v old s → s.session.moments ≡ moments ++ rest
-      → Goes view source_view (plays files s bytes) (after_play files s bytes) s.session.history rest old new (world_of before) (world_of now) w (Ok tt) × LeavesAlong files s bytes v w
+  pub supply : Supply
+  pub supplied : IsSupplied before.files before.clock now.clock supply
+  pub played : (s : Seen) (rest : Supply) → Follows view source_view v old s → s.session.supply ≡ followed_by supply rest
+      → Goes view source_view (plays s bytes) (after_play s bytes) s.session.history rest old new (world_of before) (world_of now) w (Ok tt) × LeavesAlong s bytes v w
 
 -- Turns in which nothing failed: no count of faults rose, and the output refused nothing.
 pub record IsSteady (before now : Outside) (v w : KnownDisk) : Type 0 where
@@ -337,15 +336,19 @@ pub record IsSteady (before now : Outside) (v w : KnownDisk) : Type 0 where
 -- ---- scripts
 
 -- the work of a session that stands at s, and maybe wrote a refusal, whose script has been read
-abbrev pub script_from : FileTable → Seen → Bool → Work
-script_from files s refused = record { so_far = λ bytes. after_reads 1 (plays files s bytes); whole = λ bytes. after_reads 1 (with_refusal refused (plays_all files s bytes)) }
+abbrev pub script_from : Seen → Bool → Work
+script_from s refused = record { so_far = λ bytes. after_reads 1 (plays s bytes); whole = λ bytes. after_reads 1 (with_refusal refused (plays_all s bytes)) }
+
+-- the session once its script has been read
+abbrev pub script_read : Seen → Seen
+script_read s = record { scan = s.scan; terms = s.terms; session = after_read s.session }
 
 -- The script of the commit file with this name was run in the session of x, or there is none.
 pub record RanScript {R S : Type 0} (view : R → Tree) (source_view : S → Tree) (x : Interpreter R S) (file : List ℕ) (before now : World) (v w : KnownDisk) (end : End) : Type 0 where
   pub taken : List ℕ
-  pub moments : List ℕ
-  pub told : HasTold before.clock.left now.clock.left moments
+  pub supply : Supply
+  pub supplied : IsSupplied before.files before.clock now.clock supply
   pub closing : IsClosing end
-  pub did : (files : FileTable) → IsTable files before.files now.files → (s : Seen) (rest : List ℕ) → Follows view source_view v x s → s.session.moments ≡ moments ++ rest
-      → (ScriptFailed s.session.history (left_on w) taken moments before now end ⊎ DidScript (script_of (files file)) (script_from files s x.refused) s.session.history (left_on w) taken moments before now end)
-      × LeavesAlong files s taken v w
+  pub did : (s : Seen) (rest : Supply) → Follows view source_view v x s → s.session.supply ≡ followed_by supply rest
+      → (ScriptFailed s.session.history (left_on w) taken supply before now end ⊎ DidScript (next_script file s.session.supply) (script_from (script_read s) x.refused) s.session.history (left_on w) taken supply.moments before now end)
+      × LeavesAlong (script_read s) taken v w

@@ -8,6 +8,8 @@ ghost use Rattle.cp_lang.specs.Cuts.{scan_start};
 ghost use Rattle.cp_lang.specs.CutterState.{held_of};
 ghost use Rattle.cp_interpreter.specs.Outside.{known_output, known_world};
 ghost use Rattle.cp_interpreter.specs.Play.{plays, after_play};
+ghost use Rattle.cp_db.specs.FileVersions.{KeepsVersion};
+ghost use Rattle.cp_interpreter.specs.Replied.{SendsReplies};
 ghost use Rattle.cp_interpreter.specs.Turns.{MayGoOn, SendsOut, Went, WasFed, RanLast, Uses, UsesOutput, IsOpenedStop, cuts_play, after_cuts, cutter_in, workspace_in, has_refused};
 
 use crate::stop::Stop;
@@ -77,6 +79,8 @@ impl<R: TreeRep, S: TreeRep> Interpreter<R, S> {
         ensures held { OnOk result (self.new.cutter ≡ self.old.cutter) }
         ensures workspace { OnOk result (self.new.workspace ≡ self.old.workspace) }
         ensures refused { OnOk result (self.new.refused ≡ (self.old.refused || is_refusal reply)) }
+        ensures replied { SendsReplies (has_refused self.old) (has_refused self.new)
+            (known_output O.Sink output.old) (known_output O.Sink output.new) result }
         ensures used { UsesOutput (known_output O.Sink output.old) (known_output O.Sink output.new) result }
     {
         let told = tell(self.alloc, &reply, &mut self.text, output);
@@ -97,13 +101,16 @@ impl<R: TreeRep, S: TreeRep> Interpreter<R, S> {
         output: &mut O,
     ) -> Result<(), Stop>
         requires goes_on { MayGoOn R.contents S.contents (D.known disk.old) self.old }
-        ensures went { Went R.contents S.contents (λ t s. cuts_play t s (option_to_list cut)) (λ t s. after_cuts t s (option_to_list cut)) self.old self.new
+        ensures went { Went R.contents S.contents (λ s. cuts_play s (option_to_list cut)) (λ s. after_cuts s (option_to_list cut)) self.old self.new
             (known_world F.Files K.Clock O.Sink files.old clock.old output.old) (known_world F.Files K.Clock O.Sink files.new clock.new output.new)
             (D.known disk.old) (D.known disk.new) result }
         ensures stays { OnOk result (MayGoOn R.contents S.contents (D.known disk.new) self.new) }
         ensures uses { Uses (known_world F.Files K.Clock O.Sink files.old clock.old output.old) (known_world F.Files K.Clock O.Sink files.new clock.new output.new)
             (D.known disk.old) (D.known disk.new) result }
         ensures opened { IfErr result IsOpenedStop }
+        ensures replied { SendsReplies (has_refused self.old) (has_refused self.new)
+            (known_output O.Sink output.old) (known_output O.Sink output.new) result }
+        ensures file { KeepsVersion (D.known disk.old) (D.known disk.new) }
     {
         let Some(cut) = cut else {
             return Ok(());
@@ -126,13 +133,16 @@ impl<R: TreeRep, S: TreeRep> Interpreter<R, S> {
         output: &mut O,
     ) -> Result<(), Stop>
         requires goes_on { MayGoOn R.contents S.contents (D.known disk.old) self.old }
-        ensures went { Went R.contents S.contents (λ t s. plays t s (byte ∷ [])) (λ t s. after_play t s (byte ∷ [])) self.old self.new
+        ensures went { Went R.contents S.contents (λ s. plays s (byte ∷ [])) (λ s. after_play s (byte ∷ [])) self.old self.new
             (known_world F.Files K.Clock O.Sink files.old clock.old output.old) (known_world F.Files K.Clock O.Sink files.new clock.new output.new)
             (D.known disk.old) (D.known disk.new) result }
         ensures stays { OnOk result (MayGoOn R.contents S.contents (D.known disk.new) self.new) }
         ensures uses { Uses (known_world F.Files K.Clock O.Sink files.old clock.old output.old) (known_world F.Files K.Clock O.Sink files.new clock.new output.new)
             (D.known disk.old) (D.known disk.new) result }
         ensures opened { IfErr result IsOpenedStop }
+        ensures replied { SendsReplies (has_refused self.old) (has_refused self.new)
+            (known_output O.Sink output.old) (known_output O.Sink output.new) result }
+        ensures file { KeepsVersion (D.known disk.old) (D.known disk.new) }
     {
         let cut = self.cutter.push(byte)?;
         self.run(cut, disk, files, clock, output)
@@ -156,6 +166,9 @@ impl<R: TreeRep, S: TreeRep> Interpreter<R, S> {
         ensures uses { Uses (known_world F.Files K.Clock O.Sink files.old clock.old output.old) (known_world F.Files K.Clock O.Sink files.new clock.new output.new)
             (D.known disk.old) (D.known disk.new) result }
         ensures opened { IfErr result IsOpenedStop }
+        ensures replied { SendsReplies (has_refused self.old) (has_refused self.new)
+            (known_output O.Sink output.old) (known_output O.Sink output.new) result }
+        ensures file { KeepsVersion (D.known disk.old) (D.known disk.new) }
     {
         for byte in piece {
             self.push(*byte, disk, files, clock, output)?;
@@ -178,6 +191,9 @@ impl<R: TreeRep, S: TreeRep> Interpreter<R, S> {
         ensures uses { Uses (known_world F.Files K.Clock O.Sink files.old clock.old output.old) (known_world F.Files K.Clock O.Sink files.new clock.new output.new)
             (D.known disk.old) (D.known disk.new) result }
         ensures opened { IfErr result IsOpenedStop }
+        ensures replied { SendsReplies (has_refused self.old) (has_refused self.new)
+            (known_output O.Sink output.old) (known_output O.Sink output.new) result }
+        ensures file { KeepsVersion (D.known disk.old) (D.known disk.new) }
     {
         let cutter = mem::replace(&mut self.cutter, Cutter::new(self.alloc));
         self.run(cutter.rest(), disk, files, clock, output)

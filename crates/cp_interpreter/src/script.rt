@@ -4,10 +4,9 @@ ghost use Rattle.std.specs.declared.option.Option.TheVariants.{Some};
 ghost use Rattle.std.specs.Io.{ReadsAtMost};
 ghost use Rattle.std.specs.Io.KnownBytes.{ReadConsumes};
 ghost use Rattle.cp_outside.specs.Causes.{Accounts, AnyError, CountsBytes};
-ghost use Rattle.cp_outside.specs.FileReads.{FileTable};
-ghost use Rattle.cp_workspace.specs.Files.{known_files, HasRead, IsTable, UsesFiles};
-ghost use Rattle.cp_interpreter.specs.Scripts.{script_of, commit_text};
-ghost use Rattle.cp_interpreter.specs.Begins.{GivesScript};
+ghost use Rattle.cp_workspace.specs.Files.{known_files, HasRead, UsesFiles};
+ghost use Rattle.cp_interpreter.specs.Scripts.{commit_text};
+ghost use Rattle.cp_interpreter.specs.Begins.{GivesScriptOf};
 
 use cp_outside::{Failed, FileEnd, Files, FilesFault, Source};
 use cp_reply::Why;
@@ -64,8 +63,7 @@ pub fn read_script<F: Files>(
     file: &str,
     files: &mut F,
 ) -> Result<Result<Script, Why>, FilesFault>
-    ensures gives { IfOk result (λ r. (t : FileTable) → IsTable t (known_files F.Files files.old) (known_files F.Files files.new)
-        → GivesScript (script_of (t file.now)) r) }
+    ensures gives { IfOk result (λ r. GivesScriptOf (known_files F.Files files.old) file.now r) }
     ensures short { IfOk result (λ r. IfOk r (λ s. length s.left ≤ FILE_MAX + length commit_text)) }
     ensures used { UsesFiles (λ e. e ≡ FilesFault.Failed) (known_files F.Files files.old) (known_files F.Files files.new) result }
     ensures read { HasRead (known_files F.Files files.old) (known_files F.Files files.new) 1 }

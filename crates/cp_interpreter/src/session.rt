@@ -1,9 +1,11 @@
 //! A session over an input, from its first byte to its end.
-ghost use Rattle.std.specs.Prelude.{◌≤◌, ◌<◌, length, IfOk, IfErr};
+ghost use Rattle.std.specs.Prelude.{◌≤◌, ◌<◌, length, IfOk, IfErr, Ok};
 ghost use Rattle.cp_workspace.specs.Files.{known_files, HasReadSome};
-ghost use Rattle.cp_interpreter.specs.Outside.{known_world, known_outside};
+ghost use Rattle.cp_db.specs.FileVersions.{KeepsVersion};
+ghost use Rattle.cp_interpreter.specs.Outside.{known_output, known_world, known_outside};
+ghost use Rattle.cp_interpreter.specs.Replied.{SendsReplies, WroteReplies};
 ghost use Rattle.cp_interpreter.specs.Story.{WorldCauses, HasCauses, DiskCauses};
-ghost use Rattle.cp_interpreter.specs.Turns.{MayGoOn, HasClosed, RanFrom, TookPiece, IsSteady};
+ghost use Rattle.cp_interpreter.specs.Turns.{MayGoOn, HasClosed, RanFrom, TookPiece, IsSteady, has_refused};
 
 use crate::end::End;
 use crate::interpreter::Interpreter;
@@ -28,6 +30,9 @@ fn closing<R: TreeRep, S: TreeRep, D: Disk, F: Files, K: Clock, O: Sink>(
     ensures read { HasReadSome (known_files F.Files files.old) (known_files F.Files files.new) }
     ensures causes { WorldCauses (known_world F.Files K.Clock O.Sink files.old clock.old output.old) (known_world F.Files K.Clock O.Sink files.new clock.new output.new) result }
     ensures disk { DiskCauses (D.known disk.old) (D.known disk.new) result }
+    ensures replied { WroteReplies (has_refused session.old)
+        (known_output O.Sink output.old) (known_output O.Sink output.new) result }
+    ensures file { KeepsVersion (D.known disk.old) (D.known disk.new) }
 {
     match session.close(disk, files, clock, output) {
         Ok(()) if session.refused() => End::Refused,
@@ -68,6 +73,11 @@ fn turn<R: TreeRep, S: TreeRep, D: Disk, F: Files, K: Clock, I: Source, O: Sink>
         (known_outside F.Files K.Clock I.Source O.Sink files.old clock.old input.old output.old)
         (known_outside F.Files K.Clock I.Source O.Sink files.new clock.new input.new output.new) end) }
     ensures disk { IfErr result (λ end. DiskCauses (D.known disk.old) (D.known disk.new) end) }
+    ensures sent { IfOk result (λ n. SendsReplies (has_refused session.old) (has_refused session.new)
+        (known_output O.Sink output.old) (known_output O.Sink output.new) (Ok tt)) }
+    ensures replied { IfErr result (λ end. WroteReplies (has_refused session.old)
+        (known_output O.Sink output.old) (known_output O.Sink output.new) end) }
+    ensures file { KeepsVersion (D.known disk.old) (D.known disk.new) }
     ensures read { HasReadSome (known_files F.Files files.old) (known_files F.Files files.new) }
 {
     let Ok(count) = input.read(piece) else {
@@ -113,6 +123,9 @@ pub fn turns<R: TreeRep, S: TreeRep, D: Disk, F: Files, K: Clock, I: Source, O: 
         (known_outside F.Files K.Clock I.Source O.Sink files.old clock.old input.old output.old)
         (known_outside F.Files K.Clock I.Source O.Sink files.new clock.new input.new output.new) result }
     ensures disk { DiskCauses (D.known disk.old) (D.known disk.new) result }
+    ensures replied { WroteReplies (has_refused session.old)
+        (known_output O.Sink output.old) (known_output O.Sink output.new) result }
+    ensures file { KeepsVersion (D.known disk.old) (D.known disk.new) }
     ensures read { HasReadSome (known_files F.Files files.old) (known_files F.Files files.new) }
 {
     let mut taken = 0;

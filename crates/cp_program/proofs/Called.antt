@@ -1,7 +1,7 @@
 -- One call: what its end says, and what it has to do with the words.
 use Rattle.cp_interpreter.specs.declared.limits.TheConstants.{INPUT_MAX}
 use Rattle.std.proofs.Common.{◌≡◌, ℕ, ◌+◌, ◌≤◌, ◌<◌, List, [], length, Bool, false, refl, inl, inr, sym, ap, subst, ◌∙◌, arith}
-use Rattle.std.specs.Prelude.{◌⊎◌, ◌↔◌}
+use Rattle.std.specs.Prelude.{◌⊎◌, ◌↔◌, IsTrue}
 use Rattle.std.specs.declared.option.Option.{Option}
 use Rattle.std.specs.declared.option.Option.TheVariants.{None, Some}
 use Rattle.cp_words.specs.declared.command.Command.{Command}
@@ -20,6 +20,13 @@ use Rattle.cp_reply.specs.declared.reply.Reply.{Reply}
 use Rattle.cp_program.specs.Answering.{Answered, Generated, IsAnswerTo, IsLogOf, IsVerdictOn}
 use Rattle.cp_program.specs.Using.{IsUsesOf}
 use Rattle.cp_program.specs.Calls.{DidCommand, HasItsStore, IsShort, Called}
+use Rattle.cp_program.specs.FileVersions.{LeavesVersion, VersionLeft}
+use Rattle.cp_db.specs.FileVersions.{IsVacantOrNewest}
+use Rattle.cp_db.proofs.FileVersions.{leaves-none, version-none}
+use Rattle.cp_interpreter.specs.Replied.{TookRefusal, WroteReplies}
+use Rattle.cp_interpreter.specs.declared.stop.Stop.TheVariants.{Memory}
+use Rattle.cp_interpreter.proofs.Replied.{refusal-told, replied-memory}
+use Rattle.cp_program.proofs.FileVersions.{makes-stopped, newest-untouched}
 use Rattle.cp_interpreter.specs.Job.{is_refusal}
 use Rattle.cp_interpreter.specs.Ends.{code_of}
 use Rattle.cp_interpreter.specs.declared.end.End.{End}
@@ -95,14 +102,17 @@ complete x before now v w how.TooLong r c d few has short calm = absurd (omega (
 complete x before now v w how.Clock r c d few has short calm = absurd (calm.clock (c.world.clock.blamed refl))
 
 -- a call with words that fit
-pub called : (x : Command) (before now : Outside) (v w : KnownDisk) (e : End) (code : ℕ) → code ≡ code_of e → DidCommand x before now v w e → HasCauses before now e → DiskCauses v w e → (e ≡ how.TooLong → before.input.given + INPUT_MAX < now.input.given) → Called (Some x) before now v w code
-called x before now v w e code n r c d few = record {
+pub called : (x : Command) (before now : Outside) (v w : KnownDisk) (e : End) (code : ℕ) → code ≡ code_of e → DidCommand x before now v w e → HasCauses before now e → DiskCauses v w e → (e ≡ how.TooLong → before.input.given + INPUT_MAX < now.input.given)
+    → WroteReplies false before.output now.output e → (IsTrue v.known → LeavesVersion x before now v w e) → Called (Some x) before now v w code
+called x before now v w e code n r c d few replied file = record {
   end = e;
   number = n;
   ran = inr r;
   complete = λ has short calm. complete x before now v w e r c d few has short calm;
   causes = c;
   disk = d;
+  replied = λ other. replied;
+  file = file;
 }
 
 -- a call with other words
@@ -122,7 +132,25 @@ called-usage i f k o p v code n w later = record {
     };
   };
   disk = disk-still v how.Usage (λ e. absurd (cc));
+  replied = λ other. absurd (other refl);
+  file = λ known. version-none v.view;
 }
+
+-- whatever the words were, a call that went no further leaves the version as it was
+left-out : (o : Option Command) (i : KnownInput) (f : KnownFiles) (k : KnownClock) (o1 o2 : KnownOutput) (v : KnownDisk) → WritesLast o1 o2 [] memory_line → VersionLeft o (parts i f k o1) (parts i f k o2) v v how.Memory
+left-out None i f k o1 o2 v w = version-none v.view
+left-out (Some (words.Scratch kind s)) i f k o1 o2 v w = version-none v.view
+left-out (Some (words.Init kind s)) i f k o1 o2 v w =
+    makes-stopped v v Memory (λ none. same-rests v.view) (λ vacant. leaves-none IsVacantOrNewest v.view (inl vacant))
+left-out (Some (words.Run curator)) i f k o1 o2 v w = newest-untouched i f k o1 o2 v how.Memory (inr (inr refl)) w
+left-out (Some (words.Commit file curator)) i f k o1 o2 v w = newest-untouched i f k o1 o2 v how.Memory (inr (inr refl)) w
+left-out (Some (words.Load l)) i f k o1 o2 v w = version-none v.view
+left-out (Some (words.Ask q)) i f k o1 o2 v w = version-none v.view
+left-out (Some (words.Show p)) i f k o1 o2 v w = version-none v.view
+left-out (Some (words.Generate seed count kind)) i f k o1 o2 v w = version-none v.view
+left-out (Some words.Log) i f k o1 o2 v w = version-none v.view
+left-out (Some words.Verify) i f k o1 o2 v w = version-none v.view
+left-out (Some (words.Uses q)) i f k o1 o2 v w = version-none v.view
 
 -- a call whose words took too much memory
 pub called-out : (o : Option Command) (i : KnownInput) (f : KnownFiles) (k : KnownClock) (o1 o2 : KnownOutput) (v : KnownDisk) (code : ℕ) → code ≡ 7 → WritesLast o1 o2 [] memory_line → o1.faults ≤ o2.faults → Called o (parts i f k o1) (parts i f k o2) v v code
@@ -133,6 +161,8 @@ called-out o i f k o1 o2 v code n w later = record {
   complete = λ has short calm. inr (inr refl);
   causes = causes-early-end i f k o1 o2 how.Memory (inr (inr refl)) later;
   disk = out-disk v;
+  replied = λ other. replied-memory false o1 o2 w;
+  file = λ known. left-out o i f k o1 o2 v w;
 }
 
 -- ---- numbers
@@ -154,3 +184,20 @@ usage_number how.Clock h = absurd (cc)
 -- so words that fit don't have it
 pub fitting-number : (x : Command) (before now : Outside) (v w : KnownDisk) (e : End) (code : ℕ) → code ≡ code_of e → DidCommand x before now v w e → code ≡ 2 → ⊥
 fitting-number x before now v w e code n r h = fits x before now v w e r (usage_number e (sym n ∙ h))
+
+-- a call whose status is 1 has written a line of a refusal
+refused_number : (e : End) → code_of e ≡ 1 → e ≡ how.Refused
+refused_number how.Done h = absurd (cc)
+refused_number how.Refused h = refl
+refused_number how.Usage h = absurd (cc)
+refused_number how.Input h = absurd (cc)
+refused_number how.File h = absurd (cc)
+refused_number how.Output h = absurd (cc)
+refused_number how.Disk h = absurd (cc)
+refused_number (how.NoStore at) h = absurd (cc)
+refused_number how.Memory h = absurd (cc)
+refused_number how.TooLong h = absurd (cc)
+refused_number how.Clock h = absurd (cc)
+
+pub called-refused : (e : End) (code : ℕ) (b a : KnownOutput) → code ≡ code_of e → WroteReplies false b a e → code ≡ 1 → TookRefusal b.contents a.contents
+called-refused e code b a number replied one = refusal-told b a (subst (λ (z : End). WroteReplies false b a z) (refused_number e (sym number ∙ one)) replied)

@@ -2,4 +2,5 @@ mod FromStart
 mod Used
 mod Verdicts
 mod Answered
+mod FileVersions
 mod Called

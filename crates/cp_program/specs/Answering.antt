@@ -9,9 +9,9 @@ use Rattle.cp_frame.specs.Stops.{IsNot}
 use Rattle.cp_verify.specs.Verify.{VerifiesAs}
 use Rattle.cp_lang.specs.declared.syntax_tree.Stmt.{Stmt}
 use Rattle.cp_reply.specs.Lines.{lines}
+use Rattle.cp_reply.specs.Session.{no_supply}
 use Rattle.cp_reply.specs.declared.reply.Reply.{Reply}
 use Rattle.cp_reply.specs.declared.reply.Reply.TheVariants as reply
-use Rattle.cp_scratch.specs.Sessions.{no_files}
 use Rattle.cp_scratch.specs.Workloads.{ComesTo}
 use Rattle.cp_interpreter.specs.Job.{is_refusal}
 use Rattle.cp_interpreter.specs.Outside.{Outside}
@@ -23,7 +23,7 @@ use Rattle.cp_interpreter.specs.declared.end.End.TheVariants as how
 
 -- the reply is that to the statement, which reads no file, in the session that begins on the history for which the content stands
 abbrev pub IsAnswerTo : Stmt → List ℕ → Reply → Type 0
-IsAnswerTo x c y = (h : List Entry) → IsStore h c → (lines y ≡ (report_on no_files h c x).out) × (is_refusal y ≡ (report_on no_files h c x).refused)
+IsAnswerTo x c y = (h : List Entry) → IsStore h c → (lines y ≡ (report_on no_supply h c x).out) × (is_refusal y ≡ (report_on no_supply h c x).refused)
 
 -- the reply lists the commits of the history that the content tells, be its records right or not
 abbrev pub IsLogOf : List ℕ → Reply → Type 0

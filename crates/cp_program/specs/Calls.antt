@@ -1,6 +1,6 @@
 -- One call of the program: its words, what was done for them, and how it ended.
 use Rattle.cp_interpreter.specs.declared.limits.TheConstants.{INPUT_MAX}
-use Rattle.std.specs.Prelude.{◌≡◌, ◌⊎◌, ℕ, ◌≤◌, ◌+◌, [], IsTrue, ⊤}
+use Rattle.std.specs.Prelude.{◌≡◌, ◌⊎◌, ℕ, ◌≤◌, ◌+◌, [], false, IsTrue, ⊤}
 use Rattle.std.specs.declared.option.Option.{Option}
 use Rattle.std.specs.declared.option.Option.TheVariants.{None, Some}
 use Rattle.cp_disk.specs.Views.{ViewRests, KnownDisk}
@@ -19,6 +19,8 @@ use Rattle.cp_interpreter.specs.Alone.{Loaded}
 use Rattle.cp_program.specs.Answering.{Answered, Generated, IsAnswerTo, IsLogOf, IsVerdictOn}
 use Rattle.cp_program.specs.Using.{IsUsesOf}
 use Rattle.cp_interpreter.specs.Scripts.{Committed}
+use Rattle.cp_interpreter.specs.Replied.{WroteReplies}
+use Rattle.cp_program.specs.FileVersions.{VersionLeft}
 use Rattle.cp_interpreter.specs.declared.end.End.{End}
 use Rattle.cp_interpreter.specs.declared.end.End.TheVariants as how
 
@@ -121,3 +123,7 @@ pub record Called (asked : Option Command) (before now : Outside) (v w : KnownDi
   pub complete : HasStore asked v → IsShort before.input now.input → IsFaultless before now v w → (end ≡ how.Done) ⊎ (end ≡ how.Refused) ⊎ (end ≡ how.Memory)
   pub causes : HasCauses before now end
   pub disk : DiskCauses v w end
+  -- all that was written are the lines of replies, of which one is a refusal exactly where the end says so, and the last line of an end that is no answer; or the usage
+  pub replied : (end ≡ how.Usage → ⊥) → WroteReplies false before.output now.output end
+  -- the version of the file
+  pub file : IsTrue v.known → VersionLeft asked before now v w end

@@ -3,4 +3,5 @@ pub mod InMemory
 pub mod Begun
 pub mod Answering
 pub mod Using
+pub mod FileVersions
 pub mod Calls

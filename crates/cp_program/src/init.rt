@@ -1,14 +1,18 @@
 //! A new store.
-ghost use Rattle.std.specs.Prelude.{◌≡◌, ◌⊎◌, IfErr};
+ghost use Rattle.std.specs.Prelude.{◌≡◌, ◌⊎◌, false, true, IsTrue, IfOk, OnOk, IfErr};
 ghost use Rattle.cp_disk.specs.Counts.{UsesDisk};
-ghost use Rattle.cp_disk.specs.Views.{IfKnown, Keeps};
+ghost use Rattle.cp_disk.specs.Views.{IfKnown, Keeps, Rests};
 ghost use Rattle.cp_journal.specs.NewStores.{IsVacant, SettlesInto};
+ghost use Rattle.cp_db.specs.FileVersions.{newest_version, IsAtVersion, IsVacantOrNewest, LeavesFiles};
 ghost use Rattle.cp_db.specs.Writing.{IsOldOrVacantOrStart, IsVacantOrStart};
 ghost use Rattle.cp_workspace.specs.Files.{known_files, UsesFiles};
 ghost use Rattle.cp_interpreter.specs.Begins.{CreatedAs, StoreMade};
 ghost use Rattle.cp_scratch.specs.Starts.{start_given, start_reads};
 ghost use Rattle.cp_interpreter.specs.Outside.{KnownInput, KnownClock, known_output};
+ghost use Rattle.cp_interpreter.specs.Job.{is_refusal};
+ghost use Rattle.cp_interpreter.specs.Replied.{WroteReplies};
 ghost use Rattle.cp_interpreter.specs.Story.{Made, HasCauses, DiskCauses};
+ghost use Rattle.cp_program.specs.FileVersions.{MakesNewest};
 
 use cp_db::{Db, InitFault};
 use cp_disk::Disk;
@@ -43,6 +47,10 @@ fn create<R: TreeRep, D: Disk>(
         SettlesInto (IsVacantOrStart kind (R.contents tree)) v (D.known disk.new).view) }
     ensures cause { UsesDisk (λ e. e ≡ Stop.Disk) (D.known disk.old) (D.known disk.new) result }
     ensures kinds { IfErr result (λ e. (e ≡ Stop.Disk) ⊎ (e ≡ Stop.Memory)) }
+    ensures file { IfKnown (D.known disk.old) (λ v. IsVacant v.content
+        → LeavesFiles IsVacantOrNewest v (D.known disk.new).view) }
+    ensures newest { OnOk result (IsAtVersion newest_version (D.known disk.new)) }
+    ensures accepted { IfOk result (λ r. is_refusal r ≡ false) }
 {
     let nodes = tree.count();
     match Db::<R, R>::init(alloc, disk, kind, tree) {
@@ -67,6 +75,10 @@ fn make<R: TreeRep, D: Disk, F: Files>(
         (known_files F.Files files.old) (known_files F.Files files.new) (D.known disk.old) (D.known disk.new) result }
     ensures used { UsesFiles (λ e. e ≡ Stop.File) (known_files F.Files files.old) (known_files F.Files files.new) result }
     ensures cause { UsesDisk (λ e. e ≡ Stop.Disk) (D.known disk.old) (D.known disk.new) result }
+    ensures file { IfKnown (D.known disk.old) (λ v. IsVacant v.content
+        → LeavesFiles IsVacantOrNewest v (D.known disk.new).view) }
+    ensures newest { IfOk result (λ r. is_refusal r ≡ false → IsAtVersion newest_version (D.known disk.new)) }
+    ensures refused { IfOk result (λ r. is_refusal r ≡ true → Rests (D.known disk.old) (D.known disk.new)) }
 {
     if !Journal::vacant(disk)? {
         return Ok(refused(Why::StoreExists));
@@ -94,6 +106,9 @@ pub(crate) fn init<R: TreeRep, D: Disk, F: Files, O: Sink>(
         (record { input = i; files = known_files F.Files files.old; clock = c; output = known_output O.Sink output.old })
         (record { input = i; files = known_files F.Files files.new; clock = c; output = known_output O.Sink output.new }) result }
     ensures disk { DiskCauses (D.known disk.old) (D.known disk.new) result }
+    ensures replied { WroteReplies false
+        (known_output O.Sink output.old) (known_output O.Sink output.new) result }
+    ensures file { IsTrue (D.known disk.old).known → MakesNewest (D.known disk.old) (D.known disk.new) result }
     ensures short { result ≡ End.TooLong → ⊥ }
 {
     match make::<R, D, F>(alloc, kind, start, disk, files) {

@@ -5,7 +5,9 @@ ghost use Rattle.cp_disk.specs.Views.{Rests};
 ghost use Rattle.cp_model.specs.Place.{label_eq, target};
 ghost use Rattle.cp_workspace.specs.Files.{known_files, HasReadSome, UsesFiles};
 ghost use Rattle.cp_workspace.specs.Workspaces.{IsUsable};
+ghost use Rattle.cp_db.specs.FileVersions.{KeepsVersion};
 ghost use Rattle.cp_interpreter.specs.Alone.{Loaded};
+ghost use Rattle.cp_interpreter.specs.Replied.{WroteReplies};
 ghost use Rattle.cp_interpreter.specs.Begins.{OpenedAlone, IsOpeningStop, LoadedAs};
 ghost use Rattle.cp_interpreter.specs.Outside.{KnownInput, KnownClock, known_output};
 ghost use Rattle.cp_interpreter.specs.Story.{HasCauses, DiskCauses};
@@ -46,9 +48,10 @@ fn reply_to_load<R: TreeRep, S: TreeRep, D: Disk, F: Files>(
     files: &mut F,
 ) -> Result<Reply, Stop>
     requires other { label_eq source.name target ≡ false }
-    ensures loaded { LoadedAs source (known_files F.Files files.old) (known_files F.Files files.new) (D.known disk.old) (D.known disk.new) result }
+    ensures loaded { (k : KnownClock) → LoadedAs source k (known_files F.Files files.old) (known_files F.Files files.new) (D.known disk.old) (D.known disk.new) result }
     ensures used { UsesFiles (λ e. e ≡ Stop.File) (known_files F.Files files.old) (known_files F.Files files.new) result }
     ensures read { HasReadSome (known_files F.Files files.old) (known_files F.Files files.new) }
+    ensures file { KeepsVersion (D.known disk.old) (D.known disk.new) }
     ensures cause { UsesDisk (λ e. e ≡ Stop.Disk) (D.known disk.old) (D.known disk.new) result }
 {
     match open_workspace::<R, S, D>(alloc, disk) {
@@ -81,6 +84,9 @@ pub(crate) fn load<R: TreeRep, S: TreeRep, D: Disk, F: Files, O: Sink>(
         (record { input = i; files = known_files F.Files files.old; clock = k; output = known_output O.Sink output.old })
         (record { input = i; files = known_files F.Files files.new; clock = k; output = known_output O.Sink output.new }) result }
     ensures disk { DiskCauses (D.known disk.old) (D.known disk.new) result }
+    ensures replied { WroteReplies false
+        (known_output O.Sink output.old) (known_output O.Sink output.new) result }
+    ensures file { KeepsVersion (D.known disk.old) (D.known disk.new) }
 {
     match reply_to_load::<R, S, D, F>(alloc, source, disk, files) {
         Ok(reply) => end_with(alloc, reply, output),

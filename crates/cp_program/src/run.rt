@@ -1,12 +1,14 @@
 //! A call: its words, what they ask for, and its end.
-ghost use Rattle.std.specs.Prelude.{◌≡◌, ◌+◌, ◌<◌, ◌⊎◌, ◌≤◌, [], map, string_bytes};
+ghost use Rattle.std.specs.Prelude.{◌≡◌, ◌+◌, ◌<◌, ◌⊎◌, ◌≤◌, [], false, IsTrue, map, string_bytes};
 ghost use Rattle.std.specs.declared.option.Option.TheVariants.{None, Some};
 ghost use Rattle.cp_words.specs.Commands.{command_of, IsWrittenCommand};
 ghost use Rattle.cp_program.specs.Texts.{usage_text};
 ghost use Rattle.cp_interpreter.specs.declared.limits.TheConstants.{INPUT_MAX};
 ghost use Rattle.cp_interpreter.specs.Ends.{code_of};
 ghost use Rattle.cp_interpreter.specs.Outside.{known_output, known_outside};
+ghost use Rattle.cp_interpreter.specs.Replied.{TookRefusal, WroteReplies};
 ghost use Rattle.cp_interpreter.specs.Story.{WritesLast, HasCauses, DiskCauses};
+ghost use Rattle.cp_program.specs.FileVersions.{LeavesVersion};
 ghost use Rattle.cp_program.specs.Calls.{DidCommand, LeavesDisk, NeedsNoDisk, Called};
 
 use crate::answer::{ask, list_commits, show, verify_records};
@@ -48,6 +50,12 @@ fn run_command<R: TreeRep, S: TreeRep, D: Disk, F: Files, K: Clock, I: Source, O
     ensures disk { DiskCauses (D.known disk.old) (D.known disk.new) result }
     ensures untouched { LeavesDisk command → disk.new ≡ disk.old }
     ensures short { result ≡ End.TooLong → I.given input.old + INPUT_MAX < I.given input.new }
+    ensures replied { WroteReplies false
+        (known_output O.Sink output.old) (known_output O.Sink output.new) result }
+    ensures file { IsTrue (D.known disk.old).known → LeavesVersion command
+        (known_outside F.Files K.Clock I.Source O.Sink files.old clock.old input.old output.old)
+        (known_outside F.Files K.Clock I.Source O.Sink files.new clock.new input.new output.new)
+        (D.known disk.old) (D.known disk.new) result }
 {
     match command {
         Command::Scratch { kind, start } => {
@@ -122,6 +130,7 @@ pub fn run_cpdb<R: TreeRep, S: TreeRep, D: Disk, F: Files, K: Clock, I: Source, 
     ensures usage { result.code ≡ 2 → command_of (map string_bytes words.now) ≡ None }
     ensures unfitting { command_of (map string_bytes words.now) ≡ None → (result.code ≡ 2) ⊎ (result.code ≡ 7) }
     ensures untouched { NeedsNoDisk (command_of (map string_bytes words.now)) → disk.new ≡ disk.old }
+    ensures refused { result.code ≡ 1 → TookRefusal (O.contents output.old) (O.contents output.new) }
 {
     let Ok(asked) = command_of(alloc, words) else {
         return status_of(out_of_memory(output));

@@ -1,14 +1,15 @@
 //! A session in memory.
-ghost use Rattle.std.specs.Prelude.{◌≡◌, ◌≤◌, ◌<◌, [], false, length, List, ℕ, IfOk};
+ghost use Rattle.std.specs.Prelude.{◌≡◌, ◌≤◌, ◌<◌, [], false, length, IfOk};
+ghost use Rattle.cp_reply.specs.Session.{Supply};
 ghost use Rattle.cp_disk.specs.MemoryDisks.{sure_view};
 ghost use Rattle.cp_journal.specs.NewStores.{IsVacant};
 ghost use Rattle.cp_model.specs.History.{start};
-ghost use Rattle.cp_outside.specs.FileReads.{FileTable};
-ghost use Rattle.cp_workspace.specs.Files.{known_files, IsTable, Reads, UsesFiles};
+ghost use Rattle.cp_workspace.specs.Files.{known_files, Reads, UsesFiles};
 ghost use Rattle.cp_scratch.specs.Sessions.{scratch_session, scratch_terms, sure_disk};
-ghost use Rattle.cp_program.specs.Begun.{Begun};
+ghost use Rattle.cp_program.specs.Begun.{BegunFrom};
 ghost use Rattle.cp_scratch.specs.Starts.{start_given, start_reads};
-ghost use Rattle.cp_interpreter.specs.Outside.{known_outside};
+ghost use Rattle.cp_interpreter.specs.Outside.{known_output, known_outside};
+ghost use Rattle.cp_interpreter.specs.Replied.{WroteReplies};
 ghost use Rattle.cp_program.specs.InMemory.{Ran};
 ghost use Rattle.cp_interpreter.specs.Story.{HasCauses};
 ghost use Rattle.cp_interpreter.specs.Play.{begun};
@@ -33,8 +34,8 @@ fn session_on<R: TreeRep, S: TreeRep>(
     disk: &mut SureDisk,
 ) -> Result<Interpreter<R, S>, AllocError>
     requires vacant { IsVacant (sure_view disk.old).content }
-    ensures follows { IfOk result (λ x. (moments : List ℕ) → Follows R.contents S.contents (sure_disk disk.new) x
-        (begun (scratch_terms kind (R.contents tree)) (scratch_session kind (R.contents tree) moments))) }
+    ensures follows { IfOk result (λ x. (supply : Supply) → Follows R.contents S.contents (sure_disk disk.new) x
+        (begun (scratch_terms kind (R.contents tree)) (scratch_session kind (R.contents tree) supply))) }
     ensures goes_on { IfOk result (λ x. MayGoOn R.contents S.contents (sure_disk disk.new) x × (has_refused x ≡ false)) }
 {
     let curator = no_curator(alloc)?;
@@ -51,8 +52,7 @@ fn begin<R: TreeRep, S: TreeRep, F: Files>(
     files: &mut F,
 ) -> Result<Result<Interpreter<R, S>, Why>, FilesFault>
     requires vacant { IsVacant (sure_view disk.old).content }
-    ensures begun { IfOk result (λ r. (t : FileTable) → IsTable t (known_files F.Files files.old) (known_files F.Files files.new)
-        → Begun R.contents S.contents (sure_disk disk.new) kind (start_given t start) r) }
+    ensures begun { IfOk result (λ r. BegunFrom R.contents S.contents (sure_disk disk.new) kind (known_files F.Files files.old) (λ t. start_given t start) r) }
     ensures goes_on { IfOk result (λ r. IfOk r (λ x. MayGoOn R.contents S.contents (sure_disk disk.new) x × (has_refused x ≡ false))) }
     ensures used { UsesFiles (λ e. e ≡ FilesFault.Failed) (known_files F.Files files.old) (known_files F.Files files.new) result }
     ensures reads { Reads (λ e. e ≡ FilesFault.Failed) (start_reads start) (known_files F.Files files.old) (known_files F.Files files.new) result }
@@ -95,6 +95,8 @@ fn play<R: TreeRep, S: TreeRep, F: Files, K: Clock, I: Source, O: Sink>(
         (known_outside F.Files K.Clock I.Source O.Sink files.old clock.old input.old output.old)
         (known_outside F.Files K.Clock I.Source O.Sink files.new clock.new input.new output.new) result }
     ensures disk { result ≡ End.Disk → ⊥ }
+    ensures replied { WroteReplies false
+        (known_output O.Sink output.old) (known_output O.Sink output.new) result }
 {
     match begin::<R, S, F>(alloc, kind, start, disk, files) {
         Ok(Ok(mut session)) => {
@@ -124,6 +126,8 @@ pub(crate) fn scratch<R: TreeRep, S: TreeRep, F: Files, K: Clock, I: Source, O: 
         (known_outside F.Files K.Clock I.Source O.Sink files.old clock.old input.old output.old)
         (known_outside F.Files K.Clock I.Source O.Sink files.new clock.new input.new output.new) result }
     ensures disk { result ≡ End.Disk → ⊥ }
+    ensures replied { WroteReplies false
+        (known_output O.Sink output.old) (known_output O.Sink output.new) result }
 {
     let Ok(mut piece) = vec![in alloc; 0u8; PIECE_MAX] else {
         drop(start);

@@ -1,10 +1,13 @@
 //! A session on a store.
-ghost use Rattle.std.specs.Prelude.{◌≡◌, ◌⊎◌, false, IsTrue, IfOk, IfErr};
+ghost use Rattle.std.specs.Prelude.{◌≡◌, ◌⊎◌, false, IsTrue, IfOk, OnOk, IfErr, OnErr};
 ghost use Rattle.cp_disk.specs.Counts.{UsesDisk};
-ghost use Rattle.cp_disk.specs.Views.{IfKnown};
+ghost use Rattle.cp_disk.specs.Views.{ViewRests, IfKnown};
 ghost use Rattle.cp_db.specs.Databases.{IsDatabase, IsReady, is_spent, version_in};
+ghost use Rattle.cp_db.specs.FileVersions.{file_version, newest_version, HasVersion, HasVersionOrNewest, IsAtVersion, LeavesFiles};
 ghost use Rattle.cp_interpreter.specs.Begins.{Migrated, OpenedAs, BegunOn, IsOpeningStop, LeavesStore};
-ghost use Rattle.cp_interpreter.specs.Outside.{known_outside};
+ghost use Rattle.cp_interpreter.specs.Outside.{known_output, known_outside};
+ghost use Rattle.cp_interpreter.specs.Replied.{WroteReplies};
+ghost use Rattle.cp_program.specs.FileVersions.{RunsOnNewest};
 ghost use Rattle.cp_interpreter.specs.Story.{RanOn, HasCauses, DiskCauses};
 ghost use Rattle.cp_interpreter.specs.Turns.{MayGoOn, has_refused};
 
@@ -26,7 +29,12 @@ fn migrate<R: TreeRep, S: TreeRep, D: Disk>(
     requires version { (version_in db ≡ 1) ⊎ (version_in db ≡ 2) }
     requires stands { IsDatabase R.contents S.contents db }
     requires ready { IfKnown (D.known disk.old) (λ v. IsReady db v) }
+    requires gate { IsAtVersion (version_in db) (D.known disk.old) }
     ensures migrated { Migrated R.contents S.contents db (D.known disk.old) (D.known disk.new) result }
+    ensures newest { OnOk result (IsAtVersion newest_version (D.known disk.new)) }
+    ensures file { IfKnown (D.known disk.old) (λ v.
+        LeavesFiles (HasVersionOrNewest (file_version v.content)) v (D.known disk.new).view) }
+    ensures older { IfKnown (D.known disk.old) (λ v. OnErr result (HasVersion newest_version v.content → ⊥)) }
     ensures usable { IfOk result (λ d. IsDatabase R.contents S.contents d × (is_spent d ≡ false) × (version_in d ≡ 2)) }
     ensures ready { IfKnown (D.known disk.new) (λ v. IfOk result (λ d. IsReady d v)) }
     ensures cause { UsesDisk (λ e. e ≡ Stop.Disk) (D.known disk.old) (D.known disk.new) result }
@@ -54,6 +62,11 @@ fn open_db<R: TreeRep, S: TreeRep, D: Disk>(alloc: Global, disk: &mut D) -> Resu
     ensures opened { IsTrue (D.known disk.old).known →
         OpenedAs R.contents S.contents (D.known disk.old) (D.known disk.new) result }
     ensures leaves { LeavesStore (D.known disk.old) (D.known disk.new) }
+    ensures newest { OnOk result (IsAtVersion newest_version (D.known disk.new)) }
+    ensures file { IfKnown (D.known disk.old) (λ v.
+        LeavesFiles (HasVersionOrNewest (file_version v.content)) v (D.known disk.new).view) }
+    ensures kept { IfKnown (D.known disk.old) (λ v.
+        OnErr result (HasVersion newest_version v.content → ViewRests v (D.known disk.new).view)) }
     ensures usable { IfOk result (λ d. IsDatabase R.contents S.contents d × (is_spent d ≡ false) × (version_in d ≡ 2)) }
     ensures ready { IfKnown (D.known disk.new) (λ v. IfOk result (λ d. IsReady d v)) }
     ensures cause { UsesDisk (λ e. e ≡ Stop.Disk) (D.known disk.old) (D.known disk.new) result }
@@ -72,6 +85,11 @@ pub(crate) fn begin<R: TreeRep, S: TreeRep, D: Disk>(
     ensures begun { IsTrue (D.known disk.old).known →
         BegunOn R.contents S.contents curator (D.known disk.old) (D.known disk.new) result }
     ensures leaves { LeavesStore (D.known disk.old) (D.known disk.new) }
+    ensures newest { OnOk result (IsAtVersion newest_version (D.known disk.new)) }
+    ensures file { IfKnown (D.known disk.old) (λ v.
+        LeavesFiles (HasVersionOrNewest (file_version v.content)) v (D.known disk.new).view) }
+    ensures kept { IfKnown (D.known disk.old) (λ v.
+        OnErr result (HasVersion newest_version v.content → ViewRests v (D.known disk.new).view)) }
     ensures goes_on { IfOk result (λ x. MayGoOn R.contents S.contents (D.known disk.new) x × (has_refused x ≡ false)) }
     ensures cause { UsesDisk (λ e. e ≡ Stop.Disk) (D.known disk.old) (D.known disk.new) result }
     ensures kinds { IfErr result IsOpeningStop }
@@ -98,6 +116,12 @@ pub(crate) fn run<R: TreeRep, S: TreeRep, D: Disk, F: Files, K: Clock, I: Source
         (known_outside F.Files K.Clock I.Source O.Sink files.old clock.old input.old output.old)
         (known_outside F.Files K.Clock I.Source O.Sink files.new clock.new input.new output.new) result }
     ensures disk { DiskCauses (D.known disk.old) (D.known disk.new) result }
+    ensures replied { WroteReplies false
+        (known_output O.Sink output.old) (known_output O.Sink output.new) result }
+    ensures file { IsTrue (D.known disk.old).known → RunsOnNewest
+        (known_outside F.Files K.Clock I.Source O.Sink files.old clock.old input.old output.old)
+        (known_outside F.Files K.Clock I.Source O.Sink files.new clock.new input.new output.new)
+        (D.known disk.old) (D.known disk.new) result }
 {
     let Ok(mut piece) = vec![in alloc; 0u8; PIECE_MAX] else {
         return out_of_memory(output);

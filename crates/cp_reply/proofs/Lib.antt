@@ -4,3 +4,4 @@ mod Runs
 pub mod Worked
 pub mod Appended
 pub mod SessionLemmas
+pub mod Supplies

@@ -41,7 +41,7 @@ refusals = record { at_labels = refl; of_copies = refl; deep = refl; many = refl
 
 pub sources : SourcesHold
 unfolding replies_to_statements session_after_statements replay start_state after_commit after_step after_settling answer_to lines tree_at settle loses_child full_here reduced_here all_paths step then_op apply_op refusal cases_of tree_after weight with_subtree without entries_under below keyed.entries keyed.empty keyed.get keyed.insert keyed.retain_keys keyed.put_all keyed.len digits escape_byte
-sources = record { copied = refl; there = refl; once = refl }
+sources = record { copied = refl; there = refl; once = refl; in_turn = refl }
 
 pub spellings : SpellingsHold
 unfolding replies_to_statements session_after_statements replay start_state after_commit after_step after_settling answer_to lines tree_at settle loses_child full_here reduced_here all_paths step then_op apply_op refusal cases_of tree_after weight with_subtree without entries_under below keyed.entries keyed.empty keyed.get keyed.insert keyed.retain_keys keyed.put_all keyed.len digits escape_byte

@@ -1,5 +1,6 @@
 -- Worked examples: whole sessions over values, each with the text that it writes.
 use Rattle.std.specs.Prelude.{ℕ, zero, suc, ◌≡◌, ◌==◌, pos, List, [], ◌∷◌, ◌++◌, true, codes, flat_map, length, nat_lt, if◌then◌else◌}
+use Rattle.std.specs.declared.option.Option.{Option}
 use Rattle.std.specs.declared.option.Option.TheVariants.{None, Some}
 use Prim.Native.String.{String}
 use Rattle.cp_path.specs.Place.{Path, label_eq, child_place}
@@ -23,7 +24,7 @@ use Rattle.cp_lang.specs.declared.syntax_tree.Stmt.TheVariants as stmt
 use Rattle.cp_reply.specs.Lines.{lines}
 use Rattle.cp_reply.specs.declared.reply.Reply.TheVariants as reply
 use Rattle.cp_reply.specs.declared.reply.Why.TheVariants as why
-use Rattle.cp_reply.specs.Session.{Setting, going, unread, FetchedFile, gives, withholds, fresh, replies_to_statements, session_after_statements}
+use Rattle.cp_reply.specs.Session.{Setting, Session, going, unread, FetchedFile, gives, withholds, fresh, replies_to_statements, session_after_statements}
 
 -- ---- places, trees and statements in short
 
@@ -171,7 +172,7 @@ abbrev pub example_setting : Setting
 example_setting =
     record {
       read = λ _. unread (why.Syntax 0);
-      fetch = λ l. example_file l.file;
+      fetch = λ _ l. example_file l.file;
       fits = λ _ _ _ _. true;
       has_room = λ _ _ _. true;
       curator = [];
@@ -180,6 +181,15 @@ example_setting =
 -- the same, but no entry of two operations or more is within the limits
 abbrev pub cramped_setting : Setting
 cramped_setting = record example_setting { fits = λ _ _ ops _. nat_lt (length ops) 2 }
+
+-- one leaf, where there is a file
+abbrev pub leaf_of : Option (List ℕ) → FetchedFile
+leaf_of None = withholds why.NoFile
+leaf_of (Some bytes) = gives one_leaf
+
+-- the same, but each file that is there has one leaf
+abbrev pub told_setting : Setting
+told_setting = record example_setting { fetch = λ files l. leaf_of (files l.file) }
 
 -- the same, for this curator
 abbrev pub signed_by : String → Setting → Setting
@@ -572,10 +582,21 @@ abbrev pub source_is_loaded_once : Type 0
 source_is_loaded_once =
     output kind.N empty_tree (load "S" "x.json" ∷ load "S" "x.json" ∷ []) ≡ lines_of ("loaded S 2" ∷ "refused load: source S is there" ∷ [])
 
+-- a session to whose reads no file is there, then each, and then none
+abbrev pub changing_files : Session
+changing_files = record (fresh kind.N empty_tree []) { supply = record { moments = []; tables = (λ _. None) ∷ (λ _. Some []) ∷ (λ _. None) ∷ [] } }
+
+-- each load finds the file as it is then, unless something is in its way before
+abbrev pub files_are_read_in_turn : Type 0
+files_are_read_in_turn =
+    flat_map lines (replies_to_statements told_setting changing_files (load "S" "s.json" ∷ load "S" "s.json" ∷ load "S" "s.json" ∷ load "R" "s.json" ∷ []))
+    ≡ lines_of ("refused load: no file" ∷ "loaded S 2" ∷ "refused load: source S is there" ∷ "refused load: no file" ∷ [])
+
 pub record SourcesHold : Type 0 where
   pub copied : row_of_a_table_is_copied
   pub there : copied_row_has_to_be_there
   pub once : source_is_loaded_once
+  pub in_turn : files_are_read_in_turn
 
 -- ---- spellings
 

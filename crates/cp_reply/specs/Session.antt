@@ -3,6 +3,7 @@ use Rattle.cp_model.specs.declared.limits.TheConstants.{OPS_MAX, SOURCES_MAX}
 use Rattle.std.specs.Prelude.{ℕ, ◌+◌, ◌-◌, ◌==◌, List, [], ◌∷◌, ◌++◌, Bool, true, false, not, drop, length, map, is_some, if◌then◌else◌}
 use Rattle.std.specs.declared.option.Option.{Option}
 use Rattle.std.specs.declared.option.Option.TheVariants.{None, Some}
+use Rattle.cp_outside.specs.FileReads.{FileTable}
 use Rattle.cp_path.specs.declared.loc.Loc.{Loc}
 use Rattle.cp_model.specs.Place.{Path, Label, in_target}
 use Rattle.cp_model.specs.Keyed as keyed
@@ -52,12 +53,38 @@ pub data FetchedFile : Type 0 where
 -- what the table leaves to whoever runs a session
 pub record Setting : Type 0 where
   pub read : List ℕ → TextReading
-  pub fetch : Load → FetchedFile
+  -- of these files
+  pub fetch : FileTable → Load → FetchedFile
   -- after this history an entry of these operations and records is within the limits of an entry's bytes and the file's
   pub fits : List Entry → Stamp → List Op → List Record → Bool
   -- after this history the file has room for an entry of this source
   pub has_room : List Entry → List ℕ → Tree → Bool
   pub curator : Label
+
+-- ---- what comes from outside
+
+-- What is told to a session one after another: the moments of the clock, and the files as each read finds them.
+pub record Supply : Type 0 where
+  pub moments : List ℕ
+  pub tables : List FileTable
+
+-- nothing
+abbrev pub no_supply : Supply
+no_supply = record { moments = []; tables = [] }
+
+-- the one, and then the other
+abbrev pub followed_by : Supply → Supply → Supply
+followed_by first later = record { moments = first.moments ++ later.moments; tables = first.tables ++ later.tables }
+
+-- the next moment that the clock tells, and 0 where it tells none
+abbrev pub next_moment : List ℕ → ℕ
+next_moment [] = 0
+next_moment (m ∷ ms) = m
+
+-- the files as the next read finds them, and none where that isn't told
+abbrev pub next_table : List FileTable → FileTable
+next_table [] = λ name. None
+next_table (t ∷ ts) = t
 
 -- ---- states
 
@@ -71,8 +98,8 @@ pub data OpenTransaction : Type 0 where
 pub record Session : Type 0 where
   pub history : List Entry
   pub opened : OpenTransaction
-  -- the moments that the clock still tells
-  pub moments : List ℕ
+  -- what is still told
+  pub supply : Supply
 
 -- a reply, if there is one, and the next state
 pub record Turn : Type 0 where
@@ -93,11 +120,11 @@ refuses w s = replies (reply.Refused of.Statement w) s
 
 -- the transaction becomes x
 abbrev pub with_opened : Session → OpenTransaction → Session
-with_opened s x = record { history = s.history; opened = x; moments = s.moments }
+with_opened s x = record { history = s.history; opened = x; supply = s.supply }
 
 -- the history gets one entry more
 abbrev pub with_entry : Session → Entry → Session
-with_entry s e = record { history = s.history ++ e ∷ []; opened = s.opened; moments = s.moments }
+with_entry s e = record { history = s.history ++ e ∷ []; opened = s.opened; supply = s.supply }
 
 -- ---- operations
 
@@ -170,11 +197,6 @@ not_read s w = refuses w (with_opened s (fail_unread s.opened))
 
 -- ---- commit and abort
 
--- the next moment that the clock tells, and 0 where it tells none
-abbrev pub next_moment : List ℕ → ℕ
-next_moment [] = 0
-next_moment (m ∷ ms) = m
-
 -- no transaction is open after a refused commit
 abbrev pub refused_commit : Why → Session → Turn
 refused_commit w s = replies (reply.Refused of.Commit w) (with_opened s closed)
@@ -185,11 +207,11 @@ new_records before after = drop (length before.rows) after.rows
 
 -- a moment was taken, and no transaction is open
 abbrev pub after_moment : Session → Session
-after_moment s = record { history = s.history; opened = closed; moments = drop 1 s.moments }
+after_moment s = record { history = s.history; opened = closed; supply = record { moments = drop 1 s.supply.moments; tables = s.supply.tables } }
 
 -- the curator and the moment of a commit
 abbrev pub stamp_of : Setting → Session → Stamp
-stamp_of c s = record { curator = c.curator; moment = next_moment s.moments }
+stamp_of c s = record { curator = c.curator; moment = next_moment s.supply.moments }
 
 -- the Tids of the commit, unless its entry is too large
 abbrev pub commit_ops : Setting → Session → State → List Op → Turn
@@ -222,6 +244,10 @@ is_closed closed = true
 is_closed (going ops) = false
 is_closed (failed n c) = false
 
+-- a file was read
+abbrev pub after_read : Session → Session
+after_read s = record { history = s.history; opened = s.opened; supply = record { moments = s.supply.moments; tables = drop 1 s.supply.tables } }
+
 -- the source is loaded, unless the store has no room
 abbrev pub load_fetched : Setting → Session → List ℕ → FetchedFile → Turn
 load_fetched c s n (withholds w) = refused_load w s
@@ -234,7 +260,7 @@ on_load c s t l =
     if not (is_closed s.opened) then refused_load why.TransactionOpen s
     else if is_some (source t.sources l.name) then refused_load (why.SourceThere l.name) s
     else if length t.sources == SOURCES_MAX then refused_load why.TooManySources s
-    else load_fetched c s l.name (c.fetch l)
+    else load_fetched c (after_read s) l.name (c.fetch (next_table s.supply.tables) l)
 
 -- ---- show and queries
 
@@ -321,9 +347,9 @@ unfoldable pub session_after : Setting → Session → List Cut → Session
 session_after c s [] = s
 session_after c s (x ∷ xs) = session_after c (turn c s x).next xs
 
--- a session on a history of its own, which has a start tree alone
+-- a session on a history of its own, which has a start tree alone, with these moments of the clock
 abbrev pub fresh : Kind → Tree → List ℕ → Session
-fresh k t moments = record { history = start k t ∷ []; opened = closed; moments = moments }
+fresh k t moments = record { history = start k t ∷ []; opened = closed; supply = record { moments = moments; tables = [] } }
 
 -- the replies to statements that are handed over as values
 unfoldable pub replies_to_statements : Setting → Session → List Stmt → List Reply

@@ -1,6 +1,6 @@
 -- The statements of a script, run one after another with a clock that has no moment left.
-use Rattle.std.proofs.Common.{◌≡◌, ◌∙◌, ℕ, List, [], ◌∷◌, ◌++◌, Bool, true, false, Ok, Err, refl, sym, ap, subst, append-nil}
-use Rattle.std.specs.Prelude.{if◌then◌else◌, drop, ⊤, IfOk, OnOk, Result}
+use Rattle.std.proofs.Common.{◌≡◌, ◌∙◌, ℕ, List, [], ◌∷◌, ◌++◌, Bool, true, false, Ok, Err, refl, sym, ap, subst}
+use Rattle.std.specs.Prelude.{if◌then◌else◌, drop, IfOk, OnOk, Result}
 use Rattle.std.specs.declared.option.Option.{Option}
 use Rattle.std.specs.declared.option.Option.TheVariants.{None, Some}
 use Rattle.cp_outside.specs.Moments.{HasTold}
@@ -13,15 +13,17 @@ use Rattle.cp_model.specs.declared.stamp.Stamp.{Stamp}
 use Rattle.cp_lang.specs.declared.syntax_tree.Stmt.{Stmt}
 use Rattle.cp_lang.specs.declared.syntax_tree.Stmt.TheVariants as stmt
 use Rattle.cp_reply.specs.declared.reply.Reply.{Reply}
-use Rattle.cp_reply.specs.Session.{Session, Setting, Turn, OpenTransaction, closed, going, failed, says, turn_of, turn_by, on_operation, on_commit, decide_op, refusal_after, next_moment, new_records, session_after_statements}
+use Rattle.cp_reply.specs.Session.{Supply, no_supply, Session, Setting, Turn, OpenTransaction, closed, going, failed, says, turn_of, turn_by, on_operation, on_commit, decide_op, refusal_after, next_moment, new_records, session_after_statements}
 use Rattle.cp_gen.specs.Script.{IsOpOrCommit, script}
 use Rattle.cp_gen.specs.Summaries.{IsAt, summary_of}
 use Rattle.cp_db.specs.declared.database.Db.{Db}
+use Rattle.cp_reply.proofs.Supplies.{followed-none}
+use Rattle.cp_workspace.specs.Files.{KnownFiles}
+use Rattle.cp_workspace.specs.Clocks.{KnownClock}
 use Rattle.cp_workspace.specs.Texts.{Terms, setting}
 use Rattle.cp_disk.specs.Views.{KnownDisk}
 use Rattle.cp_workspace.specs.Workspaces.{Stands, HasTurned, db_in}
 use Rattle.cp_workspace.specs.declared.workspace.Workspace.{Workspace}
-use Rattle.cp_scratch.specs.Sessions.{no_files}
 use Rattle.cp_scratch.specs.Workloads.{ComesTo, workload_session, workload_terms}
 
 -- what follows from what holds where all went well
@@ -56,25 +58,25 @@ module _ {A : Type 0} (f : Turn → A) where
   same-case false x y x' y' h k = k
 
 -- an operation asks for no moment
-op-moments : (s : Session) (ops : List Op) (op : Op) (o : Option Refusal) → (decide_op s ops op o).next.moments ≡ s.moments
+op-moments : (s : Session) (ops : List Op) (op : Op) (o : Option Refusal) → (decide_op s ops op o).next.supply.moments ≡ s.supply.moments
 op-moments s ops op None = refl
 op-moments s ops op (Some r) = refl
 
-operation-moments : (s : Session) (t : State) (op : Op) (x : OpenTransaction) → (on_operation s t op x).next.moments ≡ s.moments
+operation-moments : (s : Session) (t : State) (op : Op) (x : OpenTransaction) → (on_operation s t op x).next.supply.moments ≡ s.supply.moments
 operation-moments s t op closed = op-moments s [] op (refusal_after t [] op)
 operation-moments s t op (going ops) = op-moments s ops op (refusal_after t ops op)
 operation-moments s t op (failed n c) = refl
 
 -- with none left a commit leaves none
-commit-moments : (c : Setting) (s : Session) (t : State) (x : OpenTransaction) → s.moments ≡ [] → (on_commit c s t x).next.moments ≡ []
+commit-moments : (c : Setting) (s : Session) (t : State) (x : OpenTransaction) → s.supply.moments ≡ [] → (on_commit c s t x).next.supply.moments ≡ []
 commit-moments c s t closed e = e
 commit-moments c s t (going ops) e =
-    let z : Stamp = record { curator = c.curator; moment = next_moment s.moments } in
-    either-turn (λ y. y.next.moments) (c.fits s.history z ops (new_records t (after_commit t ops))) _ _ [] (ap (λ m. drop 1 m) e) (ap (λ m. drop 1 m) e)
+    let z : Stamp = record { curator = c.curator; moment = next_moment s.supply.moments } in
+    either-turn (λ y. y.next.supply.moments) (c.fits s.history z ops (new_records t (after_commit t ops))) _ _ [] (ap (λ m. drop 1 m) e) (ap (λ m. drop 1 m) e)
 commit-moments c s t (failed n k) e = e
 
 -- so it is with each statement of a script
-by-state-moments : (c : Setting) (s : Session) (x : Stmt) (o : Option State) → IsOpOrCommit x → s.moments ≡ [] → (turn_by c s o x).next.moments ≡ []
+by-state-moments : (c : Setting) (s : Session) (x : Stmt) (o : Option State) → IsOpOrCommit x → s.supply.moments ≡ [] → (turn_by c s o x).next.supply.moments ≡ []
 by-state-moments c s x None only e = e
 by-state-moments c s (stmt.Op op) (Some t) only e = operation-moments s t op s.opened ∙ e
 by-state-moments c s stmt.Commit (Some t) only e = commit-moments c s t s.opened e
@@ -83,20 +85,20 @@ by-state-moments c s (stmt.Load l) (Some t) only e = absurd only
 by-state-moments c s (stmt.Ask q) (Some t) only e = absurd only
 by-state-moments c s (stmt.Show p) (Some t) only e = absurd only
 
-turn-moments : (c : Setting) (s : Session) (x : Stmt) → IsOpOrCommit x → s.moments ≡ [] → (turn_of c s (says x)).next.moments ≡ []
+turn-moments : (c : Setting) (s : Session) (x : Stmt) → IsOpOrCommit x → s.supply.moments ≡ [] → (turn_of c s (says x)).next.supply.moments ≡ []
 turn-moments c s x only e = by-state-moments c s x (replay s.history) only e
 
 -- a commit asks for the next moment alone
-module _ (c : Setting) (s : Session) (ms : List ℕ) (same : next_moment ms ≡ next_moment s.moments) where
+module _ (c : Setting) (s : Session) (x : Supply) (same : next_moment x.moments ≡ next_moment s.supply.moments) where
   abbrev other : Session
-  other = record { history = s.history; opened = s.opened; moments = ms }
+  other = record { history = s.history; opened = s.opened; supply = x }
 
   abbrev stamp : ℕ → Stamp
   stamp m = record { curator = c.curator; moment = m }
 
   commit-opened : (q : Session) (t : State) (x : OpenTransaction) → (on_commit c q t x).next.opened ≡ closed
   commit-opened q t closed = refl
-  commit-opened q t (going ops) = either-turn (λ y. y.next.opened) (c.fits q.history (stamp (next_moment q.moments)) ops (new_records t (after_commit t ops))) _ _ closed refl refl
+  commit-opened q t (going ops) = either-turn (λ y. y.next.opened) (c.fits q.history (stamp (next_moment q.supply.moments)) ops (new_records t (after_commit t ops))) _ _ closed refl refl
   commit-opened q t (failed n k) = refl
 
   -- the history after operations are committed at this moment
@@ -112,7 +114,7 @@ module _ (c : Setting) (s : Session) (ms : List ℕ) (same : next_moment ms ≡ 
   commit-history t closed = refl
   commit-history t (going ops) =
       let fits : ℕ → Bool = λ m. c.fits s.history (stamp m) ops (new_records t (after_commit t ops)) in
-      history-is (fits (next_moment s.moments)) _ _ _ _ refl refl ∙ ap (committed t ops) (sym same) ∙ sym (history-is (fits (next_moment ms)) _ _ _ _ refl refl)
+      history-is (fits (next_moment s.supply.moments)) _ _ _ _ refl refl ∙ ap (committed t ops) (sym same) ∙ sym (history-is (fits (next_moment x.moments)) _ _ _ _ refl refl)
   commit-history t (failed n k) = refl
 
   by-state-history : (o : Option State) → (turn_by c s o stmt.Commit).next.history ≡ (turn_by c other o stmt.Commit).next.history
@@ -126,27 +128,28 @@ module _ (c : Setting) (s : Session) (ms : List ℕ) (same : next_moment ms ≡ 
 -- ---- what a workspace stands for
 
 module _ {R S : Type 0} (view : R → Tree) (source_view : S → Tree) where
-  -- what it stands for has nothing to do with moments
+  -- what it stands for has nothing to do with what is told
   restand : (terms : Terms) (d : Workspace R S) (s t : Session) → t.history ≡ s.history → t.opened ≡ s.opened → Stands view source_view terms d s → Stands view source_view terms d t
   restand terms d s t h o z =
-      let moved : Stands view source_view terms d (record { history = s.history; opened = s.opened; moments = t.moments }) = record { db = z.db; ends = z.ends; curator = z.curator; opened = z.opened } in
-      let same : Stands view source_view terms d (record { history = t.history; opened = s.opened; moments = t.moments }) = subst (λ a. Stands view source_view terms d (record { history = a; opened = s.opened; moments = t.moments })) (sym h) moved in
-      subst (λ b. Stands view source_view terms d (record { history = t.history; opened = b; moments = t.moments })) (sym o) same
+      let moved : Stands view source_view terms d (record { history = s.history; opened = s.opened; supply = t.supply }) = record { db = z.db; ends = z.ends; curator = z.curator; opened = z.opened } in
+      let same : Stands view source_view terms d (record { history = t.history; opened = s.opened; supply = t.supply }) = subst (λ a. Stands view source_view terms d (record { history = a; opened = s.opened; supply = t.supply })) (sym h) moved in
+      subst (λ b. Stands view source_view terms d (record { history = t.history; opened = b; supply = t.supply })) (sym o) same
 
   -- a commit was run
-  pub commit-stands : (old new : Workspace R S) (v w : KnownDisk) (before left : List ℕ) (r : Reply) → before ≡ []
-      → HasTurned view source_view (λ y. Some y) (λ t terms s. turn_of (setting t terms) s (says stmt.Commit)) (λ t. ⊤) old new v w (Some before) (Some left) (Ok r)
-      → (left ≡ []) × ((terms : Terms) (s : Session) → Stands view source_view terms old s → s.moments ≡ [] → Stands view source_view terms new (turn_of (setting no_files terms) s (says stmt.Commit)).next)
-  commit-stands old new v w before left r silent h =
-      let told = silent-told (Some left) h.moments (subst (λ b. HasTold (Some b) (Some left) h.moments) silent h.told) in (
+  pub commit-stands : (files : KnownFiles) (kb ka : KnownClock) (old new : Workspace R S) (v w : KnownDisk) (before left : List ℕ) (r : Reply) → before ≡ [] → kb.left ≡ Some before → ka.left ≡ Some left
+      → HasTurned view source_view (λ y. Some y) (λ terms s. turn_of (setting terms) s (says stmt.Commit)) files kb ka old new v w (Ok r)
+      → (left ≡ []) × ((terms : Terms) (s : Session) → Stands view source_view terms old s → s.supply.moments ≡ [] → Stands view source_view terms new (turn_of (setting terms) s (says stmt.Commit)).next)
+  commit-stands files kb ka old new v w before left r silent was is h =
+      let x = h.supply in
+      let told = silent-told (Some left) x.moments (subst (λ b. HasTold (Some b) (Some left) x.moments) silent (subst (λ b. HasTold b (Some left) x.moments) was (subst (λ a. HasTold kb.left a x.moments) is h.supplied.told))) in (
         ap some_value told.0,
         λ terms s z none.
-            let c = setting no_files terms in
-            let o : Session = record { history = s.history; opened = s.opened; moments = h.moments } in
-            let same : next_moment h.moments ≡ next_moment s.moments = told.1 ∙ sym (ap next_moment none) in
-            let turned = (h.turns no_files tt terms o [] (restand terms old s o refl refl z) (sym (append-nil h.moments))).turned in
+            let c = setting terms in
+            let o : Session = record { history = s.history; opened = s.opened; supply = x } in
+            let same : next_moment x.moments ≡ next_moment s.supply.moments = told.1 ∙ sym (ap next_moment none) in
+            let turned = (h.turns terms o no_supply (restand terms old s o refl refl z) (sym (followed-none x))).turned in
             restand terms new (turn_of c o (says stmt.Commit)).next (turn_of c s (says stmt.Commit)).next
-            (by-state-history c s h.moments same (replay s.history)) (by-state-opened c s h.moments same (replay s.history)) turned.1,
+            (by-state-history c s x same (replay s.history)) (by-state-opened c s x same (replay s.history)) turned.1,
       )
 
   -- ---- a whole script
@@ -155,20 +158,20 @@ module _ {R S : Type 0} (view : R → Tree) (source_view : S → Tree) where
   pub record IsOnTheWay (terms : Terms) (s : Session) (all left : List Stmt) (d : Workspace R S) : Type 0 where
     pub session : Session
     pub stands : Stands view source_view terms d session
-    pub silent : session.moments ≡ []
-    pub leads : session_after_statements (setting no_files terms) session left ≡ session_after_statements (setting no_files terms) s all
+    pub silent : session.supply.moments ≡ []
+    pub leads : session_after_statements (setting terms) session left ≡ session_after_statements (setting terms) s all
 
   -- before the first statement
-  pub way-begins : (terms : Terms) (s : Session) (all : List Stmt) (d : Workspace R S) → Stands view source_view terms d s → s.moments ≡ [] → IsOnTheWay terms s all all d
+  pub way-begins : (terms : Terms) (s : Session) (all : List Stmt) (d : Workspace R S) → Stands view source_view terms d s → s.supply.moments ≡ [] → IsOnTheWay terms s all all d
   way-begins terms s all d z e = record { session = s; stands = z; silent = e; leads = refl }
 
   -- after one more
   pub way-next : (terms : Terms) (s : Session) (all left rest : List Stmt) (x : Stmt) (old new : Workspace R S) → left ≡ x ∷ rest → IsOpOrCommit x → IsOnTheWay terms s all left old
-      → ((t : Terms) (q : Session) → Stands view source_view t old q → q.moments ≡ [] → Stands view source_view t new (turn_of (setting no_files t) q (says x)).next)
+      → ((t : Terms) (q : Session) → Stands view source_view t old q → q.supply.moments ≡ [] → Stands view source_view t new (turn_of (setting t) q (says x)).next)
       → IsOnTheWay terms s all rest new
   unfolding session_after_statements
   way-next terms s all left rest x old new is only y f =
-      let c = setting no_files terms in
+      let c = setting terms in
       record {
         session = (turn_of c y.session (says x)).next;
         stands = f terms y.session y.stands y.silent;
@@ -177,22 +180,22 @@ module _ {R S : Type 0} (view : R → Tree) (source_view : S → Tree) where
       }
 
   -- after the last
-  pub way-ends : (terms : Terms) (s : Session) (all left : List Stmt) (d : Workspace R S) → left ≡ [] → IsOnTheWay terms s all left d → Stands view source_view terms d (session_after_statements (setting no_files terms) s all)
+  pub way-ends : (terms : Terms) (s : Session) (all left : List Stmt) (d : Workspace R S) → left ≡ [] → IsOnTheWay terms s all left d → Stands view source_view terms d (session_after_statements (setting terms) s all)
   unfolding session_after_statements
   way-ends terms s all left d is y =
-      let c = setting no_files terms in
+      let c = setting terms in
       subst (Stands view source_view terms d) (sym (ap (session_after_statements c y.session) is) ∙ y.leads) y.stands
 
   -- ---- what it comes to
 
   -- the database of a workspace that stands for the session after a script tells what the workload comes to
   pub comes-to : {E : Type 0} (k : Kind) (seed count : ℕ) (d : Workspace R S) (x : Db R S) (r : Result Reply E) → x ≡ db_in d
-      → Stands view source_view (workload_terms k) d (session_after_statements (setting no_files (workload_terms k)) (workload_session k) (script seed count))
+      → Stands view source_view (workload_terms k) d (session_after_statements (setting (workload_terms k)) (workload_session k) (script seed count))
       → IfOk r (λ y. (t : State) → IsAt view source_view x t → y ≡ summary_of t)
       → IfOk r (λ y. ComesTo k seed count y)
   comes-to k seed count d x (Ok y) same z f =
       let t = z.db.state in
-      let s = session_after_statements (setting no_files (workload_terms k)) (workload_session k) (script seed count) in
+      let s = session_after_statements (setting (workload_terms k)) (workload_session k) (script seed count) in
       let at : IsAt view source_view (db_in d) t = record { history = s.history; led = z.db.led; holds = z.db.holds; rows = z.db.rows refl } in
       record { state = t; led = z.db.led.replayed; is = f t (subst (λ b. IsAt view source_view b t) (sym same) at) }
   comes-to k seed count d x (Err e) same z f = tt

@@ -1,7 +1,5 @@
 -- Sessions on a database that is made for one call, in memory.
-use Rattle.std.specs.Prelude.{ℕ, ◌+◌, true, List, [], ◌∷◌}
-use Rattle.std.specs.declared.option.Option.TheVariants.{None}
-use Rattle.cp_outside.specs.FileReads.{FileTable}
+use Rattle.std.specs.Prelude.{◌+◌, true, [], ◌∷◌}
 use Rattle.cp_model.specs.Keyed as keyed
 use Rattle.cp_model.specs.Tree.{Tree}
 use Rattle.cp_model.specs.History.{start}
@@ -10,7 +8,7 @@ use Rattle.cp_model.specs.declared.kind.Kind.{Kind}
 use Rattle.cp_disk.specs.MemoryDisks.{SureState, sure_view, sure_counts}
 use Rattle.cp_journal.specs.declared.limits.TheConstants.{HEADER_SIZE, FRAME_HEAD}
 use Rattle.cp_frame.specs.Sizes.{start_size}
-use Rattle.cp_reply.specs.Session.{Session}
+use Rattle.cp_reply.specs.Session.{Supply, Session}
 use Rattle.cp_workspace.specs.Texts.{Terms}
 use Rattle.cp_disk.specs.Views.{KnownDisk}
 use Rattle.cp_workspace.specs.Workspaces.{opened_session}
@@ -18,10 +16,6 @@ use Rattle.cp_workspace.specs.Workspaces.{opened_session}
 -- a disk in memory, which never fails
 abbrev pub sure_disk : SureState → KnownDisk
 sure_disk s = record { known = true; view = sure_view s; counts = sure_counts s }
-
--- no file
-abbrev pub no_files : FileTable
-no_files name = None
 
 -- a root alone
 abbrev pub empty_tree : Tree
@@ -31,5 +25,5 @@ empty_tree = keyed.from_entries (([], Node) ∷ [])
 abbrev pub scratch_terms : Kind → Tree → Terms
 scratch_terms k t = record { ends = record { entries = start k t ∷ []; at = HEADER_SIZE + FRAME_HEAD + start_size t }; curator = [] }
 
-abbrev pub scratch_session : Kind → Tree → List ℕ → Session
-scratch_session k t moments = opened_session (start k t ∷ []) moments
+abbrev pub scratch_session : Kind → Tree → Supply → Session
+scratch_session k t supply = opened_session (start k t ∷ []) supply

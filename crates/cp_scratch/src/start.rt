@@ -1,8 +1,7 @@
 //! What a history starts from, and the curator of calls that have none.
 ghost use Rattle.std.specs.Prelude.{◌≡◌, [], IfOk};
-ghost use Rattle.cp_outside.specs.FileReads.{FileTable};
-ghost use Rattle.cp_workspace.specs.Fetched.{Gives};
-ghost use Rattle.cp_workspace.specs.Files.{known_files, IsTable, Reads, UsesFiles};
+ghost use Rattle.cp_workspace.specs.Fetched.{GivesFound};
+ghost use Rattle.cp_workspace.specs.Files.{known_files, Reads, UsesFiles};
 ghost use Rattle.cp_scratch.specs.Starts.{start_given, start_reads};
 
 use cp_model::{Content, Form};
@@ -20,8 +19,7 @@ pub fn start_tree<R: TreeRep, F: Files>(
     start: Start,
     files: &mut F,
 ) -> Result<Result<R, Why>, FilesFault>
-    ensures gives { IfOk result (λ r. (t : FileTable) → IsTable t (known_files F.Files files.old) (known_files F.Files files.new)
-        → Gives R.contents (start_given t start) r) }
+    ensures gives { IfOk result (λ r. GivesFound R.contents (known_files F.Files files.old) (λ t. start_given t start) r) }
     ensures used { UsesFiles (λ e. e ≡ FilesFault.Failed) (known_files F.Files files.old) (known_files F.Files files.new) result }
     ensures reads { Reads (λ e. e ≡ FilesFault.Failed) (start_reads start) (known_files F.Files files.old) (known_files F.Files files.new) result }
 {

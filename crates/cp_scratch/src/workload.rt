@@ -9,7 +9,7 @@ ghost use Rattle.cp_db.specs.Databases.{IsReady, end_in, is_spent, version_in};
 ghost use Rattle.cp_gen.specs.Script.{IsOpOrCommit};
 ghost use Rattle.cp_workspace.specs.Texts.{Terms, setting};
 ghost use Rattle.cp_workspace.specs.Workspaces.{Stands, EndsAt, HasStamps, IsUsable, IsWorkspace, IsWrittenStmt, db_in};
-ghost use Rattle.cp_scratch.specs.Sessions.{no_files, sure_disk};
+ghost use Rattle.cp_scratch.specs.Sessions.{sure_disk};
 ghost use Rattle.cp_scratch.specs.Workloads.{ComesTo, workload_session, workload_start, workload_terms};
 
 use crate::database::new_db;
@@ -76,7 +76,7 @@ fn run_operation<R: TreeRep, S: TreeRep>(
     requires workspace { IsWorkspace R.contents S.contents workspace.old }
     requires written { IsWritten op }
     ensures turned { OnOk result ((terms : Terms) (s : Session) → Stands R.contents S.contents terms workspace.old s
-        → Stands R.contents S.contents terms workspace.new (turn_of (setting no_files terms) s (says (Stmt.Op op))).next) }
+        → Stands R.contents S.contents terms workspace.new (turn_of (setting terms) s (says (Stmt.Op op))).next) }
     ensures stays { OnOk result (IsWorkspace R.contents S.contents workspace.new) }
     ensures same { db_in workspace.new ≡ db_in workspace.old }
 {
@@ -94,8 +94,8 @@ fn run_commit<R: TreeRep, S: TreeRep>(
     requires usable { IsUsable R.contents S.contents (sure_disk disk.old) workspace.old }
     requires stamps { HasStamps workspace.old }
     requires silent { clock.old.left ≡ [] }
-    ensures turned { OnOk result ((terms : Terms) (s : Session) → Stands R.contents S.contents terms workspace.old s → s.moments ≡ []
-        → Stands R.contents S.contents terms workspace.new (turn_of (setting no_files terms) s (says Stmt.Commit)).next) }
+    ensures turned { OnOk result ((terms : Terms) (s : Session) → Stands R.contents S.contents terms workspace.old s → s.supply.moments ≡ []
+        → Stands R.contents S.contents terms workspace.new (turn_of (setting terms) s (says Stmt.Commit)).next) }
     ensures stays { OnOk result (IsUsable R.contents S.contents (sure_disk disk.new) workspace.new) }
     ensures stamps { OnOk result (HasStamps workspace.new) }
     ensures silent { OnOk result (clock.new.left ≡ []) }
@@ -123,8 +123,8 @@ fn run_statement<R: TreeRep, S: TreeRep>(
     requires written { IsWrittenStmt statement }
     requires only { IsOpOrCommit statement }
     requires silent { clock.old.left ≡ [] }
-    ensures turned { OnOk result ((terms : Terms) (s : Session) → Stands R.contents S.contents terms workspace.old s → s.moments ≡ []
-        → Stands R.contents S.contents terms workspace.new (turn_of (setting no_files terms) s (says statement)).next) }
+    ensures turned { OnOk result ((terms : Terms) (s : Session) → Stands R.contents S.contents terms workspace.old s → s.supply.moments ≡ []
+        → Stands R.contents S.contents terms workspace.new (turn_of (setting terms) s (says statement)).next) }
     ensures stays { OnOk result (IsUsable R.contents S.contents (sure_disk disk.new) workspace.new) }
     ensures stamps { OnOk result (HasStamps workspace.new) }
     ensures silent { OnOk result (clock.new.left ≡ []) }
@@ -147,8 +147,8 @@ fn run_script<R: TreeRep, S: TreeRep>(
     requires usable { IsUsable R.contents S.contents (sure_disk disk.old) workspace.old }
     requires stamps { HasStamps workspace.old }
     requires silent { clock.old.left ≡ [] }
-    ensures ran { OnOk result ((terms : Terms) (s : Session) → Stands R.contents S.contents terms workspace.old s → s.moments ≡ []
-        → Stands R.contents S.contents terms workspace.new (session_after_statements (setting no_files terms) s script)) }
+    ensures ran { OnOk result ((terms : Terms) (s : Session) → Stands R.contents S.contents terms workspace.old s → s.supply.moments ≡ []
+        → Stands R.contents S.contents terms workspace.new (session_after_statements (setting terms) s script)) }
     ensures stays { OnOk result (IsWorkspace R.contents S.contents workspace.new) }
 {
     while let Some(statement) = script.next()? {

@@ -26,7 +26,6 @@ use Rattle.cp_engine.specs.Transactions as txn
 use Rattle.cp_engine.specs.declared.txn.Txn.{Txn}
 use Rattle.cp_engine.specs.declared.state.TxnState.{TxnState}
 use Rattle.cp_engine.specs.declared.state.TxnState.TheVariants as state
-use Rattle.cp_outside.specs.FileReads.{FileTable}
 use Rattle.cp_db.specs.Databases.{HasCome, HoldsSame, IsSameFile}
 use Rattle.cp_db.specs.declared.database.Db.{Db}
 use Rattle.cp_db.proofs.Keeping.{stands-same}
@@ -87,18 +86,18 @@ module _ {R S : Type 0} (view : R → Tree) (source_view : S → Tree) (terms : 
 
 -- ---- show
 
-module _ {R S : Type 0} (view : R → Tree) (source_view : S → Tree) (files : FileTable) (terms : Terms) (d : Workspace R S) (s : Session) (z : Stands view source_view terms d s) where
-  shows : (q : Loc) (r : Option Reply) → Turned view source_view terms (show_at s q (shown_tree z.db.state s.opened q)) d r → Turned view source_view terms (turn_of (setting files terms) s (says (stmt.Show q))) d r
-  shows q r h = turned-stands view source_view terms d d s z files (stmt.Show q) r h
+module _ {R S : Type 0} (view : R → Tree) (source_view : S → Tree) (terms : Terms) (d : Workspace R S) (s : Session) (z : Stands view source_view terms d s) where
+  shows : (q : Loc) (r : Option Reply) → Turned view source_view terms (show_at s q (shown_tree z.db.state s.opened q)) d r → Turned view source_view terms (turn_of (setting terms) s (says (stmt.Show q))) d r
+  shows q r h = turned-stands view source_view terms d d s z (stmt.Show q) r h
 
   -- there is no such database
-  pub turned-no_source : (q : Loc) → shown_tree z.db.state s.opened q ≡ None → Turned view source_view terms (turn_of (setting files terms) s (says (stmt.Show q))) d (Some (reply.Refused of.Statement (why.NoSource q.db)))
+  pub turned-no_source : (q : Loc) → shown_tree z.db.state s.opened q ≡ None → Turned view source_view terms (turn_of (setting terms) s (says (stmt.Show q))) d (Some (reply.Refused of.Statement (why.NoSource q.db)))
   turned-no_source q e =
       let r = Some (reply.Refused of.Statement (why.NoSource q.db)) in
       shows q r (subst (λ o. Turned view source_view terms (show_at s q o) d r) (sym e) (refl, z))
 
   -- what the tree has at and below a place is shown
-  pub turned-shown : (q : Loc) (u : Tree) → shown_tree z.db.state s.opened q ≡ Some u → Turned view source_view terms (turn_of (setting files terms) s (says (stmt.Show q))) d (Some (shown_reply q u))
+  pub turned-shown : (q : Loc) (u : Tree) → shown_tree z.db.state s.opened q ≡ Some u → Turned view source_view terms (turn_of (setting terms) s (says (stmt.Show q))) d (Some (shown_reply q u))
   turned-shown q u e = shows q (Some (shown_reply q u)) (subst (λ o. Turned view source_view terms (show_at s q o) d (Some (shown_reply q u))) (sym e) (by (is_there u q.path)))
     where
       by : (b : Bool) → Turned view source_view terms (if b then replies (reply.Show q (map row_of (below q.path u))) s else refuses (why.NoPlace q) s) d (Some (if b then reply.Show q (map row_of (below q.path u)) else reply.Refused of.Statement (why.NoPlace q)))
@@ -108,9 +107,9 @@ module _ {R S : Type 0} (view : R → Tree) (source_view : S → Tree) (files : 
 -- what the tree of a place's database has at and below the place is shown, if memory is enough
 pub told-shown : {R S E : Type 0} (view : R → Tree) (source_view : S → Tree) (d : Workspace R S) (q : Loc) (u : Tree) (r : Result Reply E) →
     ((terms : Terms) (s : Session) (z : Stands view source_view terms d s) → shown_tree z.db.state s.opened q ≡ Some u) → IfOk r (λ x. x ≡ shown_reply q u) →
-    IfOk r (λ x. (files : FileTable) (terms : Terms) (s : Session) → Stands view source_view terms d s → Turned view source_view terms (turn_of (setting files terms) s (says (stmt.Show q))) d (Some x))
+    IfOk r (λ x. (terms : Terms) (s : Session) → Stands view source_view terms d s → Turned view source_view terms (turn_of (setting terms) s (says (stmt.Show q))) d (Some x))
 told-shown view source_view d q u (Ok x) e h =
-    λ files terms s z. subst (λ y. Turned view source_view terms (turn_of (setting files terms) s (says (stmt.Show q))) d (Some y)) (sym h) (turned-shown view source_view files terms d s z q u (e terms s z))
+    λ terms s z. subst (λ y. Turned view source_view terms (turn_of (setting terms) s (says (stmt.Show q))) d (Some y)) (sym h) (turned-shown view source_view terms d s z q u (e terms s z))
 told-shown view source_view d q u (Err y) e h = tt
 
 -- ---- queries
@@ -152,15 +151,15 @@ module _ {R S : Type 0} (view : R → Tree) (source_view : S → Tree) (terms : 
     opened = subst (λ x. Opens view source_view m.db x s.opened) (sym there) (opens-kept view source_view d.db m.db same d.transaction s.opened z.opened);
   }
 
-module _ {R S : Type 0} (view : R → Tree) (source_view : S → Tree) (files : FileTable) (terms : Terms) (d m : Workspace R S) (s : Session) (z : Stands view source_view terms d s) (file : IsSameFile d.db m.db) (same : HoldsSame view source_view d.db m.db) (curator : m.curator ≡ d.curator) (there : m.transaction ≡ d.transaction) where
+module _ {R S : Type 0} (view : R → Tree) (source_view : S → Tree) (terms : Terms) (d m : Workspace R S) (s : Session) (z : Stands view source_view terms d s) (file : IsSameFile d.db m.db) (same : HoldsSame view source_view d.db m.db) (curator : m.curator ≡ d.curator) (there : m.transaction ≡ d.transaction) where
   -- an answer is replied
-  pub turned-answered : (q : Query) (a : Answer) → answer_to z.db.state q ≡ Some a → Turned view source_view terms (turn_of (setting files terms) s (says (stmt.Ask q))) m (Some (reply.Answered q a))
+  pub turned-answered : (q : Query) (a : Answer) → answer_to z.db.state q ≡ Some a → Turned view source_view terms (turn_of (setting terms) s (says (stmt.Ask q))) m (Some (reply.Answered q a))
   turned-answered q a e =
       let r = Some (reply.Answered q a) in
-      turned-stands view source_view terms d m s z files (stmt.Ask q) r (subst (λ o. Turned view source_view terms (answer_or_refuse s q o) m r) (sym e) (refl, stands-asked view source_view terms d m s z file same curator there))
+      turned-stands view source_view terms d m s z (stmt.Ask q) r (subst (λ o. Turned view source_view terms (answer_or_refuse s q o) m r) (sym e) (refl, stands-asked view source_view terms d m s z file same curator there))
 
   -- a query without one is refused
-  pub turned-unanswered : (q : Query) → answer_to z.db.state q ≡ None → Turned view source_view terms (turn_of (setting files terms) s (says (stmt.Ask q))) m (Some (reply.Refused of.Statement (no_place_of q)))
+  pub turned-unanswered : (q : Query) → answer_to z.db.state q ≡ None → Turned view source_view terms (turn_of (setting terms) s (says (stmt.Ask q))) m (Some (reply.Refused of.Statement (no_place_of q)))
   turned-unanswered q e =
       let r = Some (reply.Refused of.Statement (no_place_of q)) in
-      turned-stands view source_view terms d m s z files (stmt.Ask q) r (subst (λ o. Turned view source_view terms (answer_or_refuse s q o) m r) (sym e) (refl, stands-asked view source_view terms d m s z file same curator there))
+      turned-stands view source_view terms d m s z (stmt.Ask q) r (subst (λ o. Turned view source_view terms (answer_or_refuse s q o) m r) (sym e) (refl, stands-asked view source_view terms d m s z file same curator there))

@@ -18,14 +18,13 @@ use Rattle.cp_reply.specs.declared.reply.Why.{Why}
 use Rattle.cp_reply.specs.declared.reply.Why.TheVariants as why
 use Rattle.cp_reply.specs.declared.reply.Reply.{Reply}
 use Rattle.cp_reply.specs.declared.reply.Reply.TheVariants as reply
-use Rattle.cp_reply.specs.Session.{Session, OpenTransaction, closed, going, failed, with_opened, Setting, Turn, replies, says, turn_of, on_commit, refused_commit, count_given_up, next_moment, new_records, stamp_of, after_moment, with_entry}
+use Rattle.cp_reply.specs.Session.{Supply, followed_by, Session, OpenTransaction, closed, going, failed, with_opened, Setting, Turn, replies, says, turn_of, on_commit, refused_commit, count_given_up, next_moment, new_records, stamp_of, after_moment, with_entry}
 use Rattle.cp_operation.specs.Passed.{records_of}
 use Rattle.cp_engine.specs.Transactions as txn
 use Rattle.cp_engine.specs.declared.txn.Txn.{Txn}
 use Rattle.cp_engine.specs.declared.state.TxnState.{TxnState}
 use Rattle.cp_engine.specs.declared.state.TxnState.TheVariants as state
 use Rattle.cp_engine.proofs.Committed.{committed}
-use Rattle.cp_outside.specs.FileReads.{FileTable}
 use Rattle.cp_disk.specs.Views.{KnownDisk, ViewKeeps}
 use Rattle.cp_disk.specs.declared.disk.Disk as disk
 use Rattle.cp_disk.proofs.Composing.{keeps_wider}
@@ -41,6 +40,7 @@ use Rattle.cp_workspace.specs.Texts.{Terms, setting}
 use Rattle.cp_workspace.specs.Workspaces.{Stands, Opens, HoldsFile, IsBegun, Turned, TurnsAs, holding}
 use Rattle.cp_workspace.specs.declared.fault.WorkspaceFault.{WorkspaceFault}
 use Rattle.cp_workspace.specs.declared.workspace.Workspace.{Workspace}
+use Rattle.cp_workspace.proofs.Supplied.{one_moment}
 use Rattle.cp_workspace.proofs.Standing.{turn-is, stands-closed, stands-added, leaves-still, turns-still, turns-failed}
 
 -- ---- how far the transaction has come
@@ -66,7 +66,7 @@ module _ {R S : Type 0} (view : R → Tree) (source_view : S → Tree) (d : Db R
 
 module _ {R S : Type 0} (view : R → Tree) (source_view : S → Tree) (terms : Terms) (d m : Workspace R S) (s : Session) (z : Stands view source_view terms d s) (same : m.db ≡ d.db) (signed : m.curator ≡ d.curator) (none : m.transaction ≡ None) where
   -- a commit is refused, and no transaction is open any more
-  turns_refused : (c : Setting) (w : Why) (v : KnownDisk) (rest : List ℕ) → on_commit c s z.db.state s.opened ≡ refused_commit w s → s.moments ≡ rest
+  turns_refused : (c : Setting) (w : Why) (v : KnownDisk) (rest : Supply) → on_commit c s z.db.state s.opened ≡ refused_commit w s → s.supply ≡ rest
       → TurnsAs view source_view (λ r. Some r) terms (turn_of c s (says stmt.Commit)) s rest d m v v (Ok (reply.Refused of.Commit w))
   turns_refused c w v rest is timed =
       subst (λ (t : Turn). TurnsAs view source_view (λ r. Some r) terms t s rest d m v v (Ok (reply.Refused of.Commit w))) (sym (turn-is view source_view terms d m s z c stmt.Commit ∙ is))
@@ -78,7 +78,7 @@ module _ {R S : Type 0} (view : R → Tree) (source_view : S → Tree) (terms : 
   nothing_open c (failed j b) h = absurd h
 
   -- where no transaction is open there is nothing to commit
-  pub turns-nothing : (c : Setting) (v : KnownDisk) (rest : List ℕ) → d.transaction ≡ None → s.moments ≡ rest
+  pub turns-nothing : (c : Setting) (v : KnownDisk) (rest : Supply) → d.transaction ≡ None → s.supply ≡ rest
       → TurnsAs view source_view (λ r. Some r) terms (turn_of c s (says stmt.Commit)) s rest d m v v (Ok (reply.Refused of.Commit why.NoOperation))
   turns-nothing c v rest e timed = turns_refused c why.NoOperation v rest (nothing_open c s.opened (subst (λ y. Opens view source_view d.db y s.opened) e z.opened)) timed
 
@@ -121,7 +121,7 @@ module _ {R S : Type 0} (view : R → Tree) (source_view : S → Tree) (terms : 
     fails c j b (failed i a) h e = ap (λ (w : TxnState). refused_commit (why.FailedAt (number_in w)) s) (sym (e (txn.failed i a) (h z.db.state z.db.holds)))
 
     -- a failed transaction commits nothing
-    pub turns-unfinished : (c : Setting) (j : ℕ) (b : Cause) (v : KnownDisk) (rest : List ℕ) → TellsState view x (state.Failed j b) → s.moments ≡ rest
+    pub turns-unfinished : (c : Setting) (j : ℕ) (b : Cause) (v : KnownDisk) (rest : Supply) → TellsState view x (state.Failed j b) → s.supply ≡ rest
         → TurnsAs view source_view (λ r. Some r) terms (turn_of c s (says stmt.Commit)) s rest d m v v (Ok (reply.Refused of.Commit (why.FailedAt j)))
     turns-unfinished c j b v rest e timed = turns_refused c (why.FailedAt j) v rest (fails c j b s.opened opens (e t.kind t.sources (tree_of t.tree) (t.now + 1))) timed
 
@@ -158,10 +158,10 @@ empty-plain e is = (λ h. let x : fault.Empty ≡ fault.Disk = sym is ∙ h in a
 
 -- ---- committed
 
-module _ {R S D : Type 0} (view : R → Tree) (source_view : S → Tree) (g : disk.Ghosts D) (terms : Terms) (files : FileTable) (d m : Workspace R S) (x : Txn R) (s : Session) (z : Stands view source_view terms (holding d x) s)
-    (k l : D) (stamp : Stamp) (rest : List ℕ) (signed : stamp.curator ≡ d.curator) (timed : s.moments ≡ stamp.moment ∷ rest) where
+module _ {R S D : Type 0} (view : R → Tree) (source_view : S → Tree) (g : disk.Ghosts D) (terms : Terms) (d m : Workspace R S) (x : Txn R) (s : Session) (z : Stands view source_view terms (holding d x) s)
+    (k l : D) (stamp : Stamp) (rest : Supply) (signed : stamp.curator ≡ d.curator) (timed : s.supply ≡ followed_by (one_moment stamp.moment) rest) where
   abbrev c : Setting
-  c = setting files terms
+  c = setting terms
 
   abbrev at : State
   at = z.db.state
@@ -175,8 +175,12 @@ module _ {R S D : Type 0} (view : R → Tree) (source_view : S → Tree) (g : di
   abbrev the_turn : Turn
   the_turn = turn_of c s (says stmt.Commit)
 
+  -- after its moment the rest is told
+  taken : (after_moment s).supply ≡ rest
+  taken = ap (λ (y : Supply). record { moments = drop 1 y.moments; tables = y.tables }) timed
+
   stamp_is : stamp_of c s ≡ stamp
-  stamp_is = ap (λ (a : List ℕ). record { curator = a; moment = next_moment s.moments }) (sym z.curator ∙ sym signed) ∙ ap (λ (ms : List ℕ). record { curator = stamp.curator; moment = next_moment ms }) timed
+  stamp_is = ap (λ (a : List ℕ). record { curator = a; moment = next_moment s.supply.moments }) (sym z.curator ∙ sym signed) ∙ ap (λ (y : Supply). record { curator = stamp.curator; moment = next_moment y.moments }) timed
 
   -- the open transaction holds operations, or has failed
   by_opened : (Q : Type 0) → ((ops : List Op) → s.opened ≡ going ops → HasCome view source_view d.db x (txn.going ops) → 1 ≤ length ops → Q)
@@ -217,10 +221,10 @@ module _ {R S D : Type 0} (view : R → Tree) (source_view : S → Tree) (g : di
         subst (λ (t : Turn). TurnsAs view source_view (λ r. Some r) terms t s rest (holding d x) m v w (Ok (reply.Committed tids.low tids.high))) (sym (turn_if true is.1)) (record {
           turned = (
             ap (λ i. Some (reply.Committed i tids.high)) is.2.0 ∙ ap (λ j. Some (reply.Committed (at.now + 1) j)) is.2.1,
-            stands-added view source_view terms (holding d x) m s z (commit stamp ops) (after_commit at ops) (commit_size at stamp ops) closed (drop 1 s.moments) is.3 (ap (stamped_size stamp ops) records_are) signs
+            stands-added view source_view terms (holding d x) m s z (commit stamp ops) (after_commit at ops) (commit_size at stamp ops) closed (after_moment s).supply is.3 (ap (stamped_size stamp ops) records_are) signs
                 (subst (λ y. Opens view source_view m.db y closed) (sym none) tt),
           );
-          asked = ap (drop 1) timed;
+          taken = taken;
           kept = kept;
           leaves = crash;
         })
@@ -230,7 +234,7 @@ module _ {R S D : Type 0} (view : R → Tree) (source_view : S → Tree) (g : di
     turns_full y same signs none no_room =
         subst (λ (t : Turn). TurnsAs view source_view (λ r. Some r) terms t s rest (holding d x) m v w (Ok (reply.Refused of.Commit why.TransactionTooLarge))) (sym (turn_if false no_room))
         (subst (λ (i : D). TurnsAs view source_view (λ r. Some r) terms full s rest (holding d x) m v (g.known i) (Ok (reply.Refused of.Commit why.TransactionTooLarge))) (sym y)
-        (turns-still view source_view (λ r. Some r) terms full s rest (holding d x) m v (Ok (reply.Refused of.Commit why.TransactionTooLarge)) same refl (ap (drop 1) timed)
+        (turns-still view source_view (λ r. Some r) terms full s rest (holding d x) m v (Ok (reply.Refused of.Commit why.TransactionTooLarge)) same refl taken
         (refl, stands_after (stands-closed view source_view terms (holding d x) m s z same signs none))))
       where
         stands_after : Stands view source_view terms m (with_opened s closed) → Stands view source_view terms m (after_moment s)

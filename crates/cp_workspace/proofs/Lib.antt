@@ -8,3 +8,4 @@ mod Fetched
 pub mod Readings
 pub mod ReadCounts
 pub mod Spent
+pub mod Supplied

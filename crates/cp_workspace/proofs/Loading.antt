@@ -1,6 +1,6 @@
 -- Sources: what is loaded, and what isn't.
 use Rattle.cp_model.specs.declared.limits.TheConstants.{SOURCES_MAX}
-use Rattle.std.specs.Prelude.{ℕ, ◌≡◌, ◌==◌, ◌⊎◌, ◌+◌, ◌≤◌, Bool, true, false, IsTrue, not, List, [], ◌∷◌, ◌++◌, length, is_some, refl, if◌then◌else◌, Result, Ok, Err, IsErrOf}
+use Rattle.std.specs.Prelude.{ℕ, ◌≡◌, ◌==◌, ◌⊎◌, ◌+◌, ◌≤◌, Bool, true, false, IsTrue, not, List, [], ◌∷◌, ◌++◌, length, drop, is_some, refl, if◌then◌else◌, Result, Ok, Err, IsErrOf}
 use Rattle.std.proofs.Common.{inl, inr, sym, ap, subst, ◌∙◌, arith}
 use Rattle.std.proofs.lemmas.Bool.Decides.{nat_tests}
 use Rattle.std.specs.Option.{option_map}
@@ -18,7 +18,7 @@ use Rattle.cp_reply.specs.declared.reply.Why.{Why}
 use Rattle.cp_reply.specs.declared.reply.Why.TheVariants as why
 use Rattle.cp_reply.specs.declared.reply.Reply.{Reply}
 use Rattle.cp_reply.specs.declared.reply.Reply.TheVariants as reply
-use Rattle.cp_reply.specs.Session.{Session, OpenTransaction, closed, going, failed, Setting, Turn, gives, withholds, replies, says, turn_of, with_entry, on_load, load_fetched, refused_load, is_closed}
+use Rattle.cp_reply.specs.Session.{Supply, followed_by, next_table, after_read, Session, OpenTransaction, closed, going, failed, Setting, Turn, gives, withholds, replies, says, turn_of, with_entry, on_load, load_fetched, refused_load, is_closed}
 use Rattle.cp_disk.specs.Views.{KnownDisk, ViewKeeps}
 use Rattle.cp_disk.specs.declared.disk.Disk as disk
 use Rattle.cp_engine.specs.declared.txn.Txn.{Txn}
@@ -34,7 +34,8 @@ use Rattle.cp_workspace.specs.Loads.{why_not_loaded, load_reads, reads_unless}
 use Rattle.cp_workspace.specs.Workspaces.{Stands, Opens, HoldsFile, MayLoad, TurnsAs}
 use Rattle.cp_workspace.specs.declared.fault.WorkspaceFault.{WorkspaceFault}
 use Rattle.cp_workspace.specs.declared.workspace.Workspace.{Workspace}
-use Rattle.cp_workspace.proofs.Standing.{turn-is, none-opens, stands-added, leaves-still, turns-still, turns-failed}
+use Rattle.cp_workspace.proofs.Supplied.{one_table}
+use Rattle.cp_workspace.proofs.Standing.{turn-is, none-opens, stands-told, stands-added, leaves-still, turns-still, turns-failed}
 use Rattle.cp_frame.specs.Stands.{StandsForEither}
 
 -- ---- why nothing is loaded
@@ -116,9 +117,9 @@ module _ {R S : Type 0} (view : R → Tree) (source_view : S → Tree) (d : Work
 pub none-in-the-way : {R S : Type 0} (view : R → Tree) (source_view : S → Tree) (d : Workspace R S) (name : List ℕ) → MayLoad view source_view d name → (s : State) → HoldsState view source_view d.db s → in_the_way s name ≡ None
 none-in-the-way view source_view d name may s z = let few = may.few s z in rw (may.fresh s z, not_all_taken (length s.sources) (λ h. omega (arith, few, h))) refl
 
-module _ {R S D : Type 0} (view : R → Tree) (source_view : S → Tree) (g : disk.Ghosts D) (terms : Terms) (files : FileTable) (d m : Workspace R S) (s : Session) (z : Stands view source_view terms d s) (k l : D) (name : List ℕ) (u : Tree) (none : d.transaction ≡ None) where
+module _ {R S D : Type 0} (view : R → Tree) (source_view : S → Tree) (g : disk.Ghosts D) (terms : Terms) (d m : Workspace R S) (s : Session) (z : Stands view source_view terms d s) (k l : D) (name : List ℕ) (u : Tree) (none : d.transaction ≡ None) where
   abbrev c : Setting
-  c = setting files terms
+  c = setting terms
 
   abbrev v : KnownDisk
   v = g.known k
@@ -145,41 +146,41 @@ module _ {R S D : Type 0} (view : R → Tree) (source_view : S → Tree) (g : di
   pub turns-loaded : (loaded : List ℕ) (nodes : ℕ) → loaded ≡ name → nodes ≡ len u → m.curator ≡ d.curator → m.transaction ≡ d.transaction → HasLoaded view source_view d.db z.db.state name u m.db (Ok tt)
       → (IsTrue v.known → IsKept true d.db s.history v.view → IsKept true m.db (s.history ++ load name u ∷ []) w.view)
       → (IsTrue v.known → IsKept true d.db s.history v.view → ViewKeeps (StandsForEither s.history (s.history ++ load name u ∷ [])) v.view w.view)
-      → TurnsAs view source_view (λ r. Some r) terms the_turn s s.moments d m v w (Ok (reply.Loaded loaded nodes))
+      → TurnsAs view source_view (λ r. Some r) terms the_turn s s.supply d m v w (Ok (reply.Loaded loaded nodes))
   turns-loaded loaded nodes named counted signed same is kept crash =
-      subst (λ (t : Turn). TurnsAs view source_view (λ r. Some r) terms t s s.moments d m v w (Ok (reply.Loaded loaded nodes))) (sym (turn_if true is.1)) (record {
+      subst (λ (t : Turn). TurnsAs view source_view (λ r. Some r) terms t s s.supply d m v w (Ok (reply.Loaded loaded nodes))) (sym (turn_if true is.1)) (record {
         turned = (
           ap (λ (n : List ℕ). Some (reply.Loaded n nodes)) named ∙ ap (λ (i : ℕ). Some (reply.Loaded name i)) counted,
-          stands-added view source_view terms d m s z (load name u) (after_load z.db.state name u) (load_size name u) s.opened s.moments is.2 refl signed
+          stands-added view source_view terms d m s z (load name u) (after_load z.db.state name u) (load_size name u) s.opened s.supply is.2 refl signed
               (subst (λ y. Opens view source_view m.db y s.opened) (sym (same ∙ none)) opens_none),
         );
-        asked = refl;
+        taken = refl;
         kept = kept;
         leaves = crash;
       })
 
   -- there is no room for it
   pub turns-no_room : l ≡ k → m ≡ d → has_room (end_in d.db) (load_size name u) ≡ false
-      → TurnsAs view source_view (λ r. Some r) terms the_turn s s.moments d m v w (Ok (reply.Refused of.Load why.StoreTooLarge))
+      → TurnsAs view source_view (λ r. Some r) terms the_turn s s.supply d m v w (Ok (reply.Refused of.Load why.StoreTooLarge))
   turns-no_room y same no_room =
-      subst (λ (t : Turn). TurnsAs view source_view (λ r. Some r) terms t s s.moments d m v w (Ok (reply.Refused of.Load why.StoreTooLarge))) (sym (turn_if false no_room))
-      (subst (λ (i : D). TurnsAs view source_view (λ r. Some r) terms full s s.moments d m v (g.known i) (Ok (reply.Refused of.Load why.StoreTooLarge))) (sym y)
-      (subst (λ (b : Workspace R S). TurnsAs view source_view (λ r. Some r) terms full s s.moments d b v v (Ok (reply.Refused of.Load why.StoreTooLarge))) (sym same)
-      (turns-still view source_view (λ r. Some r) terms full s s.moments d d v (Ok (reply.Refused of.Load why.StoreTooLarge)) refl refl refl (refl, z))))
+      subst (λ (t : Turn). TurnsAs view source_view (λ r. Some r) terms t s s.supply d m v w (Ok (reply.Refused of.Load why.StoreTooLarge))) (sym (turn_if false no_room))
+      (subst (λ (i : D). TurnsAs view source_view (λ r. Some r) terms full s s.supply d m v (g.known i) (Ok (reply.Refused of.Load why.StoreTooLarge))) (sym y)
+      (subst (λ (b : Workspace R S). TurnsAs view source_view (λ r. Some r) terms full s s.supply d b v v (Ok (reply.Refused of.Load why.StoreTooLarge))) (sym same)
+      (turns-still view source_view (λ r. Some r) terms full s s.supply d d v (Ok (reply.Refused of.Load why.StoreTooLarge)) refl refl refl (refl, z))))
 
   leaves_by : (b : Bool) → has_room (end_in d.db) (load_size name u) ≡ b → (b ≡ false → l ≡ k) → HoldsFile d s.history v → ViewKeeps (StandsForEither s.history (s.history ++ load name u ∷ [])) v.view w.view → ViewKeeps (StandsForEither s.history the_turn.next.history) v.view w.view
   leaves_by true e still held crash = subst (λ (t : Turn). ViewKeeps (StandsForEither s.history t.next.history) v.view w.view) (sym (turn_if true e)) crash
   leaves_by false e still held crash =
       subst (λ (t : Turn). ViewKeeps (StandsForEither s.history t.next.history) v.view w.view) (sym (turn_if false e))
-      (subst (λ (i : D). ViewKeeps (StandsForEither s.history s.history) v.view (g.known i).view) (sym (still refl)) (leaves-still view source_view (λ (r : Reply). Some r) terms full s s.moments d m v s.history held))
+      (subst (λ (i : D). ViewKeeps (StandsForEither s.history s.history) v.view (g.known i).view) (sym (still refl)) (leaves-still view source_view (λ (r : Reply). Some r) terms full s s.supply d m v s.history held))
 
   -- the disk failed, or memory ran out
   pub turns-unloaded : (result : Result Reply WorkspaceFault) → (y : WorkspaceFault) × (result ≡ Err y)
       → (IsTrue v.known → IsKept true d.db s.history v.view → ViewKeeps (StandsForEither s.history (s.history ++ load name u ∷ [])) v.view w.view)
       → (has_room (end_in d.db) (load_size name u) ≡ false → l ≡ k)
-      → TurnsAs view source_view (λ r. Some r) terms the_turn s s.moments d m v w result
+      → TurnsAs view source_view (λ r. Some r) terms the_turn s s.supply d m v w result
   turns-unloaded result p crash room =
-      turns-failed view source_view (λ r. Some r) terms the_turn s s.moments d m v w result p (λ known held. leaves_by (has_room (end_in d.db) (load_size name u)) refl room held (crash known held))
+      turns-failed view source_view (λ r. Some r) terms the_turn s s.supply d m v w result p (λ known held. leaves_by (has_room (end_in d.db) (load_size name u)) refl room held (crash known held))
 
 -- ---- what a load spends
 
@@ -202,14 +203,14 @@ false-not-true h = cc
 -- the turn of a load, by what is in its way
 abbrev loading_by : Setting → Session → Load → Option Why → Turn
 loading_by c s l (Some w) = refused_load w s
-loading_by c s l None = load_fetched c s l.name (c.fetch l)
+loading_by c s l None = load_fetched c (after_read s) l.name (c.fetch (next_table s.supply.tables) l)
 
 loading-is : (c : Setting) (s : Session) (t : State) (l : Load) → on_load c s t l ≡ loading_by c s l (why_not_loaded t s.opened l.name)
 loading-is c s t l =
     elim (is_closed s.opened) as (λ b. (if not b then refused_load why.TransactionOpen s
     else if is_some (source t.sources l.name) then refused_load (why.SourceThere l.name) s
     else if length t.sources == SOURCES_MAX then refused_load why.TooManySources s
-    else load_fetched c s l.name (c.fetch l))
+    else loading_by c s l None)
     ≡ loading_by c s l (if not b then Some why.TransactionOpen
     else if is_some (source t.sources l.name) then Some (why.SourceThere l.name)
     else if length t.sources == SOURCES_MAX then Some why.TooManySources
@@ -217,39 +218,54 @@ loading-is c s t l =
       | false ↦ refl
       | true ↦ elim (is_some (source t.sources l.name)) as (λ b. (if b then refused_load (why.SourceThere l.name) s
           else if length t.sources == SOURCES_MAX then refused_load why.TooManySources s
-          else load_fetched c s l.name (c.fetch l))
+          else loading_by c s l None)
           ≡ loading_by c s l (if b then Some (why.SourceThere l.name)
           else if length t.sources == SOURCES_MAX then Some why.TooManySources
           else None)) [
             | true ↦ refl
-            | false ↦ elim (length t.sources == SOURCES_MAX) as (λ b. (if b then refused_load why.TooManySources s else load_fetched c s l.name (c.fetch l)) ≡ loading_by c s l (if b then Some why.TooManySources else None)) [ true ↦ refl | false ↦ refl ]
+            | false ↦ elim (length t.sources == SOURCES_MAX) as (λ b. (if b then refused_load why.TooManySources s else loading_by c s l None) ≡ loading_by c s l (if b then Some why.TooManySources else None)) [ true ↦ refl | false ↦ refl ]
           ]
     ]
 
-module _ {R S : Type 0} (view : R → Tree) (source_view : S → Tree) (terms : Terms) (files : FileTable) (d : Workspace R S) (s : Session) (z : Stands view source_view terms d s) (l : Load) where
+module _ {R S : Type 0} (view : R → Tree) (source_view : S → Tree) (terms : Terms) (d : Workspace R S) (s : Session) (z : Stands view source_view terms d s) (l : Load) where
   abbrev of_load : Turn
-  of_load = turn_of (setting files terms) s (says (stmt.Load l))
+  of_load = turn_of (setting terms) s (says (stmt.Load l))
 
   -- the turn of a load is that of what is in its way
-  way_is : (w : Option Why) → w ≡ why_not_loaded z.db.state s.opened l.name → of_load ≡ loading_by (setting files terms) s l w
-  way_is w e = turn-is view source_view terms d d s z (setting files terms) (stmt.Load l) ∙ loading-is (setting files terms) s z.db.state l ∙ ap (loading_by (setting files terms) s l) (sym e)
+  way_is : (w : Option Why) → w ≡ why_not_loaded z.db.state s.opened l.name → of_load ≡ loading_by (setting terms) s l w
+  way_is w e = turn-is view source_view terms d d s z (setting terms) (stmt.Load l) ∙ loading-is (setting terms) s z.db.state l ∙ ap (loading_by (setting terms) s l) (sym e)
 
   -- a load is refused, which changes nothing
-  turns_refused : (w : Why) (v : KnownDisk) → of_load ≡ refused_load w s → TurnsAs view source_view (λ r. Some r) terms of_load s s.moments d d v v (Ok (reply.Refused of.Load w))
-  turns_refused w v is =
-      subst (λ (t : Turn). TurnsAs view source_view (λ r. Some r) terms t s s.moments d d v v (Ok (reply.Refused of.Load w))) (sym is)
-      (turns-still view source_view (λ r. Some r) terms (refused_load w s) s s.moments d d v (Ok (reply.Refused of.Load w)) refl refl refl (refl, z))
+  turns_refused : (w : Why) (v : KnownDisk) (x rest : Supply) → x ≡ rest → of_load ≡ refused_load w (record { history = s.history; opened = s.opened; supply = x })
+      → TurnsAs view source_view (λ r. Some r) terms of_load s rest d d v v (Ok (reply.Refused of.Load w))
+  turns_refused w v x rest taken is =
+      let full : Turn = refused_load w (record { history = s.history; opened = s.opened; supply = x }) in
+      subst (λ (t : Turn). TurnsAs view source_view (λ r. Some r) terms t s rest d d v v (Ok (reply.Refused of.Load w))) (sym is)
+      (turns-still view source_view (λ r. Some r) terms full s rest d d v (Ok (reply.Refused of.Load w)) refl refl taken (refl, stands-told view source_view terms d d s z x))
 
   -- what is in the way is the refusal
-  pub turns-not_loaded : (w : Why) (v : KnownDisk) → Some w ≡ why_not_loaded z.db.state s.opened l.name → TurnsAs view source_view (λ r. Some r) terms of_load s s.moments d d v v (Ok (reply.Refused of.Load w))
-  turns-not_loaded w v e = turns_refused w v (way_is (Some w) e)
+  pub turns-not_loaded : (w : Why) (v : KnownDisk) (rest : Supply) → Some w ≡ why_not_loaded z.db.state s.opened l.name → s.supply ≡ rest
+      → TurnsAs view source_view (λ r. Some r) terms of_load s rest d d v v (Ok (reply.Refused of.Load w))
+  turns-not_loaded w v rest e supply = turns_refused w v s.supply rest supply (way_is (Some w) e)
 
-  -- and so is why the file gives no tree
-  pub turns-withheld : (w : Why) (v : KnownDisk) → None ≡ why_not_loaded z.db.state s.opened l.name → fetch files l ≡ withholds w → TurnsAs view source_view (λ r. Some r) terms of_load s s.moments d d v v (Ok (reply.Refused of.Load w))
-  turns-withheld w v e found = turns_refused w v (way_is None e ∙ ap (load_fetched (setting files terms) s l.name) found)
+  module _ (files : FileTable) (rest : Supply) (e : None ≡ why_not_loaded z.db.state s.opened l.name) (supply : s.supply ≡ followed_by (one_table files) rest) where
+    -- after the read of the file the rest is told
+    taken : (after_read s).supply ≡ rest
+    taken = ap (λ (y : Supply). record { moments = y.moments; tables = drop 1 y.tables }) supply
 
-  -- the tree that the file gives is loaded
-  pub turns-given : (m : Workspace R S) (v w : KnownDisk) (u : Tree) (result : Result Reply WorkspaceFault) → None ≡ why_not_loaded z.db.state s.opened l.name → fetch files l ≡ gives u
-      → TurnsAs view source_view (λ r. Some r) terms (load_fetched (setting files terms) s l.name (gives u)) s s.moments d m v w result → TurnsAs view source_view (λ r. Some r) terms of_load s s.moments d m v w result
-  turns-given m v w u result e found y =
-      subst (λ (t : Turn). TurnsAs view source_view (λ r. Some r) terms t s s.moments d m v w result) (sym (way_is None e ∙ ap (load_fetched (setting files terms) s l.name) found)) y
+    -- what the file gives
+    given : of_load ≡ load_fetched (setting terms) (after_read s) l.name (fetch files l)
+    given = way_is None e ∙ ap (λ (y : Supply). load_fetched (setting terms) (after_read s) l.name (fetch (next_table y.tables) l)) supply
+
+    -- why the file gives no tree is the refusal
+    pub turns-withheld : (w : Why) (v : KnownDisk) → fetch files l ≡ withholds w → TurnsAs view source_view (λ r. Some r) terms of_load s rest d d v v (Ok (reply.Refused of.Load w))
+    turns-withheld w v found = turns_refused w v (after_read s).supply rest taken (given ∙ ap (load_fetched (setting terms) (after_read s) l.name) found)
+
+    -- the tree that the file gives is loaded
+    pub turns-given : (m : Workspace R S) (v w : KnownDisk) (u : Tree) (result : Result Reply WorkspaceFault) → fetch files l ≡ gives u
+        → TurnsAs view source_view (λ r. Some r) terms (load_fetched (setting terms) (after_read s) l.name (gives u)) (after_read s) (after_read s).supply d m v w result → TurnsAs view source_view (λ r. Some r) terms of_load s rest d m v w result
+    turns-given m v w u result found y =
+        let t : TurnsAs view source_view (λ r. Some r) terms (load_fetched (setting terms) (after_read s) l.name (gives u)) s (after_read s).supply d m v w result =
+        record { turned = y.turned; taken = y.taken; kept = y.kept; leaves = y.leaves } in
+        subst (λ (x : Turn). TurnsAs view source_view (λ r. Some r) terms x s rest d m v w result) (sym (given ∙ ap (load_fetched (setting terms) (after_read s) l.name) found))
+        (subst (λ x. TurnsAs view source_view (λ r. Some r) terms (load_fetched (setting terms) (after_read s) l.name (gives u)) s x d m v w result) taken t)

@@ -1,6 +1,6 @@
 -- Operations and texts that can't be read, in the open transaction or in one that they begin.
 use Rattle.cp_model.specs.declared.limits.TheConstants.{OPS_MAX}
-use Rattle.std.specs.Prelude.{ℕ, ◌≡◌, ◌==◌, ◌+◌, Bool, true, List, [], ◌∷◌, ◌++◌, length, refl, Result, Ok, Err, ⊤, if◌then◌else◌}
+use Rattle.std.specs.Prelude.{ℕ, ◌≡◌, ◌==◌, ◌+◌, List, [], ◌∷◌, ◌++◌, length, refl, Result, Ok, Err, ⊤, if◌then◌else◌}
 use Rattle.std.proofs.Common.{sym, ap, subst, ◌∙◌, arith, length-append}
 use Rattle.std.specs.declared.option.Option.TheVariants.{None, Some}
 use Rattle.cp_model.specs.Tree.{Tree, Source, refusal}
@@ -24,7 +24,6 @@ use Rattle.cp_engine.specs.Transactions as txn
 use Rattle.cp_engine.specs.declared.txn.Txn.{Txn}
 use Rattle.cp_engine.specs.declared.fault.ApplyFault.{ApplyFault}
 use Rattle.cp_engine.specs.declared.fault.ApplyFault.TheVariants as denied
-use Rattle.cp_outside.specs.FileReads.{FileTable}
 use Rattle.cp_db.specs.Databases.{HasCome, HoldsState}
 use Rattle.cp_db.specs.declared.database.Db.{Db}
 use Rattle.cp_workspace.specs.Texts.{Terms, setting}
@@ -118,7 +117,7 @@ module _ {R S : Type 0} (view : R → Tree) (source_view : S → Tree) (terms : 
 
   -- ---- operations
 
-  module _ (files : FileTable) (y : Txn R) (op : Op) where
+  module _ (y : Txn R) (op : Op) where
     abbrev t : State
     t = z.db.state
 
@@ -156,14 +155,14 @@ module _ {R S : Type 0} (view : R → Tree) (source_view : S → Tree) (terms : 
     )
 
     -- an operation that the transaction holds is silent
-    pub turned-accepted : HasCome view source_view d.db y (progress_of s.opened) → AppliesTo view source_view d.db x (progress_of s.opened) op (Ok tt) → Turned view source_view terms (turn_of (setting files terms) s (says (stmt.Op op))) m None
-    turned-accepted i a = turned-stands view source_view terms d m s z files (stmt.Op op) None (accepted s.opened i a)
+    pub turned-accepted : HasCome view source_view d.db y (progress_of s.opened) → AppliesTo view source_view d.db x (progress_of s.opened) op (Ok tt) → Turned view source_view terms (turn_of (setting terms) s (says (stmt.Op op))) m None
+    turned-accepted i a = turned-stands view source_view terms d m s z (stmt.Op op) None (accepted s.opened i a)
 
     -- one that it refuses is refused
     pub turned-refused : (r : Refusal) → HasCome view source_view d.db y (progress_of s.opened) → AppliesTo view source_view d.db x (progress_of s.opened) op (Err (denied.Refused r)) →
-        Turned view source_view terms (turn_of (setting files terms) s (says (stmt.Op op))) m (Some (reply.Refused of.Statement (why_refused op r)))
-    turned-refused r i a = turned-stands view source_view terms d m s z files (stmt.Op op) _ (refused r s.opened i a)
+        Turned view source_view terms (turn_of (setting terms) s (says (stmt.Op op))) m (Some (reply.Refused of.Statement (why_refused op r)))
+    turned-refused r i a = turned-stands view source_view terms d m s z (stmt.Op op) _ (refused r s.opened i a)
 
     -- and so is one behind another that was refused
-    pub turned-failed_before : (j : ℕ) → AppliesTo view source_view d.db x (progress_of s.opened) op (Err (denied.Failed j)) → Turned view source_view terms (turn_of (setting files terms) s (says (stmt.Op op))) m (Some (reply.Refused of.Statement (why.FailedAt j)))
-    turned-failed_before j a = turned-stands view source_view terms d m s z files (stmt.Op op) _ (failed_before j s.opened refl a)
+    pub turned-failed_before : (j : ℕ) → AppliesTo view source_view d.db x (progress_of s.opened) op (Err (denied.Failed j)) → Turned view source_view terms (turn_of (setting terms) s (says (stmt.Op op))) m (Some (reply.Refused of.Statement (why.FailedAt j)))
+    turned-failed_before j a = turned-stands view source_view terms d m s z (stmt.Op op) _ (failed_before j s.opened refl a)

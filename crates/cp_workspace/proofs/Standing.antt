@@ -8,7 +8,7 @@ use Rattle.cp_model.specs.History.{Entry, State, replay}
 use Rattle.cp_lang.specs.declared.syntax_tree.Stmt.{Stmt}
 use Rattle.cp_disk.specs.Views.{KnownDisk, ViewKeeps}
 use Rattle.cp_reply.specs.declared.reply.Reply.{Reply}
-use Rattle.cp_reply.specs.Session.{Session, OpenTransaction, closed, going, failed, with_opened, Setting, Turn, says, turn_of, turn_by, turn_on}
+use Rattle.cp_reply.specs.Session.{Supply, Session, OpenTransaction, closed, going, failed, with_opened, Setting, Turn, says, turn_of, turn_by, turn_on}
 use Rattle.cp_disk.specs.declared.disk.Disk as disk
 use Rattle.cp_disk.proofs.Composing.{keeps_none}
 use Rattle.cp_frame.specs.Stands.{StandsFor, StandsForEither}
@@ -43,6 +43,10 @@ module _ {R S : Type 0} (view : R → Tree) (source_view : S → Tree) where
     pub turn-is : (c : Setting) (x : Stmt) → turn_of c s (says x) ≡ turn_on c s z.db.state x
     turn-is c x = ap (λ o. turn_by c s o x) z.db.led.replayed
 
+    -- it stands for the session whatever is told next
+    pub stands-told : (x : Supply) → Stands view source_view terms d (record { history = s.history; opened = s.opened; supply = x })
+    stands-told x = record { db = z.db; ends = z.ends; curator = z.curator; opened = z.opened }
+
     -- it stands for a session whose transaction alone has changed
     pub stands-with : (o : OpenTransaction) → m.db ≡ d.db → m.curator ≡ d.curator → Opens view source_view d.db m.transaction o → Stands view source_view terms m (with_opened s o)
     stands-with o same signed h = record {
@@ -72,10 +76,10 @@ ends-added f h at now e x is =
     }
 
 -- it stands for the history with an entry more, which was added to its database
-pub stands-added : {R S : Type 0} (view : R → Tree) (source_view : S → Tree) (terms : Terms) (d m : Workspace R S) (s : Session) (z : Stands view source_view terms d s) (e : Entry) (t : State) (size : ℕ) (o : OpenTransaction) (moments : List ℕ)
+pub stands-added : {R S : Type 0} (view : R → Tree) (source_view : S → Tree) (terms : Terms) (d m : Workspace R S) (s : Session) (z : Stands view source_view terms d s) (e : Entry) (t : State) (size : ℕ) (o : OpenTransaction) (supply : Supply)
     → HasAdded view source_view d.db z.db.state e t size m.db → entry_size (Some z.db.state) e ≡ size → m.curator ≡ d.curator → Opens view source_view m.db m.transaction o
-    → Stands view source_view terms m (record { history = s.history ++ e ∷ []; opened = o; moments = moments })
-stands-added view source_view terms d m s z e t size o moments added counted signed h =
+    → Stands view source_view terms m (record { history = s.history ++ e ∷ []; opened = o; supply = supply })
+stands-added view source_view terms d m s z e t size o supply added counted signed h =
     let sized : HasAdded view source_view d.db z.db.state e t (entry_size (replay s.history) e) m.db =
     subst (λ (n : ℕ). HasAdded view source_view d.db z.db.state e t n m.db) (sym (ap (λ (x : Option State). entry_size x e) z.db.led.replayed ∙ counted)) added in
     record {
@@ -114,17 +118,17 @@ module _ {R S : Type 0} (view : R → Tree) (source_view : S → Tree) (d m : Wo
 
 -- ---- turns
 
-module _ {R S A : Type 0} (view : R → Tree) (source_view : S → Tree) (given : A → Option Reply) (terms : Terms) (t : Turn) (s : Session) (rest : List ℕ) (old new : Workspace R S) where
+module _ {R S A : Type 0} (view : R → Tree) (source_view : S → Tree) (given : A → Option Reply) (terms : Terms) (t : Turn) (s : Session) (rest : Supply) (old new : Workspace R S) where
   -- where the disk is as it was, each file that a crash leaves stands for the history before
   pub leaves-still : (v : KnownDisk) (i : List Entry) → HoldsFile old s.history v → ViewKeeps (StandsForEither s.history i) v.view v.view
   leaves-still v i k = keeps_none (λ c. StandsFor s.history c ⊎ StandsFor i c) v.view (λ c x. inl (kept-images old.db s.history v.view k c x))
 
   -- a call left the database and the disk as they were, in a turn that adds no entry
-  pub turns-still : (v : KnownDisk) (result : Result A WorkspaceFault) → new.db ≡ old.db → t.next.history ≡ s.history → t.next.moments ≡ rest → IfOk result (λ r. Turned view source_view terms t new (given r))
+  pub turns-still : (v : KnownDisk) (result : Result A WorkspaceFault) → new.db ≡ old.db → t.next.history ≡ s.history → t.next.supply ≡ rest → IfOk result (λ r. Turned view source_view terms t new (given r))
       → TurnsAs view source_view given terms t s rest old new v v result
-  turns-still v result same unchanged asked turned = record {
+  turns-still v result same unchanged taken turned = record {
     turned = turned;
-    asked = on-ok result asked;
+    taken = on-ok result taken;
     kept = λ known k. on-ok result (subst (λ (h : List Entry). HoldsFile new h v) (sym unchanged) (subst (λ (b : Db R S). IsKept true b s.history v.view) (sym same) k));
     leaves = λ known k. leaves-still v t.next.history k;
   }
@@ -132,7 +136,7 @@ module _ {R S A : Type 0} (view : R → Tree) (source_view : S → Tree) (given 
   -- a call gave an error
   pub turns-failed : (v w : KnownDisk) (result : Result A WorkspaceFault) → (y : WorkspaceFault) × (result ≡ Err y) → (IsTrue v.known → HoldsFile old s.history v → ViewKeeps (StandsForEither s.history t.next.history) v.view w.view)
       → TurnsAs view source_view given terms t s rest old new v w result
-  turns-failed v w result p leaves = subst (TurnsAs view source_view given terms t s rest old new v w) (sym p.1) (record { turned = tt; asked = tt; kept = λ known k. tt; leaves = leaves })
+  turns-failed v w result p leaves = subst (TurnsAs view source_view given terms t s rest old new v w) (sym p.1) (record { turned = tt; taken = tt; kept = λ known k. tt; leaves = leaves })
 
   -- an error, where the disk is as it was
   pub turns-failed-still : (v : KnownDisk) (result : Result A WorkspaceFault) → (y : WorkspaceFault) × (result ≡ Err y) → TurnsAs view source_view given terms t s rest old new v v result

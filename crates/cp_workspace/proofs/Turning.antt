@@ -1,5 +1,5 @@
 -- How turns are made: with a database that stays, on a disk that stays, or by a call whose turn is passed on.
-use Rattle.std.specs.Prelude.{ℕ, ◌≡◌, ◌⊎◌, Bool, true, false, List, [], map, if◌then◌else◌, Result, Ok, Err, IfOk, OnOk}
+use Rattle.std.specs.Prelude.{◌≡◌, ◌⊎◌, Bool, true, false, List, [], map, if◌then◌else◌, Result, Ok, Err, IfOk, OnOk}
 use Rattle.std.proofs.Common.{inl, refl, sym, ap, subst, ◌∙◌}
 use Rattle.std.proofs.lemmas.Result.{IfOk-weaker}
 use Rattle.std.specs.declared.option.Option.{Option}
@@ -21,18 +21,20 @@ use Rattle.cp_reply.specs.declared.reply.Reply.{Reply}
 use Rattle.cp_reply.specs.declared.reply.Reply.TheVariants as reply
 use Rattle.cp_reply.specs.declared.reply.Why.{Why}
 use Rattle.cp_reply.specs.declared.reply.Why.TheVariants as why
-use Rattle.cp_reply.specs.Session.{Session, Setting, OpenTransaction, closed, going, failed, Turn, with_opened, says, turn_of, turn_by, turn_on, not_read, decide_op, on_operation, refusal_after, answer_or_refuse, show_at, current_tree, row_of, replies, refuses}
+use Rattle.cp_reply.specs.Session.{no_supply, Session, Setting, OpenTransaction, closed, going, failed, Turn, with_opened, says, turn_of, turn_by, turn_on, not_read, decide_op, on_operation, refusal_after, answer_or_refuse, show_at, current_tree, row_of, replies, refuses}
 use Rattle.cp_disk.proofs.Composing.{keeps_none}
-use Rattle.cp_outside.specs.FileReads.{FileTable}
 use Rattle.cp_frame.specs.Stands.{StandsFor, StandsForEither}
 use Rattle.cp_db.specs.Databases as database
 use Rattle.cp_db.specs.Databases.{IsDatabase, IsReady, IsSameFile, end_in, is_spent}
 use Rattle.cp_db.specs.declared.database.Db.{Db}
 use Rattle.cp_db.proofs.Keeping.{kept-images, kept-same}
 use Rattle.cp_workspace.specs.Texts.{Terms, setting}
+use Rattle.cp_workspace.specs.Files.{KnownFiles}
+use Rattle.cp_workspace.specs.Clocks.{KnownClock}
 use Rattle.cp_workspace.specs.Workspaces.{Stands, Opens, EndsAt, IsBegun, IsWorkspace, IsUsable, HoldsFile, Turned, TurnsAs, HasTurned}
 use Rattle.cp_workspace.specs.declared.fault.WorkspaceFault.{WorkspaceFault}
 use Rattle.cp_workspace.specs.declared.workspace.Workspace.{Workspace}
+use Rattle.cp_workspace.proofs.Supplied.{supplied-none}
 
 -- what holds in any case holds at a value
 pub whenever-ok : {T E P : Type 0} (r : Result T E) → P → OnOk r P
@@ -47,8 +49,8 @@ file-same d new e = (ap (λ b. b.journal) e, ap (λ b. b.version) e, ap (λ b. b
 
 module _ {R S : Type 0} (view : R → Tree) (source_view : S → Tree) (terms : Terms) (d m : Workspace R S) (s : Session) (z : Stands view source_view terms d s) where
   -- a turn is the one on the state to which the history leads
-  pub turned-stands : (files : FileTable) (x : Stmt) (r : Option Reply) → Turned view source_view terms (turn_on (setting files terms) s z.db.state x) m r → Turned view source_view terms (turn_of (setting files terms) s (says x)) m r
-  turned-stands files x r h = subst (λ o. Turned view source_view terms (turn_by (setting files terms) s o x) m r) (sym z.db.led.replayed) h
+  pub turned-stands : (x : Stmt) (r : Option Reply) → Turned view source_view terms (turn_on (setting terms) s z.db.state x) m r → Turned view source_view terms (turn_of (setting terms) s (says x)) m r
+  turned-stands x r h = subst (λ o. Turned view source_view terms (turn_by (setting terms) s o x) m r) (sym z.db.led.replayed) h
 
   -- it stands for a session whose transaction alone has changed
   pub stands-opened : (o : OpenTransaction) → m.db ≡ d.db → m.curator ≡ d.curator → Opens view source_view d.db m.transaction o → Stands view source_view terms m (with_opened s o)
@@ -75,129 +77,120 @@ module _ {R S : Type 0} (view : R → Tree) (source_view : S → Tree) (d m : Wo
     ready = λ known. subst (λ j. IsReady (record d.db { journal = j }) v.view) (sym same.0) (u.ready known);
   }
 
--- ---- turns that make no entry and ask for no moment
+-- ---- turns that make no entry, read no file and ask for no moment
 
--- the history is the same, and so are the moments to come
+-- the history is the same, and so is what is still told
 pub record IsQuiet (s : Session) (t : Turn) : Type 0 where
   pub history : t.next.history ≡ s.history
-  pub moments : t.next.moments ≡ s.moments
+  pub supply : t.next.supply ≡ s.supply
 
 quiet_decision : (s : Session) (ops : List Op) (op : Op) (r : Option Refusal) → IsQuiet s (decide_op s ops op r)
-quiet_decision s ops op (Some r) = record { history = refl; moments = refl }
-quiet_decision s ops op None = record { history = refl; moments = refl }
+quiet_decision s ops op (Some r) = record { history = refl; supply = refl }
+quiet_decision s ops op None = record { history = refl; supply = refl }
 
 quiet_operation : (s : Session) (t : State) (op : Op) (o : OpenTransaction) → IsQuiet s (on_operation s t op o)
-quiet_operation s t op (failed n c) = record { history = refl; moments = refl }
+quiet_operation s t op (failed n c) = record { history = refl; supply = refl }
 quiet_operation s t op closed = quiet_decision s [] op (refusal_after t [] op)
 quiet_operation s t op (going ops) = quiet_decision s ops op (refusal_after t ops op)
 
 quiet_answer : (s : Session) (q : Query) (a : Option Answer) → IsQuiet s (answer_or_refuse s q a)
-quiet_answer s q None = record { history = refl; moments = refl }
-quiet_answer s q (Some a) = record { history = refl; moments = refl }
+quiet_answer s q None = record { history = refl; supply = refl }
+quiet_answer s q (Some a) = record { history = refl; supply = refl }
 
 -- a text that can't be read
 pub quiet-unread : (s : Session) (w : Why) → IsQuiet s (not_read s w)
-quiet-unread s w = record { history = refl; moments = refl }
+quiet-unread s w = record { history = refl; supply = refl }
 
 module _ (s : Session) where
   quiet_shown : (q : Loc) (u : Tree) (b : Bool) → IsQuiet s (if b then replies (reply.Show q (map row_of (below q.path u))) s else refuses (why.NoPlace q) s)
-  quiet_shown q u true = record { history = refl; moments = refl }
-  quiet_shown q u false = record { history = refl; moments = refl }
+  quiet_shown q u true = record { history = refl; supply = refl }
+  quiet_shown q u false = record { history = refl; supply = refl }
 
   quiet_show : (q : Loc) (u : Option Tree) → IsQuiet s (show_at s q u)
-  quiet_show q None = record { history = refl; moments = refl }
+  quiet_show q None = record { history = refl; supply = refl }
   quiet_show q (Some u) = quiet_shown q u (is_there u q.path)
 
   module _ (c : Setting) where
     -- an operation
     pub quiet-op : (o : Option State) (op : Op) → IsQuiet s (turn_by c s o (stmt.Op op))
-    quiet-op None op = record { history = refl; moments = refl }
+    quiet-op None op = record { history = refl; supply = refl }
     quiet-op (Some t) op = quiet_operation s t op s.opened
 
     -- an abort
     pub quiet-abort : (o : Option State) → IsQuiet s (turn_by c s o stmt.Abort)
-    quiet-abort None = record { history = refl; moments = refl }
-    quiet-abort (Some t) = record { history = refl; moments = refl }
+    quiet-abort None = record { history = refl; supply = refl }
+    quiet-abort (Some t) = record { history = refl; supply = refl }
 
     -- a query
     pub quiet-ask : (o : Option State) (q : Query) → IsQuiet s (turn_by c s o (stmt.Ask q))
-    quiet-ask None q = record { history = refl; moments = refl }
+    quiet-ask None q = record { history = refl; supply = refl }
     quiet-ask (Some t) q = quiet_answer s q (answer_to t q)
 
     -- what is shown
     pub quiet-show : (o : Option State) (q : Loc) → IsQuiet s (turn_by c s o (stmt.Show q))
-    quiet-show None q = record { history = refl; moments = refl }
+    quiet-show None q = record { history = refl; supply = refl }
     quiet-show (Some t) q = quiet_show q (if in_target q then Some (current_tree t s.opened) else source t.sources q.db)
 
 -- ---- calls
 
-module _ {R S : Type 0} (view : R → Tree) (source_view : S → Tree) (turning : FileTable → Terms → Session → Turn) (old new : Workspace R S) (v : KnownDisk) where
+module _ {R S : Type 0} (view : R → Tree) (source_view : S → Tree) (turning : Terms → Session → Turn) (old new : Workspace R S) (v : KnownDisk) where
   -- where nothing was written, a crash leaves the history as it was
   leaves_same : (h i : List Entry) → HoldsFile old h v → ViewKeeps (StandsForEither h i) v.view v.view
   leaves_same h i k = keeps_none (λ c. StandsFor h c ⊎ StandsFor i c) v.view (λ c image. inl (kept-images old.db h v.view k c image))
 
-  module _ {A : Type 0} (given : A → Option Reply) (IsKnown : FileTable → Type 0) (clock : Option (List ℕ)) (result : Result A WorkspaceFault) where
+  module _ {A : Type 0} (given : A → Option Reply) (files : KnownFiles) (clock : KnownClock) (result : Result A WorkspaceFault) where
     -- a quiet turn was made, and nothing was written
-    pub turned-quiet : IsSameFile old.db new.db → ((t : FileTable) (terms : Terms) (s : Session) → IsQuiet s (turning t terms s))
-        → IfOk result (λ r. (t : FileTable) (terms : Terms) (s : Session) → Stands view source_view terms old s → Turned view source_view terms (turning t terms s) new (given r))
-        → HasTurned view source_view given turning IsKnown old new v v clock clock result
+    pub turned-quiet : IsSameFile old.db new.db → ((terms : Terms) (s : Session) → IsQuiet s (turning terms s))
+        → IfOk result (λ r. (terms : Terms) (s : Session) → Stands view source_view terms old s → Turned view source_view terms (turning terms s) new (given r))
+        → HasTurned view source_view given turning files clock clock old new v v result
     turned-quiet same quiet h = record {
-      moments = [];
-      told = refl;
-      turns = λ t known terms s rest z moments. record {
-        turned = IfOk-weaker result _ (λ r. Turned view source_view terms (turning t terms s) new (given r)) (λ r turned. turned t terms s z) h;
-        asked = whenever-ok result ((quiet t terms s).moments ∙ moments);
-        kept = λ known holds. whenever-ok result (subst (λ i. HoldsFile new i v) (sym (quiet t terms s).history) (kept-same true old.db new.db s.history v.view same holds));
+      supply = no_supply;
+      supplied = supplied-none files clock;
+      turns = λ terms s rest z supply. record {
+        turned = IfOk-weaker result _ (λ r. Turned view source_view terms (turning terms s) new (given r)) (λ r turned. turned terms s z) h;
+        taken = whenever-ok result ((quiet terms s).supply ∙ supply);
+        kept = λ known holds. whenever-ok result (subst (λ i. HoldsFile new i v) (sym (quiet terms s).history) (kept-same true old.db new.db s.history v.view same holds));
         leaves = λ known holds. leaves_same s.history _ holds;
       };
     }
 
     -- a call failed, and nothing was written
-    pub turned-failed : (e : WorkspaceFault) → result ≡ Err e → HasTurned view source_view given turning IsKnown old new v v clock clock result
-    turned-failed e is = subst (HasTurned view source_view given turning IsKnown old new v v clock clock) (sym is) (record {
-      moments = [];
-      told = refl;
-      turns = λ t known terms s rest z moments. record { turned = tt; asked = tt; kept = λ known holds. tt; leaves = λ known holds. leaves_same s.history _ holds };
+    pub turned-failed : (e : WorkspaceFault) → result ≡ Err e → HasTurned view source_view given turning files clock clock old new v v result
+    turned-failed e is = subst (HasTurned view source_view given turning files clock clock old new v v) (sym is) (record {
+      supply = no_supply;
+      supplied = supplied-none files clock;
+      turns = λ terms s rest z supply. record { turned = tt; taken = tt; kept = λ known holds. tt; leaves = λ known holds. leaves_same s.history _ holds };
     })
 
-module _ {R S A : Type 0} (view : R → Tree) (source_view : S → Tree) (given : A → Option Reply) (turning : FileTable → Terms → Session → Turn) (IsKnown : FileTable → Type 0) (old new : Workspace R S) (v w : KnownDisk) (result : Result A WorkspaceFault) where
-  -- a turn was made without the clock
-  pub turned-untimed : (clock : Option (List ℕ)) → ((t : FileTable) → IsKnown t → (terms : Terms) (s : Session) → Stands view source_view terms old s → TurnsAs view source_view given terms (turning t terms s) s s.moments old new v w result)
-      → HasTurned view source_view given turning IsKnown old new v w clock clock result
-  turned-untimed clock h = record {
-    moments = [];
-    told = refl;
-    turns = λ t known terms s rest z moments. subst (λ k. TurnsAs view source_view given terms (turning t terms s) s k old new v w result) moments (h t known terms s z);
+module _ {R S A B : Type 0} (view : R → Tree) (source_view : S → Tree) (given : A → Option Reply) (turning : Terms → Session → Turn) (files : KnownFiles) (before after : KnownClock) (old new : Workspace R S) (v w : KnownDisk) (result : Result A WorkspaceFault)
+    (given_then : B → Option Reply) (turned : HasTurned view source_view given turning files before after old new v w result) where
+  -- what a call gave is given on
+  pub turned-given : (a : A) (b : B) → result ≡ Ok a → given a ≡ given_then b → HasTurned view source_view given_then turning files before after old new v w (Ok b)
+  turned-given a b is same = record {
+    supply = turned.supply;
+    supplied = turned.supplied;
+    turns = λ terms s rest z supply.
+        let y = subst (TurnsAs view source_view given terms (turning terms s) s rest old new v w) is (turned.turns terms s rest z supply) in
+        record { turned = subst (Turned view source_view terms (turning terms s) new) same y.turned; taken = y.taken; kept = y.kept; leaves = y.leaves };
   }
 
-  module _ {B : Type 0} (given_then : B → Option Reply) (IsKnownThen : FileTable → Type 0) (known_first : (t : FileTable) → IsKnownThen t → IsKnown t) (before after : Option (List ℕ)) (turned : HasTurned view source_view given turning IsKnown old new v w before after result) where
-    -- what a call gave is given on
-    pub turned-given : (a : A) (b : B) → result ≡ Ok a → given a ≡ given_then b → HasTurned view source_view given_then turning IsKnownThen old new v w before after (Ok b)
-    turned-given a b is same = record {
-      moments = turned.moments;
-      told = turned.told;
-      turns = λ t known terms s rest z moments.
-          let y = subst (TurnsAs view source_view given terms (turning t terms s) s rest old new v w) is (turned.turns t (known_first t known) terms s rest z moments) in
-          record { turned = subst (Turned view source_view terms (turning t terms s) new) same y.turned; asked = y.asked; kept = y.kept; leaves = y.leaves };
-    }
-
-    -- an error is passed on
-    pub turned-passed : (r : Result B WorkspaceFault) (e : WorkspaceFault) → r ≡ Err e → HasTurned view source_view given_then turning IsKnownThen old new v w before after r
-    turned-passed r e is = subst (HasTurned view source_view given_then turning IsKnownThen old new v w before after) (sym is) (record {
-      moments = turned.moments;
-      told = turned.told;
-      turns = λ t known terms s rest z moments.
-          let y = turned.turns t (known_first t known) terms s rest z moments in
-          record { turned = tt; asked = tt; kept = λ known holds. tt; leaves = y.leaves };
-    })
+  -- an error is passed on
+  pub turned-passed : (r : Result B WorkspaceFault) (e : WorkspaceFault) → r ≡ Err e → HasTurned view source_view given_then turning files before after old new v w r
+  turned-passed r e is = subst (HasTurned view source_view given_then turning files before after old new v w) (sym is) (record {
+    supply = turned.supply;
+    supplied = turned.supplied;
+    turns = λ terms s rest z supply.
+        let y = turned.turns terms s rest z supply in
+        record { turned = tt; taken = tt; kept = λ known holds. tt; leaves = y.leaves };
+  })
 
 -- ---- statements
 
-module _ {R S : Type 0} (view : R → Tree) (source_view : S → Tree) (old new : Workspace R S) (v : KnownDisk) (IsKnown : FileTable → Type 0) (clock : Option (List ℕ)) (result : Result (Option Reply) WorkspaceFault) where
-  -- a statement was run that makes no entry and asks for no moment
+module _ {R S : Type 0} (view : R → Tree) (source_view : S → Tree) (old new : Workspace R S) (v : KnownDisk) (files : KnownFiles) (clock : KnownClock) (result : Result (Option Reply) WorkspaceFault) where
+  -- a statement was run that makes no entry, reads no file and asks for no moment
   pub ran-quiet : (x y : Stmt) → x ≡ y → IsSameFile old.db new.db → ((c : Setting) (s : Session) → IsQuiet s (turn_of c s (says y)))
-      → IfOk result (λ r. (t : FileTable) (terms : Terms) (s : Session) → Stands view source_view terms old s → Turned view source_view terms (turn_of (setting t terms) s (says y)) new r)
-      → HasTurned view source_view (λ r. r) (λ t terms s. turn_of (setting t terms) s (says x)) IsKnown old new v v clock clock result
+      → IfOk result (λ r. (terms : Terms) (s : Session) → Stands view source_view terms old s → Turned view source_view terms (turn_of (setting terms) s (says y)) new r)
+      → HasTurned view source_view (λ r. r) (λ terms s. turn_of (setting terms) s (says x)) files clock clock old new v v result
   ran-quiet x y is same quiet h =
-      subst (λ i. HasTurned view source_view (λ r. r) (λ t terms s. turn_of (setting t terms) s (says i)) IsKnown old new v v clock clock result) (sym is)
-      (turned-quiet view source_view (λ t terms s. turn_of (setting t terms) s (says y)) old new v (λ r. r) IsKnown clock result same (λ t terms s. quiet (setting t terms) s) h)
+      subst (λ i. HasTurned view source_view (λ r. r) (λ terms s. turn_of (setting terms) s (says i)) files clock clock old new v v result) (sym is)
+      (turned-quiet view source_view (λ terms s. turn_of (setting terms) s (says y)) old new v (λ r. r) files clock result same (λ terms s. quiet (setting terms) s) h)

@@ -1,5 +1,5 @@
 -- Which statements ask the clock: commits of a transaction that is going.
-use Rattle.std.specs.Prelude.{ℕ, List}
+use Rattle.std.specs.Prelude.{ℕ}
 use Rattle.cp_lang.specs.declared.syntax_tree.Stmt.{Stmt}
 use Rattle.cp_lang.specs.declared.syntax_tree.Stmt.TheVariants as stmt
 use Rattle.cp_lang.specs.declared.cut.Cut.{Cut}

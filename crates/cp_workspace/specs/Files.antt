@@ -1,5 +1,5 @@
 -- What is known of files at one moment, and which of them a call reads.
-use Rattle.std.specs.Prelude.{ℕ, zero, suc, ◌≡◌, ◌⊎◌, ◌<◌, ◌-◌, ◌^◌, Result, Ok, Err}
+use Rattle.std.specs.Prelude.{ℕ, zero, suc, ◌≡◌, ◌⊎◌, List, [], ◌∷◌, Result, Ok, Err, ⊤}
 use Rattle.std.specs.declared.option.Option.{Option}
 use Rattle.std.specs.declared.option.Option.TheVariants.{Some}
 use Rattle.cp_outside.specs.Causes.{Accounts, one_more}
@@ -29,13 +29,14 @@ HasRead before now k = now.reads ≡ more before.reads k
 abbrev pub HasReadSome : KnownFiles → KnownFiles → Type 0
 HasReadSome before now = (k : ℕ) × HasRead before now k
 
--- no file was read, as the count tells where it isn't at its end
-abbrev pub ReadNone : KnownFiles → KnownFiles → Type 0
-ReadNone before now = (now.reads ≡ before.reads) × (before.reads < 2 ^ 64 - 1)
+-- These are the files, where it is known what each name names.
+abbrev pub IsFound : KnownFiles → FileTable → Type 0
+IsFound known table = (files : FileTable) → known.found ≡ Some files → table ≡ files
 
--- this is what each name names, as far as a call had to know it: the files are known to be these, or none was read
-abbrev pub IsTable : FileTable → KnownFiles → KnownFiles → Type 0
-IsTable table before now = (before.found ≡ Some table) ⊎ ReadNone before now
+-- Each of these is.
+abbrev pub AreFound : KnownFiles → List FileTable → Type 0
+AreFound known [] = ⊤
+AreFound known (t ∷ ts) = IsFound known t × AreFound known ts
 
 -- ---- calls that may fail at a file
 

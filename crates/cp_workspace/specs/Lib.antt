@@ -1,8 +1,9 @@
 pub mod Fetching
-pub mod Fetched
 pub mod Texts
 pub mod Files
+pub mod Fetched
 pub mod Clocks
+pub mod Supplies
 pub mod Loads
 pub mod Commits
 pub mod Spending

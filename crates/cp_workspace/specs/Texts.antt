@@ -9,7 +9,6 @@ use Rattle.cp_lang.specs.Written.{IsWrittenStmt}
 use Rattle.cp_reply.specs.declared.reply.Why.{Why}
 use Rattle.cp_reply.specs.declared.reply.Why.TheVariants as why
 use Rattle.cp_reply.specs.Session.{TextReading, says, unread, Setting}
-use Rattle.cp_outside.specs.FileReads.{FileTable}
 use Rattle.cp_frame.specs.Sizes.{FrameEnd, end_of, has_room, load_size, stamped_size}
 use Rattle.cp_workspace.specs.Fetching.{fetch}
 
@@ -31,11 +30,11 @@ pub record Terms : Type 0 where
   pub ends : FrameEnd
   pub curator : Label
 
--- the whole language is read, sources are loaded from these files, and an entry is added that the file has room for
-abbrev pub setting : FileTable → Terms → Setting
-setting files terms = record {
+-- the whole language is read, sources are loaded from files, and an entry is added that the file has room for
+abbrev pub setting : Terms → Setting
+setting terms = record {
   read = reading;
-  fetch = fetch files;
+  fetch = fetch;
   fits = λ history stamp ops records. has_room (end_of terms.ends history) (stamped_size stamp ops records);
   has_room = λ history n t. has_room (end_of terms.ends history) (load_size n t);
   curator = terms.curator;

@@ -13,16 +13,17 @@ use Rattle.cp_reply.specs.declared.reply.Reply.{Reply}
 use Rattle.cp_reply.specs.declared.reply.Of.TheVariants as of
 use Rattle.cp_reply.specs.declared.reply.Why.TheVariants as why
 use Rattle.cp_reply.specs.declared.reply.Reply.TheVariants as reply
-use Rattle.cp_reply.specs.Session.{Session, OpenTransaction, closed, going, failed, Turn, current_tree, row_of}
+use Rattle.cp_reply.specs.Session.{Supply, followed_by, Session, OpenTransaction, closed, going, failed, Turn, current_tree, row_of}
 use Rattle.cp_engine.specs.Transactions as txn
 use Rattle.cp_engine.specs.declared.txn.Txn.{Txn}
-use Rattle.cp_outside.specs.Moments.{HasTold}
 use Rattle.cp_frame.specs.Sizes.{FrameEnd, end_of}
-use Rattle.cp_outside.specs.FileReads.{FileTable}
 use Rattle.cp_db.specs.Databases as database
 use Rattle.cp_db.specs.Databases.{HoldsState, IsDatabase, IsReady, IsKept, HasCome, IsSameFile, end_in, is_spent, version_in}
 use Rattle.cp_db.specs.declared.database.Db.{Db}
 use Rattle.cp_workspace.specs.Texts.{Terms}
+use Rattle.cp_workspace.specs.Files.{KnownFiles}
+use Rattle.cp_workspace.specs.Clocks.{KnownClock}
+use Rattle.cp_workspace.specs.Supplies.{IsSupplied}
 use Rattle.cp_workspace.specs.declared.fault.WorkspaceFault.{WorkspaceFault}
 use Rattle.cp_workspace.specs.declared.workspace.Workspace.{Workspace}
 use Rattle.cp_frame.specs.Stands.{StandsForEither}
@@ -92,20 +93,20 @@ KeepsFile old new = IsSameFile old.db new.db
 abbrev pub Turned : {R S : Type 0} → (R → Tree) → (S → Tree) → Terms → Turn → Workspace R S → Option Reply → Type 0
 Turned view source_view terms t new r = (r ≡ t.reply) × Stands view source_view terms new t.next
 
--- The turn t of the session s was made, unless something failed: its reply was given, the moments after it are the rest, and the disk holds its history.
+-- The turn t of the session s was made, unless something failed: its reply was given, the rest is still told after it, and the disk holds its history.
 -- In any case each file that a crash leaves stands for the history before the turn or for the one after it.
-pub record TurnsAs {R S A : Type 0} (view : R → Tree) (source_view : S → Tree) (given : A → Option Reply) (terms : Terms) (t : Turn) (s : Session) (rest : List ℕ) (old new : Workspace R S) (v w : KnownDisk) (result : Result A WorkspaceFault) : Type 0 where
+pub record TurnsAs {R S A : Type 0} (view : R → Tree) (source_view : S → Tree) (given : A → Option Reply) (terms : Terms) (t : Turn) (s : Session) (rest : Supply) (old new : Workspace R S) (v w : KnownDisk) (result : Result A WorkspaceFault) : Type 0 where
   pub turned : IfOk result (λ r. Turned view source_view terms t new (given r))
-  pub asked : OnOk result (t.next.moments ≡ rest)
+  pub taken : OnOk result (t.next.supply ≡ rest)
   pub kept : IsTrue v.known → HoldsFile old s.history v → OnOk result (HoldsFile new t.next.history w)
   pub leaves : IsTrue v.known → HoldsFile old s.history v → ViewKeeps (StandsForEither s.history t.next.history) v.view w.view
 
--- The clock told some moments; and with files that are known well enough, and whatever moments come after those, the turn was made.
-pub record HasTurned {R S A : Type 0} (view : R → Tree) (source_view : S → Tree) (given : A → Option Reply) (turning : FileTable → Terms → Session → Turn) (IsKnown : FileTable → Type 0) (old new : Workspace R S) (v w : KnownDisk) (cb ca : Option (List ℕ)) (result : Result A WorkspaceFault) : Type 0 where
-  pub moments : List ℕ
-  pub told : HasTold cb ca moments
-  pub turns : (files : FileTable) → IsKnown files → (terms : Terms) (s : Session) (rest : List ℕ) → Stands view source_view terms old s → s.moments ≡ moments ++ rest
-      → TurnsAs view source_view given terms (turning files terms s) s rest old new v w result
+-- The clock told some moments and reads found some files; and whatever is told after those, the turn was made.
+pub record HasTurned {R S A : Type 0} (view : R → Tree) (source_view : S → Tree) (given : A → Option Reply) (turning : Terms → Session → Turn) (fb : KnownFiles) (kb ka : KnownClock) (old new : Workspace R S) (v w : KnownDisk) (result : Result A WorkspaceFault) : Type 0 where
+  pub supply : Supply
+  pub supplied : IsSupplied fb kb ka supply
+  pub turns : (terms : Terms) (s : Session) (rest : Supply) → Stands view source_view terms old s → s.supply ≡ followed_by supply rest
+      → TurnsAs view source_view given terms (turning terms s) s rest old new v w result
 
 -- the transaction is open
 abbrev pub holding : {R S : Type 0} → Workspace R S → Txn R → Workspace R S
@@ -143,6 +144,6 @@ pub record MayLoad {R S : Type 0} (view : R → Tree) (source_view : S → Tree)
 abbrev pub end_now : {R S : Type 0} → List Entry → Db R S → FrameEnd
 end_now h d = record { entries = h; at = end_in d }
 
--- a session on this history
-abbrev pub opened_session : List Entry → List ℕ → Session
-opened_session h moments = record { history = h; opened = closed; moments = moments }
+-- a session on this history, to which this is told
+abbrev pub opened_session : List Entry → Supply → Session
+opened_session h supply = record { history = h; opened = closed; supply = supply }

@@ -1,10 +1,9 @@
 //! Source files: each is read, and gives a tree or the first refusal of its reading.
 ghost use Rattle.std.specs.Prelude.{◌≡◌, IfOk};
 ghost use Rattle.std.specs.Option.{option_map};
-ghost use Rattle.cp_outside.specs.FileReads.{FileTable};
 ghost use Rattle.cp_workspace.specs.Fetching.{file_gives, form_given, json_why, csv_why};
-ghost use Rattle.cp_workspace.specs.Fetched.{Gives, FitsUnder};
-ghost use Rattle.cp_workspace.specs.Files.{known_files, HasRead, IsTable, UsesFiles};
+ghost use Rattle.cp_workspace.specs.Fetched.{Gives, GivesFound, FitsUnder};
+ghost use Rattle.cp_workspace.specs.Files.{known_files, HasRead, UsesFiles};
 
 use crate::limits::FILE_MAX;
 use cp_model::Form;
@@ -110,8 +109,7 @@ pub fn fetch<R: TreeRep, F: Files>(
     form: &Form,
     file: &str,
 ) -> Result<Result<R, Why>, FilesFault>
-    ensures gives { IfOk result (λ r. (t : FileTable) → IsTable t (known_files F.Files files.old) (known_files F.Files files.new)
-        → Gives R.contents (file_gives name.now form.now (t file.now)) r) }
+    ensures gives { IfOk result (λ r. GivesFound R.contents (known_files F.Files files.old) (λ t. file_gives name.now form.now (t file.now)) r) }
     ensures fits { IfOk result (λ r. IfOk r (λ t. FitsUnder name.now (R.contents t))) }
     ensures used { UsesFiles (λ e. e ≡ FilesFault.Failed) (known_files F.Files files.old) (known_files F.Files files.new) result }
     ensures read { HasRead (known_files F.Files files.old) (known_files F.Files files.new) 1 }

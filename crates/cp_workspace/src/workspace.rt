@@ -1,15 +1,16 @@
-ghost use Rattle.std.specs.Prelude.{◌≡◌, true, false, List, ℕ, IsErrOf, OnOk};
+ghost use Rattle.std.specs.Prelude.{◌≡◌, true, false, List, IsErrOf, OnOk};
 ghost use Rattle.cp_disk.specs.Counts.{UsesDisk};
 ghost use Rattle.cp_outside.specs.Causes.{Accounts};
 ghost use Rattle.cp_model.specs.History.{Entry};
-ghost use Rattle.cp_reply.specs.Session.{Session, says, turn_of};
+ghost use Rattle.cp_reply.specs.Session.{Supply, Session, says, turn_of};
 ghost use Rattle.cp_db.specs.Databases as database;
 ghost use Rattle.cp_db.specs.Databases.{IsDatabase, is_spent, version_in};
+ghost use Rattle.cp_db.specs.FileVersions.{KeepsVersion};
 ghost use Rattle.cp_workspace.specs.Texts.{Terms, setting};
 ghost use Rattle.cp_workspace.specs.Loads.{statement_reads};
 ghost use Rattle.cp_workspace.specs.Clocks.{known_clock};
 ghost use Rattle.cp_workspace.specs.Commits.{statement_asks};
-ghost use Rattle.cp_workspace.specs.Files.{known_files, HasReadSome, IsTable, UsesFiles};
+ghost use Rattle.cp_workspace.specs.Files.{known_files, HasReadSome, UsesFiles};
 ghost use Rattle.cp_workspace.specs.Spending.{Spends};
 ghost use Rattle.cp_workspace.specs.Workspaces.{Stands, IsWorkspace, IsUsable, HasStamps, HasTurned, IsWrittenStmt, db_in, end_now, opened_session};
 
@@ -21,10 +22,8 @@ mod refusal;
 mod reply;
 mod show;
 
-pub use answer::unanswered;
-pub use show::shown;
-
 use crate::fault::WorkspaceFault;
+pub use answer::unanswered;
 use cp_db::Db;
 use cp_disk::Disk;
 use cp_engine::Txn;
@@ -33,6 +32,7 @@ use cp_outside::{Clock, Files};
 use cp_path::Label;
 use cp_reply::Reply;
 use cp_tree::TreeRep;
+pub use show::shown;
 use std::alloc::Global;
 
 /// A database in a file, the open transaction, and the curator of its commits. A tree of a source may have another form
@@ -53,8 +53,8 @@ impl<R: TreeRep, S: TreeRep> Workspace<R, S> {
         requires usable { is_spent db ≡ false }
         ensures workspace { IsWorkspace R.contents S.contents result }
         ensures same { db_in result ≡ db }
-        ensures stands { (h : List Entry) (moments : List ℕ) → database.Stands R.contents S.contents true db h
-            → Stands R.contents S.contents (record { ends = end_now h db; curator = curator }) result (opened_session h moments) }
+        ensures stands { (h : List Entry) (supply : Supply) → database.Stands R.contents S.contents true db h
+            → Stands R.contents S.contents (record { ends = end_now h db; curator = curator }) result (opened_session h supply) }
     {
         Workspace {
             db,
@@ -100,11 +100,12 @@ impl<R: TreeRep, S: TreeRep> Workspace<R, S> {
         requires usable { IsUsable R.contents S.contents (D.known disk.old) self.old }
         requires written { IsWrittenStmt statement }
         requires stamps { statement ≡ Stmt.Commit → HasStamps self.old }
-        ensures turned { HasTurned R.contents S.contents (λ r. r) (λ t terms s. turn_of (setting t terms) s (says statement))
-            (λ t. IsTable t (known_files F.Files files.old) (known_files F.Files files.new)) self.old self.new
-            (D.known disk.old) (D.known disk.new) (K.left clock.old) (K.left clock.new) result }
+        ensures turned { HasTurned R.contents S.contents (λ r. r) (λ terms s. turn_of (setting terms) s (says statement))
+            (known_files F.Files files.old) (known_clock K.Clock clock.old) (known_clock K.Clock clock.new) self.old self.new
+            (D.known disk.old) (D.known disk.new) result }
         ensures stays { OnOk result (IsUsable R.contents S.contents (D.known disk.new) self.new) }
         ensures version { OnOk result (version_in (db_in self.new) ≡ version_in (db_in self.old)) }
+        ensures file { KeepsVersion (D.known disk.old) (D.known disk.new) }
         ensures spent { (terms : Terms) (s : Session) → Stands R.contents S.contents terms self.old s
             → Spends (statement_reads s statement) (statement_asks s statement) (known_files F.Files files.old) (known_files F.Files files.new)
             (known_clock K.Clock clock.old) (known_clock K.Clock clock.new) result }

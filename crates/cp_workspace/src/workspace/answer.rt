@@ -1,6 +1,5 @@
 ghost use Rattle.std.specs.Prelude.{◌≡◌, IfOk, OnOk};
 ghost use Rattle.std.specs.declared.option.Option.TheVariants.{Some};
-ghost use Rattle.cp_outside.specs.FileReads.{FileTable};
 ghost use Rattle.cp_reply.specs.Session.{Session, says, turn_of, no_place_of};
 ghost use Rattle.cp_workspace.specs.Texts.{Terms, setting};
 ghost use Rattle.cp_workspace.specs.Workspaces.{Stands, IsWorkspace, KeepsFile, Turned};
@@ -45,8 +44,8 @@ impl<R: TreeRep, S: TreeRep> Workspace<R, S> {
     /// Answers a query on the committed state. Reads no disk, and costs as the query. An error changes nothing.
     pub fn ask(&mut self, alloc: Global, query: Query) -> Result<Reply, AllocError>
         requires workspace { IsWorkspace R.contents S.contents self.old }
-        ensures turned { IfOk result (λ r. (t : FileTable) (terms : Terms) (s : Session) → Stands R.contents S.contents terms self.old s
-            → Turned R.contents S.contents terms (turn_of (setting t terms) s (says (Stmt.Ask query))) self.new (Some r)) }
+        ensures turned { IfOk result (λ r. (terms : Terms) (s : Session) → Stands R.contents S.contents terms self.old s
+            → Turned R.contents S.contents terms (turn_of (setting terms) s (says (Stmt.Ask query))) self.new (Some r)) }
         ensures stays { OnOk result (IsWorkspace R.contents S.contents self.new) }
         ensures file { KeepsFile self.old self.new }
     {

@@ -1,11 +1,11 @@
-ghost use Rattle.std.specs.Prelude.{◌≡◌, List, OnOk, IsErrOf, ⊤};
+ghost use Rattle.std.specs.Prelude.{◌≡◌, List, OnOk, IsErrOf};
 ghost use Rattle.cp_disk.specs.Counts.{UsesDisk};
 ghost use Rattle.std.specs.declared.option.Option.TheVariants.{None, Some};
 ghost use Rattle.cp_outside.specs.Causes.{Accounts};
-ghost use Rattle.cp_outside.specs.FileReads.{FileTable};
 ghost use Rattle.cp_engine.specs.Transactions.{going};
 ghost use Rattle.cp_model.specs.declared.op.Op.{Op as OpValue};
 ghost use Rattle.cp_db.specs.Databases.{HasCome, version_in};
+ghost use Rattle.cp_db.specs.FileVersions.{KeepsVersion};
 ghost use Rattle.cp_reply.specs.Session.{Session, says, turn_of};
 ghost use Rattle.cp_workspace.specs.Texts.{Terms, setting};
 ghost use Rattle.cp_workspace.specs.Clocks.{known_clock};
@@ -40,10 +40,12 @@ impl<R: TreeRep, S: TreeRep> Workspace<R, S> {
         requires stamps { HasStamps self.old }
         requires taken { self.old.transaction ≡ None }
         requires going { (ops : List OpValue) × HasCome R.contents S.contents self.old.db transaction (going ops) }
-        ensures turned { HasTurned R.contents S.contents (λ r. Some r) (λ t terms s. turn_of (setting t terms) s (says Stmt.Commit)) (λ t. ⊤)
-            (holding self.old transaction) self.new (D.known disk.old) (D.known disk.new) (K.left clock.old) (K.left clock.new) result }
+        ensures turned { (f : KnownFiles) → HasTurned R.contents S.contents (λ r. Some r) (λ terms s. turn_of (setting terms) s (says Stmt.Commit))
+            f (known_clock K.Clock clock.old) (known_clock K.Clock clock.new) (holding self.old transaction) self.new
+            (D.known disk.old) (D.known disk.new) result }
         ensures stays { OnOk result (IsUsable R.contents S.contents (D.known disk.new) self.new) }
         ensures version { version_in (db_in self.new) ≡ version_in (db_in self.old) }
+        ensures file { KeepsVersion (D.known disk.old) (D.known disk.new) }
         ensures disk { UsesDisk (λ e. e ≡ WorkspaceFault.Disk) (D.known disk.old) (D.known disk.new) result }
         ensures clock { Accounts (λ e. e ≡ WorkspaceFault.Clock) (K.faults clock.old) (K.faults clock.new) result }
         ensures spent { (f : KnownFiles) → Spends 0 1 f f (known_clock K.Clock clock.old) (known_clock K.Clock clock.new) result }
@@ -79,10 +81,11 @@ impl<R: TreeRep, S: TreeRep> Workspace<R, S> {
     ) -> Result<Reply, WorkspaceFault>
         requires usable { IsUsable R.contents S.contents (D.known disk.old) self.old }
         requires stamps { HasStamps self.old }
-        ensures turned { HasTurned R.contents S.contents (λ r. Some r) (λ t terms s. turn_of (setting t terms) s (says Stmt.Commit)) (λ t. ⊤)
-            self.old self.new (D.known disk.old) (D.known disk.new) (K.left clock.old) (K.left clock.new) result }
+        ensures turned { (f : KnownFiles) → HasTurned R.contents S.contents (λ r. Some r) (λ terms s. turn_of (setting terms) s (says Stmt.Commit))
+            f (known_clock K.Clock clock.old) (known_clock K.Clock clock.new) self.old self.new (D.known disk.old) (D.known disk.new) result }
         ensures stays { OnOk result (IsUsable R.contents S.contents (D.known disk.new) self.new) }
         ensures version { version_in (db_in self.new) ≡ version_in (db_in self.old) }
+        ensures file { KeepsVersion (D.known disk.old) (D.known disk.new) }
         ensures disk { UsesDisk (λ e. e ≡ WorkspaceFault.Disk) (D.known disk.old) (D.known disk.new) result }
         ensures clock { Accounts (λ e. e ≡ WorkspaceFault.Clock) (K.faults clock.old) (K.faults clock.new) result }
         ensures spent { (terms : Terms) (s : Session) → Stands R.contents S.contents terms self.old s → (f : KnownFiles)
@@ -102,8 +105,8 @@ impl<R: TreeRep, S: TreeRep> Workspace<R, S> {
     /// Gives the open transaction up.
     pub(super) fn abort(&mut self) -> Reply
         requires workspace { IsWorkspace R.contents S.contents self.old }
-        ensures turned { (t : FileTable) (terms : Terms) (s : Session) → Stands R.contents S.contents terms self.old s
-            → Turned R.contents S.contents terms (turn_of (setting t terms) s (says Stmt.Abort)) self.new (Some result) }
+        ensures turned { (terms : Terms) (s : Session) → Stands R.contents S.contents terms self.old s
+            → Turned R.contents S.contents terms (turn_of (setting terms) s (says Stmt.Abort)) self.new (Some result) }
         ensures stays { IsWorkspace R.contents S.contents self.new }
         ensures same { self.new.db ≡ self.old.db }
     {

@@ -2,17 +2,17 @@ ghost use Rattle.std.specs.Prelude.{◌≡◌, ◌<◌, false, IfOk, OnOk, IsErr
 ghost use Rattle.cp_disk.specs.Views.{Keeps};
 ghost use Rattle.cp_disk.specs.Counts.{UsesDisk};
 ghost use Rattle.std.specs.declared.option.Option.TheVariants.{None, Some};
-ghost use Rattle.cp_outside.specs.FileReads.{FileTable};
 ghost use Rattle.cp_model.specs.Place.{label_eq, target};
 ghost use Rattle.cp_db.specs.Databases.{version_in};
+ghost use Rattle.cp_db.specs.FileVersions.{KeepsVersion};
 ghost use Rattle.cp_reply.specs.Session.{Session, gives, load_fetched, says, turn_of};
 ghost use Rattle.cp_workspace.specs.Fetched.{FitsUnder};
 ghost use Rattle.cp_workspace.specs.Texts.{Terms, setting};
 ghost use Rattle.cp_workspace.specs.Loads.{why_not_loaded, statement_reads};
 ghost use Rattle.cp_workspace.specs.Clocks.{KnownClock};
-ghost use Rattle.cp_workspace.specs.Files.{known_files, HasReadSome, IsTable, UsesFiles};
+ghost use Rattle.cp_workspace.specs.Files.{known_files, HasReadSome, UsesFiles};
 ghost use Rattle.cp_workspace.specs.Spending.{Spends};
-ghost use Rattle.cp_workspace.specs.Workspaces.{Stands, IsWorkspace, IsUsable, MayLoad, TurnsAs, db_in};
+ghost use Rattle.cp_workspace.specs.Workspaces.{Stands, IsWorkspace, IsUsable, MayLoad, HasTurned, TurnsAs, db_in};
 
 use crate::fault::WorkspaceFault;
 use crate::source_file::fetch;
@@ -41,11 +41,12 @@ impl<R: TreeRep, S: TreeRep> Workspace<R, S> {
         requires may { MayLoad R.contents S.contents self.old name }
         requires other { label_eq name target ≡ false }
         requires fits { FitsUnder name (S.contents tree) }
-        ensures turned { (t : FileTable) (terms : Terms) (s : Session) → Stands R.contents S.contents terms self.old s
-            → TurnsAs R.contents S.contents (λ r. Some r) terms (load_fetched (setting t terms) s name (gives (S.contents tree))) s s.moments self.old self.new
+        ensures turned { (terms : Terms) (s : Session) → Stands R.contents S.contents terms self.old s
+            → TurnsAs R.contents S.contents (λ r. Some r) terms (load_fetched (setting terms) s name (gives (S.contents tree))) s s.supply self.old self.new
             (D.known disk.old) (D.known disk.new) result }
         ensures stays { OnOk result (IsUsable R.contents S.contents (D.known disk.new) self.new) }
         ensures version { version_in (db_in self.new) ≡ version_in (db_in self.old) }
+        ensures file { KeepsVersion (D.known disk.old) (D.known disk.new) }
         ensures disk { UsesDisk (λ e. e ≡ WorkspaceFault.Disk) (D.known disk.old) (D.known disk.new) result }
         ensures kinds { (IsErrOf result WorkspaceFault.File → ⊥) × (IsErrOf result WorkspaceFault.Clock → ⊥) }
     {
@@ -99,12 +100,11 @@ impl<R: TreeRep, S: TreeRep> Workspace<R, S> {
     ) -> Result<Reply, WorkspaceFault>
         requires usable { IsUsable R.contents S.contents (D.known disk.old) self.old }
         requires other { label_eq load.name target ≡ false }
-        ensures turned { (t : FileTable) → IsTable t (known_files F.Files files.old) (known_files F.Files files.new)
-            → (terms : Terms) (s : Session) → Stands R.contents S.contents terms self.old s
-            → TurnsAs R.contents S.contents (λ r. Some r) terms (turn_of (setting t terms) s (says (Stmt.Load load))) s s.moments self.old self.new
-            (D.known disk.old) (D.known disk.new) result }
+        ensures turned { (k : KnownClock) → HasTurned R.contents S.contents (λ r. Some r) (λ terms s. turn_of (setting terms) s (says (Stmt.Load load)))
+            (known_files F.Files files.old) k k self.old self.new (D.known disk.old) (D.known disk.new) result }
         ensures stays { OnOk result (IsUsable R.contents S.contents (D.known disk.new) self.new) }
         ensures version { version_in (db_in self.new) ≡ version_in (db_in self.old) }
+        ensures file { KeepsVersion (D.known disk.old) (D.known disk.new) }
         ensures spent { (terms : Terms) (s : Session) → Stands R.contents S.contents terms self.old s → (k : KnownClock)
             → Spends (statement_reads s (Stmt.Load load)) 0 (known_files F.Files files.old) (known_files F.Files files.new) k k result }
         ensures read { HasReadSome (known_files F.Files files.old) (known_files F.Files files.new) }

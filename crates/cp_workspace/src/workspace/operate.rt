@@ -1,7 +1,6 @@
 ghost use Rattle.std.specs.Prelude.{◌≡◌, IfOk, OnOk};
 ghost use Rattle.std.specs.declared.option.Option.TheVariants.{None};
 ghost use Rattle.cp_model.specs.History.{IsWritten};
-ghost use Rattle.cp_outside.specs.FileReads.{FileTable};
 ghost use Rattle.cp_engine.specs.Transactions.{Progress};
 ghost use Rattle.cp_reply.specs.declared.reply.Why.{Why as WhyValue};
 ghost use Rattle.cp_db.specs.Databases.{HasCome};
@@ -37,8 +36,8 @@ impl<R: TreeRep, S: TreeRep> Workspace<R, S> {
     pub fn operate(&mut self, alloc: Global, op: Op) -> Result<Option<Reply>, AllocError>
         requires workspace { IsWorkspace R.contents S.contents self.old }
         requires written { IsWritten op }
-        ensures turned { IfOk result (λ r. (t : FileTable) (terms : Terms) (s : Session) → Stands R.contents S.contents terms self.old s
-            → Turned R.contents S.contents terms (turn_of (setting t terms) s (says (Stmt.Op op))) self.new r) }
+        ensures turned { IfOk result (λ r. (terms : Terms) (s : Session) → Stands R.contents S.contents terms self.old s
+            → Turned R.contents S.contents terms (turn_of (setting terms) s (says (Stmt.Op op))) self.new r) }
         ensures stays { OnOk result (IsWorkspace R.contents S.contents self.new) }
         ensures same { self.new.db ≡ self.old.db }
     {

@@ -3,12 +3,13 @@ ghost use Rattle.std.specs.Prelude.{◌≡◌, IfOk, OnOk, IsErrOf};
 ghost use Rattle.cp_disk.specs.Counts.{UsesDisk};
 ghost use Rattle.std.specs.declared.option.Option.TheVariants.{Some};
 ghost use Rattle.cp_outside.specs.Causes.{Accounts};
+ghost use Rattle.cp_db.specs.FileVersions.{KeepsVersion};
 ghost use Rattle.cp_reply.specs.Session.{Session, turn, turn_of, not_read};
 ghost use Rattle.cp_workspace.specs.Texts.{Terms, setting, reading};
 ghost use Rattle.cp_workspace.specs.Loads.{text_reads, cut_reads};
 ghost use Rattle.cp_workspace.specs.Clocks.{known_clock};
 ghost use Rattle.cp_workspace.specs.Commits.{text_asks, cut_asks};
-ghost use Rattle.cp_workspace.specs.Files.{known_files, HasReadSome, IsTable, UsesFiles};
+ghost use Rattle.cp_workspace.specs.Files.{known_files, HasReadSome, UsesFiles};
 ghost use Rattle.cp_workspace.specs.Spending.{Spends};
 ghost use Rattle.cp_workspace.specs.Workspaces.{Stands, IsWorkspace, IsUsable, HasStamps, HasTurned, Turned};
 
@@ -52,11 +53,12 @@ impl<R: TreeRep, S: TreeRep> Workspace<R, S> {
     ) -> Result<Option<Reply>, WorkspaceFault>
         requires usable { IsUsable R.contents S.contents (D.known disk.old) self.old }
         requires stamps { HasStamps self.old }
-        ensures turned { HasTurned R.contents S.contents (λ r. r) (λ t terms s. turn_of (setting t terms) s (reading text.now))
-            (λ t. IsTable t (known_files F.Files files.old) (known_files F.Files files.new)) self.old self.new
-            (D.known disk.old) (D.known disk.new) (K.left clock.old) (K.left clock.new) result }
+        ensures turned { HasTurned R.contents S.contents (λ r. r) (λ terms s. turn_of (setting terms) s (reading text.now))
+            (known_files F.Files files.old) (known_clock K.Clock clock.old) (known_clock K.Clock clock.new) self.old self.new
+            (D.known disk.old) (D.known disk.new) result }
         ensures stays { OnOk result (IsUsable R.contents S.contents (D.known disk.new) self.new) }
         ensures stamps { OnOk result (HasStamps self.new) }
+        ensures file { KeepsVersion (D.known disk.old) (D.known disk.new) }
         ensures spent { (terms : Terms) (s : Session) → Stands R.contents S.contents terms self.old s
             → Spends (text_reads s (reading text.now)) (text_asks s (reading text.now)) (known_files F.Files files.old) (known_files F.Files files.new)
             (known_clock K.Clock clock.old) (known_clock K.Clock clock.new) result }
@@ -88,11 +90,12 @@ impl<R: TreeRep, S: TreeRep> Workspace<R, S> {
     ) -> Result<Option<Reply>, WorkspaceFault>
         requires usable { IsUsable R.contents S.contents (D.known disk.old) self.old }
         requires stamps { HasStamps self.old }
-        ensures turned { HasTurned R.contents S.contents (λ r. r) (λ t terms s. turn (setting t terms) s cut)
-            (λ t. IsTable t (known_files F.Files files.old) (known_files F.Files files.new)) self.old self.new
-            (D.known disk.old) (D.known disk.new) (K.left clock.old) (K.left clock.new) result }
+        ensures turned { HasTurned R.contents S.contents (λ r. r) (λ terms s. turn (setting terms) s cut)
+            (known_files F.Files files.old) (known_clock K.Clock clock.old) (known_clock K.Clock clock.new) self.old self.new
+            (D.known disk.old) (D.known disk.new) result }
         ensures stays { OnOk result (IsUsable R.contents S.contents (D.known disk.new) self.new) }
         ensures stamps { OnOk result (HasStamps self.new) }
+        ensures file { KeepsVersion (D.known disk.old) (D.known disk.new) }
         ensures spent { (terms : Terms) (s : Session) → Stands R.contents S.contents terms self.old s
             → Spends (cut_reads s cut) (cut_asks s cut) (known_files F.Files files.old) (known_files F.Files files.new)
             (known_clock K.Clock clock.old) (known_clock K.Clock clock.new) result }

@@ -1,6 +1,5 @@
 ghost use Rattle.std.specs.Prelude.{◌≡◌, IfOk};
 ghost use Rattle.std.specs.declared.option.Option.TheVariants.{Some};
-ghost use Rattle.cp_outside.specs.FileReads.{FileTable};
 ghost use Rattle.cp_reply.specs.Session.{Session, says, turn_of, current_tree};
 ghost use Rattle.cp_workspace.specs.Texts.{Terms, setting};
 ghost use Rattle.cp_workspace.specs.Workspaces.{Stands, Turned, shown_reply};
@@ -41,8 +40,8 @@ impl<R: TreeRep, S: TreeRep> Workspace<R, S> {
 
     /// What stands at and below a place of T or of a source. Costs the rows' bytes.
     pub fn show(&self, alloc: Global, place: Loc) -> Result<Reply, AllocError>
-        ensures { IfOk result (λ r. (t : FileTable) (terms : Terms) (s : Session) → Stands R.contents S.contents terms self.now s
-            → Turned R.contents S.contents terms (turn_of (setting t terms) s (says (Stmt.Show place))) self.now (Some r)) }
+        ensures { IfOk result (λ r. (terms : Terms) (s : Session) → Stands R.contents S.contents terms self.now s
+            → Turned R.contents S.contents terms (turn_of (setting terms) s (says (Stmt.Show place))) self.now (Some r)) }
     {
         if place.db.is_target() {
             return shown(alloc, self.current_tree(), place);

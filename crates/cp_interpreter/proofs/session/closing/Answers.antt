@@ -1,9 +1,11 @@
 use Rattle.std.proofs.Common.{sym, subst, ◌∙◌}
 use Rattle.cp_workspace.specs.Files.{known_files}
 use Rattle.cp_interpreter.specs.Outside.{known_clock, known_output}
-use Rattle.cp_interpreter.specs.Turns.{RanLast, HasClosed}
+use Rattle.cp_interpreter.specs.Turns.{RanLast, HasClosed, has_refused}
 use Rattle.cp_interpreter.specs.declared.end.End.{End}
 use Rattle.cp_interpreter.proofs.Runs.{world, closed-stopped, closed-refused, closed-done}
+use Rattle.cp_interpreter.specs.Replied.{WroteReplies}
+use Rattle.cp_interpreter.proofs.Replied.{replied-done, replied-refused, replied-stopped}
 use Rattle.cp_interpreter.proofs.session.closing.Goals as goal
 
 pub returns-in-Err-clause-closed : goal.returns-in-Err-clause-closed
@@ -55,3 +57,19 @@ returns-in-Ok-2-clause-closed g c =
     let w = g.D.Disk.known c.close.new.disk in
     let ran = subst (RanLast view source_view first c.close.new.self (world fb kb ob) (world fm km om) v w) c.in-Ok-2.is c.close.ensures.went in
     closed-done view source_view first c.close.new.self fb fm kb km ob om om v w ran c.in-Ok-2.ensures.uses.output.refuses (sym c.refused.ensures ∙ c.if-refused.false)
+
+pub returns-in-Err-clause-replied : goal.returns-in-Err-clause-replied
+returns-in-Err-clause-replied g c =
+    let f = has_refused c.args.session.now in
+    let b = known_output g.O.Sink c.args.output.now in
+    let m = known_output g.O.Sink c.close.new.output in
+    let a = known_output g.O.Sink c.stopped.new.output in
+    subst (λ (e : End). WroteReplies f b a e) (sym c.stopped.ensures.end) (replied-stopped f (has_refused c.close.new.self) b m a c.in-Err.stop c.in-Err.ensures.replied c.stopped.ensures.wrote)
+
+pub returns-in-Ok-clause-replied : goal.returns-in-Ok-clause-replied
+returns-in-Ok-clause-replied g c =
+    replied-refused (has_refused c.args.session.now) (has_refused c.close.new.self) (known_output g.O.Sink c.args.output.now) (known_output g.O.Sink c.close.new.output) c.in-Ok.ensures.replied (sym c.refused.ensures ∙ c.if-refused.true)
+
+pub returns-in-Ok-2-clause-replied : goal.returns-in-Ok-2-clause-replied
+returns-in-Ok-2-clause-replied g c =
+    replied-done (has_refused c.args.session.now) (has_refused c.close.new.self) (known_output g.O.Sink c.args.output.now) (known_output g.O.Sink c.close.new.output) c.in-Ok-2.ensures.replied (sym c.refused.ensures ∙ c.if-refused.false)

@@ -3,9 +3,12 @@ use Rattle.std.proofs.lemmas.List.{length-take-le}
 use Rattle.std.specs.Io.KnownBytes.{Consumes, IsAtEnd}
 use Rattle.cp_workspace.specs.Files.{known_files}
 use Rattle.cp_interpreter.specs.Outside.{known_input, known_clock, known_output, known_outside}
-use Rattle.cp_interpreter.specs.Turns.{RanFrom, WasFed}
+use Rattle.cp_interpreter.specs.Turns.{RanFrom, WasFed, has_refused}
 use Rattle.cp_interpreter.specs.declared.end.End.{End}
 use Rattle.cp_interpreter.proofs.Runs.{parts, world, ran-input, ran-closed, ran-too-long, ran-stopped}
+use Rattle.cp_db.proofs.FileVersions.{version-none}
+use Rattle.cp_interpreter.specs.Replied.{WroteReplies}
+use Rattle.cp_interpreter.proofs.Replied.{replied-input, replied-stopped, replied-too-long}
 use Rattle.cp_interpreter.proofs.session.turn.Goals as goal
 
 pub returns-in_default-clause-ends : goal.returns-in_default-clause-ends
@@ -58,3 +61,24 @@ returns-in-Err-clause-ends g c =
     ran-stopped view source_view first c.feed.new.self c.args.before bytes ib ia fb fm kb km ob om oa v w c.in-Err.stop c.in-Err.ensures.opened
     (omega (arith, count, c.if-now-gt-INPUT_MAX.false)) c.in-Ok.ensures.bytes.0 (omega (arith, count, c.in-Ok.ensures.counted)) fed c.in-Err.ensures.uses.output.refuses c.stopped.ensures.wrote
     )
+
+pub returns-in_default-clause-replied : goal.returns-in_default-clause-replied
+returns-in_default-clause-replied g c = replied-input (has_refused c.args.session.now) (known_output g.O.Sink c.args.output.now) (known_output g.O.Sink c.last_line.new.output) c.last_line.ensures.wrote
+
+pub returns-then-now-gt-INPUT_MAX-clause-replied : goal.returns-then-now-gt-INPUT_MAX-clause-replied
+returns-then-now-gt-INPUT_MAX-clause-replied g c =
+    replied-too-long (has_refused c.args.session.now) (known_output g.O.Sink c.args.output.now) (known_output g.O.Sink c.last_line-then-now-gt-INPUT_MAX.new.output) c.last_line-then-now-gt-INPUT_MAX.ensures.wrote
+
+pub returns-in-Err-clause-replied : goal.returns-in-Err-clause-replied
+returns-in-Err-clause-replied g c =
+    let f = has_refused c.args.session.now in
+    let b = known_output g.O.Sink c.args.output.now in
+    let m = known_output g.O.Sink c.feed.new.output in
+    let a = known_output g.O.Sink c.stopped.new.output in
+    subst (λ (e : End). WroteReplies f b a e) (sym c.stopped.ensures.end) (replied-stopped f (has_refused c.feed.new.self) b m a c.in-Err.stop c.in-Err.ensures.replied c.stopped.ensures.wrote)
+
+pub returns-in_default-clause-file : goal.returns-in_default-clause-file
+returns-in_default-clause-file g c = λ known. version-none (g.D.Disk.known c.args.disk.now).view
+
+pub returns-then-now-gt-INPUT_MAX-clause-file : goal.returns-then-now-gt-INPUT_MAX-clause-file
+returns-then-now-gt-INPUT_MAX-clause-file g c = λ known. version-none (g.D.Disk.known c.args.disk.now).view

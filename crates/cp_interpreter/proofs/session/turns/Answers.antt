@@ -1,8 +1,11 @@
-use Rattle.std.proofs.Common.{refl, arith}
+use Rattle.std.proofs.Common.{Ok, refl, arith}
 use Rattle.cp_workspace.specs.Files.{known_files}
 use Rattle.cp_workspace.proofs.ReadCounts.{some-then}
-use Rattle.cp_interpreter.specs.Outside.{known_outside}
+use Rattle.cp_interpreter.specs.Outside.{known_output, known_outside}
 use Rattle.cp_interpreter.proofs.Runs.{piece-none, piece-more, piece-ran, steady-none, steady-then, causes-after, disk-after}
+use Rattle.cp_db.proofs.FileVersions.{version-later, version-none}
+use Rattle.cp_interpreter.specs.Turns.{has_refused}
+use Rattle.cp_interpreter.proofs.Replied.{replied-then, sent-none, sent-then}
 use Rattle.cp_interpreter.proofs.session.turns.Goals as goal
 
 pub loop-now-init : goal.loop-now-init
@@ -14,6 +17,8 @@ loop-now-init g c =
       goes_on = c.requires.goes_on;
       took = piece-none g.R.TreeRep.contents g.S.TreeRep.contents c.args.session.now o v;
       steady = steady-none o v;
+      replied = sent-none (has_refused c.args.session.now) o.output;
+      file = λ known. version-none v.view;
     }
 
 pub loop-now-preserved : goal.loop-now-preserved
@@ -29,8 +34,10 @@ loop-now-preserved g c =
     record {
       within = c.in-Ok.ensures.goes_on.1;
       goes_on = c.in-Ok.ensures.goes_on.2;
-      took = piece-more g.R.TreeRep.contents g.S.TreeRep.contents c.args.session.now c.loop-now.session c.turn.new.session 0 c.loop-now.taken c.in-Ok.now first here next v u w i.steady.known i.steady steady.read i.took c.in-Ok.ensures.took;
+      took = piece-more g.R.TreeRep.contents g.S.TreeRep.contents c.args.session.now c.loop-now.session c.turn.new.session 0 c.loop-now.taken c.in-Ok.now first here next v u w i.steady.known i.steady i.took c.in-Ok.ensures.took;
       steady = steady-then first here next v u w i.steady steady;
+      replied = sent-then (has_refused c.args.session.now) (has_refused c.loop-now.session) (has_refused c.turn.new.session) first.output here.output next.output i.replied (Ok tt) c.in-Ok.ensures.sent;
+      file = version-later v u w i.steady.known i.file c.turn.ensures.file;
     }
 
 pub turn-requires-clause-goes_on : goal.turn-requires-clause-goes_on
@@ -43,7 +50,7 @@ returns-in-Err-clause-ran g c =
     let here = known_outside g.F.Files g.K.Clock g.I.Source g.O.Sink c.loop-now.files c.loop-now.clock c.loop-now.input c.loop-now.output in
     let next = known_outside g.F.Files g.K.Clock g.I.Source g.O.Sink c.turn.new.files c.turn.new.clock c.turn.new.input c.turn.new.output in
     piece-ran g.R.TreeRep.contents g.S.TreeRep.contents c.args.session.now c.loop-now.session c.loop-now.taken first here next (g.D.Disk.known c.args.disk.now) (g.D.Disk.known c.loop-now.disk) (g.D.Disk.known c.turn.new.disk) c.in-Err.end i.steady.known
-    i.steady c.turn.ensures.read i.took c.in-Err.ensures.ends
+    i.steady i.took c.in-Err.ensures.ends
 
 pub returns-in-Err-clause-causes : goal.returns-in-Err-clause-causes
 returns-in-Err-clause-causes g c =
@@ -61,3 +68,11 @@ returns-in-Err-clause-disk g c =
 pub returns-in-Err-clause-read : goal.returns-in-Err-clause-read
 returns-in-Err-clause-read g c =
     some-then (known_files g.F.Files c.args.files.now) (known_files g.F.Files c.loop-now.files) (known_files g.F.Files c.turn.new.files) c.loop-now.invariant.steady.read c.turn.ensures.read
+
+pub returns-in-Err-clause-replied : goal.returns-in-Err-clause-replied
+returns-in-Err-clause-replied g c =
+    replied-then (has_refused c.args.session.now) (has_refused c.loop-now.session) (known_output g.O.Sink c.args.output.now) (known_output g.O.Sink c.loop-now.output) c.loop-now.invariant.replied (known_output g.O.Sink c.turn.new.output) c.in-Err.end c.in-Err.ensures.replied
+
+pub returns-in-Err-clause-file : goal.returns-in-Err-clause-file
+returns-in-Err-clause-file g c =
+    version-later (g.D.Disk.known c.args.disk.now) (g.D.Disk.known c.loop-now.disk) (g.D.Disk.known c.turn.new.disk) c.loop-now.invariant.steady.known c.loop-now.invariant.file c.turn.ensures.file

@@ -1,7 +1,9 @@
 use Rattle.cp_interpreter.specs.declared.limits.TheConstants.{INPUT_MAX}
-use Rattle.std.proofs.Common.{◌≤◌, ◌-◌}
-use Rattle.cp_interpreter.specs.Outside.{known_outside}
-use Rattle.cp_interpreter.specs.Turns.{MayGoOn, TookPiece, IsSteady}
+use Rattle.std.proofs.Common.{◌≤◌, ◌-◌, Ok}
+use Rattle.cp_db.specs.FileVersions.{KeepsVersion}
+use Rattle.cp_interpreter.specs.Outside.{known_output, known_outside}
+use Rattle.cp_interpreter.specs.Replied.{SendsReplies}
+use Rattle.cp_interpreter.specs.Turns.{MayGoOn, TookPiece, IsSteady, has_refused}
 use Rattle.cp_interpreter.proofs.session.turns.Given as goal
 
 abbrev pub decreases-loop-now : goal.decreases-loop-now
@@ -17,4 +19,6 @@ invariant-loop-now g l = record {
   steady : IsSteady
       (known_outside g.F.Files g.K.Clock g.I.Source g.O.Sink l.initial.files l.initial.clock l.initial.input l.initial.output) (known_outside g.F.Files g.K.Clock g.I.Source g.O.Sink l.files l.clock l.input l.output)
       (g.D.Disk.known l.initial.disk) (g.D.Disk.known l.disk);
+  replied : SendsReplies (has_refused l.initial.session) (has_refused l.session) (known_output g.O.Sink l.initial.output) (known_output g.O.Sink l.output) (Ok tt);
+  file : KeepsVersion (g.D.Disk.known l.initial.disk) (g.D.Disk.known l.disk);
 }

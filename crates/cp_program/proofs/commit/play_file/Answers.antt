@@ -1,4 +1,4 @@
-use Rattle.std.proofs.Common.{◌≤◌, ◌+◌, length, IfOk, None, sym, subst}
+use Rattle.std.proofs.Common.{◌≤◌, ◌+◌, length, IfOk, None, false, sym, subst}
 use Rattle.cp_reply.specs.Lines.{lines}
 use Rattle.cp_reply.specs.declared.reply.Reply.{Reply}
 use Rattle.cp_workspace.specs.declared.limits.TheConstants.{FILE_MAX}
@@ -6,12 +6,15 @@ use Rattle.cp_workspace.specs.Files.{known_files}
 use Rattle.cp_workspace.proofs.ReadCounts.{some-then}
 use Rattle.cp_interpreter.specs.Job.{is_refusal}
 use Rattle.cp_interpreter.specs.Outside.{KnownInput, known_clock, known_output, known_world}
-use Rattle.cp_interpreter.specs.Scripts.{script_of, commit_text, refused_script}
+use Rattle.cp_interpreter.specs.Scripts.{commit_text, refused_script}
 use Rattle.cp_interpreter.specs.Story.{SaidLine, WorldCauses, DiskCauses}
-use Rattle.cp_interpreter.specs.Begins.{GivesScript}
+use Rattle.cp_interpreter.specs.Begins.{GivesScriptOf}
 use Rattle.cp_interpreter.specs.Turns.{RanScript, end_of_stop}
 use Rattle.cp_interpreter.proofs.Whole.{causes-refused, causes-early, early-no-disk, disk-still}
 use Rattle.cp_interpreter.proofs.Scripted.{script-ran, script-refused, script-stopped, script-causes, said-disk}
+use Rattle.cp_interpreter.specs.Replied.{WroteReplies}
+use Rattle.cp_interpreter.proofs.Replied.{replied-said}
+use Rattle.cp_program.proofs.FileVersions.{replied-unread}
 use Rattle.cp_program.proofs.commit.play_file.Goals as goal
 
 -- no input
@@ -23,9 +26,9 @@ returns-in-Ok-Ok-clause-ran g c =
     let name = c.args.file.now in
     script-ran g.R.TreeRep.contents g.S.TreeRep.contents c.args.session.now name (known_files g.F.Files c.args.files.now) (known_files g.F.Files c.read_script.new.files) (known_clock g.K.Clock c.args.clock.now) (known_output g.O.Sink c.args.output.now)
     (g.D.Disk.known c.args.disk.now) c.turns.result c.in-Ok-Ok.script c.turns.new.input (known_files g.F.Files c.turns.new.files) (known_clock g.K.Clock c.turns.new.clock) (known_output g.O.Sink c.turns.new.output) (g.D.Disk.known c.turns.new.disk)
-    c.read_script.ensures.read c.turns.ensures.ran c.in-Ok-Ok.ensures.used.same c.turns.ensures.read
+    c.read_script.ensures.read c.turns.ensures.ran c.in-Ok-Ok.ensures.used.same
     (subst (λ r. IfOk r (λ s. length s.left ≤ FILE_MAX + length commit_text)) c.in-Ok-Ok.field-0-is c.in-Ok-Ok.ensures.short)
-    (λ t w. subst (GivesScript (script_of (t name))) c.in-Ok-Ok.field-0-is (c.in-Ok-Ok.ensures.gives t w)) c.turns.ensures.causes.input
+    (subst (GivesScriptOf (known_files g.F.Files c.args.files.now) name) c.in-Ok-Ok.field-0-is c.in-Ok-Ok.ensures.gives) c.turns.ensures.causes.input
 
 pub returns-in-Ok-Ok-clause-causes : goal.returns-in-Ok-Ok-clause-causes
 returns-in-Ok-Ok-clause-causes g c =
@@ -44,7 +47,7 @@ returns-in-Ok-Err-clause-ran g c =
     let P : Reply → Type 0 = λ r. SaidLine (lines r) (is_refusal r) o p c.end_with.result in
     script-refused g.R.TreeRep.contents g.S.TreeRep.contents c.args.session.now name (known_files g.F.Files c.args.files.now) (known_files g.F.Files c.read_script.new.files) (known_clock g.K.Clock c.args.clock.now) o
     (g.D.Disk.known c.args.disk.now) c.end_with.result p c.in-Ok-Err.why c.read_script.ensures.read
-    (λ t w. subst (GivesScript (script_of (t name))) c.in-Ok-Err.field-0-is (c.in-Ok-Err.ensures.gives t w)) (subst P c.refused.ensures c.end_with.ensures.said)
+    (subst (GivesScriptOf (known_files g.F.Files c.args.files.now) name) c.in-Ok-Err.field-0-is c.in-Ok-Err.ensures.gives) (subst P c.refused.ensures c.end_with.ensures.said)
 
 pub returns-in-Ok-Err-clause-causes : goal.returns-in-Ok-Err-clause-causes
 returns-in-Ok-Err-clause-causes g c =
@@ -86,3 +89,16 @@ pub returns-in-Err-clause-disk : goal.returns-in-Err-clause-disk
 returns-in-Err-clause-disk g c =
     let v = g.D.Disk.known c.args.disk.now in
     subst (λ e. DiskCauses v v e) (sym c.stopped.ensures.end) (disk-still v (end_of_stop c.from.result) (early-no-disk c.in-Err.fault c.from.result c.from.ensures))
+
+pub returns-in-Ok-Ok-clause-replied : goal.returns-in-Ok-Ok-clause-replied
+returns-in-Ok-Ok-clause-replied g c =
+    subst (λ z. WroteReplies z (known_output g.O.Sink c.args.output.now) (known_output g.O.Sink c.turns.new.output) c.turns.result) c.requires.fresh c.turns.ensures.replied
+
+pub returns-in-Ok-Err-clause-replied : goal.returns-in-Ok-Err-clause-replied
+returns-in-Ok-Err-clause-replied g c = replied-said c.refused.result (known_output g.O.Sink c.args.output.now) (known_output g.O.Sink c.end_with.new.output) c.end_with.result c.end_with.ensures.said
+
+pub returns-in-Err-clause-replied : goal.returns-in-Err-clause-replied
+returns-in-Err-clause-replied g c =
+    let o = known_output g.O.Sink c.args.output.now in
+    let p = known_output g.O.Sink c.stopped.new.output in
+    subst (λ e. WroteReplies false o p e) (sym c.stopped.ensures.end) (replied-unread o p c.in-Err.fault c.from.result c.from.ensures c.stopped.ensures.wrote)

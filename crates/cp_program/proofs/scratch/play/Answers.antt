@@ -10,12 +10,15 @@ use Rattle.cp_interpreter.specs.Job.{is_refusal}
 use Rattle.cp_interpreter.specs.Outside.{known_input, known_clock, known_output, known_outside}
 use Rattle.cp_interpreter.specs.Story.{SaidLine, HasCauses}
 use Rattle.cp_scratch.specs.Sessions.{sure_disk}
-use Rattle.cp_program.specs.Begun.{Begun}
+use Rattle.cp_program.specs.Begun.{BegunFrom}
 use Rattle.cp_interpreter.specs.Turns.{MayGoOn, has_refused}
 use Rattle.cp_interpreter.specs.declared.end.End.{End}
 use Rattle.cp_interpreter.proofs.Runs.{parts}
 use Rattle.cp_program.proofs.FromStart.{ran-begun, ran-refused, ran-early}
 use Rattle.cp_interpreter.proofs.Whole.{causes-refused, causes-early, early-no-disk}
+use Rattle.cp_interpreter.specs.Replied.{WroteReplies}
+use Rattle.cp_interpreter.proofs.Replied.{replied-said}
+use Rattle.cp_program.proofs.FileVersions.{replied-unread}
 use Rattle.cp_program.proofs.scratch.play.Goals as goal
 
 pub returns-in-Ok-Ok-clause-ran : goal.returns-in-Ok-Ok-clause-ran
@@ -31,9 +34,9 @@ returns-in-Ok-Ok-clause-ran g c =
     let v = sure_disk c.begin.new.disk in
     ran-begun view source_view c.args.kind given (start_reads c.args.start) c.in-Ok-Ok.session i f fb k o
     (known_outside g.F.Files g.K.Clock g.I.Source g.O.Sink c.turns-end.new.files c.turns-end.new.clock c.turns-end.new.input c.turns-end.new.output) v (sure_disk c.turns-end.new.disk) c.turns-end.result
-    c.in-Ok-Ok.ensures.used.same c.in-Ok-Ok.ensures.reads c.turns-end.ensures.read
+    c.in-Ok-Ok.ensures.used.same c.in-Ok-Ok.ensures.reads
     (subst (λ r. IfOk r (λ x. MayGoOn view source_view v x × (has_refused x ≡ false))) c.in-Ok-Ok.field-0-is c.in-Ok-Ok.ensures.goes_on).1
-    (λ t w. subst (Begun view source_view v c.args.kind (given t)) c.in-Ok-Ok.field-0-is (c.in-Ok-Ok.ensures.begun t w)) c.turns-end.ensures.ran
+    (subst (BegunFrom view source_view v c.args.kind f given) c.in-Ok-Ok.field-0-is c.in-Ok-Ok.ensures.begun) c.turns-end.ensures.ran
 
 pub returns-in-Ok-Err-clause-ran : goal.returns-in-Ok-Err-clause-ran
 returns-in-Ok-Err-clause-ran g c =
@@ -46,7 +49,7 @@ returns-in-Ok-Err-clause-ran g c =
     let P : Reply → Type 0 = λ r. SaidLine (lines r) (is_refusal r) o p c.end_with.result in
     ran-refused c.args.kind given (start_reads c.args.start) (known_input g.I.Source c.args.input.now) (known_files g.F.Files c.args.files.now) (known_files g.F.Files c.begin.new.files) (known_clock g.K.Clock c.args.clock.now) o p
     view source_view v c.in-Ok-Err.why c.end_with.result c.in-Ok-Err.ensures.reads
-    (λ t w. subst (Begun view source_view v c.args.kind (given t)) c.in-Ok-Err.field-0-is (c.in-Ok-Err.ensures.begun t w)) (subst P c.refused_start.ensures c.end_with.ensures.said)
+    (subst (BegunFrom view source_view v c.args.kind (known_files g.F.Files c.args.files.now) given) c.in-Ok-Err.field-0-is c.in-Ok-Err.ensures.begun) (subst P c.refused_start.ensures c.end_with.ensures.said)
 
 pub returns-in-Ok-Err-clause-causes : goal.returns-in-Ok-Err-clause-causes
 returns-in-Ok-Err-clause-causes g c =
@@ -83,3 +86,21 @@ returns-in-Err-clause-causes g c =
 
 pub returns-in-Err-clause-disk : goal.returns-in-Err-clause-disk
 returns-in-Err-clause-disk g c = λ h. absurd (early-no-disk c.in-Err.fault c.from.result c.from.ensures (sym c.stopped.ensures.end ∙ h))
+
+pub returns-in-Ok-Ok-clause-replied : goal.returns-in-Ok-Ok-clause-replied
+returns-in-Ok-Ok-clause-replied g c =
+    let view = g.R.TreeRep.contents in
+    let source_view = g.S.TreeRep.contents in
+    let v = sure_disk c.begin.new.disk in
+    subst (λ z. WroteReplies z (known_output g.O.Sink c.args.output.now) (known_output g.O.Sink c.turns-end.new.output) c.turns-end.result)
+    (subst (λ r. IfOk r (λ x. MayGoOn view source_view v x × (has_refused x ≡ false))) c.in-Ok-Ok.field-0-is c.in-Ok-Ok.ensures.goes_on).1 c.turns-end.ensures.replied
+
+pub returns-in-Ok-Err-clause-replied : goal.returns-in-Ok-Err-clause-replied
+returns-in-Ok-Err-clause-replied g c = replied-said c.refused_start.result (known_output g.O.Sink c.args.output.now) (known_output g.O.Sink c.end_with.new.output) c.end_with.result c.end_with.ensures.said
+
+pub returns-in-Err-clause-replied : goal.returns-in-Err-clause-replied
+returns-in-Err-clause-replied g c =
+    let o = known_output g.O.Sink c.args.output.now in
+    let p = known_output g.O.Sink c.stopped.new.output in
+    let P : End → Type 0 = λ e. WroteReplies false o p e in
+    subst P (sym c.stopped.ensures.end) (replied-unread o p c.in-Err.fault c.from.result c.from.ensures c.stopped.ensures.wrote)

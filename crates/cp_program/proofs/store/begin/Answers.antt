@@ -11,8 +11,8 @@ returns-clause-begun g c = λ known.
     let w = g.D.Disk.known c.open_db.new.disk in
     let db = c.in_ok-db.db in
     begun-on view source_view c.args.curator (g.D.Disk.known c.args.disk.now) w db c.new-2.result (c.in_ok-db.ensures.opened known)
-    (λ h moments z k. begun-in view source_view w c.new-2.result c.new.result c.new-2.ensures.cutter c.new-2.ensures.workspace (record { ends = end_now h db; curator = c.args.curator }) (opened_session h moments)
-    (c.new.ensures.stands h moments z)
+    (λ h supply z k. begun-in view source_view w c.new-2.result c.new.result c.new-2.ensures.cutter c.new-2.ensures.workspace (record { ends = end_now h db; curator = c.args.curator }) (opened_session h supply)
+    (c.new.ensures.stands h supply z)
     (λ told. subst (λ y. IsKept true y h w.view) (sym c.new.ensures.same) k))
 
 pub returns-clause-goes_on : goal.returns-clause-goes_on

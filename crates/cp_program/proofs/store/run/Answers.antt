@@ -1,4 +1,4 @@
-use Rattle.std.proofs.Common.{◌≡◌, Err, inr, refl, sym, subst}
+use Rattle.std.proofs.Common.{◌≡◌, Err, inr, false, refl, sym, subst}
 use Rattle.std.specs.Prelude.{IsTrue}
 use Rattle.cp_program.proofs.Answered.{disk-then}
 use Rattle.cp_disk.proofs.Composing.{still}
@@ -10,6 +10,10 @@ use Rattle.cp_interpreter.specs.Story.{RanOn, HasCauses, DiskCauses, result_of}
 use Rattle.cp_interpreter.specs.Turns.{end_of_stop}
 use Rattle.cp_interpreter.specs.declared.end.End.TheVariants as how
 use Rattle.cp_interpreter.proofs.Opened.{same-rests, rests-leave, stop-early, causes-early-end, stop-disk, none-stopped, never-stopped, ran-early-on, ran-on, out-disk}
+use Rattle.cp_interpreter.specs.Replied.{WroteReplies}
+use Rattle.cp_interpreter.proofs.Replied.{replied-memory}
+use Rattle.cp_program.specs.FileVersions.{RunsOnNewest}
+use Rattle.cp_program.proofs.FileVersions.{newest-begun, newest-unbegun, newest-untouched, replied-unopened}
 use Rattle.cp_program.proofs.store.run.Goals as goal
 
 pub returns-in_default-clause-ran : goal.returns-in_default-clause-ran
@@ -98,3 +102,52 @@ returns-clause-disk g c =
     let m = g.D.Disk.known c.begin.new.disk in
     let a = c.in-Err.ensures.cause in
     subst (λ e. DiskCauses v m e) (sym c.stopped.ensures.end) (stop-disk v m c.in-Err.stop c.in-Err.ensures.kinds a)
+
+pub returns-in_default-clause-replied : goal.returns-in_default-clause-replied
+returns-in_default-clause-replied g c =
+    let o = known_output g.O.Sink c.args.output.now in
+    let p = known_output g.O.Sink c.out_of_memory.new.output in
+    subst (λ e. WroteReplies false o p e) (sym c.out_of_memory.ensures.end) (replied-memory false o p c.out_of_memory.ensures.wrote)
+
+pub returns-in_default-clause-file : goal.returns-in_default-clause-file
+returns-in_default-clause-file g c = λ known.
+    let i = known_input g.I.Source c.args.input.now in
+    let f = known_files g.F.Files c.args.files.now in
+    let k = known_clock g.K.Clock c.args.clock.now in
+    let o = known_output g.O.Sink c.args.output.now in
+    let p = known_output g.O.Sink c.out_of_memory.new.output in
+    let v = g.D.Disk.known c.args.disk.now in
+    let b : Outside = record { input = i; files = f; clock = k; output = o } in
+    let a : Outside = record { input = i; files = f; clock = k; output = p } in
+    subst (λ e. RunsOnNewest b a v v e) (sym c.out_of_memory.ensures.end) (newest-untouched i f k o p v how.Memory (inr (inr refl)) c.out_of_memory.ensures.wrote)
+
+pub returns-in-Ok-begin-clause-replied : goal.returns-in-Ok-begin-clause-replied
+returns-in-Ok-begin-clause-replied g c =
+    subst (λ z. WroteReplies z (known_output g.O.Sink c.args.output.now) (known_output g.O.Sink c.turns-end.new.output) c.turns-end.result) c.in-Ok-begin.ensures.goes_on.1 c.turns-end.ensures.replied
+
+pub returns-in-Ok-begin-clause-file : goal.returns-in-Ok-begin-clause-file
+returns-in-Ok-begin-clause-file g c = λ known.
+    let began = still c.in-Ok-begin.ensures.cause.same known in
+    newest-begun _ _ (g.D.Disk.known c.args.disk.now) (g.D.Disk.known c.begin.new.disk) (g.D.Disk.known c.turns-end.new.disk) c.turns-end.result
+    (c.begin.ensures.file known) (c.in-Ok-begin.ensures.newest began) (c.turns-end.ensures.file began)
+
+pub returns-clause-replied : goal.returns-clause-replied
+returns-clause-replied g c =
+    let o = known_output g.O.Sink c.args.output.now in
+    let p = known_output g.O.Sink c.stopped.new.output in
+    subst (λ e. WroteReplies false o p e) (sym c.stopped.ensures.end) (replied-unopened o p c.in-Err.stop c.in-Err.ensures.kinds c.stopped.ensures.wrote)
+
+pub returns-clause-file : goal.returns-clause-file
+returns-clause-file g c = λ known.
+    let i = known_input g.I.Source c.args.input.now in
+    let f = known_files g.F.Files c.args.files.now in
+    let k = known_clock g.K.Clock c.args.clock.now in
+    let o = known_output g.O.Sink c.args.output.now in
+    let p = known_output g.O.Sink c.stopped.new.output in
+    let v = g.D.Disk.known c.args.disk.now in
+    let m = g.D.Disk.known c.begin.new.disk in
+    let b : Outside = record { input = i; files = f; clock = k; output = o } in
+    let a : Outside = record { input = i; files = f; clock = k; output = p } in
+    let early = stop-early o p c.in-Err.stop c.in-Err.ensures.kinds c.stopped.ensures.wrote in
+    subst (λ e. RunsOnNewest b a v m e) (sym c.stopped.ensures.end)
+    (newest-unbegun i f k o p v m (end_of_stop c.in-Err.stop) early.0 early.1 (c.begin.ensures.file known) (c.in-Err.ensures.kept known))

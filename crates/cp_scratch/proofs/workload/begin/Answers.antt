@@ -1,5 +1,6 @@
-use Rattle.std.proofs.Common.{◌∙◌, [], false, true, sym, ap, subst}
+use Rattle.std.proofs.Common.{◌∙◌, false, true, sym, ap, subst}
 use Rattle.cp_db.specs.Databases as database
+use Rattle.cp_reply.specs.Session.{no_supply}
 use Rattle.cp_workspace.specs.Workspaces.{EndsAt}
 use Rattle.cp_scratch.specs.Sessions.{sure_disk}
 use Rattle.cp_scratch.specs.Workloads.{workload_start, workload_terms}
@@ -14,7 +15,7 @@ returns-clause-stands g c =
     let source_view = g.S.TreeRep.contents in
     let h = workload_start c.args.kind in
     let same = sym c.new.ensures.same in
-    let z = c.new.ensures.stands h [] (c.in_ok-db.ensures.stands true) in
+    let z = c.new.ensures.stands h no_supply (c.in_ok-db.ensures.stands true) in
     record {
       db = subst (λ d. database.Stands view source_view true d h) same (c.in_ok-db.ensures.stands true);
       ends = subst (λ d. EndsAt (workload_terms c.args.kind).ends h (database.end_in d)) same c.in_ok-db.ensures.ends;

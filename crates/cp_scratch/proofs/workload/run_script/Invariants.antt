@@ -11,7 +11,7 @@ invariant-loop-script g l = record {
   usable : IsUsable g.R.TreeRep.contents g.S.TreeRep.contents (sure_disk l.disk) l.workspace;
   stamps : HasStamps l.workspace;
   silent : l.clock.left ≡ [];
-  way : (terms : Terms) (s : Session) → Stands g.R.TreeRep.contents g.S.TreeRep.contents terms l.initial.workspace s → s.moments ≡ [] → IsOnTheWay g.R.TreeRep.contents g.S.TreeRep.contents terms s l.initial.script l.script l.workspace;
+  way : (terms : Terms) (s : Session) → Stands g.R.TreeRep.contents g.S.TreeRep.contents terms l.initial.workspace s → s.supply.moments ≡ [] → IsOnTheWay g.R.TreeRep.contents g.S.TreeRep.contents terms s l.initial.script l.script l.workspace;
 }
 
 abbrev pub decreases-loop-script : goal.decreases-loop-script

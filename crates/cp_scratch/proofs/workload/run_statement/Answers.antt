@@ -4,14 +4,14 @@ use Rattle.cp_db.specs.Databases as database
 use Rattle.cp_workspace.specs.Texts.{setting}
 use Rattle.cp_workspace.specs.Workspaces.{Stands}
 use Rattle.cp_workspace.proofs.Standing.{on-ok}
-use Rattle.cp_scratch.specs.Sessions.{no_files, sure_disk}
+use Rattle.cp_scratch.specs.Sessions.{sure_disk}
 use Rattle.cp_scratch.proofs.Running.{on-then}
 use Rattle.cp_scratch.proofs.workload.run_statement.Goals as goal
 
 pub returns-in-Op-clause-turned : goal.returns-in-Op-clause-turned
 returns-in-Op-clause-turned g c =
     on-then c.run_operation.result
-    (λ h terms s z e. subst (λ x. Stands g.R.TreeRep.contents g.S.TreeRep.contents terms c.run_operation.new.workspace (turn_of (setting no_files terms) s (says x)).next) (sym c.in-Op.is) (h terms s z))
+    (λ h terms s z e. subst (λ x. Stands g.R.TreeRep.contents g.S.TreeRep.contents terms c.run_operation.new.workspace (turn_of (setting terms) s (says x)).next) (sym c.in-Op.is) (h terms s z))
     c.run_operation.ensures.turned
 
 pub returns-in-Op-clause-stays : goal.returns-in-Op-clause-stays
@@ -26,5 +26,5 @@ returns-in-Op-clause-stamps g c = on-ok c.run_operation.result (ap database.vers
 pub returns-in-Commit-clause-turned : goal.returns-in-Commit-clause-turned
 returns-in-Commit-clause-turned g c =
     on-then c.run_commit.result
-    (λ h terms s z e. subst (λ x. Stands g.R.TreeRep.contents g.S.TreeRep.contents terms c.run_commit.new.workspace (turn_of (setting no_files terms) s (says x)).next) (sym c.in-Commit.is) (h terms s z e))
+    (λ h terms s z e. subst (λ x. Stands g.R.TreeRep.contents g.S.TreeRep.contents terms c.run_commit.new.workspace (turn_of (setting terms) s (says x)).next) (sym c.in-Commit.is) (h terms s z e))
     c.run_commit.ensures.turned

@@ -3,7 +3,6 @@ use Rattle.cp_db.specs.Databases.{IsDatabase}
 use Rattle.cp_reply.specs.Session.{session_after_statements}
 use Rattle.cp_workspace.specs.Texts.{setting}
 use Rattle.cp_workspace.specs.Workspaces.{Stands}
-use Rattle.cp_scratch.specs.Sessions.{no_files}
 use Rattle.cp_scratch.specs.Workloads.{workload_session, workload_terms}
 use Rattle.cp_scratch.proofs.Running.{comes-to}
 use Rattle.cp_scratch.proofs.workload.run_workload.Goals as goal
@@ -14,7 +13,7 @@ returns-in-Ok g c =
     let source_view = g.S.TreeRep.contents in
     let terms = workload_terms c.args.kind in
     comes-to view source_view c.args.kind c.args.seed c.args.count c.run_script.new.workspace c.into_db-db.result c.summary_in-reply.result c.into_db-db.ensures
-    (subst (λ all. Stands view source_view terms c.run_script.new.workspace (session_after_statements (setting no_files terms) (workload_session c.args.kind) all)) c.new-script.ensures
+    (subst (λ all. Stands view source_view terms c.run_script.new.workspace (session_after_statements (setting terms) (workload_session c.args.kind) all)) c.new-script.ensures
     (c.in-Ok.ensures.ran terms (workload_session c.args.kind) c.in_ok-workspace.ensures.stands refl))
     c.summary_in-reply.ensures.summary
 

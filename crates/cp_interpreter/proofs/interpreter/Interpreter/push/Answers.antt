@@ -1,8 +1,11 @@
 use Rattle.std.proofs.Common.{refl}
 use Rattle.std.proofs.lemmas.Result.{err_from_is_err_and}
 use Rattle.std.specs.Option.{option_to_list}
-use Rattle.cp_interpreter.specs.Outside.{known_world}
+use Rattle.cp_interpreter.specs.Outside.{known_output, known_world}
 use Rattle.cp_interpreter.proofs.Plays.{after_cutter, goes_on-byte, pushed, unpushed}
+use Rattle.cp_db.proofs.FileVersions.{version-none}
+use Rattle.cp_interpreter.specs.Turns.{has_refused}
+use Rattle.cp_interpreter.proofs.Replied.{sent-memory}
 use Rattle.cp_interpreter.proofs.interpreter.Interpreter.push.Goals as goal
 
 pub run-requires : goal.run-requires
@@ -24,3 +27,12 @@ returns-in_err-cut-clause-went g c =
     let old = c.args.self.now in
     let p = err_from_is_err_and c.from_residual.result c.from_residual.ensures.1 in
     rw p.1 (unpushed g.R.TreeRep.contents g.S.TreeRep.contents c.args.byte old (after_cutter old c.push.new.self) (known_world g.F.Files g.K.Clock g.O.Sink c.args.files.now c.args.clock.now c.args.output.now) (g.D.Disk.known c.args.disk.now) p.0 p.2)
+
+pub returns-in_err-cut-clause-replied : goal.returns-in_err-cut-clause-replied
+returns-in_err-cut-clause-replied g c =
+    let flag = has_refused c.args.self.now in
+    let p = err_from_is_err_and c.from_residual.result c.from_residual.ensures.1 in
+    rw p.1 (sent-memory flag flag (known_output g.O.Sink c.args.output.now) p.0 p.2)
+
+pub returns-in_err-cut-clause-file : goal.returns-in_err-cut-clause-file
+returns-in_err-cut-clause-file g c = λ known. version-none (g.D.Disk.known c.args.disk.now).view

@@ -8,11 +8,13 @@ use Rattle.cp_lang.specs.declared.cut.Cut.{Cut}
 use Rattle.cp_reply.specs.declared.reply.Reply.{Reply}
 use Rattle.cp_reply.specs.Session.{turn}
 use Rattle.cp_workspace.specs.Texts.{setting}
-use Rattle.cp_workspace.specs.Files.{IsTable}
 use Rattle.cp_workspace.specs.Workspaces.{HasTurned}
-use Rattle.cp_interpreter.specs.Outside.{known_world}
+use Rattle.cp_interpreter.specs.Outside.{known_output, known_world}
 use Rattle.cp_interpreter.specs.Turns.{Went, cuts_play, after_cuts}
 use Rattle.cp_interpreter.proofs.Plays.{after_reply, went-none, went-silent, went-said, went-stopped_early}
+use Rattle.cp_db.proofs.FileVersions.{version-none}
+use Rattle.cp_interpreter.specs.Turns.{has_refused}
+use Rattle.cp_interpreter.proofs.Replied.{sent-none, sent-fault}
 use Rattle.cp_interpreter.proofs.interpreter.Interpreter.run.Goals as goal
 
 pub returns-in_default-clause-went : goal.returns-in_default-clause-went
@@ -22,7 +24,7 @@ returns-in_default-clause-went g c =
     let k = c.args.self.now in
     let a = known_world g.F.Files g.K.Clock g.O.Sink c.args.files.now c.args.clock.now c.args.output.now in
     let v = g.D.Disk.known c.args.disk.now in
-    let P : Option Cut → Type 0 = λ o. Went view source_view (λ t s. cuts_play t s (option_to_list o)) (λ t s. after_cuts t s (option_to_list o)) k k a a v v (Ok tt) in
+    let P : Option Cut → Type 0 = λ o. Went view source_view (λ s. cuts_play s (option_to_list o)) (λ s. after_cuts s (option_to_list o)) k k a a v v (Ok tt) in
     subst P (sym c.in_default.is) (went-none view source_view k a v)
 
 pub returns-in-Some-2-clause-went : goal.returns-in-Some-2-clause-went
@@ -38,8 +40,8 @@ returns-in-Some-2-clause-went g c =
     let w = g.D.Disk.known n.disk in
     let cut = c.in-Some.cut in
     let r = c.in-Some-2.reply in
-    let T : Option Reply → Type 0 = λ o. HasTurned view source_view (λ (z : Option Reply). z) (λ t terms s. turn (setting t terms) s cut) (λ t. IsTable t b.files a.files) old.workspace mid.workspace v w b.clock.left a.clock.left (Ok o) in
-    let P : Option Cut → Type 0 = λ o. Went view source_view (λ t s. cuts_play t s (option_to_list o)) (λ t s. after_cuts t s (option_to_list o)) old c.say.new.self b a v w c.say.result in
+    let T : Option Reply → Type 0 = λ o. HasTurned view source_view (λ (z : Option Reply). z) (λ terms s. turn (setting terms) s cut) b.files b.clock a.clock old.workspace mid.workspace v w (Ok o) in
+    let P : Option Cut → Type 0 = λ o. Went view source_view (λ s. cuts_play s (option_to_list o)) (λ s. after_cuts s (option_to_list o)) old c.say.new.self b a v w c.say.result in
     subst P (sym c.in-Some.is) (went-said view source_view cut r old mid c.say.new.self b a v w c.say.result (subst T c.in-Some-2.is c.in_ok-reply.ensures.turned) c.in_ok-reply.ensures.spent (λ k. still (sym c.in_ok-reply.ensures.disk.same) k) refl refl
     c.say.ensures.went c.say.ensures.held c.say.ensures.workspace c.say.ensures.refused)
 
@@ -55,8 +57,8 @@ returns-in-None-clause-went g c =
     let v = g.D.Disk.known c.args.disk.now in
     let w = g.D.Disk.known n.disk in
     let cut = c.in-Some.cut in
-    let T : Option Reply → Type 0 = λ o. HasTurned view source_view (λ (z : Option Reply). z) (λ t terms s. turn (setting t terms) s cut) (λ t. IsTable t b.files a.files) old.workspace new.workspace v w b.clock.left a.clock.left (Ok o) in
-    let P : Option Cut → Type 0 = λ o. Went view source_view (λ t s. cuts_play t s (option_to_list o)) (λ t s. after_cuts t s (option_to_list o)) old new b a v w (Ok tt) in
+    let T : Option Reply → Type 0 = λ o. HasTurned view source_view (λ (z : Option Reply). z) (λ terms s. turn (setting terms) s cut) b.files b.clock a.clock old.workspace new.workspace v w (Ok o) in
+    let P : Option Cut → Type 0 = λ o. Went view source_view (λ s. cuts_play s (option_to_list o)) (λ s. after_cuts s (option_to_list o)) old new b a v w (Ok tt) in
     subst P (sym c.in-Some.is) (went-silent view source_view cut old new b a v w (subst T c.in-None.is c.in_ok-reply.ensures.turned) c.in_ok-reply.ensures.spent (λ k. still (sym c.in_ok-reply.ensures.disk.same) k) (Appends-nil b.output.contents) refl refl)
 
 pub returns-in_err-reply-clause-went : goal.returns-in_err-reply-clause-went
@@ -74,6 +76,21 @@ returns-in_err-reply-clause-went g c =
     let met = c.in_err-reply.ensures in
     let e = c.in_err-reply.field-0.0 in
     let p = err_from_is_err_and c.from_residual.result c.from_residual.ensures.1 in
-    let P : Option Cut → Type 0 = λ o. Went view source_view (λ t s. cuts_play t s (option_to_list o)) (λ t s. after_cuts t s (option_to_list o)) old new b a v w (Err p.0) in
+    let P : Option Cut → Type 0 = λ o. Went view source_view (λ s. cuts_play s (option_to_list o)) (λ s. after_cuts s (option_to_list o)) old new b a v w (Err p.0) in
     rw p.1 (subst P (sym c.in-Some.is) (went-stopped_early view source_view cut old new b a v w e p.0 met.turned met.spent (λ k. still (sym met.disk.same) k) p.2
     (λ is z image. subst (λ d. (g.D.Disk.known d).view.images z) (met.same (ap (λ y. Err y) is)) image) (λ is z image. subst (λ d. (g.D.Disk.known d).view.images z) (met.untouched (ap (λ y. Err y) is)) image) (Appends-nil b.output.contents)))
+
+pub returns-in_default-clause-replied : goal.returns-in_default-clause-replied
+returns-in_default-clause-replied g c = sent-none (has_refused c.args.self.now) (known_output g.O.Sink c.args.output.now)
+
+pub returns-in-None-clause-replied : goal.returns-in-None-clause-replied
+returns-in-None-clause-replied g c = sent-none (has_refused c.args.self.now) (known_output g.O.Sink c.args.output.now)
+
+pub returns-in_err-reply-clause-replied : goal.returns-in_err-reply-clause-replied
+returns-in_err-reply-clause-replied g c =
+    let flag = has_refused c.args.self.now in
+    let p = err_from_is_err_and c.from_residual.result c.from_residual.ensures.1 in
+    rw p.1 (sent-fault flag flag (known_output g.O.Sink c.args.output.now) c.in_err-reply.field-0.0 p.0 p.2)
+
+pub returns-in_default-clause-file : goal.returns-in_default-clause-file
+returns-in_default-clause-file g c = λ known. version-none (g.D.Disk.known c.args.disk.now).view

@@ -10,10 +10,10 @@ use Rattle.cp_workspace.proofs.Answering.{workspace-asked, turned-answered, turn
 use Rattle.cp_workspace.proofs.workspace.Workspace.ask.Goals as goal
 
 pub returns-in-Ok-clause-turned : goal.returns-in-Ok-clause-turned
-returns-in-Ok-clause-turned g c = λ files terms s z.
+returns-in-Ok-clause-turned g c = λ terms s z.
     let d = c.args.self.now in
     let m = record d { db = c.query.new.self } in
-    turned-answered g.R.TreeRep.contents g.S.TreeRep.contents files terms d m s z c.query.ensures.file c.query.ensures.same refl refl c.args.query c.in-Ok.answer (c.in-Ok.ensures.answer s.history z.db).answer
+    turned-answered g.R.TreeRep.contents g.S.TreeRep.contents terms d m s z c.query.ensures.file c.query.ensures.same refl refl c.args.query c.in-Ok.answer (c.in-Ok.ensures.answer s.history z.db).answer
 
 pub returns-in-Err-clause-turned : goal.returns-in-Err-clause-turned
 returns-in-Err-clause-turned g c =
@@ -22,10 +22,10 @@ returns-in-Err-clause-turned g c =
     let d = c.args.self.now in
     let m = record d { db = c.query.new.self } in
     IfOk-weaker c.unanswered.result _ _
-    (λ r p. λ files terms s z.
+    (λ r p. λ terms s z.
     let there = c.query.ensures.answer s.history z.db in
-    subst (λ x. Turned view source_view terms (turn_of (setting files terms) s (says (stmt.Ask c.args.query))) m (Some x)) (sym p.1)
-    (turned-unanswered view source_view files terms d m s z c.query.ensures.file c.query.ensures.same refl refl c.args.query (there.place.0 (c.in-Err.is ∙ ap (λ e. Err e) p.0))))
+    subst (λ x. Turned view source_view terms (turn_of (setting terms) s (says (stmt.Ask c.args.query))) m (Some x)) (sym p.1)
+    (turned-unanswered view source_view terms d m s z c.query.ensures.file c.query.ensures.same refl refl c.args.query (there.place.0 (c.in-Err.is ∙ ap (λ e. Err e) p.0))))
     c.unanswered.ensures.place
 
 pub returns-in-Ok-clause-stays : goal.returns-in-Ok-clause-stays

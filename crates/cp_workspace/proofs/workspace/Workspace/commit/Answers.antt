@@ -1,20 +1,24 @@
-use Rattle.std.proofs.Common.{[], ℕ, refl, sym, subst, ◌∙◌}
+use Rattle.std.proofs.Common.{ℕ, refl, sym, ap, subst, ◌∙◌}
+use Rattle.std.specs.declared.option.Option.TheVariants.{Some}
+use Rattle.cp_lang.specs.declared.syntax_tree.Stmt.TheVariants as stmt
+use Rattle.cp_reply.specs.Session.{no_supply, says, turn_of}
 use Rattle.cp_workspace.specs.Texts.{setting}
-use Rattle.cp_workspace.specs.Workspaces.{IsBegun}
+use Rattle.cp_workspace.specs.Workspaces.{IsBegun, HasTurned}
 use Rattle.cp_workspace.specs.Clocks.{known_clock}
 use Rattle.cp_workspace.specs.Spending.{Spends}
-use Rattle.cp_workspace.proofs.Committing.{turns-nothing, turns-unfinished, going-come}
+use Rattle.cp_workspace.proofs.Committing.{turns-nothing, turns-unfinished, going-come, held-again}
 use Rattle.cp_workspace.proofs.Spent.{asks-none, asks-failed, asks-going, spent-as, spent-none}
+use Rattle.cp_workspace.proofs.Supplied.{supplied-none}
 use Rattle.cp_workspace.proofs.workspace.Workspace.commit.Goals as goal
 
 pub returns-in_default-clause-turned : goal.returns-in_default-clause-turned
-returns-in_default-clause-turned g c = record {
-  moments = [];
-  told = refl;
-  turns = λ files known terms s rest z e.
+returns-in_default-clause-turned g c = λ f. record {
+  supply = no_supply;
+  supplied = supplied-none f (known_clock g.K.Clock c.args.clock.now);
+  turns = λ terms s rest z e.
       rw (c.refused_commit.ensures)
       (turns-nothing g.R.TreeRep.contents g.S.TreeRep.contents terms c.args.self.now (record c.args.self.now { transaction = c.take.new.self }) s z refl refl c.take.ensures.after
-      (setting files terms) (g.D.Disk.known c.args.disk.now) rest (sym c.take.ensures.value ∙ c.in_default.is) e);
+      (setting terms) (g.D.Disk.known c.args.disk.now) rest (sym c.take.ensures.value ∙ c.in_default.is) e);
 }
 
 pub commit_going-requires-clause-going : goal.commit_going-requires-clause-going
@@ -24,14 +28,22 @@ commit_going-requires-clause-going g c =
     going-come view source_view c.args.self.now.db c.in-Some.transaction c.in-Going.field-0 (λ k ss t n p h. c.in-Going.ensures k ss t n p h) c.requires.usable.workspace.stands
     (subst (IsBegun view source_view c.args.self.now.db) (sym c.take.ensures.value ∙ c.in-Some.is) c.requires.usable.workspace.begun)
 
+pub returns-in-Going-clause-turned : goal.returns-in-Going-clause-turned
+returns-in-Going-clause-turned g c = λ f.
+    let old = c.args.self.now in
+    let turned = c.commit_going.ensures.turned f in
+    subst (λ d. HasTurned g.R.TreeRep.contents g.S.TreeRep.contents (λ r. Some r) (λ terms s. turn_of (setting terms) s (says stmt.Commit)) f (known_clock g.K.Clock c.args.clock.now) (known_clock g.K.Clock c.commit_going.new.clock) d c.commit_going.new.self
+    (g.D.Disk.known c.args.disk.now) (g.D.Disk.known c.commit_going.new.disk) c.commit_going.result)
+    (held-again old (record old { transaction = c.take.new.self }) c.in-Some.transaction (ap (λ y. record old { transaction = y }) c.take.ensures.after) (sym c.take.ensures.value ∙ c.in-Some.is)) turned
+
 pub returns-in-Failed-clause-turned : goal.returns-in-Failed-clause-turned
-returns-in-Failed-clause-turned g c = record {
-  moments = [];
-  told = refl;
-  turns = λ files known terms s rest z e.
+returns-in-Failed-clause-turned g c = λ f. record {
+  supply = no_supply;
+  supplied = supplied-none f (known_clock g.K.Clock c.args.clock.now);
+  turns = λ terms s rest z e.
       rw (c.refused_commit-in-Failed.ensures)
       (turns-unfinished g.R.TreeRep.contents g.S.TreeRep.contents terms c.args.self.now (record c.args.self.now { transaction = c.take.new.self }) s z refl refl c.take.ensures.after
-      c.in-Some.transaction (sym c.take.ensures.value ∙ c.in-Some.is) (setting files terms) c.in-Failed.number _ (g.D.Disk.known c.args.disk.now) rest (λ k ss t n p h. c.in-Failed.ensures k ss t n p h) e);
+      c.in-Some.transaction (sym c.take.ensures.value ∙ c.in-Some.is) (setting terms) c.in-Failed.number _ (g.D.Disk.known c.args.disk.now) rest (λ k ss t n p h. c.in-Failed.ensures k ss t n p h) e);
 }
 
 pub returns-in_default-clause-spent : goal.returns-in_default-clause-spent

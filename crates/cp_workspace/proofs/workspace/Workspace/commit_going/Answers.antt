@@ -1,8 +1,8 @@
-use Rattle.std.proofs.Common.{true, false, [], ◌∷◌, inr, refl, subst, Ok, Err}
+use Rattle.std.proofs.Common.{inr, refl, subst, Ok, Err}
 use Rattle.std.specs.declared.option.Option.TheVariants.{Some}
 use Rattle.std.proofs.lemmas.Result.{err_from_is_err_and}
 use Rattle.cp_model.specs.declared.stamp.Stamp.{Stamp}
-use Rattle.cp_outside.proofs.Telling.{told-one}
+use Rattle.cp_reply.specs.Session.{no_supply}
 use Rattle.cp_engine.specs.Transactions as txn
 use Rattle.cp_db.specs.Writing.{HasCommitted}
 use Rattle.cp_workspace.specs.declared.fault.WorkspaceFault.TheVariants as failed
@@ -10,24 +10,25 @@ use Rattle.cp_workspace.specs.Clocks.{known_clock}
 use Rattle.cp_workspace.proofs.Spent.{spends-nothing, spends-passed}
 use Rattle.cp_workspace.proofs.Standing.{turns-failed-still, workspace-added, usable-shut}
 use Rattle.cp_workspace.proofs.Committing.{turns-committed, turns-too_large, turns-uncommitted, turns-empty, made-unspent, at-plain, too_large-plain, empty-plain}
+use Rattle.cp_workspace.proofs.Supplied.{supplied-none, one_moment, supplied-moment}
 use Rattle.cp_workspace.proofs.workspace.Workspace.commit_going.Goals as goal
 
 pub returns-in_err-curator-clause-turned : goal.returns-in_err-curator-clause-turned
 returns-in_err-curator-clause-turned g c =
     let p = err_from_is_err_and c.from_residual.result c.from_residual.ensures.1 in
-    record {
-      moments = [];
-      told = refl;
-      turns = λ files known terms s rest z e. turns-failed-still g.R.TreeRep.contents g.S.TreeRep.contents (λ r. Some r) terms _ s rest _ _ _ _ (p.0, p.1);
+    λ f. record {
+      supply = no_supply;
+      supplied = supplied-none f (known_clock g.K.Clock c.args.clock.now);
+      turns = λ terms s rest z e. turns-failed-still g.R.TreeRep.contents g.S.TreeRep.contents (λ r. Some r) terms _ s rest _ _ _ _ (p.0, p.1);
     }
 
 pub returns-in_err-moment-clause-turned : goal.returns-in_err-moment-clause-turned
 returns-in_err-moment-clause-turned g c =
     let p = err_from_is_err_and c.from_residual-in_err-moment.result c.from_residual-in_err-moment.ensures.1 in
-    record {
-      moments = [];
-      told = c.in_err-moment.ensures.told;
-      turns = λ files known terms s rest z e. turns-failed-still g.R.TreeRep.contents g.S.TreeRep.contents (λ r. Some r) terms _ s rest _ _ _ _ (p.0, p.1);
+    λ f. record {
+      supply = no_supply;
+      supplied = record { told = c.in_err-moment.ensures.told; found = tt };
+      turns = λ terms s rest z e. turns-failed-still g.R.TreeRep.contents g.S.TreeRep.contents (λ r. Some r) terms _ s rest _ _ _ _ (p.0, p.1);
     }
 
 pub unreachable-requires : goal.unreachable-requires
@@ -41,11 +42,11 @@ unreachable-requires g c =
 
 pub returns-in-Ok-clause-turned : goal.returns-in-Ok-clause-turned
 returns-in-Ok-clause-turned g c =
-    record {
-      moments = c.in_ok-moment.moment ∷ [];
-      told = told-one _ _ c.in_ok-moment.moment c.in_ok-moment.ensures.told;
-      turns = λ files known terms s rest z e.
-          turns-committed g.R.TreeRep.contents g.S.TreeRep.contents g.D.Disk terms files c.args.self.now (record c.args.self.now { db = c.commit.new.self }) c.args.transaction s z c.args.disk.now c.commit.new.disk (record { curator = c.in_ok-curator.curator; moment = c.in_ok-moment.moment }) rest c.in_ok-curator.ensures.cases e
+    λ f. record {
+      supply = one_moment c.in_ok-moment.moment;
+      supplied = supplied-moment f (known_clock g.K.Clock c.args.clock.now) (known_clock g.K.Clock c.now.new.self) c.in_ok-moment.moment c.in_ok-moment.ensures.told;
+      turns = λ terms s rest z e.
+          turns-committed g.R.TreeRep.contents g.S.TreeRep.contents g.D.Disk terms c.args.self.now (record c.args.self.now { db = c.commit.new.self }) c.args.transaction s z c.args.disk.now c.commit.new.disk (record { curator = c.in_ok-curator.curator; moment = c.in_ok-moment.moment }) rest c.in_ok-curator.ensures.cases e
           c.in-Ok.tids refl c.requires.taken
           (λ p come. c.in-Ok.ensures.committed p come z.db.state z.db.holds)
           (λ known ops come held. c.in-Ok.ensures.kept known ops come s.history z.db held)
@@ -69,12 +70,12 @@ returns-in-Err-TooLarge-clause-turned g c =
     let stamp : Stamp = record { curator = c.in_ok-curator.curator; moment = c.in_ok-moment.moment } in
     let refused = subst (λ e. HasCommitted view source_view c.args.self.now.db h.0 stamp (txn.going c.requires.going.0) c.commit.new.self (Err e)) c.in-Err-TooLarge.field-0-is
     (c.in-Err-TooLarge.ensures.committed (txn.going c.requires.going.0) c.requires.going.1 h.0 h.1) in
-    record {
-      moments = c.in_ok-moment.moment ∷ [];
-      told = told-one _ _ c.in_ok-moment.moment c.in_ok-moment.ensures.told;
-      turns = λ files known terms s rest z e.
+    λ f. record {
+      supply = one_moment c.in_ok-moment.moment;
+      supplied = supplied-moment f (known_clock g.K.Clock c.args.clock.now) (known_clock g.K.Clock c.now.new.self) c.in_ok-moment.moment c.in_ok-moment.ensures.told;
+      turns = λ terms s rest z e.
           rw (c.refused_commit.ensures)
-          (turns-too_large view source_view g.D.Disk terms files c.args.self.now (record c.args.self.now { db = c.commit.new.self }) c.args.transaction s z c.args.disk.now c.commit.new.disk stamp rest c.in_ok-curator.ensures.cases e
+          (turns-too_large view source_view g.D.Disk terms c.args.self.now (record c.args.self.now { db = c.commit.new.self }) c.args.transaction s z c.args.disk.now c.commit.new.disk stamp rest c.in_ok-curator.ensures.cases e
           (at-plain c.in-Err-TooLarge.field-0 (too_large-plain c.in-Err-TooLarge.field-0 c.in-Err-TooLarge.field-0-is) c.in-Err-TooLarge.ensures.unchanged) refused.2 refl c.requires.taken
           (λ p come. subst (λ x. HasCommitted view source_view c.args.self.now.db z.db.state stamp p c.commit.new.self (Err x)) c.in-Err-TooLarge.field-0-is (c.in-Err-TooLarge.ensures.committed p come z.db.state z.db.holds)));
     }
@@ -93,11 +94,11 @@ returns-in-Err-TooLarge-clause-stays g c =
 pub returns-in-Err-Empty-clause-turned : goal.returns-in-Err-Empty-clause-turned
 returns-in-Err-Empty-clause-turned g c =
     let stamp : Stamp = record { curator = c.in_ok-curator.curator; moment = c.in_ok-moment.moment } in
-    record {
-      moments = c.in_ok-moment.moment ∷ [];
-      told = told-one _ _ c.in_ok-moment.moment c.in_ok-moment.ensures.told;
-      turns = λ files known terms s rest z e.
-          turns-empty g.R.TreeRep.contents g.S.TreeRep.contents g.D.Disk terms files c.args.self.now (record c.args.self.now { db = c.commit.new.self }) c.args.transaction s z c.args.disk.now c.commit.new.disk stamp rest c.in_ok-curator.ensures.cases e (Ok c.refused_commit-in-Err-Empty.result)
+    λ f. record {
+      supply = one_moment c.in_ok-moment.moment;
+      supplied = supplied-moment f (known_clock g.K.Clock c.args.clock.now) (known_clock g.K.Clock c.now.new.self) c.in_ok-moment.moment c.in_ok-moment.ensures.told;
+      turns = λ terms s rest z e.
+          turns-empty g.R.TreeRep.contents g.S.TreeRep.contents g.D.Disk terms c.args.self.now (record c.args.self.now { db = c.commit.new.self }) c.args.transaction s z c.args.disk.now c.commit.new.disk stamp rest c.in_ok-curator.ensures.cases e (Ok c.refused_commit-in-Err-Empty.result)
           (λ p come. subst (λ x. HasCommitted g.R.TreeRep.contents g.S.TreeRep.contents c.args.self.now.db z.db.state stamp p c.commit.new.self (Err x)) c.in-Err-Empty.field-0-is (c.in-Err-Empty.ensures.committed p come z.db.state z.db.holds));
     }
 
@@ -114,21 +115,21 @@ returns-in-Err-Empty-clause-stays g c =
 
 pub returns-in-Err-Disk-clause-turned : goal.returns-in-Err-Disk-clause-turned
 returns-in-Err-Disk-clause-turned g c =
-    record {
-      moments = c.in_ok-moment.moment ∷ [];
-      told = told-one _ _ c.in_ok-moment.moment c.in_ok-moment.ensures.told;
-      turns = λ files known terms s rest z e.
-          turns-uncommitted g.R.TreeRep.contents g.S.TreeRep.contents g.D.Disk terms files c.args.self.now (record c.args.self.now { db = c.commit.new.self }) c.args.transaction s z c.args.disk.now c.commit.new.disk (record { curator = c.in_ok-curator.curator; moment = c.in_ok-moment.moment }) rest c.in_ok-curator.ensures.cases e
+    λ f. record {
+      supply = one_moment c.in_ok-moment.moment;
+      supplied = supplied-moment f (known_clock g.K.Clock c.args.clock.now) (known_clock g.K.Clock c.now.new.self) c.in_ok-moment.moment c.in_ok-moment.ensures.told;
+      turns = λ terms s rest z e.
+          turns-uncommitted g.R.TreeRep.contents g.S.TreeRep.contents g.D.Disk terms c.args.self.now (record c.args.self.now { db = c.commit.new.self }) c.args.transaction s z c.args.disk.now c.commit.new.disk (record { curator = c.in_ok-curator.curator; moment = c.in_ok-moment.moment }) rest c.in_ok-curator.ensures.cases e
           (Err failed.Disk) (failed.Disk, refl) (λ known p come held. c.commit.ensures.crash known p come s.history z.db held) (λ ops come none. c.commit.ensures.room ops come z.db.state z.db.holds none);
     }
 
 pub returns-in-Err-Memory-clause-turned : goal.returns-in-Err-Memory-clause-turned
 returns-in-Err-Memory-clause-turned g c =
-    record {
-      moments = c.in_ok-moment.moment ∷ [];
-      told = told-one _ _ c.in_ok-moment.moment c.in_ok-moment.ensures.told;
-      turns = λ files known terms s rest z e.
-          turns-uncommitted g.R.TreeRep.contents g.S.TreeRep.contents g.D.Disk terms files c.args.self.now (record c.args.self.now { db = c.commit.new.self }) c.args.transaction s z c.args.disk.now c.commit.new.disk (record { curator = c.in_ok-curator.curator; moment = c.in_ok-moment.moment }) rest c.in_ok-curator.ensures.cases e
+    λ f. record {
+      supply = one_moment c.in_ok-moment.moment;
+      supplied = supplied-moment f (known_clock g.K.Clock c.args.clock.now) (known_clock g.K.Clock c.now.new.self) c.in_ok-moment.moment c.in_ok-moment.ensures.told;
+      turns = λ terms s rest z e.
+          turns-uncommitted g.R.TreeRep.contents g.S.TreeRep.contents g.D.Disk terms c.args.self.now (record c.args.self.now { db = c.commit.new.self }) c.args.transaction s z c.args.disk.now c.commit.new.disk (record { curator = c.in_ok-curator.curator; moment = c.in_ok-moment.moment }) rest c.in_ok-curator.ensures.cases e
           (Err failed.Memory) (failed.Memory, refl) (λ known p come held. c.commit.ensures.crash known p come s.history z.db held) (λ ops come none. c.commit.ensures.room ops come z.db.state z.db.holds none);
     }
 

@@ -6,7 +6,7 @@ use Rattle.cp_workspace.proofs.Operating.{AppliesTo, sources-same, applies-to, b
 use Rattle.cp_workspace.proofs.workspace.Workspace.operate.Goals as goal
 
 pub returns-in-Ok-applied-clause-turned : goal.returns-in-Ok-applied-clause-turned
-returns-in-Ok-applied-clause-turned g c = λ files terms s z.
+returns-in-Ok-applied-clause-turned g c = λ terms s z.
     let view = g.R.TreeRep.contents in
     let source_view = g.S.TreeRep.contents in
     let d = c.args.self.now in
@@ -18,11 +18,11 @@ returns-in-Ok-applied-clause-turned g c = λ files terms s z.
     let sources = sources-same view source_view d.db c.take_opened.new.self.db same loaded c.sources.ensures in
     let how = progress_of s.opened in
     let come = c.in-Ok.ensures.opened terms s z in
-    turned-accepted view source_view terms d _ s z x same (ap (λ u. u.curator) t) refl files y c.args.op come
+    turned-accepted view source_view terms d _ s z x same (ap (λ u. u.curator) t) refl y c.args.op come
     (subst (AppliesTo view source_view d.db x how c.args.op) c.in-Ok-applied.is (applies-to view source_view d.db x y c.args.op c.apply-applied.result loaded sources c.apply-applied.ensures how come))
 
 pub returns-in-Err-Failed-clause-turned : goal.returns-in-Err-Failed-clause-turned
-returns-in-Err-Failed-clause-turned g c = λ files terms s z.
+returns-in-Err-Failed-clause-turned g c = λ terms s z.
     let view = g.R.TreeRep.contents in
     let source_view = g.S.TreeRep.contents in
     let d = c.args.self.now in
@@ -35,12 +35,12 @@ returns-in-Err-Failed-clause-turned g c = λ files terms s z.
     let how = progress_of s.opened in
     let come = c.in-Ok.ensures.opened terms s z in
     rw (c.refused.ensures, c.in-Err-Failed.number-is)
-    (turned-failed_before view source_view terms d _ s z x same (ap (λ u. u.curator) t) refl files y c.args.op c.in-Err-Failed.number
+    (turned-failed_before view source_view terms d _ s z x same (ap (λ u. u.curator) t) refl y c.args.op c.in-Err-Failed.number
     (subst (λ e. AppliesTo view source_view d.db x how c.args.op (Err e)) (rw (c.in-Err-Failed.is) at c.in-Err-Failed.field-0-is)
     (subst (AppliesTo view source_view d.db x how c.args.op) c.in-Err-Failed.is (applies-to view source_view d.db x y c.args.op c.apply-applied.result loaded sources c.apply-applied.ensures how come))))
 
 pub returns-in-Err-Refused-clause-turned : goal.returns-in-Err-Refused-clause-turned
-returns-in-Err-Refused-clause-turned g c = λ files terms s z.
+returns-in-Err-Refused-clause-turned g c = λ terms s z.
     let view = g.R.TreeRep.contents in
     let source_view = g.S.TreeRep.contents in
     let d = c.args.self.now in
@@ -53,7 +53,7 @@ returns-in-Err-Refused-clause-turned g c = λ files terms s z.
     let how = progress_of s.opened in
     let come = c.in-Ok.ensures.opened terms s z in
     rw (c.refused-in-Err-Refused.ensures, c.why_of.ensures, c.in-Err-Refused.refusal-is)
-    (turned-refused view source_view terms d _ s z x same (ap (λ u. u.curator) t) refl files y c.args.op c.in-Err-Refused.refusal come
+    (turned-refused view source_view terms d _ s z x same (ap (λ u. u.curator) t) refl y c.args.op c.in-Err-Refused.refusal come
     (subst (λ e. AppliesTo view source_view d.db x how c.args.op (Err e)) (rw (c.in-Err-Refused.is) at c.in-Err-Refused.field-0-is)
     (subst (AppliesTo view source_view d.db x how c.args.op) c.in-Err-Refused.is (applies-to view source_view d.db x y c.args.op c.apply-applied.result loaded sources c.apply-applied.ensures how come))))
 

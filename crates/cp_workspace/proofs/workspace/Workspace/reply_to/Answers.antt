@@ -6,7 +6,7 @@ use Rattle.cp_reply.specs.declared.reply.Why.TheVariants as why
 use Rattle.cp_reply.specs.Session.{Session, turn, turn_of, not_read}
 use Rattle.cp_workspace.specs.Texts.{Terms, setting, reading}
 use Rattle.cp_workspace.specs.Loads.{text_reads, cut_reads}
-use Rattle.cp_workspace.specs.Files.{known_files, IsTable}
+use Rattle.cp_workspace.specs.Files.{known_files}
 use Rattle.cp_workspace.specs.Clocks.{known_clock}
 use Rattle.cp_workspace.specs.Commits.{text_asks, cut_asks}
 use Rattle.cp_workspace.specs.Spending.{HasSpent, Spends}
@@ -21,13 +21,12 @@ returns-in-Text-clause-turned g c =
     let view = g.R.TreeRep.contents in
     let source_view = g.S.TreeRep.contents in
     let before = known_files g.F.Files c.args.files.now in
-    let after = known_files g.F.Files c.run_text.new.files in
     let v = g.D.Disk.known c.args.disk.now in
     let w = g.D.Disk.known c.run_text.new.disk in
-    let clock = g.K.Clock.left c.args.clock.now in
-    let told = g.K.Clock.left c.run_text.new.clock in
-    let P : Cut → Type 0 = λ x. HasTurned view source_view (λ r. r) (λ t terms s. turn (setting t terms) s x) (λ t. IsTable t before after) c.args.self.now c.run_text.new.self v w clock told c.run_text.result in
-    let Q : List ℕ → Type 0 = λ x. HasTurned view source_view (λ r. r) (λ t terms s. turn_of (setting t terms) s (reading x)) (λ t. IsTable t before after) c.args.self.now c.run_text.new.self v w clock told c.run_text.result in
+    let clock = known_clock g.K.Clock c.args.clock.now in
+    let ka = known_clock g.K.Clock c.run_text.new.clock in
+    let P : Cut → Type 0 = λ x. HasTurned view source_view (λ r. r) (λ terms s. turn (setting terms) s x) before clock ka c.args.self.now c.run_text.new.self v w c.run_text.result in
+    let Q : List ℕ → Type 0 = λ x. HasTurned view source_view (λ r. r) (λ terms s. turn_of (setting terms) s (reading x)) before clock ka c.args.self.now c.run_text.new.self v w c.run_text.result in
     subst P (sym c.in-Text.is) (subst Q c.as_slice.ensures c.run_text.ensures.turned)
 
 pub returns-in-Text-clause-spent : goal.returns-in-Text-clause-spent
@@ -73,11 +72,11 @@ returns-in_ok-refuse-in-TooLong-clause-turned g c =
     let new = c.refuse.new.self in
     let b = known_files g.F.Files c.args.files.now in
     let v = g.D.Disk.known c.args.disk.now in
-    let clock = g.K.Clock.left c.args.clock.now in
+    let clock = known_clock g.K.Clock c.args.clock.now in
     let r = Some c.in_ok-refuse-in-TooLong.field-0 in
-    let P : Cut → Type 0 = λ x. HasTurned view source_view (λ r. r) (λ t terms s. turn (setting t terms) s x) (λ t. IsTable t b b) old new v v clock clock (Ok r) in
+    let P : Cut → Type 0 = λ x. HasTurned view source_view (λ r. r) (λ terms s. turn (setting terms) s x) b clock clock old new v v (Ok r) in
     subst P (sym c.in-TooLong.is)
-    (turned-quiet view source_view (λ t terms s. not_read s why.StatementTooLong) old new v (λ r. r) (λ t. IsTable t b b) clock (Ok r) (file-same old.db new.db c.in_ok-refuse-in-TooLong.ensures.same) (λ t terms s. quiet-unread s why.StatementTooLong) (λ t. c.in_ok-refuse-in-TooLong.ensures.turned))
+    (turned-quiet view source_view (λ terms s. not_read s why.StatementTooLong) old new v (λ r. r) b clock (Ok r) (file-same old.db new.db c.in_ok-refuse-in-TooLong.ensures.same) (λ terms s. quiet-unread s why.StatementTooLong) c.in_ok-refuse-in-TooLong.ensures.turned)
 
 pub returns-in_ok-refuse-in-TooLong-clause-stays : goal.returns-in_ok-refuse-in-TooLong-clause-stays
 returns-in_ok-refuse-in-TooLong-clause-stays g c =
@@ -88,7 +87,7 @@ returns-in_err-refuse-in-TooLong-clause-turned g c =
     let b = known_files g.F.Files c.args.files.now in
     let r = c.from_residual.result in
     let p = err_from_is_err_and r c.from_residual.ensures.1 in
-    turned-failed g.R.TreeRep.contents g.S.TreeRep.contents (λ t terms s. turn (setting t terms) s c.args.cut) c.args.self.now c.refuse.new.self (g.D.Disk.known c.args.disk.now) (λ r. r) (λ t. IsTable t b b) (g.K.Clock.left c.args.clock.now) r p.0 p.1
+    turned-failed g.R.TreeRep.contents g.S.TreeRep.contents (λ terms s. turn (setting terms) s c.args.cut) c.args.self.now c.refuse.new.self (g.D.Disk.known c.args.disk.now) (λ r. r) b (known_clock g.K.Clock c.args.clock.now) r p.0 p.1
 
 pub returns-in_ok-refuse-in-Unfinished-clause-turned : goal.returns-in_ok-refuse-in-Unfinished-clause-turned
 unfolding turn
@@ -99,11 +98,11 @@ returns-in_ok-refuse-in-Unfinished-clause-turned g c =
     let new = c.refuse-in-Unfinished.new.self in
     let b = known_files g.F.Files c.args.files.now in
     let v = g.D.Disk.known c.args.disk.now in
-    let clock = g.K.Clock.left c.args.clock.now in
+    let clock = known_clock g.K.Clock c.args.clock.now in
     let r = Some c.in_ok-refuse-in-Unfinished.field-0 in
-    let P : Cut → Type 0 = λ x. HasTurned view source_view (λ r. r) (λ t terms s. turn (setting t terms) s x) (λ t. IsTable t b b) old new v v clock clock (Ok r) in
+    let P : Cut → Type 0 = λ x. HasTurned view source_view (λ r. r) (λ terms s. turn (setting terms) s x) b clock clock old new v v (Ok r) in
     subst P (sym c.in-Unfinished.is)
-    (turned-quiet view source_view (λ t terms s. not_read s (why.Syntax (length c.in-Unfinished.text))) old new v (λ r. r) (λ t. IsTable t b b) clock (Ok r) (file-same old.db new.db c.in_ok-refuse-in-Unfinished.ensures.same) (λ t terms s. quiet-unread s (why.Syntax (length c.in-Unfinished.text))) (λ t. subst (λ (x : List ℕ). (terms : Terms) (s : Session) → Stands view source_view terms old s → Turned view source_view terms (not_read s (why.Syntax (length x))) new r) c.as_slice-in-Unfinished.ensures c.in_ok-refuse-in-Unfinished.ensures.turned))
+    (turned-quiet view source_view (λ terms s. not_read s (why.Syntax (length c.in-Unfinished.text))) old new v (λ r. r) b clock (Ok r) (file-same old.db new.db c.in_ok-refuse-in-Unfinished.ensures.same) (λ terms s. quiet-unread s (why.Syntax (length c.in-Unfinished.text))) (subst (λ (x : List ℕ). (terms : Terms) (s : Session) → Stands view source_view terms old s → Turned view source_view terms (not_read s (why.Syntax (length x))) new r) c.as_slice-in-Unfinished.ensures c.in_ok-refuse-in-Unfinished.ensures.turned))
 
 pub returns-in_ok-refuse-in-Unfinished-clause-stays : goal.returns-in_ok-refuse-in-Unfinished-clause-stays
 returns-in_ok-refuse-in-Unfinished-clause-stays g c =
@@ -114,4 +113,4 @@ returns-in_err-refuse-in-Unfinished-clause-turned g c =
     let b = known_files g.F.Files c.args.files.now in
     let r = c.from_residual-in_err-refuse-in-Unfinished.result in
     let p = err_from_is_err_and r c.from_residual-in_err-refuse-in-Unfinished.ensures.1 in
-    turned-failed g.R.TreeRep.contents g.S.TreeRep.contents (λ t terms s. turn (setting t terms) s c.args.cut) c.args.self.now c.refuse-in-Unfinished.new.self (g.D.Disk.known c.args.disk.now) (λ r. r) (λ t. IsTable t b b) (g.K.Clock.left c.args.clock.now) r p.0 p.1
+    turned-failed g.R.TreeRep.contents g.S.TreeRep.contents (λ terms s. turn (setting terms) s c.args.cut) c.args.self.now c.refuse-in-Unfinished.new.self (g.D.Disk.known c.args.disk.now) (λ r. r) b (known_clock g.K.Clock c.args.clock.now) r p.0 p.1

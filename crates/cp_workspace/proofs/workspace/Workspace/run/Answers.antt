@@ -9,12 +9,12 @@ use Rattle.cp_reply.specs.Session.{says, turn_of}
 use Rattle.cp_workspace.specs.Texts.{setting}
 use Rattle.cp_workspace.specs.Clocks.{known_clock}
 use Rattle.cp_workspace.specs.Commits.{statement_asks}
-use Rattle.cp_workspace.specs.Files.{known_files, IsTable}
+use Rattle.cp_workspace.specs.Files.{known_files}
 use Rattle.cp_workspace.specs.Loads.{statement_reads}
 use Rattle.cp_workspace.specs.Spending.{HasSpent, Spends}
 use Rattle.cp_workspace.specs.Workspaces.{HasTurned}
 use Rattle.cp_workspace.proofs.Spent.{spent-none, spends-nothing, spends-passed}
-use Rattle.cp_workspace.proofs.Turning.{file-same, usable-kept, quiet-op, quiet-abort, quiet-ask, quiet-show, ran-quiet, turned-failed, turned-untimed, turned-given, turned-passed}
+use Rattle.cp_workspace.proofs.Turning.{file-same, usable-kept, quiet-op, quiet-abort, quiet-ask, quiet-show, ran-quiet, turned-failed, turned-given, turned-passed}
 use Rattle.cp_workspace.proofs.workspace.Workspace.run.Goals as goal
 
 pub returns-in_ok-operate-in-Op-clause-turned : goal.returns-in_ok-operate-in-Op-clause-turned
@@ -24,8 +24,8 @@ returns-in_ok-operate-in-Op-clause-turned g c =
     let old = c.args.self.now in
     let v = g.D.Disk.known c.args.disk.now in
     let b = known_files g.F.Files c.args.files.now in
-    let clock = g.K.Clock.left c.args.clock.now in
-    ran-quiet view source_view old c.operate.new.self v (λ t. IsTable t b b) clock (Ok c.in_ok-operate-in-Op.field-0) c.args.statement (stmt.Op c.in-Op.op) c.in-Op.is (file-same old.db c.operate.new.self.db c.in_ok-operate-in-Op.ensures.same)
+    let clock = known_clock g.K.Clock c.args.clock.now in
+    ran-quiet view source_view old c.operate.new.self v b clock (Ok c.in_ok-operate-in-Op.field-0) c.args.statement (stmt.Op c.in-Op.op) c.in-Op.is (file-same old.db c.operate.new.self.db c.in_ok-operate-in-Op.ensures.same)
     (λ x s. quiet-op s x (replay s.history) c.in-Op.op) c.in_ok-operate-in-Op.ensures.turned
 
 pub returns-in_ok-operate-in-Op-clause-stays : goal.returns-in_ok-operate-in-Op-clause-stays
@@ -35,7 +35,7 @@ returns-in_ok-operate-in-Op-clause-stays g c =
     let old = c.args.self.now in
     let v = g.D.Disk.known c.args.disk.now in
     let b = known_files g.F.Files c.args.files.now in
-    let clock = g.K.Clock.left c.args.clock.now in
+    let clock = known_clock g.K.Clock c.args.clock.now in
     usable-kept view source_view old c.operate.new.self v (file-same old.db c.operate.new.self.db c.in_ok-operate-in-Op.ensures.same) c.requires.usable c.in_ok-operate-in-Op.ensures.stays
 
 pub returns-in_err-operate-in-Op-clause-turned : goal.returns-in_err-operate-in-Op-clause-turned
@@ -45,9 +45,9 @@ returns-in_err-operate-in-Op-clause-turned g c =
     let old = c.args.self.now in
     let v = g.D.Disk.known c.args.disk.now in
     let b = known_files g.F.Files c.args.files.now in
-    let clock = g.K.Clock.left c.args.clock.now in
+    let clock = known_clock g.K.Clock c.args.clock.now in
     let p = err_from_is_err_and c.from_residual.result c.from_residual.ensures.1 in
-    turned-failed view source_view (λ t terms s. turn_of (setting t terms) s (says c.args.statement)) old c.operate.new.self v (λ r. r) (λ t. IsTable t b b) clock c.from_residual.result p.0 p.1
+    turned-failed view source_view (λ terms s. turn_of (setting terms) s (says c.args.statement)) old c.operate.new.self v (λ r. r) b clock c.from_residual.result p.0 p.1
 
 pub returns-in_ok-ask-in-Ask-clause-turned : goal.returns-in_ok-ask-in-Ask-clause-turned
 returns-in_ok-ask-in-Ask-clause-turned g c =
@@ -56,8 +56,8 @@ returns-in_ok-ask-in-Ask-clause-turned g c =
     let old = c.args.self.now in
     let v = g.D.Disk.known c.args.disk.now in
     let b = known_files g.F.Files c.args.files.now in
-    let clock = g.K.Clock.left c.args.clock.now in
-    ran-quiet view source_view old c.ask.new.self v (λ t. IsTable t b b) clock (Ok (Some c.in_ok-ask-in-Ask.field-0)) c.args.statement (stmt.Ask c.in-Ask.query) c.in-Ask.is (c.in_ok-ask-in-Ask.ensures.file)
+    let clock = known_clock g.K.Clock c.args.clock.now in
+    ran-quiet view source_view old c.ask.new.self v b clock (Ok (Some c.in_ok-ask-in-Ask.field-0)) c.args.statement (stmt.Ask c.in-Ask.query) c.in-Ask.is (c.in_ok-ask-in-Ask.ensures.file)
     (λ x s. quiet-ask s x (replay s.history) c.in-Ask.query) c.in_ok-ask-in-Ask.ensures.turned
 
 pub returns-in_ok-ask-in-Ask-clause-stays : goal.returns-in_ok-ask-in-Ask-clause-stays
@@ -67,7 +67,7 @@ returns-in_ok-ask-in-Ask-clause-stays g c =
     let old = c.args.self.now in
     let v = g.D.Disk.known c.args.disk.now in
     let b = known_files g.F.Files c.args.files.now in
-    let clock = g.K.Clock.left c.args.clock.now in
+    let clock = known_clock g.K.Clock c.args.clock.now in
     usable-kept view source_view old c.ask.new.self v (c.in_ok-ask-in-Ask.ensures.file) c.requires.usable c.in_ok-ask-in-Ask.ensures.stays
 
 pub returns-in_err-ask-in-Ask-clause-turned : goal.returns-in_err-ask-in-Ask-clause-turned
@@ -77,9 +77,9 @@ returns-in_err-ask-in-Ask-clause-turned g c =
     let old = c.args.self.now in
     let v = g.D.Disk.known c.args.disk.now in
     let b = known_files g.F.Files c.args.files.now in
-    let clock = g.K.Clock.left c.args.clock.now in
+    let clock = known_clock g.K.Clock c.args.clock.now in
     let p = err_from_is_err_and c.from_residual-in_err-ask-in-Ask.result c.from_residual-in_err-ask-in-Ask.ensures.1 in
-    turned-failed view source_view (λ t terms s. turn_of (setting t terms) s (says c.args.statement)) old c.ask.new.self v (λ r. r) (λ t. IsTable t b b) clock c.from_residual-in_err-ask-in-Ask.result p.0 p.1
+    turned-failed view source_view (λ terms s. turn_of (setting terms) s (says c.args.statement)) old c.ask.new.self v (λ r. r) b clock c.from_residual-in_err-ask-in-Ask.result p.0 p.1
 
 pub returns-in_ok-show-in-Show-clause-turned : goal.returns-in_ok-show-in-Show-clause-turned
 returns-in_ok-show-in-Show-clause-turned g c =
@@ -88,8 +88,8 @@ returns-in_ok-show-in-Show-clause-turned g c =
     let old = c.args.self.now in
     let v = g.D.Disk.known c.args.disk.now in
     let b = known_files g.F.Files c.args.files.now in
-    let clock = g.K.Clock.left c.args.clock.now in
-    ran-quiet view source_view old c.args.self.now v (λ t. IsTable t b b) clock (Ok (Some c.in_ok-show-in-Show.field-0)) c.args.statement (stmt.Show c.in-Show.place) c.in-Show.is (file-same old.db old.db refl)
+    let clock = known_clock g.K.Clock c.args.clock.now in
+    ran-quiet view source_view old c.args.self.now v b clock (Ok (Some c.in_ok-show-in-Show.field-0)) c.args.statement (stmt.Show c.in-Show.place) c.in-Show.is (file-same old.db old.db refl)
     (λ x s. quiet-show s x (replay s.history) c.in-Show.place) c.in_ok-show-in-Show.ensures
 
 pub returns-in_err-show-in-Show-clause-turned : goal.returns-in_err-show-in-Show-clause-turned
@@ -99,9 +99,9 @@ returns-in_err-show-in-Show-clause-turned g c =
     let old = c.args.self.now in
     let v = g.D.Disk.known c.args.disk.now in
     let b = known_files g.F.Files c.args.files.now in
-    let clock = g.K.Clock.left c.args.clock.now in
+    let clock = known_clock g.K.Clock c.args.clock.now in
     let p = err_from_is_err_and c.from_residual-in_err-show-in-Show.result c.from_residual-in_err-show-in-Show.ensures.1 in
-    turned-failed view source_view (λ t terms s. turn_of (setting t terms) s (says c.args.statement)) old c.args.self.now v (λ r. r) (λ t. IsTable t b b) clock c.from_residual-in_err-show-in-Show.result p.0 p.1
+    turned-failed view source_view (λ terms s. turn_of (setting terms) s (says c.args.statement)) old c.args.self.now v (λ r. r) b clock c.from_residual-in_err-show-in-Show.result p.0 p.1
 
 pub returns-in-Abort-clause-turned : goal.returns-in-Abort-clause-turned
 returns-in-Abort-clause-turned g c =
@@ -110,8 +110,8 @@ returns-in-Abort-clause-turned g c =
     let old = c.args.self.now in
     let v = g.D.Disk.known c.args.disk.now in
     let b = known_files g.F.Files c.args.files.now in
-    let clock = g.K.Clock.left c.args.clock.now in
-    ran-quiet view source_view old c.abort.new.self v (λ t. IsTable t b b) clock (Ok (Some c.abort.result)) c.args.statement stmt.Abort c.in-Abort.is (file-same old.db c.abort.new.self.db c.abort.ensures.same)
+    let clock = known_clock g.K.Clock c.args.clock.now in
+    ran-quiet view source_view old c.abort.new.self v b clock (Ok (Some c.abort.result)) c.args.statement stmt.Abort c.in-Abort.is (file-same old.db c.abort.new.self.db c.abort.ensures.same)
     (λ x s. quiet-abort s x (replay s.history)) c.abort.ensures.turned
 
 pub returns-in-Abort-clause-stays : goal.returns-in-Abort-clause-stays
@@ -121,7 +121,7 @@ returns-in-Abort-clause-stays g c =
     let old = c.args.self.now in
     let v = g.D.Disk.known c.args.disk.now in
     let b = known_files g.F.Files c.args.files.now in
-    let clock = g.K.Clock.left c.args.clock.now in
+    let clock = known_clock g.K.Clock c.args.clock.now in
     usable-kept view source_view old c.abort.new.self v (file-same old.db c.abort.new.self.db c.abort.ensures.same) c.requires.usable c.abort.ensures.stays
 
 pub returns-in_ok-commit-in-Commit-clause-turned : goal.returns-in_ok-commit-in-Commit-clause-turned
@@ -130,13 +130,13 @@ returns-in_ok-commit-in-Commit-clause-turned g c =
     let source_view = g.S.TreeRep.contents in
     let old = c.args.self.now in
     let v = g.D.Disk.known c.args.disk.now in
-    let b = known_files g.F.Files c.args.files.now in
-    let clock = g.K.Clock.left c.args.clock.now in
     let w = g.D.Disk.known c.commit.new.disk in
-    let after = g.K.Clock.left c.commit.new.clock in
+    let b = known_files g.F.Files c.args.files.now in
+    let before = known_clock g.K.Clock c.args.clock.now in
+    let after = known_clock g.K.Clock c.commit.new.clock in
     let r = c.in_ok-commit-in-Commit.field-0 in
-    subst (λ x. HasTurned view source_view (λ r. r) (λ t terms s. turn_of (setting t terms) s (says x)) (λ t. IsTable t b b) old c.commit.new.self v w clock after (Ok (Some r))) (sym c.in-Commit.is)
-    (turned-given view source_view (λ r. Some r) (λ t terms s. turn_of (setting t terms) s (says stmt.Commit)) _ old c.commit.new.self v w (Ok r) (λ r. r) (λ t. IsTable t b b) (λ t known. tt) clock after c.in_ok-commit-in-Commit.ensures.turned r (Some r) refl refl)
+    subst (λ x. HasTurned view source_view (λ r. r) (λ terms s. turn_of (setting terms) s (says x)) b before after old c.commit.new.self v w (Ok (Some r))) (sym c.in-Commit.is)
+    (turned-given view source_view (λ r. Some r) (λ terms s. turn_of (setting terms) s (says stmt.Commit)) b before after old c.commit.new.self v w (Ok r) (λ r. r) (c.in_ok-commit-in-Commit.ensures.turned b) r (Some r) refl refl)
 
 pub returns-in_err-commit-in-Commit-clause-turned : goal.returns-in_err-commit-in-Commit-clause-turned
 returns-in_err-commit-in-Commit-clause-turned g c =
@@ -144,14 +144,14 @@ returns-in_err-commit-in-Commit-clause-turned g c =
     let source_view = g.S.TreeRep.contents in
     let old = c.args.self.now in
     let v = g.D.Disk.known c.args.disk.now in
-    let b = known_files g.F.Files c.args.files.now in
-    let clock = g.K.Clock.left c.args.clock.now in
     let w = g.D.Disk.known c.commit.new.disk in
-    let after = g.K.Clock.left c.commit.new.clock in
+    let b = known_files g.F.Files c.args.files.now in
+    let before = known_clock g.K.Clock c.args.clock.now in
+    let after = known_clock g.K.Clock c.commit.new.clock in
     let r = c.from_residual-in_err-commit-in-Commit.result in
     let p = err_from_is_err_and r c.from_residual-in_err-commit-in-Commit.ensures.1 in
-    subst (λ x. HasTurned view source_view (λ r. r) (λ t terms s. turn_of (setting t terms) s (says x)) (λ t. IsTable t b b) old c.commit.new.self v w clock after r) (sym c.in-Commit.is)
-    (turned-passed view source_view (λ r. Some r) (λ t terms s. turn_of (setting t terms) s (says stmt.Commit)) _ old c.commit.new.self v w _ (λ r. r) (λ t. IsTable t b b) (λ t known. tt) clock after c.in_err-commit-in-Commit.ensures.turned r p.0 p.1)
+    subst (λ x. HasTurned view source_view (λ r. r) (λ terms s. turn_of (setting terms) s (says x)) b before after old c.commit.new.self v w r) (sym c.in-Commit.is)
+    (turned-passed view source_view (λ r. Some r) (λ terms s. turn_of (setting terms) s (says stmt.Commit)) b before after old c.commit.new.self v w _ (λ r. r) (c.in_err-commit-in-Commit.ensures.turned b) r p.0 p.1)
 
 pub returns-in_ok-load-in-Load-clause-turned : goal.returns-in_ok-load-in-Load-clause-turned
 returns-in_ok-load-in-Load-clause-turned g c =
@@ -159,15 +159,13 @@ returns-in_ok-load-in-Load-clause-turned g c =
     let source_view = g.S.TreeRep.contents in
     let old = c.args.self.now in
     let v = g.D.Disk.known c.args.disk.now in
-    let b = known_files g.F.Files c.args.files.now in
-    let clock = g.K.Clock.left c.args.clock.now in
     let w = g.D.Disk.known c.load.new.disk in
-    let a = known_files g.F.Files c.load.new.files in
+    let b = known_files g.F.Files c.args.files.now in
+    let clock = known_clock g.K.Clock c.args.clock.now in
     let load = c.in-Load.load in
     let r = c.in_ok-load-in-Load.field-0 in
-    let turned = turned-untimed view source_view (λ r. Some r) (λ t terms s. turn_of (setting t terms) s (says (stmt.Load load))) (λ t. IsTable t b a) old c.load.new.self v w (Ok r) clock c.in_ok-load-in-Load.ensures.turned in
-    subst (λ x. HasTurned view source_view (λ r. r) (λ t terms s. turn_of (setting t terms) s (says x)) (λ t. IsTable t b a) old c.load.new.self v w clock clock (Ok (Some r))) (sym c.in-Load.is)
-    (turned-given view source_view (λ r. Some r) (λ t terms s. turn_of (setting t terms) s (says (stmt.Load load))) (λ t. IsTable t b a) old c.load.new.self v w (Ok r) (λ r. r) (λ t. IsTable t b a) (λ t known. known) clock clock turned r (Some r) refl refl)
+    subst (λ x. HasTurned view source_view (λ r. r) (λ terms s. turn_of (setting terms) s (says x)) b clock clock old c.load.new.self v w (Ok (Some r))) (sym c.in-Load.is)
+    (turned-given view source_view (λ r. Some r) (λ terms s. turn_of (setting terms) s (says (stmt.Load load))) b clock clock old c.load.new.self v w (Ok r) (λ r. r) (c.in_ok-load-in-Load.ensures.turned clock) r (Some r) refl refl)
 
 pub returns-in_err-load-in-Load-clause-turned : goal.returns-in_err-load-in-Load-clause-turned
 returns-in_err-load-in-Load-clause-turned g c =
@@ -175,16 +173,14 @@ returns-in_err-load-in-Load-clause-turned g c =
     let source_view = g.S.TreeRep.contents in
     let old = c.args.self.now in
     let v = g.D.Disk.known c.args.disk.now in
-    let b = known_files g.F.Files c.args.files.now in
-    let clock = g.K.Clock.left c.args.clock.now in
     let w = g.D.Disk.known c.load.new.disk in
-    let a = known_files g.F.Files c.load.new.files in
+    let b = known_files g.F.Files c.args.files.now in
+    let clock = known_clock g.K.Clock c.args.clock.now in
     let load = c.in-Load.load in
     let r = c.from_residual-in_err-load-in-Load.result in
     let p = err_from_is_err_and r c.from_residual-in_err-load-in-Load.ensures.1 in
-    let turned = turned-untimed view source_view (λ r. Some r) (λ t terms s. turn_of (setting t terms) s (says (stmt.Load load))) (λ t. IsTable t b a) old c.load.new.self v w _ clock c.in_err-load-in-Load.ensures.turned in
-    subst (λ x. HasTurned view source_view (λ r. r) (λ t terms s. turn_of (setting t terms) s (says x)) (λ t. IsTable t b a) old c.load.new.self v w clock clock r) (sym c.in-Load.is)
-    (turned-passed view source_view (λ r. Some r) (λ t terms s. turn_of (setting t terms) s (says (stmt.Load load))) (λ t. IsTable t b a) old c.load.new.self v w _ (λ r. r) (λ t. IsTable t b a) (λ t known. known) clock clock turned r p.0 p.1)
+    subst (λ x. HasTurned view source_view (λ r. r) (λ terms s. turn_of (setting terms) s (says x)) b clock clock old c.load.new.self v w r) (sym c.in-Load.is)
+    (turned-passed view source_view (λ r. Some r) (λ terms s. turn_of (setting terms) s (says (stmt.Load load))) b clock clock old c.load.new.self v w _ (λ r. r) (c.in_err-load-in-Load.ensures.turned clock) r p.0 p.1)
 
 pub returns-in_ok-operate-in-Op-clause-spent : goal.returns-in_ok-operate-in-Op-clause-spent
 returns-in_ok-operate-in-Op-clause-spent g c = λ terms s z.

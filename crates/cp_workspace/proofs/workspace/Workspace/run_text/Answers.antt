@@ -4,7 +4,7 @@ use Rattle.std.specs.Prelude.{Ok}
 use Rattle.std.specs.declared.option.Option.TheVariants.{Some}
 use Rattle.cp_reply.specs.Session.{turn_of, not_read}
 use Rattle.cp_workspace.specs.Texts.{SaysAs, setting, reading}
-use Rattle.cp_workspace.specs.Files.{known_files, IsTable}
+use Rattle.cp_workspace.specs.Files.{known_files}
 use Rattle.cp_workspace.specs.Clocks.{known_clock}
 use Rattle.cp_workspace.specs.Commits.{text_asks}
 use Rattle.cp_workspace.specs.Loads.{text_reads}
@@ -43,12 +43,12 @@ returns-in_ok-refuse-in-Err-clause-turned g c =
     let new = c.refuse.new.self in
     let v = g.D.Disk.known c.args.disk.now in
     let b = known_files g.F.Files c.args.files.now in
-    let clock = g.K.Clock.left c.args.clock.now in
+    let clock = known_clock g.K.Clock c.args.clock.now in
     let reads = subst (SaysAs c.args.text.now) c.in-Err.is c.in_ok-statement.ensures in
     let r = Some c.in_ok-refuse-in-Err.field-0 in
-    subst (λ x. HasTurned view source_view (λ r. r) (λ t terms s. turn_of (setting t terms) s x) (λ t. IsTable t b b) old new v v clock clock (Ok r)) (sym reads)
-    (turned-quiet view source_view (λ t terms s. not_read s c.in-Err.why) old new v (λ r. r) (λ t. IsTable t b b) clock (Ok r) (file-same old.db new.db c.in_ok-refuse-in-Err.ensures.same) (λ t terms s. quiet-unread s c.in-Err.why)
-    (λ t. c.in_ok-refuse-in-Err.ensures.turned))
+    subst (λ x. HasTurned view source_view (λ r. r) (λ terms s. turn_of (setting terms) s x) b clock clock old new v v (Ok r)) (sym reads)
+    (turned-quiet view source_view (λ terms s. not_read s c.in-Err.why) old new v (λ r. r) b clock (Ok r) (file-same old.db new.db c.in_ok-refuse-in-Err.ensures.same) (λ terms s. quiet-unread s c.in-Err.why)
+    c.in_ok-refuse-in-Err.ensures.turned)
 
 pub returns-in_ok-refuse-in-Err-clause-stays : goal.returns-in_ok-refuse-in-Err-clause-stays
 returns-in_ok-refuse-in-Err-clause-stays g c =
@@ -59,11 +59,11 @@ returns-in_err-refuse-in-Err-clause-turned g c =
     let b = known_files g.F.Files c.args.files.now in
     let r = c.from_residual-in_err-refuse-in-Err.result in
     let p = err_from_is_err_and r c.from_residual-in_err-refuse-in-Err.ensures.1 in
-    turned-failed g.R.TreeRep.contents g.S.TreeRep.contents (λ t terms s. turn_of (setting t terms) s (reading c.args.text.now)) c.args.self.now c.refuse.new.self (g.D.Disk.known c.args.disk.now) (λ r. r) (λ t. IsTable t b b) (g.K.Clock.left c.args.clock.now) r p.0 p.1
+    turned-failed g.R.TreeRep.contents g.S.TreeRep.contents (λ terms s. turn_of (setting terms) s (reading c.args.text.now)) c.args.self.now c.refuse.new.self (g.D.Disk.known c.args.disk.now) (λ r. r) b (known_clock g.K.Clock c.args.clock.now) r p.0 p.1
 
 pub returns-in_err-statement-clause-turned : goal.returns-in_err-statement-clause-turned
 returns-in_err-statement-clause-turned g c =
     let b = known_files g.F.Files c.args.files.now in
     let r = c.from_residual.result in
     let p = err_from_is_err_and r c.from_residual.ensures.1 in
-    turned-failed g.R.TreeRep.contents g.S.TreeRep.contents (λ t terms s. turn_of (setting t terms) s (reading c.args.text.now)) c.args.self.now c.args.self.now (g.D.Disk.known c.args.disk.now) (λ r. r) (λ t. IsTable t b b) (g.K.Clock.left c.args.clock.now) r p.0 p.1
+    turned-failed g.R.TreeRep.contents g.S.TreeRep.contents (λ terms s. turn_of (setting terms) s (reading c.args.text.now)) c.args.self.now c.args.self.now (g.D.Disk.known c.args.disk.now) (λ r. r) b (known_clock g.K.Clock c.args.clock.now) r p.0 p.1

@@ -14,6 +14,6 @@ returns-in-Some g c =
     (λ terms s z. rw (sym c.is_target.ensures ∙ c.if-is_target.false, sym (c.sources.ensures _ z.db.holds)) (sym c.in-Some.ensures)) c.shown-in-Some.ensures
 
 pub returns-in-None : goal.returns-in-None
-returns-in-None g c = λ files terms s z.
+returns-in-None g c = λ terms s z.
     rw (c.refused.ensures)
-    (turned-no_source g.R.TreeRep.contents g.S.TreeRep.contents files terms c.args.self.now s z c.args.place (rw (sym c.is_target.ensures ∙ c.if-is_target.false, sym (c.sources.ensures _ z.db.holds)) (sym c.in-None.ensures)))
+    (turned-no_source g.R.TreeRep.contents g.S.TreeRep.contents terms c.args.self.now s z c.args.place (rw (sym c.is_target.ensures ∙ c.if-is_target.false, sym (c.sources.ensures _ z.db.holds)) (sym c.in-None.ensures)))
