@@ -15,7 +15,9 @@ use Rattle.cp_model.specs.declared.kind.Kind.{Kind}
 use Rattle.cp_model.specs.declared.record.Record.{Record}
 use Rattle.cp_uses.specs.declared.reached.Reached.{Reached}
 use Rattle.cp_uses.specs.Sources.{sources, is_copy_of, copies_after, copies_from}
-use Rattle.cp_uses.specs.InTime.{is_in_time, calls_to_follow, has_late, calls_for_copies, late_sources, calls_in_time, calls_by_fan}
+use Rattle.cp_uses.specs.InTime.{is_in_time, calls_to_follow, has_late, calls_for_copies, late_sources, calls_in_time}
+use Rattle.cp_uses.specs.Carrying.{fan}
+use Rattle.cp_uses.specs.Laws.{TwoForEachCopy}
 use Rattle.cp_uses.specs.Stays.{stands}
 use Rattle.cp_uses.proofs.Staying.{rest-late}
 use Rattle.cp_uses.proofs.Taken.{fan-is}
@@ -125,18 +127,12 @@ module _ (k : Kind) (rs : List Record) (x : Reached) where
   max-few zero = omega arith
   max-few (suc n) = omega arith
 
-  pub calls-few : calls_in_time k rs x ≤ calls_by_fan k rs x
+  calls-few : calls_in_time k rs x ≤ 1 + 2 * fan k rs x
   calls-few =
       let n = sources-few (sources k x.place) in
       let f = fan-is k rs x in
       let m = max-few (late_sources k rs x (sources k x.place)) in
       omega (arith, n, f, m)
 
-pub all-few : (k : Kind) (rs : List Record) (xs : List Reached) → sum_by (calls_in_time k rs) xs ≤ sum_by (calls_by_fan k rs) xs
-all-few k rs [] = omega arith
-all-few k rs (x ∷ xs) =
-    let a = sum-cons (calls_in_time k rs) x xs in
-    let b = sum-cons (calls_by_fan k rs) x xs in
-    let one = calls-few k rs x in
-    let rest = all-few k rs xs in
-    omega (arith, a, b, one, rest)
+pub two-for-each : TwoForEachCopy
+two-for-each k rs x = calls-few k rs x

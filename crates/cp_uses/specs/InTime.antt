@@ -1,5 +1,5 @@
 -- Copies in time, which were made while what was reached stood at its place, and how many look-ups it takes to follow them.
-use Rattle.std.specs.Prelude.{ℕ, ◌+◌, ◌*◌, ◌-◌, ◌&&◌, Bool, List, length, filter, sum_by, max, nat_lt, not, if◌then◌else◌}
+use Rattle.std.specs.Prelude.{ℕ, ◌+◌, ◌-◌, ◌&&◌, Bool, List, length, filter, sum_by, max, nat_lt, not, if◌then◌else◌}
 use Rattle.std.specs.List.{list_any}
 use Rattle.cp_path.specs.declared.loc.Loc.{Loc}
 use Rattle.cp_model.specs.Place.{in_target}
@@ -7,7 +7,6 @@ use Rattle.cp_model.specs.declared.kind.Kind.{Kind}
 use Rattle.cp_model.specs.declared.record.Record.{Record}
 use Rattle.cp_uses.specs.declared.reached.Reached.{Reached}
 use Rattle.cp_uses.specs.Sources.{sources, is_copy_of, copies_after, copies_along}
-use Rattle.cp_uses.specs.Carrying.{fan}
 use Rattle.cp_uses.specs.Stays.{stands}
 
 -- the copy was made while what was reached stood at its place
@@ -42,7 +41,3 @@ late_sources k rs x qs = length (filter (λ q. has_late k rs x (copies_after rs 
 -- for whether it stands now
 abbrev pub calls_in_time : Kind → List Record → Reached → ℕ
 calls_in_time k rs x = max 1 (late_sources k rs x (sources k x.place)) + calls_for_copies k rs x (copies_along k rs x)
-
--- the look-ups for what was reached, if each copy took two: one, and twice its fan
-abbrev pub calls_by_fan : Kind → List Record → Reached → ℕ
-calls_by_fan k rs x = 1 + 2 * fan k rs x

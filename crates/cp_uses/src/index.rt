@@ -9,7 +9,7 @@ ghost use Rattle.cp_uses.specs.Index.{AreCopiesOf, AreStepsOf, copies_by};
 ghost use Rattle.std.specs.Option.{option_copied};
 ghost use Rattle.cp_uses.specs.Sources.{source_of, copies_after};
 
-use crate::source::key_of;
+use crate::source::{key_of, write_key};
 use cp_model::{RecOp, Record};
 use cp_path::Loc;
 use cp_store::{Index, Step, note, steps_at};
@@ -53,10 +53,12 @@ fn copy_of(row: &Record) -> Result<Record, AllocError>
     Ok(row.clone()?)
 }
 
-/// Notes the row of this number, if it is that of a copy. Costs its source's size, and a logarithm of the places noted.
+/// Notes the row of this number, if it is that of a copy; `key` is room for a key. Costs its source's size, and a logarithm of
+/// the places noted.
 fn note_copy(
     copies: &mut Index,
     alloc: Global,
+    key: &mut Vec<u8>,
     number: usize,
     row: &Record,
 ) -> Result<(), AllocError>
@@ -66,7 +68,7 @@ fn note_copy(
     let Some(source) = source_of(row) else {
         return Ok(());
     };
-    let key = key_of(alloc, source)?;
+    write_key(key, source)?;
     let step = Step {
         tid: row.tid,
         row: number,
@@ -98,8 +100,9 @@ impl<'a> UseIndex<'a> {
         ensures { IfOk result (λ x. x ≡ rows.now) }
     {
         let mut copies = BTreeMap::new(alloc);
+        let mut key = Vec::new(alloc);
         for (number, row) in rows.iter().enumerate() {
-            note_copy(&mut copies, alloc, number, row)?;
+            note_copy(&mut copies, alloc, &mut key, number, row)?;
         }
         Ok(UseIndex { rows, copies })
     }

@@ -25,23 +25,41 @@ pub(crate) fn push_label(key: &mut Vec<u8>, label: &Label) -> Result<(), AllocEr
     push_text(key, label.as_str())
 }
 
+/// Puts the key of the root of a database in the place of what was there. After an error what is there isn't said.
+fn write_root(key: &mut Vec<u8>, name: &Name) -> Result<(), AllocError>
+    ensures { OnOk result (key.new.items ≡ source_key (at_root name.now)) }
+{
+    key.clear();
+    push_text(key, name.as_str())
+}
+
 /// The key of the root of a database.
 pub(crate) fn root_key(alloc: Global, name: &Name) -> Result<Vec<u8>, AllocError>
     ensures { IfOk result (λ key. key.items ≡ source_key (at_root name.now)) }
 {
     let mut key = Vec::new(alloc);
-    push_text(&mut key, name.as_str())?;
+    write_root(&mut key, name)?;
     Ok(key)
 }
 
-/// The key of a place: its name and its labels, each behind its length. The key of a place above it is the front of its own.
-/// Costs the place's size.
+/// Puts the key of a place in the place of what was there: its name and its labels, each behind its length. The key of a place
+/// above it is the front of its own. Costs the place's size, and memory only where there isn't room for it. After an error what
+/// is there isn't said.
+pub(crate) fn write_key(key: &mut Vec<u8>, place: &Loc) -> Result<(), AllocError>
+    ensures { OnOk result (key.new.items ≡ source_key place.now) }
+{
+    write_root(key, &place.db)?;
+    for label in place.path.labels() {
+        push_label(key, label)?;
+    }
+    Ok(())
+}
+
+/// The key of a place, by itself. Costs the place's size.
 pub(crate) fn key_of(alloc: Global, place: &Loc) -> Result<Vec<u8>, AllocError>
     ensures { IfOk result (λ key. key.items ≡ source_key place.now) }
 {
-    let mut key = root_key(alloc, &place.db)?;
-    for label in place.path.labels() {
-        push_label(&mut key, label)?;
-    }
+    let mut key = Vec::new(alloc);
+    write_key(&mut key, place)?;
     Ok(key)
 }

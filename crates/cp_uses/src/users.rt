@@ -4,7 +4,7 @@ ghost use Rattle.cp_model.specs.History.{State};
 ghost use Rattle.cp_query.specs.Asked.{IsStateOf};
 ghost use Rattle.cp_store.specs.Calls.{Asks};
 ghost use Rattle.cp_store.specs.Counts.{calls_in, counted};
-ghost use Rattle.cp_uses.specs.InTime.{calls_by_fan, calls_in_time};
+ghost use Rattle.cp_uses.specs.InTime.{calls_in_time};
 ghost use Rattle.cp_uses.specs.Users.{AreOf, AreUsers, IsServed};
 
 use crate::closing::close;
@@ -37,8 +37,6 @@ pub fn uses<P: ProvStore, R: TreeRep>(
     ensures users { (s : State) → AreOf (counted P.ProvStore) R.TreeRep index.now store.old tree.now s
         → IfOk result (λ places. AreUsers s place.now places.items) }
     ensures calls { (s : State) → AreOf (counted P.ProvStore) R.TreeRep index.now store.old tree.now s
-        → OnOk result (IsServed s place.now (calls_by_fan s.kind s.rows) (calls_in store.old) (calls_in store.new)) }
-    ensures early { (s : State) → AreOf (counted P.ProvStore) R.TreeRep index.now store.old tree.now s
         → OnOk result (IsServed s place.now (calls_in_time s.kind s.rows) (calls_in store.old) (calls_in store.new)) }
     ensures asks { Asks (counted P.ProvStore) (λ e. e ≡ StoreFault.Disk) store.old store.new result }
 {

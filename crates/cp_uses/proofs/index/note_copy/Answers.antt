@@ -8,5 +8,5 @@ returns-in_default c = λ rs n h. copies-same rs c.args.row.now c.args.copies.no
 pub returns : goal.returns
 returns c =
     on_ok-then c.note.result
-    (λ noted rs n h. copies-more rs c.args.row.now c.in-Some.source.now c.args.copies.now c.note.new.index c.as_slice.result.now c.args.number c.in-Some.ensures (c.as_slice.ensures.value ∙ c.in_ok-key.ensures) n noted h)
+    (λ noted rs n h. copies-more rs c.args.row.now c.in-Some.source.now c.args.copies.now c.note.new.index c.as_slice.result.now c.args.number c.in-Some.ensures (c.as_slice.ensures.value ∙ c.in_ok-write_key.ensures) n noted h)
     c.note.ensures.ok
