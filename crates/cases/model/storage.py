@@ -61,9 +61,10 @@ class Bytes:
         self.at += size
         return low
 
-    def text(self, size):
+    def text(self, size, late=lambda filled: True):
+        """A text of `size` bytes; `late` is asked of its front, filled up with the greatest bytes."""
         found, whole = self.some(size)
-        if not may_be_text(found, size):
+        if not may_be_text(found, size) or not late(found + b"\xff" * (size - len(found))):
             raise Wrong
         if not whole:
             raise More
@@ -82,14 +83,22 @@ class Bytes:
         self.at += size
         return found
 
-    def label(self, most):
-        return self.text(self.number(1, 0, min(most, 255)))
+    def label(self, most, late=lambda filled: True):
+        return self.text(self.number(1, 0, min(most, 255)), late)
 
-    def path(self, room):
+    def path(self, room, elder=None):
+        """A path; one that comes after the elder, as far as its labels may be any bytes."""
         count = self.number(1, 0, LABELS)
         labels = []
+
+        def late(*filled):
+            greatest = (*labels, *filled, *[b"\xff"] * (count - len(labels) - len(filled)))
+            return elder is None or greatest > elder
+
+        if not late():
+            raise Wrong
         for left in range(count, 0, -1):
-            label = self.label(room - left)
+            label = self.label(room - left, late)
             room -= len(label) + 1
             labels.append(label)
         return tuple(labels)
@@ -124,9 +133,7 @@ class Bytes:
         left[1] -= EACH * count
         found = []
         for _ in range(count):
-            label = self.label(min(size - 1, left[1]))
-            if found and found[-1][0] >= label:
-                raise Wrong
+            label = self.label(min(size - 1, left[1]), lambda filled: not found or filled > found[-1][0])
             left[1] -= len(label)
             found.append((label, self.tree(levels - 1, size - len(label) - 1, left)))
         return found
@@ -146,25 +153,22 @@ class Bytes:
         self.number(1, 0, 0)
         return form, path, label, (0, self.children(LABELS, PLACE - 1, [NODES - 1, WEIGHT - EACH], 1))
 
-    def record(self):
-        tid = self.number(8, 0, 2**64 - 1)
+    def record(self, elder=None):
+        tid = self.number(8, elder[0] if elder else 0, 2**64 - 1)
         found, whole = self.some(1)
         if not whole:
             raise More
         if found not in (b"I", b"C", b"D", b"K"):
             raise Wrong
         self.at += 1
-        path = self.path(PLACE - 1)
+        path = self.path(PLACE - 1, elder[2] if elder and elder[0] == tid else None)
         return tid, found, path, self.place() if found == b"C" else None
 
     def changes(self, trees):
         operations = [self.operation(trees) for _ in range(self.number(4, 1, OPERATIONS))]
         records = []
         for _ in range(self.number(4, 0, 2**32 - 1)):
-            record = self.record()
-            if records and (records[-1][0], records[-1][2]) >= (record[0], record[2]):
-                raise Wrong
-            records.append(record)
+            records.append(self.record(records[-1] if records else None))
         return operations, records
 
     def entry(self):
@@ -507,6 +511,15 @@ SINGLE = [
     ("a longer label in front of one that it begins with", "01 00 00 00000002 02 6162 01 01 61 01"),
     ("the empty label comes first", "01 00 00 00000002 00 01 01 61 01"),
     ("the empty label comes second", "01 00 00 00000002 01 61 01 00 01"),
+    ("a label that its first byte puts out of order", "01 00 00 00000002 03 626364 01 03 616364 01"),
+    ("a label that a middle byte puts out of order", "01 00 00 00000002 03 626364 01 03 626264 01"),
+    ("a label that its last byte puts out of order", "01 00 00 00000002 03 626364 01 03 626363 01"),
+    ("a longer label after one that comes later", "01 00 00 00000002 01 62 01 03 616363 01"),
+    ("a label out of order whose later bytes are no text", "01 00 00 00000002 01 62 01 03 61ffff"),
+    ("a label that is no text before it is out of order", "01 00 00 00000002 03 626364 01 03 62ff61"),
+    ("a label out of order that isn't all there", "01 00 00 00000002 01 62 01 ff 61"),
+    ("a label that may still be in order", "01 00 00 00000002 03 626364 01 03 6263"),
+    ("a label so short that no text of its length comes later", "01 00 00 00000002 02 c3a9 01 01 61 01"),
     ("children of different nodes may have the same label", "01 00 00 00000002 01 61 00 00000001 01 62 01 01 62 01"),
     ("the most children are as many as the places that are left", "01 00 00 000fffff"),
     ("one child more", "01 00 00 00100000"),
@@ -538,6 +551,19 @@ SINGLE = [
     ("records out of order of Tid", "03 00000001 02 00 01 61 00000002 0000000000000002 44 01 01 61 0000000000000001 44 01 01 62"),
     ("records out of order of place", "03 00000001 02 00 01 61 00000002 0000000000000001 44 01 01 62 0000000000000001 44 01 01 61"),
     ("two records of one place and one step", "03 00000001 02 00 01 61 00000002 0000000000000001 44 01 01 61 0000000000000001 49 01 01 61"),
+    ("a Tid out of order, of which a byte is there", "03 00000001 02 00 01 61 00000002 0100000000000000 44 01 01 61 00"),
+    ("a Tid out of order, and no such letter", "03 00000001 02 00 01 61 00000002 0000000000000102 44 01 01 61 0000000000000101 5a"),
+    ("a Tid that may still be in order", "03 00000001 02 00 01 61 00000002 0000000000000102 44 01 01 61 00000000000001"),
+    ("the root after another place", "03 00000001 02 00 01 61 00000002 0000000000000001 44 01 01 61 0000000000000001 49 00"),
+    ("a place before those above it", "03 00000001 02 00 01 61 00000002 0000000000000001 44 02 01 61 01 62 0000000000000001 49 01 01 61"),
+    ("a place after those above it", "03 00000001 02 00 01 61 00000002 0000000000000001 44 01 01 61 0000000000000001 49 02 01 61 01 62"),
+    ("a place that its first label puts out of order", "03 00000001 02 00 01 61 00000002 0000000000000001 44 02 01 62 01 62 0000000000000001 49 02 01 61 01 63"),
+    ("a place that its second label puts out of order", "03 00000001 02 00 01 61 00000002 0000000000000001 44 02 01 61 03 626364 0000000000000001 49 03 01 61 03 626264 01 61"),
+    ("a label of a place begins that of the one before", "03 00000001 02 00 01 61 00000002 0000000000000001 44 02 02 6162 01 61 0000000000000001 49 02 01 61 01 63"),
+    ("a label of a place begins with that of the one before", "03 00000001 02 00 01 61 00000002 0000000000000001 44 02 01 61 01 63 0000000000000001 49 02 02 6162 01 61"),
+    ("an empty label of a place after another", "03 00000001 02 00 01 61 00000002 0000000000000001 44 02 01 61 01 63 0000000000000001 49 02 00 01 63"),
+    ("a place out of order whose later labels are no texts", "03 00000001 02 00 01 61 00000002 0000000000000001 44 02 01 61 01 63 0000000000000001 49 03 01 61 02 62ff"),
+    ("a place out of order, and no source", "03 00000001 02 00 01 61 00000002 0000000000000001 44 01 01 62 0000000000000001 43 01 01 61 00"),
     ("no records", "03 00000001 02 00 01 61 00000000"),
     ("no such letter", "03 00000001 02 00 01 61 00000001 0000000000000001 5a"),
     ("a copy to a place from itself", "04 01 61 0000000000000005 00000001 03 01 54 00 00 00000000"),

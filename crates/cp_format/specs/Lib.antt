@@ -1,6 +1,7 @@
 pub mod Spelled
 pub mod Formats
 pub mod Faults
+pub mod Judging
 pub mod Chars
 pub mod Parts
 pub mod Contents

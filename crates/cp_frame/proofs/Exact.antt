@@ -16,6 +16,7 @@ use Rattle.cp_format.proofs.Contents.{plain_content, within_text_max}
 use Rattle.cp_format.proofs.Labels.{plain_label}
 use Rattle.cp_format.proofs.Numbers.{plain_bounded}
 use Rattle.cp_frame.specs.Trees.{Written, leaf, node, Children, no_more, child, number_of, tree_bytes, children_bytes, tree_checks, children_checks, HasParts, HaveParts}
+use Rattle.cp_frame.proofs.NextLabels.{judged_within}
 
 -- ---- one value for each spelling
 
@@ -88,4 +89,4 @@ mutual
       let inner = part_within len (m + n) (tree_checks t ++ others) (subst (λ k. HoldWithin k (moved len (tree_checks t ++ others))) (child_length a t cs) h.1) in
       let first = judged_tree t (fewer m (m + n) (tree_checks t) (omega arith) (within_first (m + n) (tree_checks t) others inner)) in
       let second = judged_children (Some a) cs (part_within m n (children_checks (Some a) cs) (within_second (m + n) (tree_checks t) others inner)) in
-      (h.0 (omega (arith, child_length a t cs)), all_moved len (tree_checks t ++ others) (all_both (tree_checks t) others first (all_moved m (children_checks (Some a) cs) second)))
+      (h.0 (omega (arith, child_length a t cs, judged_within elder a)), all_moved len (tree_checks t ++ others) (all_both (tree_checks t) others first (all_moved m (children_checks (Some a) cs) second)))

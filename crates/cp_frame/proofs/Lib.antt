@@ -1,4 +1,9 @@
 pub mod Moved
+pub mod Early
+pub mod AtOnce
+pub mod EarlyPaths
+pub mod EarlyRecords
+pub mod ReadTo
 pub mod RecordLists
 pub mod Rows
 pub mod NextLabels

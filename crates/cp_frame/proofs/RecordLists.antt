@@ -1,56 +1,59 @@
 -- Records in order, each judged by the one before it.
-use Rattle.std.proofs.Common.{◌≡◌, ℕ, zero, suc, ◌+◌, ◌-◌, ◌<◌, ◌≤◌, false, List, [], ◌∷◌, ◌++◌, Option, None, Some, refl, sym, ap, ◌∙◌, subst, append_assoc, length, length-append, slice_get, arith}
-use Rattle.std.specs.Int.{to_be_bytes, w32, w64}
+use Rattle.std.proofs.Common.{◌≡◌, ℕ, zero, suc, ◌+◌, ◌-◌, ◌<◌, ◌≤◌, List, [], ◌∷◌, ◌++◌, Option, None, Some, Result, IfErr, IfOk, take, drop, refl, sym, ap, ◌∙◌, subst, append_assoc, length, length-append, slice_get, arith}
+use Rattle.std.specs.Int.{to_be_bytes, w32}
 use Rattle.std.specs.List.{flat_map, AllByRecursion}
-use Rattle.cp_path.specs.Encoding.{path_bytes}
 use Rattle.cp_model.specs.declared.record.Record.{Record}
-use Rattle.cp_record.specs.Bytes.{letter, record_bytes, records_bytes, source_bytes}
-use Rattle.cp_model.specs.Changes.{goes_before}
+use Rattle.cp_record.specs.Bytes.{record_bytes, records_bytes}
 use Rattle.cp_format.specs.declared.fault.FormatFault.{FormatFault}
 use Rattle.cp_format.specs.Faults.{FaultAt}
 use Rattle.cp_format.specs.Formats.{FailsAt, Format, ReadsAt}
+use Rattle.cp_format.specs.Judging.{IsRefused, MayPass}
 use Rattle.cp_format.specs.Parts.{bounded_format, record_format}
 use Rattle.cp_format.specs.Spelled.{IsSpelled}
-use Rattle.cp_format.proofs.Checked.{fails_checked, fails_test, has_checked, judged_checked}
+use Rattle.cp_format.proofs.Checked.{has_checked, judged_checked}
 use Rattle.cp_format.proofs.Checks.{IsJudged}
 use Rattle.cp_format.proofs.Counted.{IsCounted, SoFar, all_read, has_counted, next_fails, next_read, none_yet, plain_counted}
 use Rattle.cp_format.proofs.Faults.{fault_alike, fault_by, fault_first, fault_second}
 use Rattle.cp_format.proofs.Formats.{Alike, HasSome, IsPlain, both, has_alike, has_both, plain_alike, plain_both, reads_alike_at, reads_both_at}
 use Rattle.cp_format.proofs.Numbers.{has_bounded, plain_bounded}
 use Rattle.cp_format.proofs.Records.{has_record, plain_record}
-use Rattle.cp_frame.specs.Entries.{counted_records, follows, records_format_of}
+use Rattle.cp_frame.specs.Entries.{counted_records, follows, record_judged_at, records_format_of}
 use Rattle.cp_frame.specs.EntryReading.{counted_records_format, next_record_format}
+use Rattle.cp_frame.specs.OrderReading.{end_of}
+use Rattle.cp_frame.proofs.EarlyRecords.{judged_in_record}
+use Rattle.cp_frame.proofs.ReadTo.{fails_early, fault_later, read_later, to_end}
 
 -- ---- one record
 
--- a record has bytes
-pub record_some : (r : Record) → 1 ≤ length (record_bytes r)
-unfolding record_bytes
-record_some r = omega (arith, length-append (to_be_bytes w64 r.tid) (letter r.op ∷ path_bytes r.loc.path ++ source_bytes r.src))
-
 module _ (elder : Option Record) where
   pub has_next_record : HasSome (next_record_format elder)
-  has_next_record = has_checked record_format (follows elder) has_record
+  has_next_record = has_checked record_format (record_judged_at elder) (follows elder) has_record
 
   pub plain_next_record : IsPlain (next_record_format elder)
   plain_next_record = plain_record
 
   pub judged_next_record : IsJudged (next_record_format elder)
-  judged_next_record = judged_checked record_format (follows elder) (λ r f. record_some r) (λ r f h. tt)
+  judged_next_record = judged_checked record_format (record_judged_at elder) (follows elder) (λ r f. judged_in_record elder r) (λ r f h. tt)
 
-  module _ (bytes : List ℕ) (at : ℕ) where
-    -- a fault in a record is one of a record in order
-    pub next_record_fault : (e : FormatFault) → FaultAt record_format bytes at e → FaultAt (next_record_format elder) bytes at e
-    next_record_fault e f = fault_by record_format (next_record_format elder) bytes at at (λ n g. fails_checked record_format (follows elder) (λ r h. record_some r) (λ r h k. tt) bytes at n g) e f
+-- after no record any comes
+pub may_be_first : (bytes : List ℕ) → MayPass record_format (follows None) (record_judged_at None) bytes
+may_be_first bytes = λ r rest f e lt. refl
 
-    module _ (r : Record) (next : ℕ) (s : ReadsAt record_format bytes at r next) where
-      -- a record that doesn't follow fails at its last byte
-      pub next_record_refused : (q : Record) → elder ≡ Some q → goes_before q r ≡ false → FailsAt (next_record_format elder) bytes at (next - 1)
-      next_record_refused q e wrong = fails_test record_format (follows elder) (λ x h. record_some x) plain_record bytes at r next s (ap (λ x. follows x r) e ∙ wrong)
+module _ (elder : Option Record) (bytes : List ℕ) (at : ℕ) (within : at ≤ length bytes) (read : Result (Record × ℕ) FormatFault) (ok : IfOk read (λ x. ReadsAt record_format bytes at x.0 x.1)) (err : IfErr read (FaultAt record_format bytes at)) where
+  -- so far the bytes are read
+  pub record_to : (at ≤ end_of read at) × (end_of read at ≤ length bytes)
+  record_to = to_end record_format bytes at within read ok err
 
-      -- a record that has been read ends after its first byte
-      pub record_ends : 1 ≤ next
-      record_ends = omega (arith, s.count, record_some r)
+  -- a record that doesn't follow fails at the byte that tells
+  pub early_record : (k : ℕ) → IsRefused record_format (follows elder) (record_judged_at elder) (take (end_of read at - at) (drop at bytes)) k → FailsAt (next_record_format elder) bytes at (at + k)
+  early_record k r = fails_early record_format (record_judged_at elder) (follows elder) plain_record bytes at within read ok err k r
+
+  -- a record that may follow is read as it was, and fails as it did
+  pub later_record : MayPass record_format (follows elder) (record_judged_at elder) (take (end_of read at - at) (drop at bytes)) → IfOk read (λ x. ReadsAt (next_record_format elder) bytes at x.0 x.1)
+  later_record may = read_later record_format (record_judged_at elder) (follows elder) (λ r f. judged_in_record elder r) bytes at read ok may
+
+  pub later_record_fault : MayPass record_format (follows elder) (record_judged_at elder) (take (end_of read at - at) (drop at bytes)) → IfErr read (FaultAt (next_record_format elder) bytes at)
+  later_record_fault may = fault_later record_format (record_judged_at elder) (follows elder) bytes at read err may
 
 -- ---- so many records
 

@@ -17,7 +17,7 @@ use Rattle.cp_format.proofs.Checks.{IsJudged}
 use Rattle.cp_format.proofs.Counted.{IsCounted, has_counted}
 use Rattle.cp_format.proofs.Formats.{Alike, HasSome, IsPlain, both, has_alike, has_both, judged_alike, judged_both, plain_alike, plain_both}
 use Rattle.cp_frame.specs.declared.room.Room.{Room}
-use Rattle.cp_frame.specs.Trees.{Written, leaf, node, Children, no_more, child, number_of, tree_bytes, children_bytes, comes_after, tree_checks, children_checks}
+use Rattle.cp_frame.specs.Trees.{Written, leaf, node, Children, no_more, child, number_of, tree_bytes, children_bytes, comes_after, judged_at, tree_checks, children_checks}
 use Rattle.cp_frame.specs.Rooms.{FitsIn, FitBelow, tree_format, children_format, most_children, with_children, most_bytes, below_label}
 use Rattle.cp_frame.specs.Reading.{next_label_format, child_format, after_child}
 use Rattle.cp_frame.proofs.Exact.{exact_tree, judged_tree}
@@ -170,7 +170,7 @@ more_checks s a t cs =
     let m = length (counted_bytes a) in
     let n = length (tree_bytes t) in
     let others = children_checks (Some a) cs in
-    let first : Check = record { last = length a; holds = comes_after s.0 a } in
+    let first : Check = record { last = judged_at s.0 a; holds = comes_after s.0 a } in
     let rest : moved m (tree_checks t ++ moved n others) ≡ moved m (tree_checks t) ++ moved (length (counted_bytes a ++ tree_bytes t)) others =
     moved_both m (tree_checks t) (moved n others) ∙ ap (λ l. moved m (tree_checks t) ++ l) (moved_twice m n others ∙ ap (λ k. moved k others) (sym (length-append (counted_bytes a) (tree_bytes t)))) in
     ap (λ l. first ∷ l) rest

@@ -1,6 +1,6 @@
 -- Entries of a store's history as bytes.
-use Rattle.std.specs.Prelude.{ℕ, ◌+◌, ◌-◌, ◌^◌, ◌≡◌, ◌≤◌, ◌<◌, Bool, true, false, List, [], ◌∷◌, ◌++◌, length, map}
-use Rattle.std.specs.List.{AllByRecursion, flat_map}
+use Rattle.std.specs.Prelude.{ℕ, ◌+◌, ◌^◌, ◌≡◌, ◌≤◌, ◌<◌, ◌==◌, Bool, true, false, List, [], ◌∷◌, ◌++◌, length, map, nat_eq, if◌then◌else◌}
+use Rattle.std.specs.List.{AllByRecursion, common_prefix_len, flat_map}
 use Rattle.std.specs.Int.{to_be_bytes, w32, w64}
 use Rattle.std.specs.declared.option.Option.{Option}
 use Rattle.std.specs.declared.option.Option.TheVariants.{None, Some}
@@ -12,12 +12,13 @@ use Rattle.cp_model.specs.declared.op.Op.{Op}
 use Rattle.cp_model.specs.declared.record.Record.{Record}
 use Rattle.cp_model.specs.declared.stamp.Stamp.{Stamp}
 use Rattle.cp_model.specs.Literals.{literal_rows}
+use Rattle.cp_model.specs.Place.{Path, label_eq}
 use Rattle.cp_record.specs.Bytes.{record_bytes}
 use Rattle.cp_record.specs.Kept.{IsLabel, IsName, IsPackable}
 use Rattle.cp_model.specs.Changes.{goes_before}
 use Rattle.cp_format.specs.Formats.{Check, Format, moved}
 use Rattle.cp_format.specs.Spelled.{IsSpelled}
-use Rattle.cp_frame.specs.Trees.{Written, HasParts, rows_of, tree_bytes, tree_checks}
+use Rattle.cp_frame.specs.Trees.{Written, HasParts, decided_at, rows_of, tree_bytes, tree_checks}
 use Rattle.cp_frame.specs.Rooms.{FitsIn, whole_room}
 use Rattle.cp_frame.specs.Operations.{WrittenOp, IsAllowed, IsFit, IsWellFormed, op_of, ops_checks, written_bytes}
 use Rattle.cp_frame.specs.declared.entry.Entry.{Entry}
@@ -39,10 +40,32 @@ abbrev pub follows : Option Record → Record → Bool
 follows None r = true
 follows (Some q) r = goes_before q r
 
--- each record is judged at its last byte: by Tid and then by place it has to come after the one before
+-- the byte that decides how labels, each after its length, stand to others: that of the first which isn't the same there, or else of the last
+abbrev pub labels_decided_at : Path → Path → ℕ
+labels_decided_at [] s = 0
+labels_decided_at (b ∷ p) [] = 0
+labels_decided_at (b ∷ p) (a ∷ []) = decided_at b a
+labels_decided_at (b ∷ p) (a ∷ c ∷ s) = if label_eq b a then length (counted_bytes a) + labels_decided_at p (c ∷ s) else decided_at b a
+
+-- the same of a path: the number of its labels decides where it has none
+abbrev pub path_decided_at : Path → Path → ℕ
+path_decided_at p [] = 0
+path_decided_at p (a ∷ s) = 1 + labels_decided_at p (a ∷ s)
+
+-- the byte of a record that decides how it stands to another: the first at which their Tids differ, or else one of its path, which
+-- stands after the Tid and the letter
+abbrev pub record_decided_at : Record → Record → ℕ
+record_decided_at q r = if q.tid == r.tid then 9 + path_decided_at q.loc.path r.loc.path else common_prefix_len nat_eq (to_be_bytes w64 q.tid) (to_be_bytes w64 r.tid)
+
+-- the byte at which a record is judged after the one before; after none it is as good as judged
+abbrev pub record_judged_at : Option Record → Record → ℕ
+record_judged_at None r = 0
+record_judged_at (Some q) r = record_decided_at q r
+
+-- by Tid and then by place each record has to come after the one before, and is judged at the byte that decides
 abbrev pub record_checks : Option Record → List Record → List Check
 record_checks elder [] = []
-record_checks elder (r ∷ rs) = record { last = length (record_bytes r) - 1; holds = follows elder r } ∷ moved (length (record_bytes r)) (record_checks (Some r) rs)
+record_checks elder (r ∷ rs) = record { last = record_judged_at elder r; holds = follows elder r } ∷ moved (length (record_bytes r)) (record_checks (Some r) rs)
 
 -- so many records, after this one
 abbrev pub records_format_of : Option Record → ℕ → Format (List Record)

@@ -1,5 +1,5 @@
 -- What the reading and the writing of entries rest on.
-use Rattle.std.specs.Prelude.{ℕ, ◌-◌, ◌^◌, ◌≡◌, ◌<◌, Bool, List, [], ◌∷◌, length, ⊤}
+use Rattle.std.specs.Prelude.{ℕ, ◌^◌, ◌≡◌, ◌<◌, Bool, List, [], ◌∷◌, length, ⊤}
 use Rattle.std.specs.List.{AllByRecursion}
 use Rattle.std.specs.declared.option.Option.{Option}
 use Rattle.std.specs.declared.option.Option.TheVariants.{None}
@@ -10,7 +10,7 @@ use Rattle.cp_model.specs.declared.stamp.Stamp.{Stamp}
 use Rattle.cp_record.specs.Bytes.{record_bytes}
 use Rattle.cp_format.specs.Formats.{Format, ReadsAt, moved, unchecked}
 use Rattle.cp_format.specs.Spelled.{IsSpelled}
-use Rattle.cp_frame.specs.Entries.{Batch, IsBatchOf, IsEntry, WrittenEntry, IsFitEntry, IsStamp, batch_format, counted_records, entry_form, entry_rest, follows, kind_number, record_checks, rest_checks, stamp_bytes}
+use Rattle.cp_frame.specs.Entries.{Batch, IsBatchOf, IsEntry, WrittenEntry, IsFitEntry, IsStamp, batch_format, counted_records, entry_form, entry_rest, follows, kind_number, record_checks, record_judged_at, rest_checks, stamp_bytes}
 use Rattle.cp_frame.specs.declared.entry.Entry.{Entry}
 
 -- the byte of a kind
@@ -22,7 +22,7 @@ abbrev pub next_record_format : Option Record → Format Record
 next_record_format elder = record {
   fit = λ r. IsSpelled r;
   bytes = λ r. record_bytes r;
-  checks = λ r. record { last = length (record_bytes r) - 1; holds = follows elder r } ∷ [];
+  checks = λ r. record { last = record_judged_at elder r; holds = follows elder r } ∷ [];
 }
 
 -- the number of records, and these

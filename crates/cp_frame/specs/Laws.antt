@@ -1,15 +1,16 @@
 -- The laws of trees, operations and commits: each tree is spelled in one way, what is read is legal, what is legal is read back, and how long it is.
-use Rattle.std.specs.Prelude.{ℕ, ◌+◌, ◌≡◌, ◌≤◌, Bool, true, false, List, length, map, sum_by}
+use Rattle.std.specs.Prelude.{ℕ, ◌+◌, ◌≡◌, ◌≤◌, ◌<◌, Bool, true, false, List, length, map, sum_by, take}
+use Rattle.std.specs.declared.option.Option.TheVariants.{Some}
 use Rattle.cp_path.specs.Place.{over_limit}
 use Rattle.cp_path.specs.Text.{is_name}
 use Rattle.cp_model.specs.History.{IsLiteral, IsWritten}
 use Rattle.cp_model.specs.Keyed.{from_entries}
-use Rattle.cp_model.specs.Place.{Path}
+use Rattle.cp_model.specs.Place.{Label, Path}
 use Rattle.cp_model.specs.Subtrees.{is_there}
 use Rattle.cp_model.specs.Tree.{IsTree, weight_of}
 use Rattle.cp_record.specs.Bytes.{commit_length, tree_length}
 use Rattle.cp_format.specs.Formats.{AllHold}
-use Rattle.cp_frame.specs.Trees.{Written, HasParts, rows_of, tree_bytes, tree_checks}
+use Rattle.cp_frame.specs.Trees.{Written, HasParts, comes_after, decided_at, rows_of, tree_bytes, tree_checks}
 use Rattle.cp_frame.specs.Rooms.{FitsIn, whole_room}
 use Rattle.cp_frame.specs.Operations.{IsFit, WrittenOp, op_of, written_checks}
 use Rattle.cp_frame.specs.Entries.{Batch, IsBatch, batch_bytes}
@@ -45,6 +46,13 @@ SourcesAreSpelled =
 -- an operation that was read can be written as a statement
 abbrev pub OpsAreWritten : Type 0
 OpsAreWritten = (w : WrittenOp) → IsFit w → AllHold (written_checks w) → IsWritten (op_of w)
+
+-- a label that doesn't come after another is judged at the first byte after which none of its length does that begins so, whatever its bytes are
+abbrev pub LabelsAreJudgedAtOnce : Type 0
+LabelsAreJudgedAtOnce =
+    (b a : Label) → comes_after (Some b) a ≡ false
+    → ((c : Label) → length c ≡ length a → take (decided_at b a) c ≡ take (decided_at b a) a → comes_after (Some b) c ≡ false)
+    × ((n : ℕ) → n < decided_at b a → (c : Label) × (length c ≡ length a) × (take n c ≡ take n a) × (comes_after (Some b) c ≡ true))
 
 -- a tree has as many bytes as are counted for its rows
 abbrev pub TreesAreMeasured : Type 0

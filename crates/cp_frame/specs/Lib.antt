@@ -5,6 +5,7 @@ pub mod Operations
 pub mod OpReading
 pub mod Entries
 pub mod EntryReading
+pub mod OrderReading
 pub mod Sound
 pub mod Faults
 pub mod Laws

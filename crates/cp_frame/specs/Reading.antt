@@ -14,7 +14,7 @@ use Rattle.cp_model.specs.declared.literal.LitEdge.{LitEdge}
 use Rattle.cp_model.specs.declared.row.Content.{Content}
 use Rattle.cp_record.specs.Kept.{IsLabel}
 use Rattle.cp_format.specs.Formats.{Check, Format, ReadsAt, moved}
-use Rattle.cp_frame.specs.Trees.{Written, Children, rows_of, rows_below, tree_bytes, tree_checks, comes_after}
+use Rattle.cp_frame.specs.Trees.{Written, Children, rows_of, rows_below, tree_bytes, tree_checks, comes_after, judged_at}
 use Rattle.cp_frame.specs.Rooms.{Room, FitsIn, tree_format, children_format, most_bytes, below_label, after_tree}
 
 -- the label that a reference leads to, if there is one
@@ -26,12 +26,12 @@ abbrev pub next_label_format : ℕ → Option Label → Format Label
 next_label_format most elder = record {
   fit = λ a. IsLabel a × (length a ≤ most);
   bytes = λ a. counted_bytes a;
-  checks = λ a. record { last = length a; holds = comes_after elder a } ∷ [];
+  checks = λ a. record { last = judged_at elder a; holds = comes_after elder a } ∷ [];
 }
 
 -- the checks of a child: those of its label and of its tree
 abbrev pub child_checks : Option Label → Label × Written → List Check
-child_checks elder z = record { last = length z.0; holds = comes_after elder z.0 } ∷ moved (length (counted_bytes z.0)) (tree_checks z.1)
+child_checks elder z = record { last = judged_at elder z.0; holds = comes_after elder z.0 } ∷ moved (length (counted_bytes z.0)) (tree_checks z.1)
 
 -- a child, after one with this label
 abbrev pub child_format : Option Label → Room → Format (Label × Written)

@@ -1,5 +1,6 @@
 -- Trees as bytes: of each place its content, of a node the number of its children, and of each child its label and its tree.
-use Rattle.std.specs.Prelude.{ℕ, suc, ◌≡◌, ◌<◌, ◌^◌, Bool, true, List, [], ◌∷◌, ◌++◌, length, ⊤}
+use Rattle.std.specs.Prelude.{ℕ, suc, ◌≡◌, ◌+◌, ◌<◌, ◌^◌, Bool, true, List, [], ◌∷◌, ◌++◌, length, min, nat_eq, ⊤}
+use Rattle.std.specs.List.{common_prefix_len}
 use Rattle.std.specs.Int.{to_be_bytes, w32}
 use Rattle.std.specs.Ordering.{is_lt}
 use Rattle.std.specs.declared.option.Option.{Option}
@@ -59,7 +60,16 @@ abbrev pub comes_after : Option Label → Label → Bool
 comes_after None a = true
 comes_after (Some b) a = is_lt (text_cmp b a)
 
--- each label is judged at its last byte: it has to come after that of the child before
+-- the byte of a label, its length before it, that decides how it stands to another: the first that isn't as in that one, or else its last
+abbrev pub decided_at : Label → Label → ℕ
+decided_at b a = min (common_prefix_len nat_eq b a + 1) (length a)
+
+-- the byte at which a label is judged after that of the child before; after none it is as good as judged
+abbrev pub judged_at : Option Label → Label → ℕ
+judged_at None a = 0
+judged_at (Some b) a = decided_at b a
+
+-- each label has to come after that of the child before, and is judged at the byte that decides
 abbrev mutual
   pub tree_checks : Written → List Check
   tree_checks (leaf v) = []
@@ -69,7 +79,7 @@ abbrev mutual
   pub children_checks : Option Label → Children → List Check
   children_checks elder no_more = []
   children_checks elder (child a t cs) =
-      record { last = length a; holds = comes_after elder a }
+      record { last = judged_at elder a; holds = comes_after elder a }
       ∷ moved (length (counted_bytes a)) (tree_checks t ++ moved (length (tree_bytes t)) (children_checks (Some a) cs))
 
 -- each label, each content and each number of children can be spelled

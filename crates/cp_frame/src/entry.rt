@@ -179,8 +179,8 @@ fn entry_in_front(alloc: Global, bytes: &[u8]) -> Result<(Entry, usize), FormatF
 /// The entry that the bytes are. Costs them; reads them once.
 ///
 /// A fault names the first byte with which no spelling of an entry goes on, the number of the bytes where they end too
-/// early, and the first one too many where they go on after an entry. As far as labels and records have to rise, each is
-/// judged at its last byte, and what may still come is not looked at.
+/// early, and the first one too many where they go on after an entry. A label or a record that doesn't rise is refused at
+/// the byte that decides how it compares with the one before; what may still come is not looked at.
 pub fn entry_of(alloc: Global, bytes: &[u8]) -> Result<Entry, FormatFault>
     ensures read { IfOk result (λ e. (w : WrittenEntry) × IsEntry e w × Reads entry_format bytes.now w []) }
     ensures sound { IfOk result IsSoundEntry }

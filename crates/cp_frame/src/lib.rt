@@ -10,6 +10,7 @@
 
 mod entry;
 mod operation;
+mod order;
 mod record;
 mod room;
 mod stated;

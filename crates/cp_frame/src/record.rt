@@ -9,12 +9,14 @@ ghost use Rattle.cp_format.specs.Formats.{ReadsAt};
 ghost use Rattle.cp_frame.specs.Entries.{counted_records};
 ghost use Rattle.cp_frame.specs.EntryReading.{next_record_format, counted_records_format};
 
+use crate::order::{read_to, record_early};
 use crate::tree::put_number;
 use cp_format::{FormatFault, bounded_at, record_at};
 use cp_record::{PackedRecord, PackedRecords};
 use std::alloc::{AllocError, Global};
 
-/// The record in the next bytes. One that doesn't come after `elder`, the one before, is refused at its last byte.
+/// The record in the next bytes. One that doesn't come after `elder`, the one before, is refused at the
+/// byte that decides so.
 fn next_record_at<'a>(
     bytes: &'a [u8],
     at: usize,
@@ -24,13 +26,14 @@ fn next_record_at<'a>(
     ensures read { IfOk result (λ x. ReadsAt (next_record_format (option_map (λ r. r.now) elder.entry)) bytes.now at x.0 x.1) }
     ensures fault { IfErr result (FaultAt (next_record_format (option_map (λ r. r.now) elder.entry)) bytes.now at) }
 {
-    let (record, next) = record_at(bytes, at)?;
-    if let Some(elder) = elder {
-        if !elder.goes_before(&record) {
-            return Err(FormatFault::BadByte(next - 1));
-        }
+    let read = record_at(bytes, at);
+    let Some(elder) = elder else {
+        return read;
+    };
+    match record_early(elder, &bytes[at..read_to(&read, at)]) {
+        Some(early) => Err(FormatFault::BadByte(at + early)),
+        None => read,
     }
-    Ok((record, next))
 }
 
 /// The number of records, and these. Costs their bytes.

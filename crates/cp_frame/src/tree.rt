@@ -12,6 +12,7 @@ ghost use Rattle.cp_frame.specs.Trees.{HasPutTree, HasPutChildren};
 ghost use Rattle.cp_frame.specs.Rooms.{HasTakenTree, tree_format, children_format, whole_room};
 ghost use Rattle.cp_frame.specs.Reading.{next_label_format, label_in, label_of_last, child_format, HasReadTree, HasReadChild, HasReadChildren};
 
+use crate::order::{label_early, read_to};
 use crate::room::Room;
 use cp_format::{FormatFault, bounded_at, label_at, put_counted, put_leaf, put_node, take_content};
 use cp_model::{Content, LitEdge, LitList, Literal, NODES_MAX};
@@ -19,7 +20,7 @@ use cp_path::{Label, NAME_MAX, TEXT_MAX, Value};
 use std::alloc::{AllocError, Global};
 
 /// The label of a child in the next bytes, of `most` bytes at most. One that doesn't come after `elder`, that of the
-/// child before, is refused at its last byte.
+/// child before, is refused at the byte that decides so.
 fn next_label_at(
     alloc: Global,
     bytes: &[u8],
@@ -33,13 +34,15 @@ fn next_label_at(
     ensures fault { IfErr result
         (FaultAt (next_label_format most (label_in elder.entry)) bytes.now at) }
 {
-    let (label, next) = label_at(alloc, bytes, at, most)?;
-    if let Some(elder) = elder {
-        if *elder >= label {
-            return Err(FormatFault::BadByte(next - 1));
-        }
+    let read = label_at(alloc, bytes, at, most);
+    let Some(elder) = elder else {
+        return read;
+    };
+    let begun = &bytes[at..read_to(&read, at)];
+    match label_early(elder.as_str().as_bytes(), begun) {
+        Some(early) => Err(FormatFault::BadByte(at + early)),
+        None => read,
     }
-    Ok((label, next))
 }
 
 /// The label of the last of these edges.
@@ -143,7 +146,7 @@ pub(crate) fn children_at(
 /// places have a name of `name` bytes. Costs its bytes; calls itself once for each label of a path.
 ///
 /// A fault names the first byte with which no such tree goes on, where the labels still to come may be any; a label that
-/// doesn't come after that of the child before is refused at its last byte.
+/// doesn't come after that of the child before is refused at the byte that decides so.
 pub fn take_tree(
     alloc: Global,
     bytes: &[u8],

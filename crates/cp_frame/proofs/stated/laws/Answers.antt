@@ -1,3 +1,4 @@
+use Rattle.cp_frame.proofs.AtOnce.{judged_at_once}
 use Rattle.cp_frame.proofs.EntryForms.{plain_entry}
 use Rattle.cp_frame.proofs.LegalTrees.{legal_spelled, written_legal}
 use Rattle.cp_frame.proofs.Lengths.{batch_counted, trees_light, trees_measured}
@@ -39,3 +40,6 @@ returns-clause-measured c = trees_measured
 
 pub returns-clause-light : goal.returns-clause-light
 returns-clause-light c = trees_light
+
+pub returns-clause-judged : goal.returns-clause-judged
+returns-clause-judged c = judged_at_once
