@@ -3,7 +3,7 @@ use Rattle.std.proofs.Common.{arith, ◌≡◌, ◌+◌, ◌*◌, ◌-◌, ◌�
 use Rattle.std.specs.Prelude.{if◌then◌else◌, slice_index}
 use Rattle.std.specs.List.{list_all}
 use Rattle.std.specs.Option.{option_map}
-use Rattle.cp_page.specs.Keys.{number_at, first_key, key_of_first}
+use Rattle.cp_page.specs.Keys.{number_at, first_key}
 use Rattle.cp_page.specs.Rows.{row_of, split, take_row, take_counted, value_after, row_on, and_rows, is_after, rows_from, rows_of}
 use Rattle.cp_page.specs.Spelled.{FirstKeysAreOfRows}
 use Rattle.cp_page.specs.declared.row.PageRow.{PageRow}

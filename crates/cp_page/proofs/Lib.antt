@@ -1,5 +1,6 @@
 pub mod Cases
 pub mod Firsts
+pub mod Gathering
 pub mod Growing
 pub mod KeyBytes
 pub mod KeyOrder

@@ -4,5 +4,6 @@ pub mod Keys
 pub mod Made
 pub mod Orders
 pub mod PlaceKeys
+pub mod Ranges
 pub mod Rows
 pub mod Spelled

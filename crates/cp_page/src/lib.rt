@@ -11,6 +11,7 @@ mod maker;
 mod order;
 mod page;
 mod place_key;
+mod ranging;
 mod row;
 mod stated;
 
@@ -24,5 +25,6 @@ pub use order::{
 };
 pub use page::{PAGE_SIZE, Page};
 pub use place_key::{place_of_key, put_place_key};
+pub use ranging::add_rows_between;
 pub use row::{BadPage, Cell, PageRow, is_after};
 pub use stated::laws;

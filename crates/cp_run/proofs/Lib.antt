@@ -1,0 +1,15 @@
+pub mod Across
+pub mod BadPages
+pub mod Composing
+pub mod Faults
+pub mod Finding
+pub mod Halving
+pub mod Inside
+pub mod Keeping
+pub mod Keys
+pub mod Looking
+pub mod Members
+pub mod Passing
+pub mod Rising
+pub mod Runs
+pub mod Steps

@@ -1,0 +1,7 @@
+pub mod Answers
+pub mod Bad
+pub mod Holding
+pub mod Looks
+pub mod Pages
+pub mod Searching
+pub mod Sets
