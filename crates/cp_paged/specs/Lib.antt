@@ -1,0 +1,9 @@
+pub mod Asking
+pub mod Calls
+pub mod Held
+pub mod Keyed
+pub mod Listing
+pub mod Lookups
+pub mod Marks
+pub mod Newest
+pub mod Paged
