@@ -15,7 +15,9 @@
 //! | `tree AT` | the place |
 //! | `differs AT` | the record that was stored and the one expected, `none` where there is none |
 //! | `log` | commits `LOW HIGH MOMENT OPERATIONS by CURATOR` |
-//! | `init`, `commit`, `load` | |
+//! | `init`, `commit`, `load`, `stale TID` | |
+//!
+//! `for NAME` before the word makes them lines for that curator.
 
 use crate::fault::Fault;
 use crate::row::{row_of, rows_of};
@@ -25,8 +27,8 @@ use cp_cases::numbers_of;
 use cp_model::{
     Answer, FromAnswer, Kind, LogLine, LogList, Query, Record, RecordList, Stats, TidList, Verdict,
 };
-use cp_path::Label;
-use cp_reply::{Of, Reply, Why, lines};
+use cp_path::{Label, Name};
+use cp_reply::{Of, Reply, Why, lines, lines_for};
 use cp_spelling::{read_label, read_place};
 use std::alloc::{AllocError, Global};
 
@@ -146,6 +148,10 @@ fn reply_of_numbers(request: &Request<'_>) -> Option<Reply> {
             answer: Answer::Stats(stats_of(request)),
         }),
         "gen" => Some(generated(request)),
+        "stale" => Some(Reply::Refused {
+            of: Of::Commit,
+            why: Why::Stale(first),
+        }),
         _ => None,
     }
 }
@@ -282,21 +288,44 @@ pub(crate) fn lines_alone(alloc: Global, reply: &Reply) -> Result<Vec<u8>, Alloc
     Ok(out)
 }
 
+/// The lines of a reply for a curator, or for nobody.
+fn lines_to(alloc: Global, whose: &Option<Name>, reply: &Reply) -> Result<Vec<u8>, AllocError> {
+    let mut out = Vec::new(alloc);
+    lines_for(alloc, whose, reply, &mut out)?;
+    Ok(out)
+}
+
+/// The text of why words or a text are refused.
+fn refused(alloc: Global, fault: &Fault) -> Result<Option<Vec<u8>>, AllocError> {
+    Ok(Some(bytes_of(alloc, fault.to_string(alloc)?.as_str())?))
+}
+
 /// The lines of a reply, or of why its words or its text are refused; `None` where there is none.
 fn lines_found(
     alloc: Global,
+    whose: &Option<Name>,
     found: &Result<Option<Reply>, Fault>,
 ) -> Result<Option<Vec<u8>>, AllocError> {
     match found {
-        Ok(Some(reply)) => Ok(Some(lines_alone(alloc, reply)?)),
+        Ok(Some(reply)) => Ok(Some(lines_to(alloc, whose, reply)?)),
         Ok(None) => Ok(None),
-        Err(fault) => Ok(Some(bytes_of(alloc, fault.to_string(alloc)?.as_str())?)),
+        Err(fault) => refused(alloc, fault),
     }
 }
 
-/// The lines of the reply of these words and this text; `None` where they are none.
-pub(crate) fn lines_of(
+/// For whom the lines are, and the words behind that.
+fn whose_of(alloc: Global, words: &str) -> Result<(Option<Name>, &str), Fault> {
+    let Some(rest) = words.strip_prefix("for ") else {
+        return Ok((None, words));
+    };
+    let (name, words) = rest.split_once(' ').unwrap_or((rest, ""));
+    Ok((Some(Name::read(alloc, name)?), words))
+}
+
+/// The lines for a curator, or for nobody, of the reply of these words and this text; `None` where they are none.
+fn lines_of_words(
     alloc: Global,
+    whose: &Option<Name>,
     words: &str,
     text: &[u8],
 ) -> Result<Option<Vec<u8>>, AllocError> {
@@ -309,7 +338,23 @@ pub(crate) fn lines_of(
         text: std::str::from_utf8(text).unwrap_or(""),
     };
     let found = reply_of(alloc, &request);
-    let lines = lines_found(alloc, &found);
+    let lines = lines_found(alloc, whose, &found);
     drop(found);
     lines
+}
+
+/// The lines of the reply of these words and this text; `None` where they are none.
+pub(crate) fn lines_of(
+    alloc: Global,
+    words: &str,
+    text: &[u8],
+) -> Result<Option<Vec<u8>>, AllocError> {
+    match whose_of(alloc, words) {
+        Ok((whose, words)) => {
+            let lines = lines_of_words(alloc, &whose, words, text);
+            drop(whose);
+            lines
+        }
+        Err(fault) => refused(alloc, &fault),
+    }
 }

@@ -1,9 +1,11 @@
 -- Worked examples: whole sessions over values, each with the text that it writes.
-use Rattle.std.specs.Prelude.{ℕ, zero, suc, ◌≡◌, ◌==◌, pos, List, [], ◌∷◌, ◌++◌, true, codes, flat_map, length, nat_lt, if◌then◌else◌}
+use Rattle.std.specs.Prelude.{ℕ, zero, suc, ◌≡◌, ◌==◌, pos, List, [], ◌∷◌, ◌++◌, true, false, codes, flat_map, map, length, nat_lt, if◌then◌else◌}
 use Rattle.std.specs.declared.option.Option.{Option}
 use Rattle.std.specs.declared.option.Option.TheVariants.{None, Some}
+use Rattle.std.specs.Option.{option_to_list}
 use Prim.Native.String.{String}
 use Rattle.cp_path.specs.Place.{Path, label_eq, child_place}
+use Rattle.cp_path.specs.Text.{text_eq}
 use Rattle.cp_path.specs.declared.loc.Loc.{Loc}
 use Rattle.cp_path.specs.declared.value.Value.TheVariants.{Null, Whole, Text}
 use Rattle.cp_model.specs.Keyed as keyed
@@ -19,12 +21,15 @@ use Rattle.cp_model.specs.declared.op.Op.{Op}
 use Rattle.cp_model.specs.declared.op.Op.TheVariants.{Ins, Del, Copy}
 use Rattle.cp_model.specs.declared.query.Query.TheVariants as query
 use Rattle.cp_model.specs.declared.query.Form.TheVariants.{Json, Csv}
+use Rattle.cp_lang.specs.declared.cut.Cut.{Cut}
+use Rattle.cp_lang.specs.declared.cut.Cut.TheVariants as cut
 use Rattle.cp_lang.specs.declared.syntax_tree.Stmt.{Stmt}
 use Rattle.cp_lang.specs.declared.syntax_tree.Stmt.TheVariants as stmt
-use Rattle.cp_reply.specs.Lines.{lines}
+use Rattle.cp_reply.specs.Lines.{lines, lines_for}
 use Rattle.cp_reply.specs.declared.reply.Reply.TheVariants as reply
 use Rattle.cp_reply.specs.declared.reply.Why.TheVariants as why
-use Rattle.cp_reply.specs.Session.{Setting, Session, going, unread, FetchedFile, gives, withholds, fresh, replies_to_statements, session_after_statements}
+use Rattle.cp_reply.specs.Sharing.{statement_in}
+use Rattle.cp_reply.specs.Session.{Setting, Session, Turn, going, TextReading, says, unread, FetchedFile, gives, withholds, fresh, turn, session_after, replies_to_statements, session_after_statements}
 
 -- ---- places, trees and statements in short
 
@@ -176,6 +181,7 @@ example_setting =
       fits = λ _ _ _ _. true;
       has_room = λ _ _ _. true;
       curator = [];
+      shared = false;
     }
 
 -- the same, but no entry of two operations or more is within the limits
@@ -597,6 +603,128 @@ pub record SourcesHold : Type 0 where
   pub there : copied_row_has_to_be_there
   pub once : source_is_loaded_once
   pub in_turn : files_are_read_in_turn
+
+-- ---- several curators
+
+-- a text, and the statement behind its name, if there is one
+pub record Given : Type 0 where
+  pub text : String
+  pub statement : Option Stmt
+
+abbrev pub given : String → Stmt → Given
+given text x = record { text = text; statement = Some x }
+
+abbrev pub unreadable : String → Given
+unreadable text = record { text = text; statement = None }
+
+-- a statement, or that the text is none
+abbrev pub says_or_not : List ℕ → Option Stmt → TextReading
+says_or_not text None = unread (why.Syntax (length text))
+says_or_not text (Some x) = says x
+
+-- what a statement's text says, if it stands in one of these
+abbrev pub reading_among : List Given → List ℕ → TextReading
+reading_among [] text = unread (why.Syntax (length text))
+reading_among (g ∷ gs) text = if text_eq text (statement_in (codes g.text)) then says_or_not text g.statement else reading_among gs text
+
+-- an input of several curators
+abbrev pub shared_setting : List Given → Setting
+shared_setting texts = record example_setting { read = reading_among texts; shared = true }
+
+-- the line or lines of a turn
+abbrev pub lines_of_turn : Turn → List ℕ
+lines_of_turn t = flat_map (λ r. lines_for t.whose r) (option_to_list t.reply)
+
+-- those of the turns that cuts bring
+abbrev pub lines_of_cuts : Setting → Session → List Cut → List ℕ
+lines_of_cuts c s [] = []
+lines_of_cuts c s (x ∷ xs) = lines_of_turn (turn c s x) ++ lines_of_cuts c (turn c s x).next xs
+
+abbrev pub cuts_of_texts : List Given → List Cut
+cuts_of_texts texts = map (λ g. cut.Text (codes g.text)) texts
+
+-- all that several curators' session writes which begins with this tree and is given these texts
+abbrev pub shared_output : Kind → Tree → List Given → List ℕ
+shared_output k t texts = lines_of_cuts (shared_setting texts) (fresh k t []) (cuts_of_texts texts)
+
+-- the log of the history to which it leads, where the clock tells these moments
+abbrev pub shared_log : Kind → List ℕ → List Given → List ℕ
+shared_log k moments texts = lines (reply.Logged (log_of (session_after (shared_setting texts) (fresh k empty_tree moments) (cuts_of_texts texts)).history))
+
+-- two curators insert the same label, and one more of them another
+abbrev pub rivals : List Given
+rivals =
+    given "@ann ins {a : 1} into T" (ins "a" (whole 1) "T") ∷ given " @bob ins {a : 2} into T" (ins "a" (whole 2) "T")
+    ∷ given " @ann commit" stmt.Commit ∷ given " @bob commit" stmt.Commit
+    ∷ given " @bob ins {b : 2} into T" (ins "b" (whole 2) "T") ∷ given " @bob commit" stmt.Commit ∷ []
+
+-- the first to commit wins; the other is told so, and may begin again
+abbrev pub first_to_commit_wins : Type 0
+first_to_commit_wins =
+    shared_output kind.T empty_tree (rivals ++ given " @ann src T/b" (ask_src "T/b") ∷ [])
+    ≡ lines_of ("@ann committed 1" ∷ "@bob refused commit: stale at 1" ∷ "@bob committed 2" ∷ "@ann src T/b: 2" ∷ [])
+
+-- each commit is its curator's, and the one that is stale takes no moment
+abbrev pub commits_are_signed : Type 0
+commits_are_signed =
+    shared_log kind.N (5 ∷ 6 ∷ []) rivals
+    ≡ lines_of ("commit 1 by ann at 5, operations 1" ∷ "commit 2 by bob at 6, operations 1" ∷ "log: 2" ∷ [])
+
+-- while somebody's transaction is open no source is loaded, and the others see the committed tree
+abbrev pub open_transaction_is_its_curators : Type 0
+open_transaction_is_its_curators =
+    shared_output kind.T empty_tree (given "@ann ins {a : 1} into T" (ins "a" (whole 1) "T") ∷ given " @bob load S json \"s.json\"" (load "S" "s.json")
+    ∷ given " @bob show T" (show "T") ∷ given " @ann show T" (show "T") ∷ given " @ann abort" stmt.Abort ∷ unreadable " ins {c : 1} into T"
+    ∷ given "@bob load S json \"s.json\"" (load "S" "s.json") ∷ [])
+    ≡ lines_of ("@bob refused load: a transaction is open" ∷ "@bob show T: {}" ∷ "@ann show T: {a : 1}" ∷ "@ann aborted 1" ∷ "refused: syntax at 1"
+    ∷ "@bob loaded S 3" ∷ [])
+
+-- a transaction works on the tree on which it began, and a query sees what is committed
+abbrev pub transaction_keeps_its_tree : Kind → Type 0
+transaction_keeps_its_tree k =
+    shared_output k empty_tree (given "@ann ins {a : 1} into T" (ins "a" (whole 1) "T") ∷ given "@bob ins {b : 2} into T" (ins "b" (whole 2) "T") ∷ given "@bob commit" stmt.Commit
+    ∷ given "@ann ins {b : 3} into T" (ins "b" (whole 3) "T") ∷ given "@ann show T" (show "T") ∷ given "@bob show T" (show "T") ∷ given "@ann src T/a" (ask_src "T/a")
+    ∷ given "@ann commit" stmt.Commit ∷ given "@ann show T" (show "T") ∷ [])
+    ≡ lines_of ("@bob committed 1" ∷ "@ann show T: {a : 1, b : 3}" ∷ "@bob show T: {b : 2}" ∷ "@ann refused: no place T/a"
+    ∷ "@ann refused commit: stale at 1" ∷ "@ann show T: {b : 2}" ∷ [])
+
+-- one that has failed says so, also after another's commit
+abbrev pub failed_transaction_is_not_stale : Type 0
+failed_transaction_is_not_stale =
+    shared_output kind.T empty_tree (given "@ann del z from T" (del "z" "T") ∷ given "@bob ins {b : 2} into T" (ins "b" (whole 2) "T") ∷ given "@bob commit" stmt.Commit
+    ∷ given "@ann ins {a : 1} into T" (ins "a" (whole 1) "T") ∷ given "@ann commit" stmt.Commit ∷ given "@ann commit" stmt.Commit ∷ [])
+    ≡ lines_of ("@ann refused: no label z in T" ∷ "@bob committed 1" ∷ "@ann refused: transaction failed at 1" ∷ "@ann refused commit: failed at 1" ∷ "@ann refused commit: no operation" ∷ [])
+
+-- a name alone fails its curator's transaction, and `T` is a name like any other; a text that is nobody's fails none
+abbrev pub names_alone : Type 0
+names_alone =
+    shared_output kind.N empty_tree (given "@ann ins {a : 1} into T" (ins "a" (whole 1) "T") ∷ unreadable "@ann" ∷ unreadable " @T" ∷ unreadable "@" ∷ unreadable " @1" ∷ unreadable "@ann@ commit"
+    ∷ unreadable "@a23456789012345678901234567890123 commit" ∷ given "@a2345678901234567890123456789012 commit" stmt.Commit
+    ∷ given "@ann commit" stmt.Commit ∷ given "@T commit" stmt.Commit ∷ [])
+    ≡ lines_of ("@ann refused: syntax at 4" ∷ "@T refused: syntax at 3" ∷ "refused: syntax at 0" ∷ "refused: syntax at 1" ∷ "refused: syntax at 0"
+    ∷ "refused: syntax at 0" ∷ "@a2345678901234567890123456789012 refused commit: no operation"
+    ∷ "@ann refused commit: failed at 2" ∷ "@T refused commit: failed at 1" ∷ [])
+
+-- a text that isn't ended is refused at its end and one that isn't UTF-8 at its first wrong byte; one that is too long is nobody's
+abbrev pub cuts_that_are_no_texts : Type 0
+cuts_that_are_no_texts =
+    lines_of_cuts (shared_setting (given "@ann commit" stmt.Commit ∷ [])) (fresh kind.N empty_tree [])
+    (cut.Unfinished (codes "@ann ins {a") ∷ cut.Unfinished (codes " ins {a") ∷ cut.Text (32 ∷ 64 ∷ 255 ∷ []) ∷ cut.Unfinished (64 ∷ 255 ∷ 32 ∷ []) ∷ cut.TooLong
+    ∷ cut.Text (codes "@ann commit") ∷ [])
+    ≡ lines_of ("@ann refused: syntax at 11" ∷ "refused: syntax at 7" ∷ "refused: syntax at 2" ∷ "refused: syntax at 1" ∷ "refused: statement too long"
+    ∷ "@ann refused commit: failed at 1" ∷ [])
+
+pub record SharedHold : Type 0 where
+  pub first : first_to_commit_wins
+  pub signed : commits_are_signed
+  pub own : open_transaction_is_its_curators
+  pub tree_naive : transaction_keeps_its_tree kind.N
+  pub tree_transactional : transaction_keeps_its_tree kind.T
+  pub tree_hierarchical : transaction_keeps_its_tree kind.H
+  pub tree_hierarchical_transactional : transaction_keeps_its_tree kind.HT
+  pub failed : failed_transaction_is_not_stale
+  pub names : names_alone
+  pub cuts : cuts_that_are_no_texts
 
 -- ---- spellings
 

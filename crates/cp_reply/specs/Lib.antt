@@ -1,5 +1,6 @@
 pub mod Lines
 pub mod Front
 pub mod Runs
+pub mod Sharing
 pub mod Session
 pub mod Examples

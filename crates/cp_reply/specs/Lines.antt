@@ -38,6 +38,15 @@ use Rattle.cp_reply.specs.declared.reply.Reply.TheVariants as reply
 abbrev pub line : List ℕ → List ℕ
 line text = text ++ 10 ∷ []
 
+-- in an input of several curators, the one whom a line answers
+abbrev pub whose_text : Option (List ℕ) → List ℕ
+whose_text None = []
+whose_text (Some n) = codes "@" ++ (n ++ codes " ")
+
+-- a line for a curator, or for nobody
+abbrev pub line_for : Option (List ℕ) → List ℕ → List ℕ
+line_for whose text = whose_text whose ++ line text
+
 -- ---- parts of lines
 
 -- the word of a kind
@@ -126,13 +135,17 @@ query_text (query.Records t) = []
 query_text query.Stats = []
 
 -- the line or lines of an answer
+abbrev pub answer_lines_for : Option (List ℕ) → Query → Answer → List ℕ
+answer_lines_for whose q (answer.Src t) = line_for whose (query_text q ++ tid_or_none t)
+answer_lines_for whose q (answer.Tids ts) = line_for whose (query_text q ++ tids_text ts)
+answer_lines_for whose q (answer.Trace t) = line_for whose (query_text q ++ trace_text t)
+answer_lines_for whose q (answer.From f) = line_for whose (query_text q ++ from_text f)
+answer_lines_for whose q (answer.Records rs) = flat_map (λ r. line_for whose (record_text r)) rs ++ line_for whose (codes "records: " ++ decimal (length rs))
+answer_lines_for whose q (answer.Stats s) = line_for whose (stats_text s)
+
+-- for nobody
 abbrev pub answer_lines : Query → Answer → List ℕ
-answer_lines q (answer.Src t) = line (query_text q ++ tid_or_none t)
-answer_lines q (answer.Tids ts) = line (query_text q ++ tids_text ts)
-answer_lines q (answer.Trace t) = line (query_text q ++ trace_text t)
-answer_lines q (answer.From f) = line (query_text q ++ from_text f)
-answer_lines q (answer.Records rs) = flat_map (λ r. line (record_text r)) rs ++ line (codes "records: " ++ decimal (length rs))
-answer_lines q (answer.Stats s) = line (stats_text s)
+answer_lines q a = answer_lines_for None q a
 
 -- ---- refusals
 
@@ -190,6 +203,7 @@ why_text o (why.RepeatedKey n) = codes "repeated key at row " ++ decimal n
 why_text o why.StoreTooLarge = codes "store too large"
 why_text o why.StoreExists = codes "store exists"
 why_text o (why.NoVersion n) = codes "no version " ++ decimal n
+why_text o (why.Stale n) = codes "stale at " ++ decimal n
 
 -- what is refused
 abbrev pub refused_front : Of → List ℕ
@@ -218,19 +232,23 @@ abbrev pub commit_text : LogLine → List ℕ
 commit_text c =
     codes "commit " ++ (range_text c.low c.high ++ (codes " by " ++ (label_text c.curator ++ (codes " at " ++ (decimal c.moment ++ (codes ", operations " ++ decimal c.operations))))))
 
--- the line or lines of a reply
+-- the line or lines of a reply, for a curator or for nobody
+unfoldable pub lines_for : Option (List ℕ) → Reply → List ℕ
+lines_for whose (reply.Created k nodes) = line_for whose (codes "created " ++ (kind_text k ++ (codes " " ++ decimal nodes)))
+lines_for whose (reply.Loaded n nodes) = line_for whose (codes "loaded " ++ (n ++ (codes " " ++ decimal nodes)))
+lines_for whose (reply.Committed low high) = line_for whose (codes "committed " ++ range_text low high)
+lines_for whose (reply.Aborted count) = line_for whose (codes "aborted " ++ decimal count)
+lines_for whose (reply.Answered q a) = answer_lines_for whose q a
+lines_for whose (reply.Show q rows) = line_for whose (codes "show " ++ (place_text q ++ (codes ": " ++ tree_text rows)))
+lines_for whose (reply.Checkpoint t) = line_for whose (codes "checkpoint " ++ decimal t)
+lines_for whose (reply.Verified v) = line_for whose (verdict_text v)
+lines_for whose (reply.Logged commits) = flat_map (λ c. line_for whose (commit_text c)) commits ++ line_for whose (codes "log: " ++ decimal (length commits))
+lines_for whose (reply.Gen s places born copies) =
+    line_for whose (stats_text s) ++ line_for whose (codes "gen: places " ++ (decimal places ++ (codes ", born " ++ (decimal born ++ (codes ", copies " ++ decimal copies)))))
+lines_for whose (reply.Uses q qs) = line_for whose (codes "uses " ++ (place_text q ++ (codes ": " ++ places_text qs)))
+lines_for whose (reply.Archive versions ranges) = line_for whose (codes "archive: versions " ++ (decimal versions ++ (codes ", ranges " ++ decimal ranges)))
+lines_for whose (reply.Refused o w) = line_for whose (refused_front o ++ why_text o w)
+
+-- for nobody
 unfoldable pub lines : Reply → List ℕ
-lines (reply.Created k nodes) = line (codes "created " ++ (kind_text k ++ (codes " " ++ decimal nodes)))
-lines (reply.Loaded n nodes) = line (codes "loaded " ++ (n ++ (codes " " ++ decimal nodes)))
-lines (reply.Committed low high) = line (codes "committed " ++ range_text low high)
-lines (reply.Aborted count) = line (codes "aborted " ++ decimal count)
-lines (reply.Answered q a) = answer_lines q a
-lines (reply.Show q rows) = line (codes "show " ++ (place_text q ++ (codes ": " ++ tree_text rows)))
-lines (reply.Checkpoint t) = line (codes "checkpoint " ++ decimal t)
-lines (reply.Verified v) = line (verdict_text v)
-lines (reply.Logged commits) = flat_map (λ c. line (commit_text c)) commits ++ line (codes "log: " ++ decimal (length commits))
-lines (reply.Gen s places born copies) =
-    line (stats_text s) ++ line (codes "gen: places " ++ (decimal places ++ (codes ", born " ++ (decimal born ++ (codes ", copies " ++ decimal copies)))))
-lines (reply.Uses q qs) = line (codes "uses " ++ (place_text q ++ (codes ": " ++ places_text qs)))
-lines (reply.Archive versions ranges) = line (codes "archive: versions " ++ (decimal versions ++ (codes ", ranges " ++ decimal ranges)))
-lines (reply.Refused o w) = line (refused_front o ++ why_text o w)
+lines r = lines_for None r

@@ -1,9 +1,10 @@
 -- A session: what each cut of the input replies, and the state that it leaves.
 use Rattle.cp_model.specs.declared.limits.TheConstants.{OPS_MAX, SOURCES_MAX}
-use Rattle.std.specs.Prelude.{ℕ, ◌+◌, ◌-◌, ◌==◌, List, [], ◌∷◌, ◌++◌, Bool, true, false, not, drop, length, map, is_some, if◌then◌else◌}
+use Rattle.std.specs.Prelude.{ℕ, ◌+◌, ◌-◌, ◌==◌, ◌&&◌, List, [], ◌∷◌, ◌++◌, Bool, true, false, not, drop, length, map, is_some, nat_lt, if◌then◌else◌}
 use Rattle.std.specs.declared.option.Option.{Option}
 use Rattle.std.specs.declared.option.Option.TheVariants.{None, Some}
 use Rattle.cp_outside.specs.FileReads.{FileTable}
+use Rattle.cp_path.specs.Text.{text_eq}
 use Rattle.cp_path.specs.declared.loc.Loc.{Loc}
 use Rattle.cp_model.specs.Place.{Path, Label, in_target}
 use Rattle.cp_model.specs.Keyed as keyed
@@ -12,6 +13,7 @@ use Rattle.cp_model.specs.Tree.{Tree, source, refusal}
 use Rattle.cp_model.specs.Step.{Outcome, done, refused, step, contents}
 use Rattle.cp_model.specs.Past.{tree_of}
 use Rattle.cp_model.specs.History.{Entry, start, load, commit, State, replay, steps_of, after_commit}
+use Rattle.cp_model.specs.Versions.{version}
 use Rattle.cp_model.specs.Answers.{answer_to}
 use Rattle.cp_model.specs.declared.op.Op.{Op}
 use Rattle.cp_model.specs.declared.op.Op.TheVariants.{Ins, Del, Copy}
@@ -27,6 +29,7 @@ use Rattle.cp_model.specs.declared.refusal.Refusal.{Refusal}
 use Rattle.cp_model.specs.declared.refusal.Refusal.TheVariants as refusal
 use Rattle.cp_model.specs.declared.refusal.Cause.{Cause}
 use Rattle.cp_model.specs.declared.refusal.Cause.TheVariants.{Refused, Unread}
+use Rattle.cp_lang.specs.Lexer.{spaces}
 use Rattle.cp_lang.specs.declared.cut.Cut.{Cut}
 use Rattle.cp_lang.specs.declared.cut.Cut.TheVariants.{Text, TooLong, Unfinished}
 use Rattle.cp_lang.specs.declared.syntax_tree.Stmt.{Stmt}
@@ -37,6 +40,7 @@ use Rattle.cp_reply.specs.declared.reply.Why.{Why}
 use Rattle.cp_reply.specs.declared.reply.Why.TheVariants as why
 use Rattle.cp_reply.specs.declared.reply.Reply.{Reply}
 use Rattle.cp_reply.specs.declared.reply.Reply.TheVariants as reply
+use Rattle.cp_reply.specs.Sharing.{owner, statement_in, bad_byte_or}
 
 -- ---- what a session is run with
 
@@ -60,6 +64,8 @@ pub record Setting : Type 0 where
   -- after this history the file has room for an entry of this source
   pub has_room : List Entry → List ℕ → Tree → Bool
   pub curator : Label
+  -- the input is that of several curators, each of whose texts begins with his name
+  pub shared : Bool
 
 -- ---- what comes from outside
 
@@ -94,25 +100,35 @@ pub data OpenTransaction : Type 0 where
   going : List Op → OpenTransaction
   failed : ℕ → Cause → OpenTransaction
 
+-- the open transaction of one of several curators, and the last Tid when it was opened
+pub record Desk : Type 0 where
+  pub name : List ℕ
+  pub opened : OpenTransaction
+  pub since : ℕ
+
 -- the state of a session
 pub record Session : Type 0 where
   pub history : List Entry
   pub opened : OpenTransaction
+  -- where the input is that of several curators, the transactions that they have open
+  pub desks : List Desk
   -- what is still told
   pub supply : Supply
 
 -- a reply, if there is one, and the next state
 pub record Turn : Type 0 where
   pub reply : Option Reply
+  -- where the input is that of several curators, the one to whom it replies
+  pub whose : Option (List ℕ)
   pub next : Session
 
 -- no reply
 abbrev pub silent : Session → Turn
-silent s = record { reply = None; next = s }
+silent s = record { reply = None; whose = None; next = s }
 
 -- a reply
 abbrev pub replies : Reply → Session → Turn
-replies r s = record { reply = Some r; next = s }
+replies r s = record { reply = Some r; whose = None; next = s }
 
 -- the refusal of a statement
 abbrev pub refuses : Why → Session → Turn
@@ -120,11 +136,11 @@ refuses w s = replies (reply.Refused of.Statement w) s
 
 -- the transaction becomes x
 abbrev pub with_opened : Session → OpenTransaction → Session
-with_opened s x = record { history = s.history; opened = x; supply = s.supply }
+with_opened s x = record s { opened = x }
 
 -- the history gets one entry more
 abbrev pub with_entry : Session → Entry → Session
-with_entry s e = record { history = s.history ++ e ∷ []; opened = s.opened; supply = s.supply }
+with_entry s e = record s { history = s.history ++ e ∷ [] }
 
 -- ---- operations
 
@@ -207,7 +223,7 @@ new_records before after = drop (length before.rows) after.rows
 
 -- a moment was taken, and no transaction is open
 abbrev pub after_moment : Session → Session
-after_moment s = record { history = s.history; opened = closed; supply = record { moments = drop 1 s.supply.moments; tables = s.supply.tables } }
+after_moment s = record s { opened = closed; supply = record { moments = drop 1 s.supply.moments; tables = s.supply.tables } }
 
 -- the curator and the moment of a commit
 abbrev pub stamp_of : Setting → Session → Stamp
@@ -246,7 +262,7 @@ is_closed (failed n c) = false
 
 -- a file was read
 abbrev pub after_read : Session → Session
-after_read s = record { history = s.history; opened = s.opened; supply = record { moments = s.supply.moments; tables = drop 1 s.supply.tables } }
+after_read s = record s { supply = record { moments = s.supply.moments; tables = drop 1 s.supply.tables } }
 
 -- the source is loaded, unless the store has no room
 abbrev pub load_fetched : Setting → Session → List ℕ → FetchedFile → Turn
@@ -324,11 +340,113 @@ abbrev pub turn_of : Setting → Session → TextReading → Turn
 turn_of c s (says x) = turn_by c s (replay s.history) x
 turn_of c s (unread w) = not_read s w
 
+-- what each cut of one curator's input replies, and the state that it leaves
+abbrev pub turn_alone : Setting → Session → Cut → Turn
+turn_alone c s (Text text) = turn_of c s (c.read text)
+turn_alone c s TooLong = not_read s why.StatementTooLong
+turn_alone c s (Unfinished text) = not_read s (why.Syntax (length text))
+
+-- ---- several curators
+
+-- the desk of the name; where it has none, its transaction is closed, and would be opened after the Tid now
+abbrev pub desk_of : ℕ → List ℕ → List Desk → Desk
+desk_of now n [] = record { name = n; opened = closed; since = now }
+desk_of now n (d ∷ ds) = if text_eq n d.name then d else desk_of now n ds
+
+-- the desks of other names
+abbrev pub other_desks : List ℕ → List Desk → List Desk
+other_desks n [] = []
+other_desks n (d ∷ ds) = if text_eq n d.name then other_desks n ds else d ∷ other_desks n ds
+
+-- its name has this desk, or none where its transaction is closed
+abbrev pub with_desk : Desk → List Desk → List Desk
+with_desk d ds = if is_closed d.opened then other_desks d.name ds else d ∷ other_desks d.name ds
+
+-- somebody has a transaction open
+abbrev pub any_open : List Desk → Bool
+any_open [] = false
+any_open (d ∷ ds) = true
+
+-- operations were accepted, and none was refused
+abbrev pub is_going : OpenTransaction → Bool
+is_going closed = false
+is_going (going ops) = true
+is_going (failed n c) = false
+
+-- in a curator's turn his transaction is the one that is open
+abbrev pub seated : Desk → Session → Session
+seated d s = with_opened s d.opened
+
+-- after it the transaction stands on his desk again
+abbrev pub risen : Desk → Session → Session
+risen d s = record s { opened = closed; desks = with_desk (record d { opened = s.opened }) s.desks }
+
+-- his turn, by what it brings while his transaction is open
+abbrev pub turn_for : Desk → Turn → Turn
+turn_for d t = record { reply = t.reply; whose = Some d.name; next = risen d t.next }
+
+-- the state, if there is one, or else t
+abbrev pub state_or : State → Option State → State
+state_or t None = t
+state_or t (Some z) = z
+
+-- the state on which his operations work: the one after which his transaction was opened, while that is going
+abbrev pub base : List Entry → State → Desk → State
+base h t d = if is_going d.opened then state_or t (version h d.since) else t
+
+-- there was a commit after his transaction was opened
+abbrev pub is_stale : State → Desk → Bool
+is_stale t d = is_going d.opened && nat_lt d.since t.now
+
+-- this curator makes the commits
+abbrev pub for_curator : List ℕ → Setting → Setting
+for_curator n c = record c { curator = n }
+
+-- The table of a curator's statement, on the state that the history leads to. His operations see the tree on which his transaction
+-- began, with all sources; a commit after another's is stale; a source is loaded only while nobody has a transaction open.
+abbrev pub turn_at : Setting → Session → State → Desk → Stmt → Turn
+turn_at c s t d (stmt.Op op) = on_operation (seated d s) (base s.history t d) op d.opened
+turn_at c s t d stmt.Commit = if is_stale t d then refused_commit (why.Stale t.now) (seated d s) else on_commit (for_curator d.name c) (seated d s) t d.opened
+turn_at c s t d stmt.Abort = replies (reply.Aborted (count_given_up d.opened)) (with_opened s closed)
+turn_at c s t d (stmt.Load l) = if any_open s.desks then refused_load why.TransactionOpen (seated d s) else on_load c (seated d s) t l
+turn_at c s t d (stmt.Ask q) = answer_or_refuse (seated d s) q (answer_to t q)
+turn_at c s t d (stmt.Show q) = on_show (seated d s) (base s.history t d) q
+
+-- a history without a state answers nothing
+abbrev pub turn_at_by : Setting → Session → Option State → Desk → Stmt → Turn
+turn_at_by c s None d x = silent s
+turn_at_by c s (Some t) d x = turn_for d (turn_at c s t d x)
+
+-- what a curator's text brings, by what it says
+abbrev pub turn_at_of : Setting → Session → Desk → TextReading → Turn
+turn_at_of c s d (says x) = turn_at_by c s (replay s.history) d x
+turn_at_of c s d (unread w) = turn_for d (not_read (seated d s) w)
+
+-- the last Tid
+abbrev pub last_tid : Option State → ℕ
+last_tid None = 0
+last_tid (Some t) = t.now
+
+-- the desk of a name
+abbrev pub desk_in : Session → List ℕ → Desk
+desk_in s n = desk_of (last_tid (replay s.history)) n s.desks
+
+-- what a text brings, by whose it is and what it says; one that is nobody's is refused at this offset, and touches no transaction
+abbrev pub turn_by_owner : Setting → Session → ℕ → Option (List ℕ) → TextReading → Turn
+turn_by_owner c s at None r = refuses (why.Syntax at) s
+turn_by_owner c s at (Some n) r = turn_at_of c s (desk_in s n) r
+
+-- what each cut of several curators' input replies, and the state that it leaves
+abbrev pub shared_turn : Setting → Session → Cut → Turn
+shared_turn c s (Text text) = turn_by_owner c s (bad_byte_or (spaces text) text) (owner text) (c.read (statement_in text))
+shared_turn c s TooLong = refuses why.StatementTooLong s
+shared_turn c s (Unfinished text) = turn_by_owner c s (bad_byte_or (length text) text) (owner text) (unread (why.Syntax (length text)))
+
+-- ---- turns
+
 -- what each cut replies, and the state that it leaves
 unfoldable pub turn : Setting → Session → Cut → Turn
-turn c s (Text text) = turn_of c s (c.read text)
-turn c s TooLong = not_read s why.StatementTooLong
-turn c s (Unfinished text) = not_read s (why.Syntax (length text))
+turn c s cut = if c.shared then shared_turn c s cut else turn_alone c s cut
 
 -- ---- whole sessions
 
@@ -349,7 +467,7 @@ session_after c s (x ∷ xs) = session_after c (turn c s x).next xs
 
 -- a session on a history of its own, which has a start tree alone, with these moments of the clock
 abbrev pub fresh : Kind → Tree → List ℕ → Session
-fresh k t moments = record { history = start k t ∷ []; opened = closed; supply = record { moments = moments; tables = [] } }
+fresh k t moments = record { history = start k t ∷ []; opened = closed; desks = []; supply = record { moments = moments; tables = [] } }
 
 -- the replies to statements that are handed over as values
 unfoldable pub replies_to_statements : Setting → Session → List Stmt → List Reply

@@ -1,4 +1,4 @@
-ghost use Rattle.cp_reply.specs.Examples.{CopyPasteHolds, CopiesHold, NetEffectsHold, InsertedTreesHold, TransactionsHold, RefusalsHold, SourcesHold, SpellingsHold};
+ghost use Rattle.cp_reply.specs.Examples.{CopyPasteHolds, CopiesHold, NetEffectsHold, InsertedTreesHold, TransactionsHold, RefusalsHold, SourcesHold, SharedHold, SpellingsHold};
 
 /// Does nothing when it runs. Its contract states worked examples of the definitions, whole sessions with the text that they write,
 /// and the check proves each of them by computation: so a definition that says something else than these examples is refused.
@@ -10,5 +10,6 @@ pub fn worked_examples()
     ensures transactions { TransactionsHold }
     ensures refusals { RefusalsHold }
     ensures sources { SourcesHold }
+    ensures shared { SharedHold }
     ensures spellings { SpellingsHold }
 {}

@@ -17,4 +17,4 @@ mod write;
 pub use examples::worked_examples;
 pub use record::record_text;
 pub use reply::{Of, PlaceList, Reply, Why};
-pub use write::lines;
+pub use write::{lines, lines_for};

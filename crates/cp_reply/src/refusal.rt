@@ -138,5 +138,6 @@ pub(crate) fn why_text(alloc: Global, of: Of, why: &Why) -> Result<String, Alloc
         Why::StoreTooLarge => words(alloc, "store too large"),
         Why::StoreExists => words(alloc, "store exists"),
         Why::NoVersion(number) => with_number(alloc, "no version ", *number),
+        Why::Stale(tid) => with_number(alloc, "stale at ", *tid),
     }
 }

@@ -57,6 +57,8 @@ pub enum Why {
     StoreExists,
     /// The store has no version of this number.
     NoVersion(u64),
+    /// Another curator has committed since the transaction was opened; the last Tid.
+    Stale(u64),
 }
 
 /// Places, in order and each once.

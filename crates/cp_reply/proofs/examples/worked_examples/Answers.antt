@@ -23,5 +23,8 @@ returns-clause-refusals c = worked.refusals
 pub returns-clause-sources : goal.returns-clause-sources
 returns-clause-sources c = worked.sources
 
+pub returns-clause-shared : goal.returns-clause-shared
+returns-clause-shared c = worked.shared
+
 pub returns-clause-spellings : goal.returns-clause-spellings
 returns-clause-spellings c = worked.spellings
