@@ -3,7 +3,6 @@ use Rattle.std.proofs.Common.{◌≡◌, Ok, Err, Result, refl, ◌∙◌, subst
 use Rattle.std.specs.Prelude.{⊤}
 use Rattle.cp_outside.specs.Causes.{Accounts}
 use Rattle.cp_disk.specs.Views.{KnownDisk}
-use Rattle.cp_workspace.proofs.ReadCounts.{some-then}
 use Rattle.cp_interpreter.specs.Outside.{KnownOutput, World}
 use Rattle.cp_interpreter.specs.Turns.{Uses, RefusesWrite}
 use Rattle.cp_interpreter.specs.declared.stop.Stop.{Stop}
@@ -14,7 +13,6 @@ use Rattle.cp_interpreter.proofs.Lines.{refused-after}
 pub uses-none : (b : World) (v : KnownDisk) → Uses b b v v (Ok tt)
 uses-none b v = record {
   files = record { same = refl; account = record { later = omega arith; blamed = tt; steady = refl } };
-  read = (0, refl);
   clock = record { later = omega arith; blamed = tt; steady = refl };
   output = record { account = record { later = omega arith; blamed = tt; steady = refl }; refuses = refl };
   disk = record { same = refl; account = record { later = omega arith; blamed = tt; steady = refl } };
@@ -38,7 +36,6 @@ uses-then b m a v u w result first second = record {
     same = second.files.same ∙ first.files.same;
     account = subst (λ n. Accounts (λ e. e ≡ File) n a.files.faults result) first.files.account.steady second.files.account;
   };
-  read = some-then b.files m.files a.files first.read second.read;
   clock = subst (λ n. Accounts (λ e. e ≡ Clock) n a.clock.faults result) first.clock.steady second.clock;
   output = record {
     account = subst (λ n. Accounts (λ e. e ≡ Output) n a.output.faults result) first.output.account.steady second.output.account;

@@ -21,11 +21,12 @@ use Rattle.cp_lang.specs.declared.syntax_tree.Stmt.TheVariants as stmt
 use Rattle.cp_reply.specs.Lines.{lines}
 use Rattle.cp_reply.specs.declared.reply.Reply.{Reply}
 use Rattle.cp_reply.specs.Session.{Supply, no_supply, followed_by, Session, says, turn_of, session_after_statements}
+use Rattle.cp_workspace.specs.Supplies.{IsSupplied}
 use Rattle.cp_workspace.specs.Texts.{Terms, setting}
 use Rattle.cp_workspace.specs.Loads.{statement_reads}
 use Rattle.cp_workspace.specs.Files.{KnownFiles, HasRead, UsesFiles}
 use Rattle.cp_workspace.specs.Spending.{Spends}
-use Rattle.cp_workspace.specs.Workspaces.{Stands, HoldsFile, HasTurned, db_in, end_now, opened_session}
+use Rattle.cp_workspace.specs.Workspaces.{workspace_at, Stands, HoldsFile, HasTurned, db_in, end_now, opened_session}
 use Rattle.cp_workspace.specs.declared.fault.WorkspaceFault.{WorkspaceFault}
 use Rattle.cp_workspace.specs.declared.fault.WorkspaceFault.TheVariants as fails
 use Rattle.cp_workspace.specs.declared.workspace.Workspace.{Workspace}
@@ -129,7 +130,7 @@ module _ {R S : Type 0} (view : R → Tree) (source_view : S → Tree) (l : Load
   module _ (old new : Workspace R S) (same : IsTrue v.known → IsTrue m.known) (rests : IsTrue v.known → ViewRests v.view m.view) (opened : IsTrue v.known → OpenedAlone view source_view v m (Ok old)) where
     -- the load made its turn
     abbrev MadeTurn : Result Reply WorkspaceFault → Type 0
-    MadeTurn r = HasTurned view source_view (λ (y : Reply). Some y) (λ terms s. turn_of (setting terms) s (says (stmt.Load l))) f k k old new m w r
+    MadeTurn r = HasTurned view source_view (λ (y : Reply). Some y) (λ terms s. turn_of (setting terms) s (says (stmt.Load l))) (IsSupplied f k k) (workspace_at old m) (workspace_at new w) r
 
     -- and read its file, or none
     abbrev HasSpentAs : Result Reply WorkspaceFault → Type 0

@@ -32,7 +32,7 @@ use Rattle.cp_workspace.specs.Files.{KnownFiles}
 use Rattle.cp_workspace.specs.Spending.{HasSpent}
 use Rattle.cp_workspace.proofs.Spent.{spent-as}
 use Rattle.cp_workspace.proofs.Supplied.{supplied-none}
-use Rattle.cp_interpreter.specs.Outside.{KnownInput, KnownClock, KnownOutput, Outside}
+use Rattle.cp_interpreter.specs.Outside.{call_at, KnownInput, KnownClock, KnownOutput, Outside}
 use Rattle.cp_interpreter.specs.Story.{LeavesHistory, WritesLast, frames_end, store_terms, left_on, DidOn, session_on, work_on, Leaving, Did, IsEarly, early_line, HasNotBegun, RanOn, HasCauses, DiskCauses, result_of, StandsForFront}
 use Rattle.cp_interpreter.specs.Turns.{Follows, MayGoOn, LeavesAlong, RanFrom, TellsStop, end_of_stop, work_from}
 use Rattle.cp_interpreter.specs.Begins.{LeavesStore, Migrated, OpenedAs, BegunOn, IsOpeningStop}
@@ -265,7 +265,7 @@ ran-early-on curator i f k o p v w e early wrote none never leaves = record {
 
 -- a call that ran a session on its store
 module _ {R S : Type 0} (view : R → Tree) (source_view : S → Tree) (curator : List ℕ) (x : Interpreter R S) (b a : Outside) (v m w : KnownDisk) (e : End)
-    (none : x.refused ≡ false) (same : IsTrue v.known → IsTrue m.known) (opened : IsTrue v.known → BegunOn view source_view curator v m (Ok x)) (leaves : LeavesStore v m) (r : RanFrom view source_view x 0 b a m w e) where
+    (none : x.refused ≡ false) (same : IsTrue v.known → IsTrue m.known) (opened : IsTrue v.known → BegunOn view source_view curator v m (Ok x)) (leaves : LeavesStore v m) (r : RanFrom view source_view x 0 (call_at m b) (call_at w a) e) where
   module _ (known : IsTrue v.known) (h : List Entry) (store : IsStore h v.view.content) where
     abbrev terms : Terms
     terms = store_terms h v.view.content curator
@@ -290,7 +290,7 @@ module _ {R S : Type 0} (view : R → Tree) (source_view : S → Tree) (curator 
           | inr f ↦ inr (f.0, f.1, along-on terms (session rest) r.taken f.0 c f.2)
         ]
 
-    did_on : DidOn h curator r.taken r.supply b a v w e
+    did_on : DidOn h curator r.taken r.supply (call_at v b) (call_at w a) e
     did_on = record {
       did = λ rest. inr (did-on terms (session rest) (left_on w) r.taken b a e (subst (λ z. Did (work_from (begun terms (session rest)) z) (left_on w) 0 r.taken b a e) none (went rest).0));
       later = omega (arith, left.later, ((went no_supply).1 (same known)).0);

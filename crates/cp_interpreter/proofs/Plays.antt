@@ -28,12 +28,13 @@ use Rattle.cp_reply.specs.declared.reply.Reply.{Reply}
 use Rattle.cp_reply.specs.Session.{Supply, no_supply, followed_by, Session, Setting, turn, replies_to, session_after}
 use Rattle.cp_reply.proofs.Appended.{replies_to-append, session_after-append}
 use Rattle.cp_reply.proofs.Supplies.{followed-assoc}
+use Rattle.cp_workspace.specs.Supplies.{IsSupplied}
 use Rattle.cp_workspace.specs.Texts.{Terms, setting}
 use Rattle.cp_workspace.specs.Loads.{cut_reads}
 use Rattle.cp_workspace.specs.Commits.{cut_asks}
 use Rattle.cp_workspace.specs.Spending.{HasSpent, Spends}
 use Rattle.cp_disk.specs.Views.{KnownDisk, Leaves}
-use Rattle.cp_workspace.specs.Workspaces.{Stands, IsUsable, HasStamps, HoldsFile, TurnsAs, HasTurned}
+use Rattle.cp_workspace.specs.Workspaces.{expected, workspace_at, Stands, IsUsable, HasStamps, HoldsFile, TurnsAs, HasTurned}
 use Rattle.cp_workspace.specs.declared.fault.WorkspaceFault.{WorkspaceFault}
 use Rattle.cp_workspace.specs.declared.fault.WorkspaceFault.TheVariants as fails
 use Rattle.cp_workspace.specs.declared.workspace.Workspace.{Workspace}
@@ -41,9 +42,9 @@ use Rattle.cp_workspace.proofs.Supplied.{supplied-none, supplied-then}
 use Rattle.cp_workspace.proofs.Spent.{spent-none, spent-sum, spent-as}
 use Rattle.cp_interpreter.specs.Job.{Report, report_of, is_refusal, reads_in, asks_in}
 use Rattle.cp_interpreter.specs.Outside.{World}
-use Rattle.cp_interpreter.specs.Play.{Seen, plays, after_play, closes, plays_all}
+use Rattle.cp_interpreter.specs.Play.{Seen, played_as, bytes_played, plays, after_play, closes, plays_all}
 use Rattle.cp_interpreter.specs.Story.{TakesFrom, left_on, SpentAs, SpentNothing}
-use Rattle.cp_interpreter.specs.Turns.{Follows, MayGoOn, SendsOut, Goes, Went, Fed, WasFed, RunsLast, RanLast, LeavesAlong, cuts_play, after_cuts}
+use Rattle.cp_interpreter.specs.Turns.{session_at, cuts_played, Follows, MayGoOn, SendsOut, Goes, Went, Fed, WasFed, RunsLast, RanLast, LeavesAlong, cuts_play, after_cuts}
 use Rattle.cp_interpreter.specs.declared.interpreter.Interpreter.{Interpreter}
 use Rattle.cp_interpreter.specs.declared.stop.Stop.{Stop}
 use Rattle.cp_interpreter.specs.declared.stop.Stop.TheVariants.{Output, Full, File, Disk, NoStore, Clock, Memory}
@@ -344,16 +345,16 @@ one_spent s cut b a n =
 
 -- a turn leaves the history before it or after it
 pub turned-both : {R S : Type 0} (view : R → Tree) (source_view : S → Tree) (s : Seen) (cut : Cut) (rest : Supply) (old new : Workspace R S) (v w : KnownDisk) (result : Result (Option Reply) WorkspaceFault)
-    → TurnsAs view source_view (λ (r : Option Reply). r) s.terms (turn (setting s.terms) s.session cut) s.session rest old new v w result → (IsTrue v.known → HoldsFile old s.session.history v)
+    → TurnsAs view source_view (λ (r : Option Reply). r) (expected s.terms (turn (setting s.terms) s.session cut) s.session rest) (workspace_at old v) (workspace_at new w) result → (IsTrue v.known → HoldsFile old s.session.history v)
     → Leaves (StandsForEither s.session.history (cuts_play s (cut ∷ [])).history) v w
 unfolding session_after
 turned-both view source_view s cut rest old new v w result t holds = λ known. (let l = t.leaves known (holds known) in (l.later, l.since))
 
 -- a cut brought no reply
 pub ran-silent : {R S : Type 0} (view : R → Tree) (source_view : S → Tree) (s : Seen) (cut : Cut) (rest : Supply) (old new : Interpreter R S) (b a : World) (v w : KnownDisk)
-    → TurnsAs view source_view (λ (r : Option Reply). r) s.terms (turn (setting s.terms) s.session cut) s.session rest old.workspace new.workspace v w (Ok None) → (IsTrue w.known → IsTrue v.known)
+    → TurnsAs view source_view (λ (r : Option Reply). r) (expected s.terms (turn (setting s.terms) s.session cut) s.session rest) (workspace_at old.workspace v) (workspace_at new.workspace w) (Ok None) → (IsTrue w.known → IsTrue v.known)
     → Follows view source_view v old s → HasSpent (cut_reads s.session cut) (cut_asks s.session cut) b.files a.files b.clock a.clock → Appends b.output.contents a.output.contents [] → new.cutter ≡ old.cutter → new.refused ≡ old.refused
-    → Goes view source_view (cuts_play s (cut ∷ [])) (after_cuts s (cut ∷ [])) s.session.history rest old new b a w (Ok tt)
+    → Goes view source_view (played_as (cuts_play s (cut ∷ [])) (after_cuts s (cut ∷ []))) s.session.history rest (session_at old v b) (session_at new w a) (Ok tt)
 unfolding replies_to session_after
 ran-silent view source_view s cut rest old new b a v w t still f n o h r =
     rw (sym t.turned.0) (
@@ -366,10 +367,10 @@ ran-silent view source_view s cut rest old new b a v w t still f n o h r =
 
 -- the lines of a cut's reply were written
 pub ran-said : {R S : Type 0} (view : R → Tree) (source_view : S → Tree) (s : Seen) (cut : Cut) (r : Reply) (rest : Supply) (old mid new : Interpreter R S) (b a : World) (v w : KnownDisk) (result : Result ⊤ Stop)
-    → TurnsAs view source_view (λ (o : Option Reply). o) s.terms (turn (setting s.terms) s.session cut) s.session rest old.workspace mid.workspace v w (Ok (Some r)) → (IsTrue w.known → IsTrue v.known)
+    → TurnsAs view source_view (λ (o : Option Reply). o) (expected s.terms (turn (setting s.terms) s.session cut) s.session rest) (workspace_at old.workspace v) (workspace_at mid.workspace w) (Ok (Some r)) → (IsTrue w.known → IsTrue v.known)
     → Follows view source_view v old s → HasSpent (cut_reads s.session cut) (cut_asks s.session cut) b.files a.files b.clock a.clock → mid.cutter ≡ old.cutter → mid.refused ≡ old.refused
     → SendsOut (lines r) b.output.contents a.output.contents result → OnOk result (new.cutter ≡ mid.cutter) → OnOk result (new.workspace ≡ mid.workspace) → OnOk result (new.refused ≡ (mid.refused || is_refusal r))
-    → Goes view source_view (cuts_play s (cut ∷ [])) (after_cuts s (cut ∷ [])) s.session.history rest old new b a w result
+    → Goes view source_view (played_as (cuts_play s (cut ∷ [])) (after_cuts s (cut ∷ []))) s.session.history rest (session_at old v b) (session_at new w a) result
 unfolding replies_to session_after
 ran-said view source_view s cut r rest old mid new b a v w (Ok x) t still f n h g o h' l' g' =
     rw (sym t.turned.0) (
@@ -404,28 +405,28 @@ ran-said view source_view s cut r rest old mid new b a v w (Err Memory) t still 
 
 -- a cut stopped the session before its reply: its file, the disk or the clock failed, or memory ran out
 pub ran-stopped_early : {R S : Type 0} (view : R → Tree) (source_view : S → Tree) (s : Seen) (cut : Cut) (rest : Supply) (old new : Interpreter R S) (b a : World) (v w : KnownDisk) (fault : WorkspaceFault) (stop : Stop)
-    → TurnsAs view source_view (λ (o : Option Reply). o) s.terms (turn (setting s.terms) s.session cut) s.session rest old.workspace new.workspace v w (Err fault) → (IsTrue w.known → IsTrue v.known) → Follows view source_view v old s
+    → TurnsAs view source_view (λ (o : Option Reply). o) (expected s.terms (turn (setting s.terms) s.session cut) s.session rest) (workspace_at old.workspace v) (workspace_at new.workspace w) (Err fault) → (IsTrue w.known → IsTrue v.known) → Follows view source_view v old s
     → (fault ≡ fails.File → stop ≡ File) → (fault ≡ fails.Disk → stop ≡ Disk) → (fault ≡ fails.Clock → stop ≡ Clock) → (fault ≡ fails.Memory → stop ≡ Memory)
     → (fault ≡ fails.File → left_on w s.session.history s.session.history) → (fault ≡ fails.Clock → left_on w s.session.history s.session.history)
     → Spends {T = Option Reply} (cut_reads s.session cut) (cut_asks s.session cut) b.files a.files b.clock a.clock (Err fault) → Appends b.output.contents a.output.contents []
-    → Goes view source_view (cuts_play s (cut ∷ [])) (after_cuts s (cut ∷ [])) s.session.history rest old new b a w (Err stop)
+    → Goes view source_view (played_as (cuts_play s (cut ∷ [])) (after_cuts s (cut ∷ []))) s.session.history rest (session_at old v b) (session_at new w a) (Err stop)
 unfolding session_after
 ran-stopped_early view source_view s cut rest old new b a v w fails.File stop t still f file disk clock memory same untouched n o =
-    subst (λ z. Goes view source_view (cuts_play s (cut ∷ [])) (after_cuts s (cut ∷ [])) s.session.history rest old new b a w (Err z)) (sym (file refl))
+    subst (λ z. Goes view source_view (played_as (cuts_play s (cut ∷ [])) (after_cuts s (cut ∷ []))) s.session.history rest (session_at old v b) (session_at new w a) (Err z)) (sym (file refl))
     (sym (one_read s.terms s.session cut) ∙ n.0, o, one_spent s cut b a n.1, same refl)
 ran-stopped_early view source_view s cut rest old new b a v w fails.Disk stop t still f file disk clock memory same untouched n o =
-    subst (λ z. Goes view source_view (cuts_play s (cut ∷ [])) (after_cuts s (cut ∷ [])) s.session.history rest old new b a w (Err z)) (sym (disk refl))
+    subst (λ z. Goes view source_view (played_as (cuts_play s (cut ∷ [])) (after_cuts s (cut ∷ []))) s.session.history rest (session_at old v b) (session_at new w a) (Err z)) (sym (disk refl))
     (omega (arith, one_read s.terms s.session cut, one_ask s.terms s.session cut, n.0), o, one_spent s cut b a n.1, λ known c image. (t.leaves (still known) (f.holds (still known))).now c image)
 ran-stopped_early view source_view s cut rest old new b a v w fails.Clock stop t still f file disk clock memory same untouched n o =
-    subst (λ z. Goes view source_view (cuts_play s (cut ∷ [])) (after_cuts s (cut ∷ [])) s.session.history rest old new b a w (Err z)) (sym (clock refl))
+    subst (λ z. Goes view source_view (played_as (cuts_play s (cut ∷ [])) (after_cuts s (cut ∷ []))) s.session.history rest (session_at old v b) (session_at new w a) (Err z)) (sym (clock refl))
     (sym (one_ask s.terms s.session cut) ∙ n.0, o, one_spent s cut b a n.1, untouched refl)
 ran-stopped_early view source_view s cut rest old new b a v w fails.Memory stop t still f file disk clock memory same untouched n o =
-    subst (λ z. Goes view source_view (cuts_play s (cut ∷ [])) (after_cuts s (cut ∷ [])) s.session.history rest old new b a w (Err z)) (sym (memory refl))
+    subst (λ z. Goes view source_view (played_as (cuts_play s (cut ∷ [])) (after_cuts s (cut ∷ []))) s.session.history rest (session_at old v b) (session_at new w a) (Err z)) (sym (memory refl))
     (o, elim n [ inl y ↦ inl y | inr y ↦ inr (one_spent s cut b a y) ], λ known c image. (t.leaves (still known) (f.holds (still known))).now c image)
 
 -- no cut
 pub ran-none : {R S : Type 0} (view : R → Tree) (source_view : S → Tree) (s : Seen) (rest : Supply) (k : Interpreter R S) (a : World) (v : KnownDisk) → Follows view source_view v k s → s.session.supply ≡ rest
-    → Goes view source_view (cuts_play s []) (after_cuts s []) s.session.history rest k k a a v (Ok tt)
+    → Goes view source_view (played_as (cuts_play s []) (after_cuts s [])) s.session.history rest (session_at k v a) (session_at k v a) (Ok tt)
 unfolding replies_to session_after reads_in asks_in
 ran-none view source_view s rest k a v f e = (f, or-false k.refused, Appends-nil a.output.contents, spent-none a.files a.clock, e)
 
@@ -445,9 +446,9 @@ plays-one s x = (
 -- the cut that a byte ends was run
 pub pushed-goes : {R S : Type 0} (view : R → Tree) (source_view : S → Tree) (s : Seen) (x : ℕ) (rest : Supply) (cuts : List Cut) (old mid new : Interpreter R S) (b a : World) (v w : KnownDisk) (result : Result ⊤ Stop)
     → Follows view source_view v old s → cuts ≡ byte_cuts old.cutter x → mid.refused ≡ old.refused
-    → Goes view source_view (cuts_play (seen (scan_byte s.scan x).scan s.terms s.session) cuts) (after_cuts (seen (scan_byte s.scan x).scan s.terms s.session) cuts) s.session.history rest mid new b a w result
+    → Goes view source_view (played_as (cuts_play (seen (scan_byte s.scan x).scan s.terms s.session) cuts) (after_cuts (seen (scan_byte s.scan x).scan s.terms s.session) cuts)) s.session.history rest (session_at mid v b) (session_at new w a) result
     → Leaves (StandsForEither s.session.history (cuts_play s cuts).history) v w
-    → Goes view source_view (plays s (x ∷ [])) (after_play s (x ∷ [])) s.session.history rest old new b a w result × Leaves (StandsForEither s.session.history (plays s (x ∷ [])).history) v w
+    → Goes view source_view (played_as (plays s (x ∷ [])) (after_play s (x ∷ []))) s.session.history rest (session_at old v b) (session_at new w a) result × Leaves (StandsForEither s.session.history (plays s (x ∷ [])).history) v w
 pushed-goes view source_view s x rest cuts old mid new b a v w result f c r go both =
     rw ((plays-one s x).0, (plays-one s x).1) (moved result (subst at is go), subst (λ z. Leaves (StandsForEither s.session.history (cuts_play s z).history) v w) is both)
   where
@@ -458,10 +459,10 @@ pushed-goes view source_view s x rest cuts old mid new b a v w result f c r go b
     is = c ∙ ap (λ z. byte_cuts z x) f.cutter
 
     at : List Cut → Type 0
-    at z = Goes view source_view (cuts_play t z) (after_cuts t z) s.session.history rest mid new b a w result
+    at z = Goes view source_view (played_as (cuts_play t z) (after_cuts t z)) s.session.history rest (session_at mid v b) (session_at new w a) result
 
-    moved : (e : Result ⊤ Stop) → Goes view source_view (cuts_play t (byte_cuts (held_of s.scan) x)) (after_cuts t (byte_cuts (held_of s.scan) x)) s.session.history rest mid new b a w e
-        → Goes view source_view (cuts_play s (byte_cuts (held_of s.scan) x)) (after_cuts t (byte_cuts (held_of s.scan) x)) s.session.history rest old new b a w e
+    moved : (e : Result ⊤ Stop) → Goes view source_view (played_as (cuts_play t (byte_cuts (held_of s.scan) x)) (after_cuts t (byte_cuts (held_of s.scan) x))) s.session.history rest (session_at mid v b) (session_at new w a) e
+        → Goes view source_view (played_as (cuts_play s (byte_cuts (held_of s.scan) x)) (after_cuts t (byte_cuts (held_of s.scan) x))) s.session.history rest (session_at old v b) (session_at new w a) e
     moved (Ok y) g = (g.0, g.1 ∙ ap (λ z. z || (cuts_play t (byte_cuts (held_of s.scan) x)).refused) r, g.2, g.3, g.4)
     moved (Err Output) g = g
     moved (Err Full) g = g
@@ -473,16 +474,16 @@ pushed-goes view source_view s x rest cuts old mid new b a v w result f c r go b
 
 -- no byte is played at once
 pub goes-none : {R S : Type 0} (view : R → Tree) (source_view : S → Tree) (s : Seen) (rest : Supply) (k : Interpreter R S) (a : World) (v : KnownDisk) → Follows view source_view v k s → s.session.supply ≡ rest
-    → Goes view source_view (plays s []) (after_play s []) s.session.history rest k k a a v (Ok tt)
+    → Goes view source_view (played_as (plays s []) (after_play s [])) s.session.history rest (session_at k v a) (session_at k v a) (Ok tt)
 unfolding plays after_play scan_bytes replies_to session_after reads_in asks_in
 goes-none view source_view s rest k a v f e = (f, or-false k.refused, Appends-nil a.output.contents, spent-none a.files a.clock, e)
 
 -- bytes, and then others
-pub goes-then : {R S : Type 0} (view : R → Tree) (source_view : S → Tree) (s : Seen) (xs ys : List ℕ) (mid_rest rest : Supply) (old mid new : Interpreter R S) (b m a : World) (u w : KnownDisk)
-    → Goes view source_view (plays s xs) (after_play s xs) s.session.history mid_rest old mid b m u (Ok tt)
-    → Goes view source_view (plays (after_play s xs) ys) (after_play (after_play s xs) ys) (after_play s xs).session.history rest mid new m a w (Ok tt)
-    → Goes view source_view (plays s (xs ++ ys)) (after_play s (xs ++ ys)) s.session.history rest old new b a w (Ok tt)
-goes-then view source_view s xs ys mid_rest rest old mid new b m a u w g h =
+pub goes-then : {R S : Type 0} (view : R → Tree) (source_view : S → Tree) (s : Seen) (xs ys : List ℕ) (mid_rest rest : Supply) (old mid new : Interpreter R S) (b m a : World) (v u w : KnownDisk)
+    → Goes view source_view (played_as (plays s xs) (after_play s xs)) s.session.history mid_rest (session_at old v b) (session_at mid u m) (Ok tt)
+    → Goes view source_view (played_as (plays (after_play s xs) ys) (after_play (after_play s xs) ys)) (after_play s xs).session.history rest (session_at mid u m) (session_at new w a) (Ok tt)
+    → Goes view source_view (played_as (plays s (xs ++ ys)) (after_play s (xs ++ ys))) s.session.history rest (session_at old v b) (session_at new w a) (Ok tt)
+goes-then view source_view s xs ys mid_rest rest old mid new b m a v u w g h =
     rw (plays-append s xs ys, after-append s xs ys) (
       h.0,
       h.1 ∙ ap (λ z. z || (plays (after_play s xs) ys).refused) g.1 ∙ or_assoc old.refused (plays s xs).refused (plays (after_play s xs) ys).refused,
@@ -492,11 +493,11 @@ goes-then view source_view s xs ys mid_rest rest old mid new b m a u w g h =
     )
 
 -- a byte at which the session stops, whatever would come next
-pub fed-stopped : {R S : Type 0} (view : R → Tree) (source_view : S → Tree) (s : Seen) (xs : List ℕ) (x : ℕ) (ys : List ℕ) (mid_rest rest : Supply) (old mid new : Interpreter R S) (b m a : World) (u w : KnownDisk) (e : Stop)
-    → Goes view source_view (plays s xs) (after_play s xs) s.session.history mid_rest old mid b m u (Ok tt)
-    → Goes view source_view (plays (after_play s xs) (x ∷ [])) (after_play (after_play s xs) (x ∷ [])) (after_play s xs).session.history rest mid new m a w (Err e)
-    → Fed view source_view s (xs ++ x ∷ ys) rest old new b a w (Err e)
-fed-stopped view source_view s xs x ys mid_rest rest old mid new b m a u w e g h = stopped e h
+pub fed-stopped : {R S : Type 0} (view : R → Tree) (source_view : S → Tree) (s : Seen) (xs : List ℕ) (x : ℕ) (ys : List ℕ) (mid_rest rest : Supply) (old mid new : Interpreter R S) (b m a : World) (v u w : KnownDisk) (e : Stop)
+    → Goes view source_view (played_as (plays s xs) (after_play s xs)) s.session.history mid_rest (session_at old v b) (session_at mid u m) (Ok tt)
+    → Goes view source_view (played_as (plays (after_play s xs) (x ∷ [])) (after_play (after_play s xs) (x ∷ []))) (after_play s xs).session.history rest (session_at mid u m) (session_at new w a) (Err e)
+    → Fed view source_view s (xs ++ x ∷ ys) rest (session_at old v b) (session_at new w a) (Err e)
+fed-stopped view source_view s xs x ys mid_rest rest old mid new b m a v u w e g h = stopped e h
   where
     whole : List ℕ
     whole = xs ++ x ∷ ys
@@ -547,7 +548,7 @@ fed-stopped view source_view s xs x ys mid_rest rest old mid new b m a u w e g h
     spent_either : SpentNothing m a ⊎ SpentAs (plays (after_play s xs) (x ∷ [])) m a → SpentAs (plays s (take (length xs) whole)) b a ⊎ SpentAs (plays s (take (length xs + 1) whole)) b a
     spent_either k = elim k [ inl none ↦ inl (spent_then 0 0 _ _ (omega arith) (omega arith) none) | inr all ↦ inr (spent_one all) ]
 
-    stopped : (z : Stop) → Goes view source_view (plays (after_play s xs) (x ∷ [])) (after_play (after_play s xs) (x ∷ [])) (after_play s xs).session.history rest mid new m a w (Err z) → Fed view source_view s whole rest old new b a w (Err z)
+    stopped : (z : Stop) → Goes view source_view (played_as (plays (after_play s xs) (x ∷ [])) (after_play (after_play s xs) (x ∷ []))) (after_play s xs).session.history rest (session_at mid u m) (session_at new w a) (Err z) → Fed view source_view s whole rest (session_at old v b) (session_at new w a) (Err z)
     stopped Output k = record { at = length xs; inside = omega (arith, more); wrote = part k.0; spent = spent_one k.1; left = left-same w _ _ _ _ behind behind k.2 }
     stopped Full k = record { at = length xs; inside = omega (arith, more); wrote = part k.0; spent = spent_one k.1; left = left-same w _ _ _ _ behind behind k.2 }
     stopped File k = record {
@@ -582,9 +583,9 @@ fed-stopped view source_view s xs x ys mid_rest rest old mid new b m a u w e g h
 -- the cut at the end was run
 pub ran-last_goes : {R S : Type 0} (view : R → Tree) (source_view : S → Tree) (s : Seen) (c : Scan) (rest : Supply) (cuts : List Cut) (old mid new : Interpreter R S) (b a : World) (v w : KnownDisk) (result : Result ⊤ Stop)
     → cuts ≡ rest_of s.scan → mid.refused ≡ old.refused
-    → Goes view source_view (cuts_play (seen c s.terms s.session) cuts) (after_cuts (seen c s.terms s.session) cuts) s.session.history rest mid new b a w result
+    → Goes view source_view (played_as (cuts_play (seen c s.terms s.session) cuts) (after_cuts (seen c s.terms s.session) cuts)) s.session.history rest (session_at mid v b) (session_at new w a) result
     → Leaves (StandsForEither s.session.history (cuts_play s cuts).history) v w
-    → RunsLast s old new b a w result × Leaves (StandsForEither s.session.history s.session.history) v w
+    → RunsLast s (session_at old v b) (session_at new w a) result × Leaves (StandsForEither s.session.history s.session.history) v w
 unfolding closes
 ran-last_goes view source_view s c rest cuts old mid new b a v w result is r go both =
     (moved result go, subst (λ z. Leaves (StandsForEither s.session.history z) v w) kept both)
@@ -610,7 +611,7 @@ ran-last_goes view source_view s c rest cuts old mid new b a v w result is r go 
     part : TakesLess b.output.contents a.output.contents (report_of s.terms s.session cuts).out → TakesLess b.output.contents a.output.contents (report_of s.terms s.session (rest_of s.scan)).out
     part k = subst (λ (e : Report). TakesLess b.output.contents a.output.contents e.out) same k
 
-    moved : (e : Result ⊤ Stop) → Goes view source_view (cuts_play (seen c s.terms s.session) cuts) (after_cuts (seen c s.terms s.session) cuts) s.session.history rest mid new b a w e → RunsLast s old new b a w e
+    moved : (e : Result ⊤ Stop) → Goes view source_view (played_as (cuts_play (seen c s.terms s.session) cuts) (after_cuts (seen c s.terms s.session) cuts)) s.session.history rest (session_at mid v b) (session_at new w a) e → RunsLast s (session_at old v b) (session_at new w a) e
     moved (Ok y) g = (
       g.1 ∙ ap (λ z. z || (report_of s.terms s.session cuts).refused) r ∙ ap (λ (e : Report). old.refused || e.refused) same,
       subst (λ (e : Report). Appends b.output.contents a.output.contents e.out) same g.2,
@@ -629,7 +630,7 @@ ran-last_goes view source_view s c rest cuts old mid new b a v w result is r go 
 
 module _ {R S : Type 0} (view : R → Tree) (source_view : S → Tree) where
   -- no cut was run
-  pub went-none : (x : Interpreter R S) (a : World) (v : KnownDisk) → Went view source_view (λ s. cuts_play s []) (λ s. after_cuts s []) x x a a v v (Ok tt)
+  pub went-none : (x : Interpreter R S) (a : World) (v : KnownDisk) → Went view source_view (λ s. cuts_played s []) (session_at x v a) (session_at x v a) (Ok tt)
   went-none x a v = record {
     supply = no_supply;
     supplied = supplied-none a.files a.clock;
@@ -638,10 +639,10 @@ module _ {R S : Type 0} (view : R → Tree) (source_view : S → Tree) where
 
   -- a cut brought no reply
   pub went-silent : (cut : Cut) (old new : Interpreter R S) (b a : World) (v w : KnownDisk)
-      → HasTurned view source_view (λ (o : Option Reply). o) (λ terms s. turn (setting terms) s cut) b.files b.clock a.clock old.workspace new.workspace v w (Ok None)
+      → HasTurned view source_view (λ (o : Option Reply). o) (λ terms s. turn (setting terms) s cut) (IsSupplied b.files b.clock a.clock) (workspace_at old.workspace v) (workspace_at new.workspace w) (Ok None)
       → ((terms : Terms) (s : Session) → Stands view source_view terms old.workspace s → HasSpent (cut_reads s cut) (cut_asks s cut) b.files a.files b.clock a.clock) → (IsTrue w.known → IsTrue v.known)
       → Appends b.output.contents a.output.contents [] → new.cutter ≡ old.cutter → new.refused ≡ old.refused
-      → Went view source_view (λ s. cuts_play s (cut ∷ [])) (λ s. after_cuts s (cut ∷ [])) old new b a v w (Ok tt)
+      → Went view source_view (λ s. cuts_played s (cut ∷ [])) (session_at old v b) (session_at new w a) (Ok tt)
   went-silent cut old new b a v w turned spent still o h r = record {
     supply = turned.supply;
     supplied = turned.supplied;
@@ -654,11 +655,11 @@ module _ {R S : Type 0} (view : R → Tree) (source_view : S → Tree) where
 
   -- the lines of a cut's reply were written
   pub went-said : (cut : Cut) (y : Reply) (old mid new : Interpreter R S) (b a : World) (v w : KnownDisk) (result : Result ⊤ Stop)
-      → HasTurned view source_view (λ (o : Option Reply). o) (λ terms s. turn (setting terms) s cut) b.files b.clock a.clock old.workspace mid.workspace v w (Ok (Some y))
+      → HasTurned view source_view (λ (o : Option Reply). o) (λ terms s. turn (setting terms) s cut) (IsSupplied b.files b.clock a.clock) (workspace_at old.workspace v) (workspace_at mid.workspace w) (Ok (Some y))
       → ((terms : Terms) (s : Session) → Stands view source_view terms old.workspace s → HasSpent (cut_reads s cut) (cut_asks s cut) b.files a.files b.clock a.clock) → (IsTrue w.known → IsTrue v.known)
       → mid.cutter ≡ old.cutter → mid.refused ≡ old.refused
       → SendsOut (lines y) b.output.contents a.output.contents result → OnOk result (new.cutter ≡ mid.cutter) → OnOk result (new.workspace ≡ mid.workspace) → OnOk result (new.refused ≡ (mid.refused || is_refusal y))
-      → Went view source_view (λ s. cuts_play s (cut ∷ [])) (λ s. after_cuts s (cut ∷ [])) old new b a v w result
+      → Went view source_view (λ s. cuts_played s (cut ∷ [])) (session_at old v b) (session_at new w a) result
   went-said cut y old mid new b a v w result turned spent still h r o h' l' r' = record {
     supply = turned.supply;
     supplied = turned.supplied;
@@ -671,12 +672,12 @@ module _ {R S : Type 0} (view : R → Tree) (source_view : S → Tree) where
 
   -- a cut stopped the session before its reply; where a file or the clock failed, the disk is as it was
   pub went-stopped_early : (cut : Cut) (old new : Interpreter R S) (b a : World) (v w : KnownDisk) (fault : WorkspaceFault) (stop : Stop)
-      → HasTurned view source_view (λ (o : Option Reply). o) (λ terms s. turn (setting terms) s cut) b.files b.clock a.clock old.workspace new.workspace v w (Err fault)
+      → HasTurned view source_view (λ (o : Option Reply). o) (λ terms s. turn (setting terms) s cut) (IsSupplied b.files b.clock a.clock) (workspace_at old.workspace v) (workspace_at new.workspace w) (Err fault)
       → ((terms : Terms) (s : Session) → Stands view source_view terms old.workspace s → Spends {T = Option Reply} (cut_reads s cut) (cut_asks s cut) b.files a.files b.clock a.clock (Err fault)) → (IsTrue w.known → IsTrue v.known)
       → (fault ≡ fails.File → stop ≡ File) × (fault ≡ fails.Disk → stop ≡ Disk) × (fault ≡ fails.Clock → stop ≡ Clock) × (fault ≡ fails.Memory → stop ≡ Memory)
       → (fault ≡ fails.File → (c : List ℕ) → w.view.images c → v.view.images c) → (fault ≡ fails.Clock → (c : List ℕ) → w.view.images c → v.view.images c)
       → Appends b.output.contents a.output.contents []
-      → Went view source_view (λ s. cuts_play s (cut ∷ [])) (λ s. after_cuts s (cut ∷ [])) old new b a v w (Err stop)
+      → Went view source_view (λ s. cuts_played s (cut ∷ [])) (session_at old v b) (session_at new w a) (Err stop)
   went-stopped_early cut old new b a v w fault stop turned spent still stops same untouched o = record {
     supply = turned.supply;
     supplied = turned.supplied;
@@ -692,8 +693,8 @@ module _ {R S : Type 0} (view : R → Tree) (source_view : S → Tree) where
   -- the cut that a byte ends was run
   pub pushed : (x : ℕ) (cuts : List Cut) (old mid new : Interpreter R S) (b a : World) (v w : KnownDisk) (result : Result ⊤ Stop)
       → cuts ≡ byte_cuts old.cutter x → mid.cutter ≡ byte_held old.cutter x → mid.workspace ≡ old.workspace → mid.refused ≡ old.refused
-      → Went view source_view (λ s. cuts_play s cuts) (λ s. after_cuts s cuts) mid new b a v w result
-      → Went view source_view (λ s. plays s (x ∷ [])) (λ s. after_play s (x ∷ [])) old new b a v w result
+      → Went view source_view (λ s. cuts_played s cuts) (session_at mid v b) (session_at new w a) result
+      → Went view source_view (λ s. bytes_played s (x ∷ [])) (session_at old v b) (session_at new w a) result
   pushed x cuts old mid new b a v w result c h l r went = record {
     supply = went.supply;
     supplied = went.supplied;
@@ -705,8 +706,8 @@ module _ {R S : Type 0} (view : R → Tree) (source_view : S → Tree) where
 
   -- memory ran out before a byte was taken
   pub unpushed : (x : ℕ) (old new : Interpreter R S) (a : World) (v : KnownDisk) (stop : Stop) → stop ≡ Memory
-      → Went view source_view (λ s. plays s (x ∷ [])) (λ s. after_play s (x ∷ [])) old new a a v v (Err stop)
-  unpushed x old new a v stop is = subst (λ z. Went view source_view (λ s. plays s (x ∷ [])) (λ s. after_play s (x ∷ [])) old new a a v v (Err z)) (sym is) (record {
+      → Went view source_view (λ s. bytes_played s (x ∷ [])) (session_at old v a) (session_at new v a) (Err stop)
+  unpushed x old new a v stop is = subst (λ z. Went view source_view (λ s. bytes_played s (x ∷ [])) (session_at old v a) (session_at new v a) (Err z)) (sym is) (record {
     supply = no_supply;
     supplied = supplied-none a.files a.clock;
     goes = λ s rest f e. (
@@ -716,37 +717,37 @@ module _ {R S : Type 0} (view : R → Tree) (source_view : S → Tree) where
   })
 
   -- no byte of a piece was taken
-  pub fed-none : (x : Interpreter R S) (a : World) (v : KnownDisk) → WasFed view source_view [] x x a a v v (Ok tt)
+  pub fed-none : (x : Interpreter R S) (a : World) (v : KnownDisk) → WasFed view source_view [] (session_at x v a) (session_at x v a) (Ok tt)
   fed-none x a v = record {
     supply = no_supply;
     supplied = supplied-none a.files a.clock;
     fed = λ s rest f e. (goes-none view source_view s rest x a v f e, along-none s v);
   }
 
-  module _ (xs : List ℕ) (x : ℕ) (old mid new : Interpreter R S) (b m a : World) (v u w : KnownDisk) (first : WasFed view source_view xs old mid b m v u (Ok tt))
+  module _ (xs : List ℕ) (x : ℕ) (old mid new : Interpreter R S) (b m a : World) (v u w : KnownDisk) (first : WasFed view source_view xs (session_at old v b) (session_at mid u m) (Ok tt))
       (same : m.files.found ≡ b.files.found) (still : IsTrue v.known → IsTrue u.known) where
     -- one byte more of a piece
-    pub fed-then : Went view source_view (λ s. plays s (x ∷ [])) (λ s. after_play s (x ∷ [])) mid new m a u w (Ok tt) → WasFed view source_view (xs ++ x ∷ []) old new b a v w (Ok tt)
+    pub fed-then : Went view source_view (λ s. bytes_played s (x ∷ [])) (session_at mid u m) (session_at new w a) (Ok tt) → WasFed view source_view (xs ++ x ∷ []) (session_at old v b) (session_at new w a) (Ok tt)
     fed-then next = record {
       supply = followed_by first.supply next.supply;
       supplied = supplied-then b.files m.files b.clock m.clock a.clock first.supply next.supply same first.supplied next.supplied;
       fed = λ s rest f e. (
           let one = first.fed s (followed_by next.supply rest) f (e ∙ followed-assoc first.supply next.supply rest) in
           let two = next.goes (after_play s xs) rest one.0.0 one.0.4 in (
-            goes-then view source_view s xs (x ∷ []) (followed_by next.supply rest) rest old mid new b m a u w one.0 two.0,
+            goes-then view source_view s xs (x ∷ []) (followed_by next.supply rest) rest old mid new b m a v u w one.0 two.0,
             along-then s xs (x ∷ []) v u w still one.1 (along-one (after_play s xs) x u w two.1),
           ));
     }
 
     -- a byte at which the session stops
-    pub fed-until : (ys : List ℕ) (stop : Stop) → Went view source_view (λ s. plays s (x ∷ [])) (λ s. after_play s (x ∷ [])) mid new m a u w (Err stop) → WasFed view source_view (xs ++ x ∷ ys) old new b a v w (Err stop)
+    pub fed-until : (ys : List ℕ) (stop : Stop) → Went view source_view (λ s. bytes_played s (x ∷ [])) (session_at mid u m) (session_at new w a) (Err stop) → WasFed view source_view (xs ++ x ∷ ys) (session_at old v b) (session_at new w a) (Err stop)
     fed-until ys stop next = record {
       supply = followed_by first.supply next.supply;
       supplied = supplied-then b.files m.files b.clock m.clock a.clock first.supply next.supply same first.supplied next.supplied;
       fed = λ s rest f e. (
           let one = first.fed s (followed_by next.supply rest) f (e ∙ followed-assoc first.supply next.supply rest) in
           let two = next.goes (after_play s xs) rest one.0.0 one.0.4 in (
-            fed-stopped view source_view s xs x ys (followed_by next.supply rest) rest old mid new b m a u w stop one.0 two.0,
+            fed-stopped view source_view s xs x ys (followed_by next.supply rest) rest old mid new b m a v u w stop one.0 two.0,
             subst (λ zs. LeavesAlong s zs v w) (append_assoc xs (x ∷ []) ys)
                 (along-more s (xs ++ x ∷ []) ys v w (along-then s xs (x ∷ []) v u w still one.1 (along-one (after_play s xs) x u w two.1))),
           ));
@@ -755,8 +756,8 @@ module _ {R S : Type 0} (view : R → Tree) (source_view : S → Tree) where
   -- the cut at the end of the input was run
   pub ran-last : (c : Scan) (cuts : List Cut) (old mid new : Interpreter R S) (b a : World) (v w : KnownDisk) (result : Result ⊤ Stop)
       → ((z : Scan) → old.cutter ≡ held_of z → cuts ≡ rest_of z) → mid.cutter ≡ held_of c → mid.workspace ≡ old.workspace → mid.refused ≡ old.refused
-      → Went view source_view (λ s. cuts_play s cuts) (λ s. after_cuts s cuts) mid new b a v w result
-      → RanLast view source_view old new b a v w result
+      → Went view source_view (λ s. cuts_played s cuts) (session_at mid v b) (session_at new w a) result
+      → RanLast view source_view (session_at old v b) (session_at new w a) result
   ran-last c cuts old mid new b a v w result end h l r went = record {
     supply = went.supply;
     supplied = went.supplied;

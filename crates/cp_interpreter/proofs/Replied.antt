@@ -15,7 +15,7 @@ use Rattle.cp_model.specs.declared.query.Query.{Query}
 use Rattle.cp_model.specs.declared.answer.Answer.{Answer}
 use Rattle.cp_model.specs.declared.answer.Answer.TheVariants as answer
 use Rattle.cp_model.specs.Trees.{tree_text}
-use Rattle.cp_reply.specs.Lines.{line, lines, answer_lines, commit_text, from_text, kind_text, places_text, query_text, range_text, record_text, refused_front, stats_text, tid_or_none, tids_text, trace_text, verdict_text, why_text}
+use Rattle.cp_reply.specs.Lines.{line, lines, lines_for, answer_lines, commit_text, from_text, kind_text, places_text, query_text, range_text, record_text, refused_front, stats_text, tid_or_none, tids_text, trace_text, verdict_text, why_text}
 use Rattle.cp_reply.specs.declared.reply.Why.{Why}
 use Rattle.cp_reply.specs.declared.reply.Of.{Of}
 use Rattle.cp_reply.specs.declared.reply.Of.TheVariants as of
@@ -252,7 +252,7 @@ answer-ends q (answer.Stats s) = (stats_text s, refl)
 
 -- and so do the lines of a reply
 lines-end : (y : Reply) → EndsLine (lines y)
-unfolding lines
+unfolding lines lines_for
 lines-end (reply.Created k n) = (codes "created " ++ (kind_text k ++ (codes " " ++ decimal n)), refl)
 lines-end (reply.Loaded m n) = (codes "loaded " ++ (m ++ (codes " " ++ decimal n)), refl)
 lines-end (reply.Committed low high) = (codes "committed " ++ range_text low high, refl)
@@ -290,7 +290,7 @@ line-first begins rest bytes y is = record {
 
 -- a refusal begins with its word
 refused-begins : (o : Of) (w : Why) → lines (reply.Refused o w) ≡ codes "refused" ++ drop 7 (lines (reply.Refused o w))
-unfolding lines
+unfolding lines lines_for
 refused-begins of.Statement w = refl
 refused-begins of.Commit w = refl
 refused-begins of.Load w = refl
@@ -300,7 +300,7 @@ refused-begins of.Checkpoint w = refl
 
 -- and so does a verdict that tells of a difference
 differs-begins : (v : Verdict) → is_refusal (reply.Verified v) ≡ true → lines (reply.Verified v) ≡ codes "differs" ++ drop 7 (lines (reply.Verified v))
-unfolding lines
+unfolding lines lines_for
 differs-begins (verdict.Agrees n) is = let no : false ≡ true = is in absurd (cc no)
 differs-begins (verdict.Differs at s e) is = refl
 differs-begins (verdict.TreeDiffers at q) is = refl

@@ -16,17 +16,16 @@ use Rattle.cp_frame.specs.Stands.{StandsFor, StandsForEither}
 use Rattle.cp_db.proofs.Keeping.{kept-images}
 use Rattle.cp_disk.specs.Views.{KnownDisk, Leaves}
 use Rattle.cp_workspace.specs.Files.{KnownFiles}
-use Rattle.cp_workspace.proofs.ReadCounts.{some-then}
 use Rattle.cp_workspace.proofs.Supplied.{supplied-none, supplied-then}
 use Rattle.cp_workspace.proofs.Spent.{spent-none, spent-sum, spent-as}
 use Rattle.cp_workspace.proofs.Standing.{on-ok}
 use Rattle.cp_interpreter.specs.Texts.{input_line, file_line, disk_line, clock_line, memory_line, too_long_line}
 use Rattle.cp_interpreter.specs.Job.{Report}
-use Rattle.cp_interpreter.specs.Outside.{KnownInput, KnownClock, KnownOutput, World, Outside, world_of}
+use Rattle.cp_interpreter.specs.Outside.{KnownInput, KnownClock, KnownOutput, World, Outside, call_at, world_of}
 use Rattle.cp_interpreter.specs.Play.{Seen, plays, after_play, closes, plays_all}
 use Rattle.cp_interpreter.specs.Story.{Writes, WasRefused, StopsIn, StopsAfter, WritesLast, Leaving, left_on, SpentAs, SpentNothing, AllDone, OutputStopped, OutOfMemory, Did, HasCauses, DiskCauses, result_of}
 use Rattle.cp_interpreter.specs.declared.interpreter.Interpreter.{Interpreter}
-use Rattle.cp_interpreter.specs.Turns.{Follows, StopRefusesWrite, IsOpenedStop, StopsWriting, Fed, WasFed, RunsLast, RanLast, LeavesAlong, with_refusal, work_from, RanFrom, TookPiece, IsSteady, TellsStop, Closes, HasClosed, IsClosing, end_of_stop}
+use Rattle.cp_interpreter.specs.Turns.{session_at, Follows, StopRefusesWrite, IsOpenedStop, StopsWriting, Fed, WasFed, RunsLast, RanLast, LeavesAlong, with_refusal, work_from, RanFrom, TookPiece, IsSteady, TellsStop, Closes, HasClosed, IsClosing, end_of_stop}
 use Rattle.cp_interpreter.specs.declared.end.End.{End}
 use Rattle.cp_interpreter.specs.declared.end.End.TheVariants as how
 use Rattle.cp_interpreter.specs.declared.stop.Stop.{Stop}
@@ -366,7 +365,7 @@ module _ (s : Seen) (f : Bool) (count : ℕ) (b a : Outside) (w : KnownDisk) (en
   did-closed how.Clock c = absurd c
 
 -- the session was stopped
-module _ {R S : Type 0} (view : R → Tree) (source_view : S → Tree) (s : Seen) (f : Bool) (rest : Supply) (old new : Interpreter R S) (count : ℕ) (bytes : List ℕ) (ib ia : KnownInput) (fb fm : KnownFiles) (cb cm : KnownClock) (ob om oa : KnownOutput) (w : KnownDisk) where
+module _ {R S : Type 0} (view : R → Tree) (source_view : S → Tree) (s : Seen) (f : Bool) (rest : Supply) (old new : Interpreter R S) (count : ℕ) (bytes : List ℕ) (ib ia : KnownInput) (fb fm : KnownFiles) (cb cm : KnownClock) (ob om oa : KnownOutput) (v w : KnownDisk) where
   -- a last line behind what was written up to a byte
   line_at : (at : ℕ) (last : List ℕ) → Writes ob om (plays s (take at bytes)).out → WritesLast om oa [] last → WritesLast ob oa (plays s (take at bytes)).out last
   line_at at last g t = subst (λ z. WritesLast ob oa z last) (append-nil (plays s (take at bytes)).out) (last-after ob om oa (plays s (take at bytes)).out [] last g t)
@@ -374,7 +373,7 @@ module _ {R S : Type 0} (view : R → Tree) (source_view : S → Tree) (s : Seen
   writing : StopsWriting s bytes (world fb cb ob) (world fm cm om) w → WasRefused ob om → oa ≡ om → OutputStopped (work_from s f) (left_on w) bytes (parts ib fb cb ob) (parts ia fm cm oa)
   writing g r t = inl (record { at = g.at; inside = g.inside; wrote = subst (λ o. StopsAfter ob o (plays s (take g.at bytes)).out (plays s (take (g.at + 1) bytes)).out) (sym t) (r, g.wrote); spent = g.spent; left = g.left })
 
-  pub did-stopped : (stop : Stop) → Fed view source_view s bytes rest old new (world fb cb ob) (world fm cm om) w (Err stop) → StopRefusesWrite ob om stop → TellsStop om oa stop
+  pub did-stopped : (stop : Stop) → Fed view source_view s bytes rest (session_at old v (world fb cb ob)) (session_at new w (world fm cm om)) (Err stop) → StopRefusesWrite ob om stop → TellsStop om oa stop
       → Did (work_from s f) (left_on w) count bytes (parts ib fb cb ob) (parts ia fm cm oa) (end_of_stop stop)
   did-stopped Output g r t = writing g r t
   did-stopped Full g r t = inl (writing g r t)
@@ -387,15 +386,15 @@ module _ {R S : Type 0} (view : R → Tree) (source_view : S → Tree) (s : Seen
 -- ---- sessions that were stopped
 
 -- a session was stopped at the end of its input
-pub closes-stopped : {R S : Type 0} (s : Seen) (f : Bool) (old new : Interpreter R S) (fb fm : KnownFiles) (cb cm : KnownClock) (ob om oa : KnownOutput) (w : KnownDisk) (stop : Stop) → RunsLast s old new (world fb cb ob) (world fm cm om) w (Err stop)
+pub closes-stopped : {R S : Type 0} (s : Seen) (f : Bool) (old new : Interpreter R S) (fb fm : KnownFiles) (cb cm : KnownClock) (ob om oa : KnownOutput) (v w : KnownDisk) (stop : Stop) → RunsLast s (session_at old v (world fb cb ob)) (session_at new w (world fm cm om)) (Err stop)
     → StopRefusesWrite ob om stop → TellsStop om oa stop → Closes s f (world fb cb ob) (world fm cm oa) w (end_of_stop stop)
-closes-stopped s f old new fb fm cb cm ob om oa w Output g r t = (subst (λ o. StopsIn ob o (closes s).out) (sym t) (r, g.0), g.1, g.2)
-closes-stopped s f old new fb fm cb cm ob om oa w Full g r t = inl (subst (λ o. StopsIn ob o (closes s).out) (sym t) (r, g.0), g.1, g.2)
-closes-stopped s f old new fb fm cb cm ob om oa w File g r t = absurd g
-closes-stopped s f old new fb fm cb cm ob om oa w Disk g r t = absurd g
-closes-stopped s f old new fb fm cb cm ob om oa w (NoStore at) g r t = absurd g
-closes-stopped s f old new fb fm cb cm ob om oa w Clock g r t = absurd g
-closes-stopped s f old new fb fm cb cm ob om oa w Memory g r t = inr (last-alone ob om oa memory_line (r, g.0) t, g.1, g.2)
+closes-stopped s f old new fb fm cb cm ob om oa v w Output g r t = (subst (λ o. StopsIn ob o (closes s).out) (sym t) (r, g.0), g.1, g.2)
+closes-stopped s f old new fb fm cb cm ob om oa v w Full g r t = inl (subst (λ o. StopsIn ob o (closes s).out) (sym t) (r, g.0), g.1, g.2)
+closes-stopped s f old new fb fm cb cm ob om oa v w File g r t = absurd g
+closes-stopped s f old new fb fm cb cm ob om oa v w Disk g r t = absurd g
+closes-stopped s f old new fb fm cb cm ob om oa v w (NoStore at) g r t = absurd g
+closes-stopped s f old new fb fm cb cm ob om oa v w Clock g r t = absurd g
+closes-stopped s f old new fb fm cb cm ob om oa v w Memory g r t = inr (last-alone ob om oa memory_line (r, g.0) t, g.1, g.2)
 
 -- the end of a stop is an end of its own
 pub closing-stopped : (stop : Stop) → IsOpenedStop stop → IsClosing (end_of_stop stop)
@@ -421,17 +420,17 @@ stop-ended Memory P = tt
 
 module _ {R S : Type 0} (view : R → Tree) (source_view : S → Tree) (old new : Interpreter R S) (fb fm : KnownFiles) (cb cm : KnownClock) (ob om oa : KnownOutput) (v w : KnownDisk) where
   -- it was stopped
-  pub closed-stopped : (stop : Stop) → IsOpenedStop stop → RanLast view source_view old new (world fb cb ob) (world fm cm om) v w (Err stop) → StopRefusesWrite ob om stop → TellsStop om oa stop
-      → HasClosed view source_view old (world fb cb ob) (world fm cm oa) v w (end_of_stop stop)
+  pub closed-stopped : (stop : Stop) → IsOpenedStop stop → RanLast view source_view (session_at old v (world fb cb ob)) (session_at new w (world fm cm om)) (Err stop) → StopRefusesWrite ob om stop → TellsStop om oa stop
+      → HasClosed view source_view (session_at old v (world fb cb ob)) (session_at new w (world fm cm oa)) (end_of_stop stop)
   closed-stopped stop n g r t = record {
     supply = g.supply;
     supplied = g.supplied;
     closing = closing-stopped stop n;
-    closed = λ s rest f m. (let x = g.runs s rest f m in (closes-stopped s old.refused old new fb fm cb cm ob om oa w stop x.0 r t, x.1));
+    closed = λ s rest f m. (let x = g.runs s rest f m in (closes-stopped s old.refused old new fb fm cb cm ob om oa v w stop x.0 r t, x.1));
   }
 
   -- some line refuses a statement
-  pub closed-refused : RanLast view source_view old new (world fb cb ob) (world fm cm om) v w (Ok tt) → om.refusals ≡ ob.refusals → new.refused ≡ true → HasClosed view source_view old (world fb cb ob) (world fm cm om) v w how.Refused
+  pub closed-refused : RanLast view source_view (session_at old v (world fb cb ob)) (session_at new w (world fm cm om)) (Ok tt) → om.refusals ≡ ob.refusals → new.refused ≡ true → HasClosed view source_view (session_at old v (world fb cb ob)) (session_at new w (world fm cm om)) how.Refused
   closed-refused g r t = record {
     supply = g.supply;
     supplied = g.supplied;
@@ -440,7 +439,7 @@ module _ {R S : Type 0} (view : R → Tree) (source_view : S → Tree) (old new 
   }
 
   -- none does
-  pub closed-done : RanLast view source_view old new (world fb cb ob) (world fm cm om) v w (Ok tt) → om.refusals ≡ ob.refusals → new.refused ≡ false → HasClosed view source_view old (world fb cb ob) (world fm cm om) v w how.Done
+  pub closed-done : RanLast view source_view (session_at old v (world fb cb ob)) (session_at new w (world fm cm om)) (Ok tt) → om.refusals ≡ ob.refusals → new.refused ≡ false → HasClosed view source_view (session_at old v (world fb cb ob)) (session_at new w (world fm cm om)) how.Done
   closed-done g r t = record {
     supply = g.supply;
     supplied = g.supplied;
@@ -452,14 +451,13 @@ module _ {R S : Type 0} (view : R → Tree) (source_view : S → Tree) (old new 
 
 -- none
 pub steady-none : (o : Outside) (v : KnownDisk) → IsSteady o o v v
-steady-none o v = record { input = refl; found = refl; read = (0, refl); files = refl; clock = refl; output = refl; refused = refl; known = refl; disk = refl }
+steady-none o v = record { input = refl; found = refl; files = refl; clock = refl; output = refl; refused = refl; known = refl; disk = refl }
 
 -- some, and then others
 pub steady-then : (b m a : Outside) (v u w : KnownDisk) → IsSteady b m v u → IsSteady m a u w → IsSteady b a v w
 steady-then b m a v u w x y = record {
   input = y.input ∙ x.input;
   found = y.found ∙ x.found;
-  read = some-then b.files m.files a.files x.read y.read;
   files = y.files ∙ x.files;
   clock = y.clock ∙ x.clock;
   output = y.output ∙ x.output;
@@ -473,7 +471,7 @@ steady-then b m a v u w x y = record {
 module _ {R S : Type 0} (view : R → Tree) (source_view : S → Tree) where
   -- the input failed
   pub ran-input : (x : Interpreter R S) (count : ℕ) (ib ia : KnownInput) (f : KnownFiles) (k : KnownClock) (ob oa : KnownOutput) (v : KnownDisk) → count ≤ INPUT_MAX → Keeps ib.left ia.left → ia.given ≡ ib.given → WritesLast ob oa [] input_line
-      → RanFrom view source_view x count (parts ib f k ob) (parts ia f k oa) v v how.Input
+      → RanFrom view source_view x count (call_at v (parts ib f k ob)) (call_at v (parts ia f k oa)) how.Input
   ran-input x count ib ia f k ob oa v le kept given w = record {
     taken = [];
     took = Consumes-kept ib.left ib.left ia.left [] (Consumes-nil ib.left) kept;
@@ -487,9 +485,9 @@ module _ {R S : Type 0} (view : R → Tree) (source_view : S → Tree) where
   }
 
   -- the input has ended
-  pub ran-closed : (x : Interpreter R S) (count : ℕ) (b a : Outside) (v w : KnownDisk) (e : End) → count ≤ INPUT_MAX → Consumes b.input.left a.input.left [] → a.input.given ≡ b.input.given + 0 → IsAtEnd a.input.left → HasClosed view source_view x (world_of b) (world_of a) v w e
-      → RanFrom view source_view x count b a v w e
-  ran-closed x count b a v w e le took given end c = record {
+  pub ran-closed : (x y : Interpreter R S) (count : ℕ) (b a : Outside) (v w : KnownDisk) (e : End) → count ≤ INPUT_MAX → Consumes b.input.left a.input.left [] → a.input.given ≡ b.input.given + 0 → IsAtEnd a.input.left → HasClosed view source_view (session_at x v (world_of b)) (session_at y w (world_of a)) e
+      → RanFrom view source_view x count (call_at v b) (call_at w a) e
+  ran-closed x y count b a v w e le took given end c = record {
     taken = [];
     took = took;
     counted = omega (arith, given);
@@ -503,7 +501,7 @@ module _ {R S : Type 0} (view : R → Tree) (source_view : S → Tree) where
 
   -- too much has come
   pub ran-too-long : (x : Interpreter R S) (count : ℕ) (bytes : List ℕ) (ib ia : KnownInput) (f : KnownFiles) (k : KnownClock) (ob oa : KnownOutput) (v : KnownDisk) → count ≤ INPUT_MAX → Consumes ib.left ia.left bytes → ia.given ≡ ib.given + length bytes → INPUT_MAX < count + length bytes → length bytes ≤ PIECE_MAX
-      → WritesLast ob oa [] too_long_line → RanFrom view source_view x count (parts ib f k ob) (parts ia f k oa) v v how.TooLong
+      → WritesLast ob oa [] too_long_line → RanFrom view source_view x count (call_at v (parts ib f k ob)) (call_at v (parts ia f k oa)) how.TooLong
   ran-too-long x count bytes ib ia f k ob oa v le took given past piece w = record {
     taken = bytes;
     took = took;
@@ -519,8 +517,8 @@ module _ {R S : Type 0} (view : R → Tree) (source_view : S → Tree) where
   -- the session was stopped
   pub ran-stopped : (old new : Interpreter R S) (count : ℕ) (bytes : List ℕ) (ib ia : KnownInput) (fb fm : KnownFiles) (cb cm : KnownClock) (ob om oa : KnownOutput) (v w : KnownDisk) (stop : Stop) → IsOpenedStop stop
       → count + length bytes ≤ INPUT_MAX → Consumes ib.left ia.left bytes → ia.given ≡ ib.given + length bytes
-      → WasFed view source_view bytes old new (world fb cb ob) (world fm cm om) v w (Err stop) → StopRefusesWrite ob om stop → TellsStop om oa stop
-      → RanFrom view source_view old count (parts ib fb cb ob) (parts ia fm cm oa) v w (end_of_stop stop)
+      → WasFed view source_view bytes (session_at old v (world fb cb ob)) (session_at new w (world fm cm om)) (Err stop) → StopRefusesWrite ob om stop → TellsStop om oa stop
+      → RanFrom view source_view old count (call_at v (parts ib fb cb ob)) (call_at w (parts ia fm cm oa)) (end_of_stop stop)
   ran-stopped old new count bytes ib ia fb fm cb cm ob om oa v w stop n le took given g r t =
       let ends = closing-stopped stop n in
       record {
@@ -532,13 +530,13 @@ module _ {R S : Type 0} (view : R → Tree) (source_view : S → Tree) where
         supplied = g.supplied;
         running = ends.running;
         ended = stop-ended stop (IsAtEnd ia.left);
-        did = λ s rest z m. (let x = g.fed s rest z m in (did-stopped view source_view s old.refused rest old new count bytes ib ia fb fm cb cm ob om oa w stop x.0 r t, x.1));
+        did = λ s rest z m. (let x = g.fed s rest z m in (did-stopped view source_view s old.refused rest old new count bytes ib ia fb fm cb cm ob om oa v w stop x.0 r t, x.1));
       }
 
   -- ---- turns
 
   -- no turn yet
-  pub piece-none : (k : Interpreter R S) (o : Outside) (v : KnownDisk) → TookPiece view source_view k k 0 0 o o v v
+  pub piece-none : (k : Interpreter R S) (o : Outside) (v : KnownDisk) → TookPiece view source_view k k 0 0 (call_at v o) (call_at v o)
   piece-none k o v = record {
     bytes = [];
     took = Consumes-nil o.input.left;
@@ -550,8 +548,8 @@ module _ {R S : Type 0} (view : R → Tree) (source_view : S → Tree) where
   }
 
   -- one turn more
-  pub piece-more : (old mid new : Interpreter R S) (count now later : ℕ) (b m a : Outside) (v u w : KnownDisk) → u.known ≡ v.known → IsSteady b m v u → TookPiece view source_view old mid count now b m v u → TookPiece view source_view mid new now later m a u w
-      → TookPiece view source_view old new count later b a v w
+  pub piece-more : (old mid new : Interpreter R S) (count now later : ℕ) (b m a : Outside) (v u w : KnownDisk) → u.known ≡ v.known → IsSteady b m v u → TookPiece view source_view old mid count now (call_at v b) (call_at u m) → TookPiece view source_view mid new now later (call_at u m) (call_at w a)
+      → TookPiece view source_view old new count later (call_at v b) (call_at w a)
   piece-more old mid new count now later b m a v u w same steady x y = record {
     bytes = x.bytes ++ y.bytes;
     took = Consumes-trans b.input.left m.input.left a.input.left x.bytes y.bytes x.took y.took;
@@ -563,14 +561,14 @@ module _ {R S : Type 0} (view : R → Tree) (source_view : S → Tree) where
         (let g = x.played s (followed_by y.supply rest) z (e ∙ followed-assoc x.supply y.supply rest) in
         let next = after_play s x.bytes in
         let k = y.played next rest g.0.0 g.0.4 in (
-          goes-then view source_view s x.bytes y.bytes (followed_by y.supply rest) rest old mid new (world_of b) (world_of m) (world_of a) u w g.0 k.0,
+          goes-then view source_view s x.bytes y.bytes (followed_by y.supply rest) rest old mid new (world_of b) (world_of m) (world_of a) v u w g.0 k.0,
           along-then s x.bytes y.bytes v u w (λ known. subst IsTrue (sym same) known) g.1 k.1,
         ));
   }
 
   -- turns, and then a run
-  pub piece-ran : (old mid : Interpreter R S) (now : ℕ) (b m a : Outside) (v u w : KnownDisk) (e : End) → u.known ≡ v.known → IsSteady b m v u → TookPiece view source_view old mid 0 now b m v u → RanFrom view source_view mid now m a u w e
-      → RanFrom view source_view old 0 b a v w e
+  pub piece-ran : (old mid : Interpreter R S) (now : ℕ) (b m a : Outside) (v u w : KnownDisk) (e : End) → u.known ≡ v.known → IsSteady b m v u → TookPiece view source_view old mid 0 now (call_at v b) (call_at u m) → RanFrom view source_view mid now (call_at u m) (call_at w a) e
+      → RanFrom view source_view old 0 (call_at v b) (call_at w a) e
   piece-ran old mid now b m a v u w e same steady x y = record {
     taken = x.bytes ++ y.taken;
     took = Consumes-trans b.input.left m.input.left a.input.left x.bytes y.taken x.took y.took;

@@ -29,11 +29,11 @@ use Rattle.cp_workspace.specs.Spending.{HasSpent}
 use Rattle.cp_workspace.proofs.Spent.{spent-sum}
 use Rattle.cp_interpreter.specs.Texts.{file_line, memory_line}
 use Rattle.cp_interpreter.specs.Job.{job_so_far, job}
-use Rattle.cp_interpreter.specs.Outside.{KnownInput, KnownClock, KnownOutput, World}
+use Rattle.cp_interpreter.specs.Outside.{call_at, KnownInput, KnownClock, KnownOutput, World}
 use Rattle.cp_interpreter.specs.Play.{Seen, begun, plays, plays_all}
 use Rattle.cp_interpreter.specs.Story.{LeavesHistory, WritesLast, SaidLine, Leaving, left_on, Work, AllDone, OutputStopped, OutOfMemory, Did, work_on, store_terms, IsEarly, early_line, HasNotBegun, HasCauses, WorldCauses, DiskCauses, result_of, StandsForFront}
-use Rattle.cp_interpreter.specs.Scripts.{script_of, next_script, commit_text, ScriptState, refused_script, ScriptFailed, DidScript, script_session, DidCommit, Committed}
-use Rattle.cp_interpreter.specs.Turns.{Follows, script_read, LeavesAlong, RanFrom, RanScript, IsClosing, TellsStop, end_of_stop, work_from, script_from}
+use Rattle.cp_interpreter.specs.Scripts.{task_of, script_of, next_script, commit_text, ScriptState, refused_script, ScriptFailed, DidScript, script_session, DidCommit, Committed}
+use Rattle.cp_interpreter.specs.Turns.{session_at, Follows, script_read, LeavesAlong, RanFrom, RanScript, IsClosing, TellsStop, end_of_stop, work_from, script_from}
 use Rattle.cp_interpreter.specs.Begins.{LeavesStore, BegunOn, GivesScript, GivesScriptOf}
 use Rattle.cp_interpreter.specs.declared.interpreter.Interpreter.{Interpreter}
 use Rattle.cp_interpreter.specs.declared.end.End.{End}
@@ -129,11 +129,11 @@ script-short all taken left is short much =
     let eight : length commit_text ≡ 8 = refl in
     absurd (omega (arith, n, eight, short, much))
 
-module _ {R S : Type 0} (view : R → Tree) (source_view : S → Tree) (x : Interpreter R S) (file : List ℕ) (f fb : KnownFiles) (c : KnownClock) (o : KnownOutput) (v : KnownDisk) (e : End) where
+module _ {R S : Type 0} (view : R → Tree) (source_view : S → Tree) (x y : Interpreter R S) (file : List ℕ) (f fb : KnownFiles) (c : KnownClock) (o : KnownOutput) (v : KnownDisk) (e : End) where
   -- the script was played
-  module _ (script now : ScriptState) (fa : KnownFiles) (ca : KnownClock) (oa : KnownOutput) (w : KnownDisk) (read : HasRead f fb 1) (ran : RanFrom view source_view x 0 (parts (script_input script) fb c o) (parts (script_input now) fa ca oa) v w e) where
+  module _ (script now : ScriptState) (fa : KnownFiles) (ca : KnownClock) (oa : KnownOutput) (w : KnownDisk) (read : HasRead f fb 1) (ran : RanFrom view source_view x 0 (call_at v (parts (script_input script) fb c o)) (call_at w (parts (script_input now) fa ca oa)) e) where
     did_script : (s : Seen) (h : List Entry) (g : Result (List ℕ) Why) → GivesScript g (Ok script) → Did (work_from s x.refused) (left_on w) 0 ran.taken (parts (script_input script) fb c o) (parts (script_input now) fa ca oa) e
-        → DidScript g (script_from s x.refused) h (left_on w) ran.taken ran.supply.moments (world f c o) (world fa ca oa) e
+        → DidScript (task_of g (script_from s x.refused)) h (left_on w) ran.taken ran.supply.moments (world f c o) (world fa ca oa) e
     did_script s h (Ok bytes) is d =
         let P : ScriptState → Type 0 = λ z. z.left ≡ ran.taken ++ now.left in
         record {
@@ -142,10 +142,10 @@ module _ {R S : Type 0} (view : R → Tree) (source_view : S → Tree) (x : Inte
           whole = ran.ended;
           did = did-script s x.refused ran.taken (script_input script) (record { left = Some bytes; given = 0; faults = 0 }) (script_input now) (record { left = Some now.left; given = 0; faults = 0 }) f fb fa c ca o oa (left_on w) read (λ h. h) e d;
         }
-    did_script s h (Err y) is d = absurd is
+    did_script s h (Err z) is d = absurd is
 
     pub script-ran : fb.found ≡ f.found → length script.left ≤ FILE_MAX + length commit_text → GivesScriptOf f file (Ok script) → Accounts (λ z. z ≡ how.Input) 0 0 (result_of e)
-        → RanScript view source_view x file (world f c o) (world fa ca oa) v w e
+        → RanScript view source_view file (session_at x v (world f c o)) (session_at y w (world fa ca oa)) e
     script-ran same short gives calm = record {
       taken = ran.taken;
       supply = followed_by (one_table gives.0) ran.supply;
@@ -156,33 +156,33 @@ module _ {R S : Type 0} (view : R → Tree) (source_view : S → Tree) (x : Inte
         too_much = λ h. script-short script.left ran.taken now.left ran.took short (ran.too_much.0 h);
       };
       did = λ s rest z m. (
-          let d = ran.did (script_read s) rest (follows-read view source_view v x s z) (ap (λ (y : Supply). record { moments = y.moments; tables = drop 1 y.tables }) m) in
+          let d = ran.did (script_read s) rest (follows-read view source_view v x s z) (ap (λ (u : Supply). record { moments = u.moments; tables = drop 1 u.tables }) m) in
           (inr (did_script (script_read s) s.session.history (next_script file s.session.supply) (subst (λ g. GivesScript g (Ok script)) (sym (ap (next_script file) m)) gives.2) d.0), d.1)
           );
     }
 
   -- there is no script
-  pub script-refused : (p : KnownOutput) (y : Why) → HasRead f fb 1 → GivesScriptOf f file (Err y) → SaidLine (refused_script y) true o p e → RanScript view source_view x file (world f c o) (world fb c p) v v e
-  script-refused p y read gives w = record {
+  pub script-refused : (p : KnownOutput) (reason : Why) → HasRead f fb 1 → GivesScriptOf f file (Err reason) → SaidLine (refused_script reason) true o p e → RanScript view source_view file (session_at x v (world f c o)) (session_at y v (world fb c p)) e
+  script-refused p reason read gives w = record {
     taken = [];
     supply = one_table gives.0;
     supplied = supplied-table f c gives.0 gives.1;
-    closing = record { running = said-running (refused_script y) true o p e w; input = said_input; too_much = said-short (refused_script y) true o p e w };
+    closing = record { running = said-running (refused_script reason) true o p e w; input = said_input; too_much = said-short (refused_script reason) true o p e w };
     did = λ s rest z m. (
-      inr (did_from s (left-here view source_view v x s z) (next_script file s.session.supply) (subst (λ g. GivesScript g (Err y)) (sym (ap (next_script file) m)) gives.2)),
+      inr (did_from s (left-here view source_view v x s z) (next_script file s.session.supply) (subst (λ g. GivesScript g (Err reason)) (sym (ap (next_script file) m)) gives.2)),
       along-still (script_read s) [] v,
     );
   }
     where
       said_input : e ≡ how.Input → ⊥
-      said_input h = subst (λ z. SaidLine (refused_script y) true o p z) h w
+      said_input h = subst (λ z. SaidLine (refused_script reason) true o p z) h w
 
-      did_from : (s : Seen) → left_on v s.session.history s.session.history → (g : Result (List ℕ) Why) → GivesScript g (Err y) → DidScript g (script_from (script_read s) x.refused) s.session.history (left_on v) [] [] (world f c o) (world fb c p) e
+      did_from : (s : Seen) → left_on v s.session.history s.session.history → (g : Result (List ℕ) Why) → GivesScript g (Err reason) → DidScript (task_of g (script_from (script_read s) x.refused)) s.session.history (left_on v) [] [] (world f c o) (world fb c p) e
       did_from s left (Ok bytes) is = absurd is
       did_from s left (Err z) is = (refl, refl, subst (λ k. SaidLine (refused_script k) true o p e) is w, read, refl, left)
 
   -- the file failed, or memory ran out
-  script-failed : (p : KnownOutput) → IsClosing e → HasRead f fb 1 → ((e ≡ how.File) × WritesLast o p [] file_line) ⊎ ((e ≡ how.Memory) × WritesLast o p [] memory_line) → RanScript view source_view x file (world f c o) (world fb c p) v v e
+  script-failed : (p : KnownOutput) → IsClosing e → HasRead f fb 1 → ((e ≡ how.File) × WritesLast o p [] file_line) ⊎ ((e ≡ how.Memory) × WritesLast o p [] memory_line) → RanScript view source_view file (session_at x v (world f c o)) (session_at y v (world fb c p)) e
   script-failed p closing read ended = record {
     taken = [];
     supply = no_supply;
@@ -192,19 +192,19 @@ module _ {R S : Type 0} (view : R → Tree) (source_view : S → Tree) (x : Inte
   }
 
 -- such a call is stopped by the file, or as memory runs out
-pub script-stopped : {R S : Type 0} (view : R → Tree) (source_view : S → Tree) (x : Interpreter R S) (file : List ℕ) (f fb : KnownFiles) (c : KnownClock) (o p : KnownOutput) (v : KnownDisk) (fault : FilesFault) (stop : Stop) → (fault ≡ fails.Failed → stop ≡ File) × (fault ≡ fails.Memory → stop ≡ Memory) → HasRead f fb 1 → TellsStop o p stop
-    → RanScript view source_view x file (world f c o) (world fb c p) v v (end_of_stop stop)
-script-stopped view source_view x file f fb c o p v fails.Failed stop becomes read w =
+pub script-stopped : {R S : Type 0} (view : R → Tree) (source_view : S → Tree) (x y : Interpreter R S) (file : List ℕ) (f fb : KnownFiles) (c : KnownClock) (o p : KnownOutput) (v : KnownDisk) (fault : FilesFault) (stop : Stop) → (fault ≡ fails.Failed → stop ≡ File) × (fault ≡ fails.Memory → stop ≡ Memory) → HasRead f fb 1 → TellsStop o p stop
+    → RanScript view source_view file (session_at x v (world f c o)) (session_at y v (world fb c p)) (end_of_stop stop)
+script-stopped view source_view x y file f fb c o p v fails.Failed stop becomes read w =
     let is = becomes.0 refl in
     let last : WritesLast o p [] file_line = subst (TellsStop o p) is w in
-    subst (λ z. RanScript view source_view x file (world f c o) (world fb c p) v v (end_of_stop z)) (sym is)
-    (script-failed view source_view x file f fb c o v how.File p
+    subst (λ z. RanScript view source_view file (session_at x v (world f c o)) (session_at y v (world fb c p)) (end_of_stop z)) (sym is)
+    (script-failed view source_view x y file f fb c o v how.File p
     (record { running = record { fitting = λ h. absurd (cc); opened = λ at h. absurd (cc) }; input = λ h. absurd (cc); too_much = λ h. absurd (cc) }) read (inl (refl, last)))
-script-stopped view source_view x file f fb c o p v fails.Memory stop becomes read w =
+script-stopped view source_view x y file f fb c o p v fails.Memory stop becomes read w =
     let is = becomes.1 refl in
     let last : WritesLast o p [] memory_line = subst (TellsStop o p) is w in
-    subst (λ z. RanScript view source_view x file (world f c o) (world fb c p) v v (end_of_stop z)) (sym is)
-    (script-failed view source_view x file f fb c o v how.Memory p
+    subst (λ z. RanScript view source_view file (session_at x v (world f c o)) (session_at y v (world fb c p)) (end_of_stop z)) (sym is)
+    (script-failed view source_view x y file f fb c o v how.Memory p
     (record { running = record { fitting = λ h. absurd (cc); opened = λ at h. absurd (cc) }; input = λ h. absurd (cc); too_much = λ h. absurd (cc) }) read (inr (refl, last)))
 
 -- ---- causes
@@ -285,8 +285,8 @@ committed-early file curator i f k o p v w e early wrote none never leaves = rec
     not_begun = record { early = early; none_taken = refl; none_told = refl; files = refl; clock = refl; wrote = wrote }
 
 -- a call that ran the script of its file, or said why there is none
-module _ {R S : Type 0} (view : R → Tree) (source_view : S → Tree) (file curator : List ℕ) (x : Interpreter R S) (i : KnownInput) (f fa : KnownFiles) (k ka : KnownClock) (o oa : KnownOutput) (v m w : KnownDisk) (e : End)
-    (none : x.refused ≡ false) (same : IsTrue v.known → IsTrue m.known) (opened : IsTrue v.known → BegunOn view source_view curator v m (Ok x)) (leaves : LeavesStore v m) (r : RanScript view source_view x file (world f k o) (world fa ka oa) m w e) where
+module _ {R S : Type 0} (view : R → Tree) (source_view : S → Tree) (file curator : List ℕ) (x y : Interpreter R S) (i : KnownInput) (f fa : KnownFiles) (k ka : KnownClock) (o oa : KnownOutput) (v m w : KnownDisk) (e : End)
+    (none : x.refused ≡ false) (same : IsTrue v.known → IsTrue m.known) (opened : IsTrue v.known → BegunOn view source_view curator v m (Ok x)) (leaves : LeavesStore v m) (r : RanScript view source_view file (session_at x m (world f k o)) (session_at y w (world fa ka oa)) e) where
   module _ (known : IsTrue v.known) (h : List Entry) (store : IsStore h v.view.content) where
     abbrev terms : Terms
     terms = store_terms h v.view.content curator
@@ -299,7 +299,7 @@ module _ {R S : Type 0} (view : R → Tree) (source_view : S → Tree) (file cur
     next rest = after_read (session rest)
 
     abbrev Before : Leaving → Supply → Work → Type 0
-    Before L rest work = ScriptFailed h L r.taken r.supply (world f k o) (world fa ka oa) e ⊎ DidScript (next_script file (followed_by r.supply rest)) work h L r.taken r.supply.moments (world f k o) (world fa ka oa) e
+    Before L rest work = ScriptFailed h L r.taken r.supply (world f k o) (world fa ka oa) e ⊎ DidScript (task_of (next_script file (followed_by r.supply rest)) work) h L r.taken r.supply.moments (world f k o) (world fa ka oa) e
 
     went : (rest : Supply) → Before (left_on w) rest (script_from (begun terms (next rest)) x.refused) × LeavesAlong (begun terms (next rest)) r.taken m w
     went rest = r.did (begun terms (session rest)) rest ((opened known).1 h (followed_by r.supply rest) store) refl
@@ -321,7 +321,7 @@ module _ {R S : Type 0} (view : R → Tree) (source_view : S → Tree) (file cur
           | inr z ↦ inr (z.0, z.1, along-script terms (next rest) r.taken z.0 c z.2)
         ]
 
-    did_commit : DidCommit h file curator r.taken r.supply (parts i f k o) (parts i fa ka oa) v w e
+    did_commit : DidCommit h file curator r.taken r.supply (call_at v (parts i f k o)) (call_at w (parts i fa ka oa)) e
     did_commit = record { did = λ rest. inr (done rest); later = omega (arith, left.later, ((went no_supply).1 (same known)).0); crash = crashed }
 
   pub committed-ran : Committed file curator (parts i f k o) (parts i fa ka oa) v w e

@@ -39,23 +39,38 @@ report_on supply h c x = statement_report (store_terms h c []) (opened_session h
 
 -- What the one statement did, by how the call ended: its report, or what came of it where something failed in it.
 abbrev pub DidStatement : Report → List Entry → Leaving → Outside → Outside → End → Type 0
-DidStatement r h Leaves before now how.Done = (r.refused ≡ false) × Writes before.output now.output r.out × HasRead before.files now.files r.reads × Leaves r.history r.history
-DidStatement r h Leaves before now how.Refused = (r.refused ≡ true) × Writes before.output now.output r.out × HasRead before.files now.files r.reads × Leaves r.history r.history
+DidStatement r h Leaves before now how.Done =
+    (r.refused ≡ false) × Writes before.output now.output r.out
+    × HasRead before.files now.files r.reads × Leaves r.history r.history
+DidStatement r h Leaves before now how.Refused =
+    (r.refused ≡ true) × Writes before.output now.output r.out
+    × HasRead before.files now.files r.reads × Leaves r.history r.history
 DidStatement r h Leaves before now how.Usage = ⊥
 DidStatement r h Leaves before now how.Input = ⊥
-DidStatement r h Leaves before now how.File = (r.reads ≡ 1) × WritesLast before.output now.output [] file_line × HasRead before.files now.files 1 × Leaves h h
-DidStatement r h Leaves before now how.Output = StopsIn before.output now.output r.out × HasRead before.files now.files r.reads × Leaves r.history r.history
-DidStatement r h Leaves before now how.Disk = (r.reads ≡ 1) × WritesLast before.output now.output [] disk_line × HasRead before.files now.files 1 × Leaves h r.history
+DidStatement r h Leaves before now how.File =
+    (r.reads ≡ 1) × WritesLast before.output now.output [] file_line
+    × HasRead before.files now.files 1 × Leaves h h
+DidStatement r h Leaves before now how.Output =
+    StopsIn before.output now.output r.out × HasRead before.files now.files r.reads
+    × Leaves r.history r.history
+DidStatement r h Leaves before now how.Disk =
+    (r.reads ≡ 1) × WritesLast before.output now.output [] disk_line
+    × HasRead before.files now.files 1 × Leaves h r.history
 DidStatement r h Leaves before now (how.NoStore at) = ⊥
 DidStatement r h Leaves before now how.Memory =
-    (StopsIn before.output now.output r.out × HasRead before.files now.files r.reads × Leaves r.history r.history)
-    ⊎ (WritesLast before.output now.output [] memory_line × (HasRead before.files now.files 0 ⊎ HasRead before.files now.files r.reads) × Leaves h r.history)
+    (StopsIn before.output now.output r.out × HasRead before.files now.files r.reads
+    × Leaves r.history r.history)
+    ⊎ (WritesLast before.output now.output [] memory_line
+    × (HasRead before.files now.files 0 ⊎ HasRead before.files now.files r.reads)
+    × Leaves h r.history)
 DidStatement r h Leaves before now how.TooLong = ⊥
 DidStatement r h Leaves before now how.Clock = ⊥
 
 -- What was done on a store that stands for the history h, which the content tells at entry: the load, whose report this is; or the call ended before it.
-pub record DidLoad (r : Report) (h : List Entry) (supply : Supply) (before now : Outside) (v w : KnownDisk) (end : End) : Type 0 where
-  pub did : (HasNotBegun [] supply before now end × ViewRests v.view w.view) ⊎ DidStatement r h (left_on w) before now end
+pub record DidLoad (r : Report) (h : List Entry) (supply : Supply) (before now : Outside)
+    (v w : KnownDisk) (end : End) : Type 0 where
+  pub did : (HasNotBegun [] supply before now end × ViewRests v.view w.view)
+      ⊎ DidStatement r h (left_on w) before now end
   pub later : v.view.moment ≤ w.view.moment
   pub crash : ViewLeaves (StandsForEither h r.history) v.view w.view
 
@@ -68,7 +83,11 @@ pub record Loaded (l : Load) (before now : Outside) (v w : KnownDisk) (end : End
   pub supplied : IsSupplied before.files before.clock now.clock supply
   pub fitting : end ≡ how.Usage → ⊥
   pub short : end ≡ how.TooLong → ⊥
-  pub no_store : IsTrue v.known → (at : ℕ) → end ≡ how.NoStore at → HasNotBegun [] supply before now end × ViewRests v.view w.view × IsNot Opens v.view.content at
-  pub unopened : IsTrue v.known → (Opens v.view.content → ⊥) → HasNotBegun [] supply before now end × ViewRests v.view w.view
+  pub no_store : IsTrue v.known → (at : ℕ) → end ≡ how.NoStore at
+      → HasNotBegun [] supply before now end × ViewRests v.view w.view
+      × IsNot Opens v.view.content at
+  pub unopened : IsTrue v.known → (Opens v.view.content → ⊥) → HasNotBegun [] supply before now end
+      × ViewRests v.view w.view
   pub did : IsTrue v.known → (h : List Entry) → IsStore h v.view.content → (rest : Supply)
-      → DidLoad (report_on (followed_by supply rest) h v.view.content (stmt.Load l)) h supply before now v w end
+      → DidLoad (report_on (followed_by supply rest) h v.view.content (stmt.Load l)) h supply
+      before now v w end

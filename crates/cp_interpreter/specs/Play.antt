@@ -27,10 +27,25 @@ after_play s bytes = record {
   session = session_after (setting s.terms) s.session (scan_bytes s.scan bytes).cuts;
 }
 
+-- what is played of a session: what it reports, and what is seen then
+pub record Played : Type 0 where
+  pub report : Report
+  pub next : Seen
+
+-- of its parts
+abbrev pub played_as : Report → Seen → Played
+played_as r next = record { report = r; next = next }
+
+-- what the next bytes play
+abbrev pub bytes_played : Seen → List ℕ → Played
+bytes_played s bytes = played_as (plays s bytes) (after_play s bytes)
+
 -- what the cut at the end of the input does
 unfoldable pub closes : Seen → Report
 closes s = report_of s.terms s.session (rest_of s.scan)
 
 -- what all the rest of an input does
 unfoldable pub plays_all : Seen → List ℕ → Report
-plays_all s bytes = report_of s.terms s.session ((scan_bytes s.scan bytes).cuts ++ rest_of (scan_bytes s.scan bytes).scan)
+plays_all s bytes =
+    report_of s.terms s.session
+    ((scan_bytes s.scan bytes).cuts ++ rest_of (scan_bytes s.scan bytes).scan)

@@ -33,13 +33,15 @@ pub record StopsInReply (rs : List Reply) (before now : KnownOutput) : Type 0 wh
 
 -- The lines of these replies were written, and it is known whether a refusal is among them and those before; or the output stopped in one reply more; or nothing more was written.
 abbrev pub SendsAs : List Reply → Bool → Bool → KnownOutput → KnownOutput → Result ⊤ Stop → Type 0
-SendsAs rs old new before now (Ok x) = Writes before now (lines_of rs) × (new ≡ (old || has_refusal rs))
+SendsAs rs old new before now (Ok x) =
+    Writes before now (lines_of rs) × (new ≡ (old || has_refusal rs))
 SendsAs rs old new before now (Err Output) = StopsInReply rs before now
 SendsAs rs old new before now (Err Full) = StopsInReply rs before now
 SendsAs rs old new before now (Err stop) = Writes before now (lines_of rs)
 
 -- The same of some replies.
-pub record SendsReplies (old new : Bool) (before now : KnownOutput) (result : Result ⊤ Stop) : Type 0 where
+pub record SendsReplies (old new : Bool) (before now : KnownOutput)
+    (result : Result ⊤ Stop) : Type 0 where
   pub replies : List Reply
   pub sent : SendsAs replies old new before now result
 
@@ -47,15 +49,19 @@ pub record SendsReplies (old new : Bool) (before now : KnownOutput) (result : Re
 
 -- The lines of these replies were written, and nothing else but the last line of an end that is no answer. Where all was done the end says whether a refusal is among them and those before.
 abbrev pub WroteAs : List Reply → Bool → KnownOutput → KnownOutput → End → Type 0
-WroteAs rs refused before now how.Done = ((refused || has_refusal rs) ≡ false) × Writes before now (lines_of rs)
-WroteAs rs refused before now how.Refused = ((refused || has_refusal rs) ≡ true) × Writes before now (lines_of rs)
+WroteAs rs refused before now how.Done =
+    ((refused || has_refusal rs) ≡ false) × Writes before now (lines_of rs)
+WroteAs rs refused before now how.Refused =
+    ((refused || has_refusal rs) ≡ true) × Writes before now (lines_of rs)
 WroteAs rs refused before now how.Usage = ⊥
 WroteAs rs refused before now how.Input = WritesLast before now (lines_of rs) input_line
 WroteAs rs refused before now how.File = WritesLast before now (lines_of rs) file_line
 WroteAs rs refused before now how.Output = StopsInReply rs before now
 WroteAs rs refused before now how.Disk = WritesLast before now (lines_of rs) disk_line
-WroteAs rs refused before now (how.NoStore at) = WritesLast before now (lines_of rs) (no_store_line at)
-WroteAs rs refused before now how.Memory = StopsInReply rs before now ⊎ WritesLast before now (lines_of rs) memory_line
+WroteAs rs refused before now (how.NoStore at) =
+    WritesLast before now (lines_of rs) (no_store_line at)
+WroteAs rs refused before now how.Memory =
+    StopsInReply rs before now ⊎ WritesLast before now (lines_of rs) memory_line
 WroteAs rs refused before now how.TooLong = WritesLast before now (lines_of rs) too_long_line
 WroteAs rs refused before now how.Clock = WritesLast before now (lines_of rs) clock_line
 

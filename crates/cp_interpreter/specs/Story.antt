@@ -30,7 +30,7 @@ use Rattle.cp_workspace.specs.Spending.{HasSpent}
 use Rattle.cp_workspace.specs.Workspaces.{opened_session}
 use Rattle.cp_interpreter.specs.Texts.{input_line, file_line, disk_line, no_store_line, memory_line, too_long_line, clock_line}
 use Rattle.cp_interpreter.specs.Job.{Report, job_so_far, job}
-use Rattle.cp_interpreter.specs.Outside.{KnownOutput, World, Outside, world_of}
+use Rattle.cp_interpreter.specs.Outside.{KnownOutput, World, Outside, Moment, call_at, world_of}
 use Rattle.cp_interpreter.specs.declared.end.End.{End}
 use Rattle.cp_interpreter.specs.declared.end.End.TheVariants as how
 
@@ -38,7 +38,8 @@ use Rattle.cp_interpreter.specs.declared.end.End.TheVariants as how
 
 -- These bytes were written, and no write was refused.
 abbrev pub Writes : KnownOutput → KnownOutput → List ℕ → Type 0
-Writes before now bytes = (now.refusals ≡ before.refusals) × Appends before.contents now.contents bytes
+Writes before now bytes =
+    (now.refusals ≡ before.refusals) × Appends before.contents now.contents bytes
 
 -- One write was refused, and nothing was taken after it.
 pub record WasRefused (before now : KnownOutput) : Type 0 where
@@ -51,17 +52,20 @@ StopsIn before now bytes = WasRefused before now × TakesLess before.contents no
 
 -- A front part of these bytes was taken, which has so many of them at least, and isn't all.
 abbrev pub TakesFrom : ℕ → Option (List ℕ) → Option (List ℕ) → List ℕ → Type 0
-TakesFrom least old new bytes = (n : ℕ) × (least ≤ n) × (n < length bytes) × Appends old new (take n bytes)
+TakesFrom least old new bytes =
+    (n : ℕ) × (least ≤ n) × (n < length bytes) × Appends old new (take n bytes)
 
 -- A write was refused after all of the first bytes, and before all of the others, which begin with them.
 abbrev pub StopsAfter : KnownOutput → KnownOutput → List ℕ → List ℕ → Type 0
-StopsAfter before now first bytes = WasRefused before now × TakesFrom (length first) before.contents now.contents bytes
+StopsAfter before now first bytes =
+    WasRefused before now × TakesFrom (length first) before.contents now.contents bytes
 
 -- These bytes were written and then the last line; or a write of the last line was refused, of which less than all was taken.
 abbrev pub WritesLast : KnownOutput → KnownOutput → List ℕ → List ℕ → Type 0
 WritesLast before now bytes last =
     Writes before now (bytes ++ last)
-    ⊎ (WasRefused before now × (n : ℕ) × (n < length last) × Appends before.contents now.contents (bytes ++ take n last))
+    ⊎ (WasRefused before now × (n : ℕ) × (n < length last)
+    × Appends before.contents now.contents (bytes ++ take n last))
 
 -- ---- what a crash leaves
 
@@ -99,32 +103,39 @@ pub record Work : Type 0 where
   pub whole : List ℕ → Report
 
 -- All statements of the input were run, and some line refuses one, or none does; a crash leaves their history.
-pub record AllDone (work : Work) (Leaves : Leaving) (taken : List ℕ) (before now : Outside) (refused : Bool) : Type 0 where
+pub record AllDone (work : Work) (Leaves : Leaving) (taken : List ℕ) (before now : Outside)
+    (refused : Bool) : Type 0 where
   pub refused_is : (work.whole taken).refused ≡ refused
   pub wrote : Writes before.output now.output (work.whole taken).out
   pub spent : SpentAs (work.whole taken) (world_of before) (world_of now)
   pub left : Leaves (work.whole taken).history (work.whole taken).history
 
 -- The output refused a write of what is written for the statement that ends with the next byte, which was run: all lines before it were written, and less than all of its own.
-pub record StoppedWriting (work : Work) (Leaves : Leaving) (taken : List ℕ) (before now : Outside) : Type 0 where
+pub record StoppedWriting (work : Work) (Leaves : Leaving) (taken : List ℕ)
+    (before now : Outside) : Type 0 where
   pub at : ℕ
   pub inside : at < length taken
-  pub wrote : StopsAfter before.output now.output (work.so_far (take at taken)).out (work.so_far (take (at + 1) taken)).out
+  pub wrote : StopsAfter before.output now.output (work.so_far (take at taken)).out
+      (work.so_far (take (at + 1) taken)).out
   pub spent : SpentAs (work.so_far (take (at + 1) taken)) (world_of before) (world_of now)
-  pub left : Leaves (work.so_far (take (at + 1) taken)).history (work.so_far (take (at + 1) taken)).history
+  pub left : Leaves (work.so_far (take (at + 1) taken)).history
+      (work.so_far (take (at + 1) taken)).history
 
 -- The same of what is written for the input's end, which has come.
-pub record StoppedEnding (work : Work) (Leaves : Leaving) (taken : List ℕ) (before now : Outside) : Type 0 where
+pub record StoppedEnding (work : Work) (Leaves : Leaving) (taken : List ℕ)
+    (before now : Outside) : Type 0 where
   pub ended : IsAtEnd now.input.left
   pub wrote : StopsAfter before.output now.output (work.so_far taken).out (work.whole taken).out
   pub spent : SpentAs (work.whole taken) (world_of before) (world_of now)
   pub left : Leaves (work.whole taken).history (work.whole taken).history
 
 abbrev pub OutputStopped : Work → Leaving → List ℕ → Outside → Outside → Type 0
-OutputStopped work Leaves taken before now = StoppedWriting work Leaves taken before now ⊎ StoppedEnding work Leaves taken before now
+OutputStopped work Leaves taken before now =
+    StoppedWriting work Leaves taken before now ⊎ StoppedEnding work Leaves taken before now
 
 -- A file failed: that of the load that ends with the next byte. All lines before it were written, and the last line.
-pub record FileFailed (work : Work) (Leaves : Leaving) (taken : List ℕ) (before now : Outside) : Type 0 where
+pub record FileFailed (work : Work) (Leaves : Leaving) (taken : List ℕ)
+    (before now : Outside) : Type 0 where
   pub at : ℕ
   pub inside : at < length taken
   pub load : (work.so_far (take (at + 1) taken)).reads ≡ (work.so_far (take at taken)).reads + 1
@@ -133,7 +144,8 @@ pub record FileFailed (work : Work) (Leaves : Leaving) (taken : List ℕ) (befor
   pub left : Leaves (work.so_far (take at taken)).history (work.so_far (take at taken)).history
 
 -- The clock failed: in the commit of operations that ends with the next byte. All lines before it were written, and the last line. A crash leaves the history before it.
-pub record ClockFailed (work : Work) (Leaves : Leaving) (taken : List ℕ) (before now : Outside) : Type 0 where
+pub record ClockFailed (work : Work) (Leaves : Leaving) (taken : List ℕ)
+    (before now : Outside) : Type 0 where
   pub at : ℕ
   pub inside : at < length taken
   pub commit : (work.so_far (take (at + 1) taken)).asks ≡ (work.so_far (take at taken)).asks + 1
@@ -143,31 +155,39 @@ pub record ClockFailed (work : Work) (Leaves : Leaving) (taken : List ℕ) (befo
 
 -- The disk failed: in the load of a file, or the commit of operations, that ends with the next byte. All lines before it were written, and the last line.
 -- A crash leaves the history before the statement or after it.
-pub record DiskFailed (work : Work) (Leaves : Leaving) (taken : List ℕ) (before now : Outside) : Type 0 where
+pub record DiskFailed (work : Work) (Leaves : Leaving) (taken : List ℕ)
+    (before now : Outside) : Type 0 where
   pub at : ℕ
   pub inside : at < length taken
-  pub writing : spending (work.so_far (take (at + 1) taken)) ≡ spending (work.so_far (take at taken)) + 1
+  pub writing : spending (work.so_far (take (at + 1) taken))
+      ≡ spending (work.so_far (take at taken)) + 1
   pub wrote : WritesLast before.output now.output (work.so_far (take at taken)).out disk_line
   pub spent : SpentAs (work.so_far (take (at + 1) taken)) (world_of before) (world_of now)
-  pub left : Leaves (work.so_far (take at taken)).history (work.so_far (take (at + 1) taken)).history
+  pub left : Leaves (work.so_far (take at taken)).history
+      (work.so_far (take (at + 1) taken)).history
 
 -- Memory ran out in the statement that ends with the next byte, if one does: all lines before it were written, and the last line.
 -- A crash leaves the history before the statement or after it, for which all was spent or nothing.
-pub record OutOfMemory (work : Work) (Leaves : Leaving) (taken : List ℕ) (before now : Outside) : Type 0 where
+pub record OutOfMemory (work : Work) (Leaves : Leaving) (taken : List ℕ)
+    (before now : Outside) : Type 0 where
   pub at : ℕ
   pub within : at ≤ length taken
   pub wrote : WritesLast before.output now.output (work.so_far (take at taken)).out memory_line
-  pub spent : SpentAs (work.so_far (take at taken)) (world_of before) (world_of now) ⊎ SpentAs (work.so_far (take (at + 1) taken)) (world_of before) (world_of now)
-  pub left : Leaves (work.so_far (take at taken)).history (work.so_far (take (at + 1) taken)).history
+  pub spent : SpentAs (work.so_far (take at taken)) (world_of before) (world_of now)
+      ⊎ SpentAs (work.so_far (take (at + 1) taken)) (world_of before) (world_of now)
+  pub left : Leaves (work.so_far (take at taken)).history
+      (work.so_far (take (at + 1) taken)).history
 
 -- The input failed: all lines for what was taken were written, and the last line.
-pub record InputFailed (work : Work) (Leaves : Leaving) (taken : List ℕ) (before now : Outside) : Type 0 where
+pub record InputFailed (work : Work) (Leaves : Leaving) (taken : List ℕ)
+    (before now : Outside) : Type 0 where
   pub wrote : WritesLast before.output now.output (work.so_far taken).out input_line
   pub spent : SpentAs (work.so_far taken) (world_of before) (world_of now)
   pub left : Leaves (work.so_far taken).history (work.so_far taken).history
 
 -- Too much came, after so many bytes before these: all lines for all but the last piece were written, and the last line.
-pub record TooMuchCame (work : Work) (Leaves : Leaving) (count : ℕ) (taken : List ℕ) (before now : Outside) : Type 0 where
+pub record TooMuchCame (work : Work) (Leaves : Leaving) (count : ℕ) (taken : List ℕ)
+    (before now : Outside) : Type 0 where
   pub at : ℕ
   pub within : count + at ≤ INPUT_MAX
   pub last_piece : length taken ≤ at + PIECE_MAX
@@ -185,7 +205,8 @@ Did work Leaves count taken before now how.File = FileFailed work Leaves taken b
 Did work Leaves count taken before now how.Output = OutputStopped work Leaves taken before now
 Did work Leaves count taken before now how.Disk = DiskFailed work Leaves taken before now
 Did work Leaves count taken before now (how.NoStore at) = ⊥
-Did work Leaves count taken before now how.Memory = OutputStopped work Leaves taken before now ⊎ OutOfMemory work Leaves taken before now
+Did work Leaves count taken before now how.Memory =
+    OutputStopped work Leaves taken before now ⊎ OutOfMemory work Leaves taken before now
 Did work Leaves count taken before now how.TooLong = TooMuchCame work Leaves count taken before now
 Did work Leaves count taken before now how.Clock = ClockFailed work Leaves taken before now
 
@@ -220,7 +241,8 @@ SaidLine line refused before now how.File = ⊥
 SaidLine line refused before now how.Output = StopsIn before now line
 SaidLine line refused before now how.Disk = ⊥
 SaidLine line refused before now (how.NoStore at) = ⊥
-SaidLine line refused before now how.Memory = StopsIn before now line ⊎ WritesLast before now [] memory_line
+SaidLine line refused before now how.Memory =
+    StopsIn before now line ⊎ WritesLast before now [] memory_line
 SaidLine line refused before now how.TooLong = ⊥
 SaidLine line refused before now how.Clock = ⊥
 
@@ -246,7 +268,8 @@ frames_end c = walk_end HEADER_SIZE (frames_of (drop HEADER_SIZE c))
 
 -- what a session is run on in a file that stands for this history
 abbrev pub store_terms : List Entry → List ℕ → List ℕ → Terms
-store_terms h c curator = record { ends = record { entries = h; at = frames_end c }; curator = curator }
+store_terms h c curator =
+    record { ends = record { entries = h; at = frames_end c }; curator = curator }
 
 -- the last line of a call that ended before its session began
 abbrev pub early_line : End → List ℕ
@@ -267,7 +290,8 @@ abbrev pub IsEarly : End → Type 0
 IsEarly end = (end ≡ how.Disk) ⊎ ((at : ℕ) × (end ≡ how.NoStore at)) ⊎ (end ≡ how.Memory)
 
 -- No session was run: the store is none, or the disk failed, or memory ran out, and the last line was written. No input was taken, no file was read, and the clock wasn't asked.
-pub record HasNotBegun (taken : List ℕ) (supply : Supply) (before now : Outside) (end : End) : Type 0 where
+pub record HasNotBegun (taken : List ℕ) (supply : Supply) (before now : Outside)
+    (end : End) : Type 0 where
   pub early : IsEarly end
   pub none_taken : taken ≡ []
   pub none_told : supply ≡ no_supply
@@ -281,25 +305,35 @@ session_on h c curator supply = work_on (store_terms h c curator) (opened_sessio
 
 -- It stands for what the work makes of a front of the bytes that were taken.
 abbrev pub StandsForFront : Work → List ℕ → List ℕ → Type 0
-StandsForFront work taken c = (k : ℕ) × (k ≤ length taken) × StandsFor (work.so_far (take k taken)).history c
+StandsForFront work taken c =
+    (k : ℕ) × (k ≤ length taken) × StandsFor (work.so_far (take k taken)).history c
 
 -- The content stands for the history; meanwhile, and now, each file that a crash leaves is one that it could leave before, or stands for the history.
 pub record LeavesHistory (h : List Entry) (v w : KnownDisk) : Type 0 where
   pub content : StandsFor h w.view.content
   pub later : v.view.moment ≤ w.view.moment
-  pub since : (t : ℕ) (c : List ℕ) → t ≤ v.view.moment → w.view.since t c → v.view.since t c ⊎ StandsFor h c
+  pub since : (t : ℕ) (c : List ℕ) → t ≤ v.view.moment → w.view.since t c
+      → v.view.since t c ⊎ StandsFor h c
   pub now : (c : List ℕ) → w.view.images c → v.view.images c ⊎ StandsFor h c
 
 -- What was done on a store that stands for the history h, which the content tells at entry: its session, whatever would be told after this; or none was run, and the history is left.
-pub record DidOn (h : List Entry) (curator taken : List ℕ) (supply : Supply) (before now : Outside) (v w : KnownDisk) (end : End) : Type 0 where
-  pub did : (rest : Supply) → (HasNotBegun taken supply before now end × LeavesHistory h v w)
-      ⊎ Did (session_on h v.view.content curator (followed_by supply rest)) (left_on w) 0 taken before now end
-  pub later : v.view.moment ≤ w.view.moment
-  pub crash : (rest : Supply) → ViewLeaves (StandsForFront (session_on h v.view.content curator (followed_by supply rest)) taken) v.view w.view
+pub record DidOn (h : List Entry) (curator taken : List ℕ) (supply : Supply) (before now : Moment)
+    (end : End) : Type 0 where
+  pub did : (rest : Supply)
+      → (HasNotBegun taken supply before.outside now.outside end
+      × LeavesHistory h before.disk now.disk)
+      ⊎ Did (session_on h before.disk.view.content curator (followed_by supply rest))
+      (left_on now.disk) 0 taken before.outside now.outside end
+  pub later : before.disk.view.moment ≤ now.disk.view.moment
+  pub crash : (rest : Supply)
+      → ViewLeaves (StandsForFront
+      (session_on h before.disk.view.content curator (followed_by supply rest)) taken)
+      before.disk.view now.disk.view
 
 -- A call that ran a session on a store took these bytes of the input, all of them where all was done; more than a call takes exactly at that end.
 -- What isn't opened is no store, and what is none isn't opened. What stands for a history has its session, to which the clock told some moments, and reads some files.
-pub record RanOn (curator : List ℕ) (before now : Outside) (v w : KnownDisk) (end : End) : Type 0 where
+pub record RanOn (curator : List ℕ) (before now : Outside) (v w : KnownDisk)
+    (end : End) : Type 0 where
   pub taken : List ℕ
   pub took : Consumes before.input.left now.input.left taken
   pub counted : now.input.given ≡ before.input.given + length taken
@@ -308,9 +342,13 @@ pub record RanOn (curator : List ℕ) (before now : Outside) (v w : KnownDisk) (
   pub supplied : IsSupplied before.files before.clock now.clock supply
   pub fitting : end ≡ how.Usage → ⊥
   pub ended : OnOk (result_of end) (IsAtEnd now.input.left)
-  pub no_store : IsTrue v.known → (at : ℕ) → end ≡ how.NoStore at → HasNotBegun taken supply before now end × ViewRests v.view w.view × IsNot Opens v.view.content at
-  pub unopened : IsTrue v.known → (Opens v.view.content → ⊥) → HasNotBegun taken supply before now end × ViewRests v.view w.view
-  pub did : IsTrue v.known → (h : List Entry) → IsStore h v.view.content → DidOn h curator taken supply before now v w end
+  pub no_store : IsTrue v.known → (at : ℕ) → end ≡ how.NoStore at
+      → HasNotBegun taken supply before now end × ViewRests v.view w.view
+      × IsNot Opens v.view.content at
+  pub unopened : IsTrue v.known → (Opens v.view.content → ⊥)
+      → HasNotBegun taken supply before now end × ViewRests v.view w.view
+  pub did : IsTrue v.known → (h : List Entry) → IsStore h v.view.content
+      → DidOn h curator taken supply (call_at v before) (call_at w now) end
 
 -- ---- a new store
 
@@ -323,12 +361,14 @@ abbrev pub MadeFrom : Kind → FetchedFile → Outside → Outside → KnownDisk
 MadeFrom k (withholds y) before now v w end =
     SaidLine (lines (reply.Refused of.Init y)) true before.output now.output end
 MadeFrom k (gives t) before now v w end =
-    SaidLine (lines (reply.Created k (len t))) false before.output now.output end × ((c : List ℕ) → w.view.images c → StandsFor (start k t ∷ []) c)
+    SaidLine (lines (reply.Created k (len t))) false before.output now.output end
+    × ((c : List ℕ) → w.view.images c → StandsFor (start k t ∷ []) c)
 
 -- What a crash leaves meanwhile: what it could leave, and from some moment on a vacant file, or the store with its start alone.
 abbrev pub LeavesStart : Kind → FetchedFile → View → View → Type 0
 LeavesStart k (withholds y) v w = ViewRests v w
-LeavesStart k (gives t) v w = ViewKeeps (IsOldOrVacantOrStart v k t) v w × SettlesInto (IsVacantOrStart k t) v w
+LeavesStart k (gives t) v w =
+    ViewKeeps (IsOldOrVacantOrStart v k t) v w × SettlesInto (IsVacantOrStart k t) v w
 
 -- The call ended before it was known what to say.
 abbrev pub EndedEarly : Outside → Outside → End → Type 0
@@ -336,20 +376,26 @@ EndedEarly before now end = IsEarly end × WritesLast before.output now.output [
 
 -- The file of the start tree failed, which is all that was read, and the last line was written.
 abbrev pub FileOfStartFailed : ℕ → Outside → Outside → End → Type 0
-FileOfStartFailed reads before now end = (end ≡ how.File) × (reads ≡ 1) × WritesLast before.output now.output [] file_line × HasRead before.files now.files 1
+FileOfStartFailed reads before now end =
+    (end ≡ how.File) × (reads ≡ 1) × WritesLast before.output now.output [] file_line
+    × HasRead before.files now.files 1
 
 -- A call that was to make a store read no input and asked no clock. Where there is one, it says so, and reads no file; else it made one from the start tree, whose file it read once, and found so.
-pub record Made (k : Kind) (given : FileTable → FetchedFile) (reads : ℕ) (before now : Outside) (v w : KnownDisk) (end : End) : Type 0 where
+pub record Made (k : Kind) (given : FileTable → FetchedFile) (reads : ℕ) (before now : Outside)
+    (v w : KnownDisk) (end : End) : Type 0 where
   pub running : IsRunning end
   pub input : now.input ≡ before.input
   pub clock : now.clock ≡ before.clock
   pub table : FileTable
   pub found : IsFound before.files table
   pub exists : IsTrue v.known → (IsVacant v.view.content → ⊥)
-      → (now.files ≡ before.files) × ViewRests v.view w.view × (SaidLine store_exists true before.output now.output end ⊎ EndedEarly before now end)
+      → (now.files ≡ before.files) × ViewRests v.view w.view
+      × (SaidLine store_exists true before.output now.output end ⊎ EndedEarly before now end)
   pub did : IsTrue v.known → IsVacant v.view.content
-      → FileOfStartFailed reads before now end ⊎ EndedEarly before now end ⊎ MadeFrom k (given table) before now v w end
-  pub read : IsTrue v.known → IsVacant v.view.content → ReadsOrNone reads before.files now.files (result_of end)
+      → FileOfStartFailed reads before now end ⊎ EndedEarly before now end
+      ⊎ MadeFrom k (given table) before now v w end
+  pub read : IsTrue v.known → IsVacant v.view.content
+      → ReadsOrNone reads before.files now.files (result_of end)
   pub crash : IsTrue v.known → IsVacant v.view.content → LeavesStart k (given table) v.view w.view
 
 -- ---- causes

@@ -7,10 +7,10 @@ ghost use Rattle.cp_interpreter.specs.Job.{is_refusal};
 ghost use Rattle.cp_lang.specs.Cuts.{scan_start};
 ghost use Rattle.cp_lang.specs.CutterState.{held_of};
 ghost use Rattle.cp_interpreter.specs.Outside.{known_output, known_world};
-ghost use Rattle.cp_interpreter.specs.Play.{plays, after_play};
+ghost use Rattle.cp_interpreter.specs.Play.{bytes_played};
 ghost use Rattle.cp_db.specs.FileVersions.{KeepsVersion};
 ghost use Rattle.cp_interpreter.specs.Replied.{SendsReplies};
-ghost use Rattle.cp_interpreter.specs.Turns.{MayGoOn, SendsOut, Went, WasFed, RanLast, Uses, UsesOutput, IsOpenedStop, cuts_play, after_cuts, cutter_in, workspace_in, has_refused};
+ghost use Rattle.cp_interpreter.specs.Turns.{MayGoOn, SendsOut, Went, WasFed, RanLast, Uses, UsesOutput, IsOpenedStop, cuts_played, session_at, cutter_in, workspace_in, has_refused};
 
 use crate::stop::Stop;
 use crate::tell::{is_refusal, tell};
@@ -75,13 +75,15 @@ impl<R: TreeRep, S: TreeRep> Interpreter<R, S> {
 
     /// Writes the lines of a reply, and notes whether it is a refusal.
     fn say<O: Sink>(&mut self, reply: Reply, output: &mut O) -> Result<(), Stop>
-        ensures went { SendsOut (lines reply) (O.contents output.old) (O.contents output.new) result }
+        ensures went { SendsOut (lines reply) (O.contents output.old)
+            (O.contents output.new) result }
         ensures held { OnOk result (self.new.cutter ≡ self.old.cutter) }
         ensures workspace { OnOk result (self.new.workspace ≡ self.old.workspace) }
         ensures refused { OnOk result (self.new.refused ≡ (self.old.refused || is_refusal reply)) }
         ensures replied { SendsReplies (has_refused self.old) (has_refused self.new)
             (known_output O.Sink output.old) (known_output O.Sink output.new) result }
-        ensures used { UsesOutput (known_output O.Sink output.old) (known_output O.Sink output.new) result }
+        ensures used { UsesOutput (known_output O.Sink output.old)
+            (known_output O.Sink output.new) result }
     {
         let told = tell(self.alloc, &reply, &mut self.text, output);
         let refused = is_refusal(&reply);
@@ -101,11 +103,15 @@ impl<R: TreeRep, S: TreeRep> Interpreter<R, S> {
         output: &mut O,
     ) -> Result<(), Stop>
         requires goes_on { MayGoOn R.contents S.contents (D.known disk.old) self.old }
-        ensures went { Went R.contents S.contents (λ s. cuts_play s (option_to_list cut)) (λ s. after_cuts s (option_to_list cut)) self.old self.new
-            (known_world F.Files K.Clock O.Sink files.old clock.old output.old) (known_world F.Files K.Clock O.Sink files.new clock.new output.new)
-            (D.known disk.old) (D.known disk.new) result }
+        ensures went { Went R.contents S.contents (λ s. cuts_played s (option_to_list cut))
+            (session_at self.old (D.known disk.old)
+            (known_world F.Files K.Clock O.Sink files.old clock.old output.old))
+            (session_at self.new (D.known disk.new)
+            (known_world F.Files K.Clock O.Sink files.new clock.new output.new)) result }
         ensures stays { OnOk result (MayGoOn R.contents S.contents (D.known disk.new) self.new) }
-        ensures uses { Uses (known_world F.Files K.Clock O.Sink files.old clock.old output.old) (known_world F.Files K.Clock O.Sink files.new clock.new output.new)
+        ensures uses { Uses
+            (known_world F.Files K.Clock O.Sink files.old clock.old output.old)
+            (known_world F.Files K.Clock O.Sink files.new clock.new output.new)
             (D.known disk.old) (D.known disk.new) result }
         ensures opened { IfErr result IsOpenedStop }
         ensures replied { SendsReplies (has_refused self.old) (has_refused self.new)
@@ -133,11 +139,15 @@ impl<R: TreeRep, S: TreeRep> Interpreter<R, S> {
         output: &mut O,
     ) -> Result<(), Stop>
         requires goes_on { MayGoOn R.contents S.contents (D.known disk.old) self.old }
-        ensures went { Went R.contents S.contents (λ s. plays s (byte ∷ [])) (λ s. after_play s (byte ∷ [])) self.old self.new
-            (known_world F.Files K.Clock O.Sink files.old clock.old output.old) (known_world F.Files K.Clock O.Sink files.new clock.new output.new)
-            (D.known disk.old) (D.known disk.new) result }
+        ensures went { Went R.contents S.contents (λ s. bytes_played s (byte ∷ []))
+            (session_at self.old (D.known disk.old)
+            (known_world F.Files K.Clock O.Sink files.old clock.old output.old))
+            (session_at self.new (D.known disk.new)
+            (known_world F.Files K.Clock O.Sink files.new clock.new output.new)) result }
         ensures stays { OnOk result (MayGoOn R.contents S.contents (D.known disk.new) self.new) }
-        ensures uses { Uses (known_world F.Files K.Clock O.Sink files.old clock.old output.old) (known_world F.Files K.Clock O.Sink files.new clock.new output.new)
+        ensures uses { Uses
+            (known_world F.Files K.Clock O.Sink files.old clock.old output.old)
+            (known_world F.Files K.Clock O.Sink files.new clock.new output.new)
             (D.known disk.old) (D.known disk.new) result }
         ensures opened { IfErr result IsOpenedStop }
         ensures replied { SendsReplies (has_refused self.old) (has_refused self.new)
@@ -159,11 +169,15 @@ impl<R: TreeRep, S: TreeRep> Interpreter<R, S> {
         output: &mut O,
     ) -> Result<(), Stop>
         requires goes_on { MayGoOn R.contents S.contents (D.known disk.old) self.old }
-        ensures went { WasFed R.contents S.contents piece.now self.old self.new
-            (known_world F.Files K.Clock O.Sink files.old clock.old output.old) (known_world F.Files K.Clock O.Sink files.new clock.new output.new)
-            (D.known disk.old) (D.known disk.new) result }
+        ensures went { WasFed R.contents S.contents piece.now
+            (session_at self.old (D.known disk.old)
+            (known_world F.Files K.Clock O.Sink files.old clock.old output.old))
+            (session_at self.new (D.known disk.new)
+            (known_world F.Files K.Clock O.Sink files.new clock.new output.new)) result }
         ensures stays { OnOk result (MayGoOn R.contents S.contents (D.known disk.new) self.new) }
-        ensures uses { Uses (known_world F.Files K.Clock O.Sink files.old clock.old output.old) (known_world F.Files K.Clock O.Sink files.new clock.new output.new)
+        ensures uses { Uses
+            (known_world F.Files K.Clock O.Sink files.old clock.old output.old)
+            (known_world F.Files K.Clock O.Sink files.new clock.new output.new)
             (D.known disk.old) (D.known disk.new) result }
         ensures opened { IfErr result IsOpenedStop }
         ensures replied { SendsReplies (has_refused self.old) (has_refused self.new)
@@ -185,10 +199,14 @@ impl<R: TreeRep, S: TreeRep> Interpreter<R, S> {
         output: &mut O,
     ) -> Result<(), Stop>
         requires goes_on { MayGoOn R.contents S.contents (D.known disk.old) self.old }
-        ensures went { RanLast R.contents S.contents self.old self.new
-            (known_world F.Files K.Clock O.Sink files.old clock.old output.old) (known_world F.Files K.Clock O.Sink files.new clock.new output.new)
-            (D.known disk.old) (D.known disk.new) result }
-        ensures uses { Uses (known_world F.Files K.Clock O.Sink files.old clock.old output.old) (known_world F.Files K.Clock O.Sink files.new clock.new output.new)
+        ensures went { RanLast R.contents S.contents
+            (session_at self.old (D.known disk.old)
+            (known_world F.Files K.Clock O.Sink files.old clock.old output.old))
+            (session_at self.new (D.known disk.new)
+            (known_world F.Files K.Clock O.Sink files.new clock.new output.new)) result }
+        ensures uses { Uses
+            (known_world F.Files K.Clock O.Sink files.old clock.old output.old)
+            (known_world F.Files K.Clock O.Sink files.new clock.new output.new)
             (D.known disk.old) (D.known disk.new) result }
         ensures opened { IfErr result IsOpenedStop }
         ensures replied { SendsReplies (has_refused self.old) (has_refused self.new)

@@ -65,7 +65,8 @@ pub fn read_script<F: Files>(
 ) -> Result<Result<Script, Why>, FilesFault>
     ensures gives { IfOk result (λ r. GivesScriptOf (known_files F.Files files.old) file.now r) }
     ensures short { IfOk result (λ r. IfOk r (λ s. length s.left ≤ FILE_MAX + length commit_text)) }
-    ensures used { UsesFiles (λ e. e ≡ FilesFault.Failed) (known_files F.Files files.old) (known_files F.Files files.new) result }
+    ensures used { UsesFiles (λ e. e ≡ FilesFault.Failed) (known_files F.Files files.old)
+        (known_files F.Files files.new) result }
     ensures read { HasRead (known_files F.Files files.old) (known_files F.Files files.new) 1 }
 {
     let mut bytes = Vec::new(alloc);

@@ -1,11 +1,10 @@
 //! A session over an input, from its first byte to its end.
 ghost use Rattle.std.specs.Prelude.{◌≤◌, ◌<◌, length, IfOk, IfErr, Ok};
-ghost use Rattle.cp_workspace.specs.Files.{known_files, HasReadSome};
 ghost use Rattle.cp_db.specs.FileVersions.{KeepsVersion};
-ghost use Rattle.cp_interpreter.specs.Outside.{known_output, known_world, known_outside};
+ghost use Rattle.cp_interpreter.specs.Outside.{call_at, known_output, known_world, known_outside};
 ghost use Rattle.cp_interpreter.specs.Replied.{SendsReplies, WroteReplies};
 ghost use Rattle.cp_interpreter.specs.Story.{WorldCauses, HasCauses, DiskCauses};
-ghost use Rattle.cp_interpreter.specs.Turns.{MayGoOn, HasClosed, RanFrom, TookPiece, IsSteady, has_refused};
+ghost use Rattle.cp_interpreter.specs.Turns.{MayGoOn, HasClosed, RanFrom, TookPiece, IsSteady, has_refused, session_at};
 
 use crate::end::End;
 use crate::interpreter::Interpreter;
@@ -24,11 +23,14 @@ fn closing<R: TreeRep, S: TreeRep, D: Disk, F: Files, K: Clock, O: Sink>(
     output: &mut O,
 ) -> End
     requires goes_on { MayGoOn R.contents S.contents (D.known disk.old) session.old }
-    ensures closed { HasClosed R.contents S.contents session.old
-        (known_world F.Files K.Clock O.Sink files.old clock.old output.old) (known_world F.Files K.Clock O.Sink files.new clock.new output.new)
-        (D.known disk.old) (D.known disk.new) result }
-    ensures read { HasReadSome (known_files F.Files files.old) (known_files F.Files files.new) }
-    ensures causes { WorldCauses (known_world F.Files K.Clock O.Sink files.old clock.old output.old) (known_world F.Files K.Clock O.Sink files.new clock.new output.new) result }
+    ensures closed { HasClosed R.contents S.contents
+        (session_at session.old (D.known disk.old)
+        (known_world F.Files K.Clock O.Sink files.old clock.old output.old))
+        (session_at session.new (D.known disk.new)
+        (known_world F.Files K.Clock O.Sink files.new clock.new output.new)) result }
+    ensures causes { WorldCauses
+        (known_world F.Files K.Clock O.Sink files.old clock.old output.old)
+        (known_world F.Files K.Clock O.Sink files.new clock.new output.new) result }
     ensures disk { DiskCauses (D.known disk.old) (D.known disk.new) result }
     ensures replied { WroteReplies (has_refused session.old)
         (known_output O.Sink output.old) (known_output O.Sink output.new) result }
@@ -56,29 +58,35 @@ fn turn<R: TreeRep, S: TreeRep, D: Disk, F: Files, K: Clock, I: Source, O: Sink>
     requires taken { before ≤ INPUT_MAX }
     requires room { 0 < length piece.old }
     requires bounded { length piece.old ≤ PIECE_MAX }
-    ensures goes_on { IfOk result (λ n. (before < n) × (n ≤ INPUT_MAX) × MayGoOn R.contents S.contents (D.known disk.new) session.new) }
-    ensures took { IfOk result (λ n. TookPiece R.contents S.contents session.old session.new before n
-        (known_outside F.Files K.Clock I.Source O.Sink files.old clock.old input.old output.old)
-        (known_outside F.Files K.Clock I.Source O.Sink files.new clock.new input.new output.new)
-        (D.known disk.old) (D.known disk.new)) }
+    ensures goes_on { IfOk result (λ n. (before < n) × (n ≤ INPUT_MAX)
+        × MayGoOn R.contents S.contents (D.known disk.new) session.new) }
+    ensures took { IfOk result
+        (λ n. TookPiece R.contents S.contents session.old session.new before n
+        (call_at (D.known disk.old)
+        (known_outside F.Files K.Clock I.Source O.Sink files.old clock.old input.old output.old))
+        (call_at (D.known disk.new)
+        (known_outside F.Files K.Clock I.Source O.Sink files.new clock.new input.new output.new))) }
     ensures steady { IfOk result (λ n. IsSteady
         (known_outside F.Files K.Clock I.Source O.Sink files.old clock.old input.old output.old)
         (known_outside F.Files K.Clock I.Source O.Sink files.new clock.new input.new output.new)
         (D.known disk.old) (D.known disk.new)) }
     ensures ends { IfErr result (λ end. RanFrom R.contents S.contents session.old before
-        (known_outside F.Files K.Clock I.Source O.Sink files.old clock.old input.old output.old)
-        (known_outside F.Files K.Clock I.Source O.Sink files.new clock.new input.new output.new)
-        (D.known disk.old) (D.known disk.new) end) }
+        (call_at (D.known disk.old)
+        (known_outside F.Files K.Clock I.Source O.Sink files.old clock.old input.old output.old))
+        (call_at (D.known disk.new)
+        (known_outside F.Files K.Clock I.Source O.Sink files.new clock.new input.new output.new))
+        end) }
     ensures causes { IfErr result (λ end. HasCauses
         (known_outside F.Files K.Clock I.Source O.Sink files.old clock.old input.old output.old)
-        (known_outside F.Files K.Clock I.Source O.Sink files.new clock.new input.new output.new) end) }
+        (known_outside F.Files K.Clock I.Source O.Sink files.new clock.new input.new output.new)
+        end) }
     ensures disk { IfErr result (λ end. DiskCauses (D.known disk.old) (D.known disk.new) end) }
-    ensures sent { IfOk result (λ n. SendsReplies (has_refused session.old) (has_refused session.new)
+    ensures sent { IfOk result
+        (λ n. SendsReplies (has_refused session.old) (has_refused session.new)
         (known_output O.Sink output.old) (known_output O.Sink output.new) (Ok tt)) }
     ensures replied { IfErr result (λ end. WroteReplies (has_refused session.old)
         (known_output O.Sink output.old) (known_output O.Sink output.new) end) }
     ensures file { KeepsVersion (D.known disk.old) (D.known disk.new) }
-    ensures read { HasReadSome (known_files F.Files files.old) (known_files F.Files files.new) }
 {
     let Ok(count) = input.read(piece) else {
         last_line(output, b"error: input\n");
@@ -116,17 +124,19 @@ pub fn turns<R: TreeRep, S: TreeRep, D: Disk, F: Files, K: Clock, I: Source, O: 
     requires room { 0 < length piece.old }
     requires bounded { length piece.old ≤ PIECE_MAX }
     ensures ran { RanFrom R.contents S.contents session.old 0
-        (known_outside F.Files K.Clock I.Source O.Sink files.old clock.old input.old output.old)
-        (known_outside F.Files K.Clock I.Source O.Sink files.new clock.new input.new output.new)
-        (D.known disk.old) (D.known disk.new) result }
+        (call_at (D.known disk.old)
+        (known_outside F.Files K.Clock I.Source O.Sink files.old clock.old input.old output.old))
+        (call_at (D.known disk.new)
+        (known_outside F.Files K.Clock I.Source O.Sink files.new clock.new input.new output.new))
+        result }
     ensures causes { HasCauses
         (known_outside F.Files K.Clock I.Source O.Sink files.old clock.old input.old output.old)
-        (known_outside F.Files K.Clock I.Source O.Sink files.new clock.new input.new output.new) result }
+        (known_outside F.Files K.Clock I.Source O.Sink files.new clock.new input.new output.new)
+        result }
     ensures disk { DiskCauses (D.known disk.old) (D.known disk.new) result }
     ensures replied { WroteReplies (has_refused session.old)
         (known_output O.Sink output.old) (known_output O.Sink output.new) result }
     ensures file { KeepsVersion (D.known disk.old) (D.known disk.new) }
-    ensures read { HasReadSome (known_files F.Files files.old) (known_files F.Files files.new) }
 {
     let mut taken = 0;
     loop {

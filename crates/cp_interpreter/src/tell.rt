@@ -41,8 +41,10 @@ pub(crate) fn tell<O: Sink>(
     text: &mut Vec<u8>,
     output: &mut O,
 ) -> Result<(), Stop>
-    ensures went { SendsOut (lines reply.now) (O.contents output.old) (O.contents output.new) result }
-    ensures used { UsesOutput (known_output O.Sink output.old) (known_output O.Sink output.new) result }
+    ensures went { SendsOut (lines reply.now) (O.contents output.old)
+        (O.contents output.new) result }
+    ensures used { UsesOutput (known_output O.Sink output.old)
+        (known_output O.Sink output.new) result }
 {
     text.clear();
     lines(alloc, reply, text)?;
@@ -52,7 +54,8 @@ pub(crate) fn tell<O: Sink>(
 
 /// Writes the last line, and takes no memory for it. What becomes of it doesn't change how the call ends.
 pub fn last_line<O: Sink>(output: &mut O, line: &[u8])
-    ensures wrote { WritesLast (known_output O.Sink output.old) (known_output O.Sink output.new) [] line.now }
+    ensures wrote { WritesLast (known_output O.Sink output.old)
+        (known_output O.Sink output.new) [] line.now }
     ensures later { O.faults output.old ≤ O.faults output.new }
 {
     let _ = write_all(output, line);
@@ -60,7 +63,8 @@ pub fn last_line<O: Sink>(output: &mut O, line: &[u8])
 
 /// Writes the last line of a call that met no store: that it is none from this offset on. Takes no memory.
 fn no_store_line<O: Sink>(output: &mut O, at: u64)
-    ensures wrote { WritesLast (known_output O.Sink output.old) (known_output O.Sink output.new) [] (no_store_line at) }
+    ensures wrote { WritesLast (known_output O.Sink output.old) (known_output O.Sink output.new) []
+        (no_store_line at) }
     ensures later { O.faults output.old ≤ O.faults output.new }
 {
     if write_all(output, b"error: not a store at ").is_err() {
@@ -76,7 +80,8 @@ fn no_store_line<O: Sink>(output: &mut O, at: u64)
 /// There was no memory to begin with, or to go on: writes the last line, which needs none, and gives the end.
 pub fn out_of_memory<O: Sink>(output: &mut O) -> End
     ensures end { result ≡ End.Memory }
-    ensures wrote { WritesLast (known_output O.Sink output.old) (known_output O.Sink output.new) [] memory_line }
+    ensures wrote { WritesLast (known_output O.Sink output.old)
+        (known_output O.Sink output.new) [] memory_line }
     ensures later { O.faults output.old ≤ O.faults output.new }
 {
     last_line(output, b"error: memory\n");
@@ -101,7 +106,8 @@ fn end_of(stop: Stop) -> End
 /// and takes no memory for that.
 pub fn stopped<O: Sink>(output: &mut O, stop: Stop) -> End
     ensures end { result ≡ end_of_stop stop }
-    ensures wrote { TellsStop (known_output O.Sink output.old) (known_output O.Sink output.new) stop }
+    ensures wrote { TellsStop (known_output O.Sink output.old)
+        (known_output O.Sink output.new) stop }
     ensures later { O.faults output.old ≤ O.faults output.new }
 {
     match stop {
@@ -117,8 +123,10 @@ pub fn stopped<O: Sink>(output: &mut O, stop: Stop) -> End
 
 /// Writes the lines of a reply that stands alone.
 fn tell_alone<O: Sink>(alloc: Global, reply: &Reply, output: &mut O) -> Result<(), Stop>
-    ensures went { SendsOut (lines reply.now) (O.contents output.old) (O.contents output.new) result }
-    ensures used { UsesOutput (known_output O.Sink output.old) (known_output O.Sink output.new) result }
+    ensures went { SendsOut (lines reply.now) (O.contents output.old)
+        (O.contents output.new) result }
+    ensures used { UsesOutput (known_output O.Sink output.old)
+        (known_output O.Sink output.new) result }
 {
     let mut text = Vec::new(alloc);
     tell(alloc, reply, &mut text, output)
@@ -127,8 +135,10 @@ fn tell_alone<O: Sink>(alloc: Global, reply: &Reply, output: &mut O) -> Result<(
 /// Writes the lines of a reply with which a call ends, and gives the end: whether the reply refuses something or tells of a
 /// difference, or that the output failed, or memory ran out, of which it takes as much as the lines have bytes.
 pub fn end_with<O: Sink>(alloc: Global, reply: Reply, output: &mut O) -> End
-    ensures said { SaidLine (lines reply) (is_refusal reply) (known_output O.Sink output.old) (known_output O.Sink output.new) result }
-    ensures cause { Accounts (λ e. e ≡ End.Output) (O.faults output.old) (O.faults output.new) (result_of result) }
+    ensures said { SaidLine (lines reply) (is_refusal reply) (known_output O.Sink output.old)
+        (known_output O.Sink output.new) result }
+    ensures cause { Accounts (λ e. e ≡ End.Output) (O.faults output.old) (O.faults output.new)
+        (result_of result) }
 {
     let told = tell_alone(alloc, &reply, output);
     let refused = is_refusal(&reply);

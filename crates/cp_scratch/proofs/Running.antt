@@ -18,11 +18,12 @@ use Rattle.cp_gen.specs.Script.{IsOpOrCommit, script}
 use Rattle.cp_gen.specs.Summaries.{IsAt, summary_of}
 use Rattle.cp_db.specs.declared.database.Db.{Db}
 use Rattle.cp_reply.proofs.Supplies.{followed-none}
+use Rattle.cp_workspace.specs.Supplies.{IsSupplied}
 use Rattle.cp_workspace.specs.Files.{KnownFiles}
 use Rattle.cp_workspace.specs.Clocks.{KnownClock}
 use Rattle.cp_workspace.specs.Texts.{Terms, setting}
 use Rattle.cp_disk.specs.Views.{KnownDisk}
-use Rattle.cp_workspace.specs.Workspaces.{Stands, HasTurned, db_in}
+use Rattle.cp_workspace.specs.Workspaces.{workspace_at, Stands, HasTurned, db_in}
 use Rattle.cp_workspace.specs.declared.workspace.Workspace.{Workspace}
 use Rattle.cp_scratch.specs.Workloads.{ComesTo, workload_session, workload_terms}
 
@@ -91,7 +92,7 @@ turn-moments c s x only e = by-state-moments c s x (replay s.history) only e
 -- a commit asks for the next moment alone
 module _ (c : Setting) (s : Session) (x : Supply) (same : next_moment x.moments ≡ next_moment s.supply.moments) where
   abbrev other : Session
-  other = record { history = s.history; opened = s.opened; supply = x }
+  other = record { history = s.history; opened = s.opened; desks = s.desks; supply = x }
 
   abbrev stamp : ℕ → Stamp
   stamp m = record { curator = c.curator; moment = m }
@@ -131,13 +132,13 @@ module _ {R S : Type 0} (view : R → Tree) (source_view : S → Tree) where
   -- what it stands for has nothing to do with what is told
   restand : (terms : Terms) (d : Workspace R S) (s t : Session) → t.history ≡ s.history → t.opened ≡ s.opened → Stands view source_view terms d s → Stands view source_view terms d t
   restand terms d s t h o z =
-      let moved : Stands view source_view terms d (record { history = s.history; opened = s.opened; supply = t.supply }) = record { db = z.db; ends = z.ends; curator = z.curator; opened = z.opened } in
-      let same : Stands view source_view terms d (record { history = t.history; opened = s.opened; supply = t.supply }) = subst (λ a. Stands view source_view terms d (record { history = a; opened = s.opened; supply = t.supply })) (sym h) moved in
-      subst (λ b. Stands view source_view terms d (record { history = t.history; opened = b; supply = t.supply })) (sym o) same
+      let moved : Stands view source_view terms d (record { history = s.history; opened = s.opened; desks = t.desks; supply = t.supply }) = record { db = z.db; ends = z.ends; curator = z.curator; opened = z.opened } in
+      let same : Stands view source_view terms d (record { history = t.history; opened = s.opened; desks = t.desks; supply = t.supply }) = subst (λ a. Stands view source_view terms d (record { history = a; opened = s.opened; desks = t.desks; supply = t.supply })) (sym h) moved in
+      subst (λ b. Stands view source_view terms d (record { history = t.history; opened = b; desks = t.desks; supply = t.supply })) (sym o) same
 
   -- a commit was run
   pub commit-stands : (files : KnownFiles) (kb ka : KnownClock) (old new : Workspace R S) (v w : KnownDisk) (before left : List ℕ) (r : Reply) → before ≡ [] → kb.left ≡ Some before → ka.left ≡ Some left
-      → HasTurned view source_view (λ y. Some y) (λ terms s. turn_of (setting terms) s (says stmt.Commit)) files kb ka old new v w (Ok r)
+      → HasTurned view source_view (λ y. Some y) (λ terms s. turn_of (setting terms) s (says stmt.Commit)) (IsSupplied files kb ka) (workspace_at old v) (workspace_at new w) (Ok r)
       → (left ≡ []) × ((terms : Terms) (s : Session) → Stands view source_view terms old s → s.supply.moments ≡ [] → Stands view source_view terms new (turn_of (setting terms) s (says stmt.Commit)).next)
   commit-stands files kb ka old new v w before left r silent was is h =
       let x = h.supply in
@@ -145,7 +146,7 @@ module _ {R S : Type 0} (view : R → Tree) (source_view : S → Tree) where
         ap some_value told.0,
         λ terms s z none.
             let c = setting terms in
-            let o : Session = record { history = s.history; opened = s.opened; supply = x } in
+            let o : Session = record { history = s.history; opened = s.opened; desks = s.desks; supply = x } in
             let same : next_moment x.moments ≡ next_moment s.supply.moments = told.1 ∙ sym (ap next_moment none) in
             let turned = (h.turns terms o no_supply (restand terms old s o refl refl z) (sym (followed-none x))).turned in
             restand terms new (turn_of c o (says stmt.Commit)).next (turn_of c s (says stmt.Commit)).next

@@ -23,7 +23,14 @@ empty_tree = keyed.from_entries (([], Node) ∷ [])
 
 -- a session in memory on a history of its own: its commits have no curator
 abbrev pub scratch_terms : Kind → Tree → Terms
-scratch_terms k t = record { ends = record { entries = start k t ∷ []; at = HEADER_SIZE + FRAME_HEAD + start_size t }; curator = [] }
+scratch_terms k t =
+    record {
+      ends = record {
+        entries = start k t ∷ [];
+        at = HEADER_SIZE + FRAME_HEAD + start_size t;
+      };
+      curator = [];
+    }
 
 abbrev pub scratch_session : Kind → Tree → Supply → Session
 scratch_session k t supply = opened_session (start k t ∷ []) supply

@@ -27,7 +27,9 @@ workload_terms k = scratch_terms k empty_tree
 
 -- the state to which the script of so many operations leads that a seed gives
 abbrev pub workload_state : Kind → ℕ → ℕ → Option State
-workload_state k seed count = replay (session_after_statements (setting (workload_terms k)) (workload_session k) (script seed count)).history
+workload_state k seed count =
+    replay (session_after_statements (setting (workload_terms k)) (workload_session k)
+    (script seed count)).history
 
 -- the reply has the numbers of that state
 pub record ComesTo (k : Kind) (seed count : ℕ) (r : Reply) : Type 0 where

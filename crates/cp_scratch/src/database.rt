@@ -22,8 +22,10 @@ pub fn new_db<R: TreeRep, S: TreeRep>(
     disk: &mut SureDisk,
 ) -> Result<Db<R, S>, AllocError>
     requires vacant { IsVacant (sure_view disk.old).content }
-    ensures stands { IfOk result (λ d. (right : Bool) → database.Stands R.contents S.contents right d (start kind (R.contents tree) ∷ [])) }
-    ensures kept { IfOk result (λ d. IsKept true d (start kind (R.contents tree) ∷ []) (sure_view disk.new)) }
+    ensures stands { IfOk result (λ d. (right : Bool)
+        → database.Stands R.contents S.contents right d (start kind (R.contents tree) ∷ [])) }
+    ensures kept { IfOk result
+        (λ d. IsKept true d (start kind (R.contents tree) ∷ []) (sure_view disk.new)) }
     ensures made { IfOk result (λ d. (version_in d ≡ 2) × (is_spent d ≡ false)
         × (end_in d ≡ HEADER_SIZE + FRAME_HEAD + start_size (R.contents tree))) }
     ensures ready { IfOk result (λ d. IsReady d (sure_view disk.new)) }

@@ -19,9 +19,12 @@ pub fn start_tree<R: TreeRep, F: Files>(
     start: Start,
     files: &mut F,
 ) -> Result<Result<R, Why>, FilesFault>
-    ensures gives { IfOk result (λ r. GivesFound R.contents (known_files F.Files files.old) (λ t. start_given t start) r) }
-    ensures used { UsesFiles (λ e. e ≡ FilesFault.Failed) (known_files F.Files files.old) (known_files F.Files files.new) result }
-    ensures reads { Reads (λ e. e ≡ FilesFault.Failed) (start_reads start) (known_files F.Files files.old) (known_files F.Files files.new) result }
+    ensures gives { IfOk result
+        (λ r. GivesFound R.contents (known_files F.Files files.old) (λ t. start_given t start) r) }
+    ensures used { UsesFiles (λ e. e ≡ FilesFault.Failed) (known_files F.Files files.old)
+        (known_files F.Files files.new) result }
+    ensures reads { Reads (λ e. e ≡ FilesFault.Failed) (start_reads start)
+        (known_files F.Files files.old) (known_files F.Files files.new) result }
 {
     match start {
         Start::Alone => Ok(Ok(R::single(alloc, &Content::Node)?)),

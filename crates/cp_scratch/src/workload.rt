@@ -32,8 +32,10 @@ fn db_with_source<R: TreeRep, S: TreeRep>(
     disk: &mut SureDisk,
 ) -> Result<Db<R, S>, AllocError>
     requires vacant { IsVacant (sure_view disk.old).content }
-    ensures stands { IfOk result (λ d. (right : Bool) → database.Stands R.contents S.contents right d (workload_start kind)) }
-    ensures ends { IfOk result (λ d. EndsAt (workload_terms kind).ends (workload_start kind) (end_in d)) }
+    ensures stands { IfOk result (λ d. (right : Bool)
+        → database.Stands R.contents S.contents right d (workload_start kind)) }
+    ensures ends { IfOk result
+        (λ d. EndsAt (workload_terms kind).ends (workload_start kind) (end_in d)) }
     ensures made { IfOk result (λ d. (version_in d ≡ 2) × (is_spent d ≡ false)) }
     ensures ready { IfOk result (λ d. IsReady d (sure_view disk.new)) }
 {
@@ -58,7 +60,8 @@ fn begin<R: TreeRep, S: TreeRep>(
     disk: &mut SureDisk,
 ) -> Result<Workspace<R, S>, AllocError>
     requires vacant { IsVacant (sure_view disk.old).content }
-    ensures stands { IfOk result (λ x. Stands R.contents S.contents (workload_terms kind) x (workload_session kind)) }
+    ensures stands { IfOk result
+        (λ x. Stands R.contents S.contents (workload_terms kind) x (workload_session kind)) }
     ensures usable { IfOk result (λ x. IsUsable R.contents S.contents (sure_disk disk.new) x) }
     ensures stamps { IfOk result (λ x. HasStamps x) }
 {
@@ -75,8 +78,10 @@ fn run_operation<R: TreeRep, S: TreeRep>(
 ) -> Result<(), AllocError>
     requires workspace { IsWorkspace R.contents S.contents workspace.old }
     requires written { IsWritten op }
-    ensures turned { OnOk result ((terms : Terms) (s : Session) → Stands R.contents S.contents terms workspace.old s
-        → Stands R.contents S.contents terms workspace.new (turn_of (setting terms) s (says (Stmt.Op op))).next) }
+    ensures turned { OnOk result ((terms : Terms) (s : Session)
+        → Stands R.contents S.contents terms workspace.old s
+        → Stands R.contents S.contents terms workspace.new
+        (turn_of (setting terms) s (says (Stmt.Op op))).next) }
     ensures stays { OnOk result (IsWorkspace R.contents S.contents workspace.new) }
     ensures same { db_in workspace.new ≡ db_in workspace.old }
 {
@@ -94,9 +99,12 @@ fn run_commit<R: TreeRep, S: TreeRep>(
     requires usable { IsUsable R.contents S.contents (sure_disk disk.old) workspace.old }
     requires stamps { HasStamps workspace.old }
     requires silent { clock.old.left ≡ [] }
-    ensures turned { OnOk result ((terms : Terms) (s : Session) → Stands R.contents S.contents terms workspace.old s → s.supply.moments ≡ []
-        → Stands R.contents S.contents terms workspace.new (turn_of (setting terms) s (says Stmt.Commit)).next) }
-    ensures stays { OnOk result (IsUsable R.contents S.contents (sure_disk disk.new) workspace.new) }
+    ensures turned { OnOk result ((terms : Terms) (s : Session)
+        → Stands R.contents S.contents terms workspace.old s → s.supply.moments ≡ []
+        → Stands R.contents S.contents terms workspace.new
+        (turn_of (setting terms) s (says Stmt.Commit)).next) }
+    ensures stays { OnOk result
+        (IsUsable R.contents S.contents (sure_disk disk.new) workspace.new) }
     ensures stamps { OnOk result (HasStamps workspace.new) }
     ensures silent { OnOk result (clock.new.left ≡ []) }
 {
@@ -123,9 +131,12 @@ fn run_statement<R: TreeRep, S: TreeRep>(
     requires written { IsWrittenStmt statement }
     requires only { IsOpOrCommit statement }
     requires silent { clock.old.left ≡ [] }
-    ensures turned { OnOk result ((terms : Terms) (s : Session) → Stands R.contents S.contents terms workspace.old s → s.supply.moments ≡ []
-        → Stands R.contents S.contents terms workspace.new (turn_of (setting terms) s (says statement)).next) }
-    ensures stays { OnOk result (IsUsable R.contents S.contents (sure_disk disk.new) workspace.new) }
+    ensures turned { OnOk result ((terms : Terms) (s : Session)
+        → Stands R.contents S.contents terms workspace.old s → s.supply.moments ≡ []
+        → Stands R.contents S.contents terms workspace.new
+        (turn_of (setting terms) s (says statement)).next) }
+    ensures stays { OnOk result
+        (IsUsable R.contents S.contents (sure_disk disk.new) workspace.new) }
     ensures stamps { OnOk result (HasStamps workspace.new) }
     ensures silent { OnOk result (clock.new.left ≡ []) }
 {
@@ -147,8 +158,10 @@ fn run_script<R: TreeRep, S: TreeRep>(
     requires usable { IsUsable R.contents S.contents (sure_disk disk.old) workspace.old }
     requires stamps { HasStamps workspace.old }
     requires silent { clock.old.left ≡ [] }
-    ensures ran { OnOk result ((terms : Terms) (s : Session) → Stands R.contents S.contents terms workspace.old s → s.supply.moments ≡ []
-        → Stands R.contents S.contents terms workspace.new (session_after_statements (setting terms) s script)) }
+    ensures ran { OnOk result ((terms : Terms) (s : Session)
+        → Stands R.contents S.contents terms workspace.old s → s.supply.moments ≡ []
+        → Stands R.contents S.contents terms workspace.new
+        (session_after_statements (setting terms) s script)) }
     ensures stays { OnOk result (IsWorkspace R.contents S.contents workspace.new) }
 {
     while let Some(statement) = script.next()? {

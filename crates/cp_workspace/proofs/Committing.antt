@@ -37,7 +37,7 @@ use Rattle.cp_db.specs.declared.database.Tids.{Tids}
 use Rattle.cp_db.specs.declared.fault.CommitFault.{CommitFault}
 use Rattle.cp_db.specs.declared.fault.CommitFault.TheVariants as fault
 use Rattle.cp_workspace.specs.Texts.{Terms, setting}
-use Rattle.cp_workspace.specs.Workspaces.{Stands, Opens, HoldsFile, IsBegun, Turned, TurnsAs, holding}
+use Rattle.cp_workspace.specs.Workspaces.{expected, workspace_at, Stands, Opens, HoldsFile, IsBegun, Turned, TurnsAs, holding}
 use Rattle.cp_workspace.specs.declared.fault.WorkspaceFault.{WorkspaceFault}
 use Rattle.cp_workspace.specs.declared.workspace.Workspace.{Workspace}
 use Rattle.cp_workspace.proofs.Supplied.{one_moment}
@@ -67,9 +67,9 @@ module _ {R S : Type 0} (view : R → Tree) (source_view : S → Tree) (d : Db R
 module _ {R S : Type 0} (view : R → Tree) (source_view : S → Tree) (terms : Terms) (d m : Workspace R S) (s : Session) (z : Stands view source_view terms d s) (same : m.db ≡ d.db) (signed : m.curator ≡ d.curator) (none : m.transaction ≡ None) where
   -- a commit is refused, and no transaction is open any more
   turns_refused : (c : Setting) (w : Why) (v : KnownDisk) (rest : Supply) → on_commit c s z.db.state s.opened ≡ refused_commit w s → s.supply ≡ rest
-      → TurnsAs view source_view (λ r. Some r) terms (turn_of c s (says stmt.Commit)) s rest d m v v (Ok (reply.Refused of.Commit w))
+      → TurnsAs view source_view (λ r. Some r) (expected terms (turn_of c s (says stmt.Commit)) s rest) (workspace_at d v) (workspace_at m v) (Ok (reply.Refused of.Commit w))
   turns_refused c w v rest is timed =
-      subst (λ (t : Turn). TurnsAs view source_view (λ r. Some r) terms t s rest d m v v (Ok (reply.Refused of.Commit w))) (sym (turn-is view source_view terms d m s z c stmt.Commit ∙ is))
+      subst (λ (t : Turn). TurnsAs view source_view (λ r. Some r) (expected terms t s rest) (workspace_at d v) (workspace_at m v) (Ok (reply.Refused of.Commit w))) (sym (turn-is view source_view terms d m s z c stmt.Commit ∙ is))
       (turns-still view source_view (λ r. Some r) terms (refused_commit w s) s rest d m v (Ok (reply.Refused of.Commit w)) same refl timed (refl, stands-closed view source_view terms d m s z same signed none))
 
   nothing_open : (c : Setting) (o : OpenTransaction) → Opens view source_view d.db None o → on_commit c s z.db.state o ≡ refused_commit why.NoOperation s
@@ -79,7 +79,7 @@ module _ {R S : Type 0} (view : R → Tree) (source_view : S → Tree) (terms : 
 
   -- where no transaction is open there is nothing to commit
   pub turns-nothing : (c : Setting) (v : KnownDisk) (rest : Supply) → d.transaction ≡ None → s.supply ≡ rest
-      → TurnsAs view source_view (λ r. Some r) terms (turn_of c s (says stmt.Commit)) s rest d m v v (Ok (reply.Refused of.Commit why.NoOperation))
+      → TurnsAs view source_view (λ r. Some r) (expected terms (turn_of c s (says stmt.Commit)) s rest) (workspace_at d v) (workspace_at m v) (Ok (reply.Refused of.Commit why.NoOperation))
   turns-nothing c v rest e timed = turns_refused c why.NoOperation v rest (nothing_open c s.opened (subst (λ y. Opens view source_view d.db y s.opened) e z.opened)) timed
 
   aborts_none : (o : OpenTransaction) → Opens view source_view d.db None o → count_given_up o ≡ 0
@@ -122,7 +122,7 @@ module _ {R S : Type 0} (view : R → Tree) (source_view : S → Tree) (terms : 
 
     -- a failed transaction commits nothing
     pub turns-unfinished : (c : Setting) (j : ℕ) (b : Cause) (v : KnownDisk) (rest : Supply) → TellsState view x (state.Failed j b) → s.supply ≡ rest
-        → TurnsAs view source_view (λ r. Some r) terms (turn_of c s (says stmt.Commit)) s rest d m v v (Ok (reply.Refused of.Commit (why.FailedAt j)))
+        → TurnsAs view source_view (λ r. Some r) (expected terms (turn_of c s (says stmt.Commit)) s rest) (workspace_at d v) (workspace_at m v) (Ok (reply.Refused of.Commit (why.FailedAt j)))
     turns-unfinished c j b v rest e timed = turns_refused c (why.FailedAt j) v rest (fails c j b s.opened opens (e t.kind t.sources (tree_of t.tree) (t.now + 1))) timed
 
 -- the transaction that was taken out was open
@@ -216,9 +216,9 @@ module _ {R S D : Type 0} (view : R → Tree) (source_view : S → Tree) (g : di
     turns_done : (tids : Tids) → m.curator ≡ d.curator → m.transaction ≡ None → HasCommitted view source_view d.db at stamp (txn.going ops) m.db (Ok tids)
         → (IsTrue v.known → IsKept true d.db s.history v.view → IsKept true m.db (s.history ++ commit stamp ops ∷ []) w.view)
         → (IsTrue v.known → IsKept true d.db s.history v.view → ViewKeeps (IsBeforeOrCommitted s.history stamp (txn.going ops)) v.view w.view)
-        → TurnsAs view source_view (λ r. Some r) terms the_turn s rest (holding d x) m v w (Ok (reply.Committed tids.low tids.high))
+        → TurnsAs view source_view (λ r. Some r) (expected terms the_turn s rest) (workspace_at (holding d x) v) (workspace_at m w) (Ok (reply.Committed tids.low tids.high))
     turns_done tids signs none is kept crash =
-        subst (λ (t : Turn). TurnsAs view source_view (λ r. Some r) terms t s rest (holding d x) m v w (Ok (reply.Committed tids.low tids.high))) (sym (turn_if true is.1)) (record {
+        subst (λ (t : Turn). TurnsAs view source_view (λ r. Some r) (expected terms t s rest) (workspace_at (holding d x) v) (workspace_at m w) (Ok (reply.Committed tids.low tids.high))) (sym (turn_if true is.1)) (record {
           turned = (
             ap (λ i. Some (reply.Committed i tids.high)) is.2.0 ∙ ap (λ j. Some (reply.Committed (at.now + 1) j)) is.2.1,
             stands-added view source_view terms (holding d x) m s z (commit stamp ops) (after_commit at ops) (commit_size at stamp ops) closed (after_moment s).supply is.3 (ap (stamped_size stamp ops) records_are) signs
@@ -230,10 +230,10 @@ module _ {R S D : Type 0} (view : R → Tree) (source_view : S → Tree) (g : di
         })
 
     turns_full : (y : l ≡ k) → m.db ≡ d.db → m.curator ≡ d.curator → m.transaction ≡ None → has_room (end_in d.db) (commit_size at stamp ops) ≡ false
-        → TurnsAs view source_view (λ r. Some r) terms the_turn s rest (holding d x) m v w (Ok (reply.Refused of.Commit why.TransactionTooLarge))
+        → TurnsAs view source_view (λ r. Some r) (expected terms the_turn s rest) (workspace_at (holding d x) v) (workspace_at m w) (Ok (reply.Refused of.Commit why.TransactionTooLarge))
     turns_full y same signs none no_room =
-        subst (λ (t : Turn). TurnsAs view source_view (λ r. Some r) terms t s rest (holding d x) m v w (Ok (reply.Refused of.Commit why.TransactionTooLarge))) (sym (turn_if false no_room))
-        (subst (λ (i : D). TurnsAs view source_view (λ r. Some r) terms full s rest (holding d x) m v (g.known i) (Ok (reply.Refused of.Commit why.TransactionTooLarge))) (sym y)
+        subst (λ (t : Turn). TurnsAs view source_view (λ r. Some r) (expected terms t s rest) (workspace_at (holding d x) v) (workspace_at m w) (Ok (reply.Refused of.Commit why.TransactionTooLarge))) (sym (turn_if false no_room))
+        (subst (λ (i : D). TurnsAs view source_view (λ r. Some r) (expected terms full s rest) (workspace_at (holding d x) v) (workspace_at m (g.known i)) (Ok (reply.Refused of.Commit why.TransactionTooLarge))) (sym y)
         (turns-still view source_view (λ r. Some r) terms full s rest (holding d x) m v (Ok (reply.Refused of.Commit why.TransactionTooLarge)) same refl taken
         (refl, stands_after (stands-closed view source_view terms (holding d x) m s z same signs none))))
       where
@@ -251,33 +251,33 @@ module _ {R S D : Type 0} (view : R → Tree) (source_view : S → Tree) (g : di
       → ((p : txn.Progress) → HasCome view source_view d.db x p → HasCommitted view source_view d.db at stamp p m.db (Ok tids))
       → (IsTrue v.known → (ops : List Op) → HasCome view source_view d.db x (txn.going ops) → IsKept true d.db s.history v.view → IsKept true m.db (s.history ++ commit stamp ops ∷ []) w.view)
       → (IsTrue v.known → (p : txn.Progress) → HasCome view source_view d.db x p → IsKept true d.db s.history v.view → ViewKeeps (IsBeforeOrCommitted s.history stamp p) v.view w.view)
-      → TurnsAs view source_view (λ r. Some r) terms the_turn s rest (holding d x) m v w (Ok (reply.Committed tids.low tids.high))
+      → TurnsAs view source_view (λ r. Some r) (expected terms the_turn s rest) (workspace_at (holding d x) v) (workspace_at m w) (Ok (reply.Committed tids.low tids.high))
   turns-committed tids signs none is kept crash =
-      by_opened (TurnsAs view source_view (λ r. Some r) terms the_turn s rest (holding d x) m v w (Ok (reply.Committed tids.low tids.high)))
+      by_opened (TurnsAs view source_view (λ r. Some r) (expected terms the_turn s rest) (workspace_at (holding d x) v) (workspace_at m w) (Ok (reply.Committed tids.low tids.high)))
       (λ ops o come some. turns_done ops o come some tids signs none (is (txn.going ops) come) (λ known held. kept known ops come held) (λ known held. crash known (txn.going ops) come held))
       (λ j b o come. absurd (is (txn.failed j b) come)) s.opened refl z.opened
 
   -- there is no room for them
   pub turns-too_large : l ≡ k → m.db ≡ d.db → m.curator ≡ d.curator → m.transaction ≡ None
       → ((p : txn.Progress) → HasCome view source_view d.db x p → HasCommitted view source_view d.db at stamp p m.db (Err fault.TooLarge))
-      → TurnsAs view source_view (λ r. Some r) terms the_turn s rest (holding d x) m v w (Ok (reply.Refused of.Commit why.TransactionTooLarge))
+      → TurnsAs view source_view (λ r. Some r) (expected terms the_turn s rest) (workspace_at (holding d x) v) (workspace_at m w) (Ok (reply.Refused of.Commit why.TransactionTooLarge))
   turns-too_large y same signs none is =
-      by_opened (TurnsAs view source_view (λ r. Some r) terms the_turn s rest (holding d x) m v w (Ok (reply.Refused of.Commit why.TransactionTooLarge)))
+      by_opened (TurnsAs view source_view (λ r. Some r) (expected terms the_turn s rest) (workspace_at (holding d x) v) (workspace_at m w) (Ok (reply.Refused of.Commit why.TransactionTooLarge)))
       (λ ops o come some. turns_full ops o come some y same signs none (is (txn.going ops) come).1)
       (λ j b o come. absurd (is (txn.failed j b) come)) s.opened refl z.opened
 
   -- an open transaction that is going holds some, so that it is never found empty
   pub turns-empty : (result : Result Reply WorkspaceFault) → ((p : txn.Progress) → HasCome view source_view d.db x p → HasCommitted view source_view d.db at stamp p m.db (Err fault.Empty))
-      → TurnsAs view source_view (λ r. Some r) terms the_turn s rest (holding d x) m v w result
+      → TurnsAs view source_view (λ r. Some r) (expected terms the_turn s rest) (workspace_at (holding d x) v) (workspace_at m w) result
   turns-empty result is =
-      by_opened (TurnsAs view source_view (λ r. Some r) terms the_turn s rest (holding d x) m v w result)
+      by_opened (TurnsAs view source_view (λ r. Some r) (expected terms the_turn s rest) (workspace_at (holding d x) v) (workspace_at m w) result)
       (λ ops o come some. absurd (omega (arith, some, ap length (is (txn.going ops) come).0))) (λ j b o come. absurd (is (txn.failed j b) come)) s.opened refl z.opened
 
   -- the disk failed, or memory ran out
   pub turns-uncommitted : (result : Result Reply WorkspaceFault) → (y : WorkspaceFault) × (result ≡ Err y)
       → (IsTrue v.known → (p : txn.Progress) → HasCome view source_view d.db x p → IsKept true d.db s.history v.view → ViewKeeps (IsBeforeOrCommitted s.history stamp p) v.view w.view)
       → ((ops : List Op) → HasCome view source_view d.db x (txn.going ops) → has_room (end_in d.db) (commit_size at stamp ops) ≡ false → l ≡ k)
-      → TurnsAs view source_view (λ r. Some r) terms the_turn s rest (holding d x) m v w result
+      → TurnsAs view source_view (λ r. Some r) (expected terms the_turn s rest) (workspace_at (holding d x) v) (workspace_at m w) result
   turns-uncommitted result p crash room =
       turns-failed view source_view (λ r. Some r) terms the_turn s rest (holding d x) m v w result p (λ known held.
       by_opened (ViewKeeps (StandsForEither s.history the_turn.next.history) v.view w.view)

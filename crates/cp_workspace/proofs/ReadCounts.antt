@@ -1,7 +1,7 @@
 -- Counts of reads, one after another.
 use Rattle.std.proofs.Common.{◌≡◌, ℕ, zero, suc, ◌+◌, inr, sym, ap, ◌∙◌, subst, Result, Ok, Err, arith}
 use Rattle.cp_outside.specs.Causes.{one_more}
-use Rattle.cp_workspace.specs.Files.{KnownFiles, more, HasRead, HasReadSome, ReadsOrNone}
+use Rattle.cp_workspace.specs.Files.{KnownFiles, more, HasRead, ReadsOrNone}
 
 -- so many reads, and then others
 pub more-more : (n k j : ℕ) → more (more n k) j ≡ more n (k + j)
@@ -15,10 +15,6 @@ read-then b m a k j h i = i ∙ ap (λ n. more n j) h ∙ more-more b.reads k j
 -- the same of a sum
 pub read-sum : (b m a : KnownFiles) (k j n : ℕ) → n ≡ k + j → HasRead b m k → HasRead m a j → HasRead b a n
 read-sum b m a k j n e h i = subst (HasRead b a) (sym e) (read-then b m a k j h i)
-
--- some files were read, and then others
-pub some-then : (b m a : KnownFiles) → HasReadSome b m → HasReadSome m a → HasReadSome b a
-some-then b m a x y = (x.0 + y.0, read-then b m a x.0 y.0 x.1 y.1)
 
 -- so many files were read, whatever the call gave
 pub reads-all : {T E : Type 0} (n : ℕ) (b a : KnownFiles) (result : Result T E) → HasRead b a n → ReadsOrNone n b a result

@@ -20,7 +20,7 @@ use Rattle.cp_db.specs.Writing.{HasAdded}
 use Rattle.cp_db.specs.declared.database.Db.{Db}
 use Rattle.cp_db.proofs.Keeping.{kept-images, stands-then}
 use Rattle.cp_workspace.specs.Texts.{Terms}
-use Rattle.cp_workspace.specs.Workspaces.{Stands, Opens, EndsAt, IsWorkspace, IsUsable, IsBegun, HoldsFile, Turned, TurnsAs, end_now}
+use Rattle.cp_workspace.specs.Workspaces.{expected, workspace_at, Stands, Opens, EndsAt, IsWorkspace, IsUsable, IsBegun, HoldsFile, Turned, TurnsAs, end_now}
 use Rattle.cp_workspace.specs.declared.fault.WorkspaceFault.{WorkspaceFault}
 use Rattle.cp_workspace.specs.declared.workspace.Workspace.{Workspace}
 
@@ -44,7 +44,7 @@ module _ {R S : Type 0} (view : R → Tree) (source_view : S → Tree) where
     turn-is c x = ap (λ o. turn_by c s o x) z.db.led.replayed
 
     -- it stands for the session whatever is told next
-    pub stands-told : (x : Supply) → Stands view source_view terms d (record { history = s.history; opened = s.opened; supply = x })
+    pub stands-told : (x : Supply) → Stands view source_view terms d (record { history = s.history; opened = s.opened; desks = s.desks; supply = x })
     stands-told x = record { db = z.db; ends = z.ends; curator = z.curator; opened = z.opened }
 
     -- it stands for a session whose transaction alone has changed
@@ -78,7 +78,7 @@ ends-added f h at now e x is =
 -- it stands for the history with an entry more, which was added to its database
 pub stands-added : {R S : Type 0} (view : R → Tree) (source_view : S → Tree) (terms : Terms) (d m : Workspace R S) (s : Session) (z : Stands view source_view terms d s) (e : Entry) (t : State) (size : ℕ) (o : OpenTransaction) (supply : Supply)
     → HasAdded view source_view d.db z.db.state e t size m.db → entry_size (Some z.db.state) e ≡ size → m.curator ≡ d.curator → Opens view source_view m.db m.transaction o
-    → Stands view source_view terms m (record { history = s.history ++ e ∷ []; opened = o; supply = supply })
+    → Stands view source_view terms m (record { history = s.history ++ e ∷ []; opened = o; desks = s.desks; supply = supply })
 stands-added view source_view terms d m s z e t size o supply added counted signed h =
     let sized : HasAdded view source_view d.db z.db.state e t (entry_size (replay s.history) e) m.db =
     subst (λ (n : ℕ). HasAdded view source_view d.db z.db.state e t n m.db) (sym (ap (λ (x : Option State). entry_size x e) z.db.led.replayed ∙ counted)) added in
@@ -125,7 +125,7 @@ module _ {R S A : Type 0} (view : R → Tree) (source_view : S → Tree) (given 
 
   -- a call left the database and the disk as they were, in a turn that adds no entry
   pub turns-still : (v : KnownDisk) (result : Result A WorkspaceFault) → new.db ≡ old.db → t.next.history ≡ s.history → t.next.supply ≡ rest → IfOk result (λ r. Turned view source_view terms t new (given r))
-      → TurnsAs view source_view given terms t s rest old new v v result
+      → TurnsAs view source_view given (expected terms t s rest) (workspace_at old v) (workspace_at new v) result
   turns-still v result same unchanged taken turned = record {
     turned = turned;
     taken = on-ok result taken;
@@ -135,9 +135,9 @@ module _ {R S A : Type 0} (view : R → Tree) (source_view : S → Tree) (given 
 
   -- a call gave an error
   pub turns-failed : (v w : KnownDisk) (result : Result A WorkspaceFault) → (y : WorkspaceFault) × (result ≡ Err y) → (IsTrue v.known → HoldsFile old s.history v → ViewKeeps (StandsForEither s.history t.next.history) v.view w.view)
-      → TurnsAs view source_view given terms t s rest old new v w result
-  turns-failed v w result p leaves = subst (TurnsAs view source_view given terms t s rest old new v w) (sym p.1) (record { turned = tt; taken = tt; kept = λ known k. tt; leaves = leaves })
+      → TurnsAs view source_view given (expected terms t s rest) (workspace_at old v) (workspace_at new w) result
+  turns-failed v w result p leaves = subst (TurnsAs view source_view given (expected terms t s rest) (workspace_at old v) (workspace_at new w)) (sym p.1) (record { turned = tt; taken = tt; kept = λ known k. tt; leaves = leaves })
 
   -- an error, where the disk is as it was
-  pub turns-failed-still : (v : KnownDisk) (result : Result A WorkspaceFault) → (y : WorkspaceFault) × (result ≡ Err y) → TurnsAs view source_view given terms t s rest old new v v result
+  pub turns-failed-still : (v : KnownDisk) (result : Result A WorkspaceFault) → (y : WorkspaceFault) × (result ≡ Err y) → TurnsAs view source_view given (expected terms t s rest) (workspace_at old v) (workspace_at new v) result
   turns-failed-still v result p = turns-failed v v result p (λ known k. leaves-still v t.next.history k)

@@ -28,10 +28,11 @@ use Rattle.cp_db.specs.Databases as database
 use Rattle.cp_db.specs.Databases.{IsDatabase, IsReady, IsSameFile, end_in, is_spent}
 use Rattle.cp_db.specs.declared.database.Db.{Db}
 use Rattle.cp_db.proofs.Keeping.{kept-images, kept-same}
+use Rattle.cp_workspace.specs.Supplies.{IsSupplied}
 use Rattle.cp_workspace.specs.Texts.{Terms, setting}
 use Rattle.cp_workspace.specs.Files.{KnownFiles}
 use Rattle.cp_workspace.specs.Clocks.{KnownClock}
-use Rattle.cp_workspace.specs.Workspaces.{Stands, Opens, EndsAt, IsBegun, IsWorkspace, IsUsable, HoldsFile, Turned, TurnsAs, HasTurned}
+use Rattle.cp_workspace.specs.Workspaces.{expected, workspace_at, Stands, Opens, EndsAt, IsBegun, IsWorkspace, IsUsable, HoldsFile, Turned, TurnsAs, HasTurned}
 use Rattle.cp_workspace.specs.declared.fault.WorkspaceFault.{WorkspaceFault}
 use Rattle.cp_workspace.specs.declared.workspace.Workspace.{Workspace}
 use Rattle.cp_workspace.proofs.Supplied.{supplied-none}
@@ -142,7 +143,7 @@ module _ {R S : Type 0} (view : R → Tree) (source_view : S → Tree) (turning 
     -- a quiet turn was made, and nothing was written
     pub turned-quiet : IsSameFile old.db new.db → ((terms : Terms) (s : Session) → IsQuiet s (turning terms s))
         → IfOk result (λ r. (terms : Terms) (s : Session) → Stands view source_view terms old s → Turned view source_view terms (turning terms s) new (given r))
-        → HasTurned view source_view given turning files clock clock old new v v result
+        → HasTurned view source_view given turning (IsSupplied files clock clock) (workspace_at old v) (workspace_at new v) result
     turned-quiet same quiet h = record {
       supply = no_supply;
       supplied = supplied-none files clock;
@@ -155,28 +156,28 @@ module _ {R S : Type 0} (view : R → Tree) (source_view : S → Tree) (turning 
     }
 
     -- a call failed, and nothing was written
-    pub turned-failed : (e : WorkspaceFault) → result ≡ Err e → HasTurned view source_view given turning files clock clock old new v v result
-    turned-failed e is = subst (HasTurned view source_view given turning files clock clock old new v v) (sym is) (record {
+    pub turned-failed : (e : WorkspaceFault) → result ≡ Err e → HasTurned view source_view given turning (IsSupplied files clock clock) (workspace_at old v) (workspace_at new v) result
+    turned-failed e is = subst (HasTurned view source_view given turning (IsSupplied files clock clock) (workspace_at old v) (workspace_at new v)) (sym is) (record {
       supply = no_supply;
       supplied = supplied-none files clock;
       turns = λ terms s rest z supply. record { turned = tt; taken = tt; kept = λ known holds. tt; leaves = λ known holds. leaves_same s.history _ holds };
     })
 
 module _ {R S A B : Type 0} (view : R → Tree) (source_view : S → Tree) (given : A → Option Reply) (turning : Terms → Session → Turn) (files : KnownFiles) (before after : KnownClock) (old new : Workspace R S) (v w : KnownDisk) (result : Result A WorkspaceFault)
-    (given_then : B → Option Reply) (turned : HasTurned view source_view given turning files before after old new v w result) where
+    (given_then : B → Option Reply) (turned : HasTurned view source_view given turning (IsSupplied files before after) (workspace_at old v) (workspace_at new w) result) where
   -- what a call gave is given on
-  pub turned-given : (a : A) (b : B) → result ≡ Ok a → given a ≡ given_then b → HasTurned view source_view given_then turning files before after old new v w (Ok b)
+  pub turned-given : (a : A) (b : B) → result ≡ Ok a → given a ≡ given_then b → HasTurned view source_view given_then turning (IsSupplied files before after) (workspace_at old v) (workspace_at new w) (Ok b)
   turned-given a b is same = record {
     supply = turned.supply;
     supplied = turned.supplied;
     turns = λ terms s rest z supply.
-        let y = subst (TurnsAs view source_view given terms (turning terms s) s rest old new v w) is (turned.turns terms s rest z supply) in
+        let y = subst (TurnsAs view source_view given (expected terms (turning terms s) s rest) (workspace_at old v) (workspace_at new w)) is (turned.turns terms s rest z supply) in
         record { turned = subst (Turned view source_view terms (turning terms s) new) same y.turned; taken = y.taken; kept = y.kept; leaves = y.leaves };
   }
 
   -- an error is passed on
-  pub turned-passed : (r : Result B WorkspaceFault) (e : WorkspaceFault) → r ≡ Err e → HasTurned view source_view given_then turning files before after old new v w r
-  turned-passed r e is = subst (HasTurned view source_view given_then turning files before after old new v w) (sym is) (record {
+  pub turned-passed : (r : Result B WorkspaceFault) (e : WorkspaceFault) → r ≡ Err e → HasTurned view source_view given_then turning (IsSupplied files before after) (workspace_at old v) (workspace_at new w) r
+  turned-passed r e is = subst (HasTurned view source_view given_then turning (IsSupplied files before after) (workspace_at old v) (workspace_at new w)) (sym is) (record {
     supply = turned.supply;
     supplied = turned.supplied;
     turns = λ terms s rest z supply.
@@ -190,7 +191,7 @@ module _ {R S : Type 0} (view : R → Tree) (source_view : S → Tree) (old new 
   -- a statement was run that makes no entry, reads no file and asks for no moment
   pub ran-quiet : (x y : Stmt) → x ≡ y → IsSameFile old.db new.db → ((c : Setting) (s : Session) → IsQuiet s (turn_of c s (says y)))
       → IfOk result (λ r. (terms : Terms) (s : Session) → Stands view source_view terms old s → Turned view source_view terms (turn_of (setting terms) s (says y)) new r)
-      → HasTurned view source_view (λ r. r) (λ terms s. turn_of (setting terms) s (says x)) files clock clock old new v v result
+      → HasTurned view source_view (λ r. r) (λ terms s. turn_of (setting terms) s (says x)) (IsSupplied files clock clock) (workspace_at old v) (workspace_at new v) result
   ran-quiet x y is same quiet h =
-      subst (λ i. HasTurned view source_view (λ r. r) (λ terms s. turn_of (setting terms) s (says i)) files clock clock old new v v result) (sym is)
+      subst (λ i. HasTurned view source_view (λ r. r) (λ terms s. turn_of (setting terms) s (says i)) (IsSupplied files clock clock) (workspace_at old v) (workspace_at new v) result) (sym is)
       (turned-quiet view source_view (λ terms s. turn_of (setting terms) s (says y)) old new v (λ r. r) files clock result same (λ terms s. quiet (setting terms) s) h)

@@ -16,9 +16,11 @@ Gives view (withholds v) (Ok x) = ⊥
 Gives view (withholds v) (Err w) = w ≡ v
 
 -- These are the files, where they are known, and they give the tree, or the code says why there is none.
-abbrev pub GivesFound : {R : Type 0} → (R → Tree) → KnownFiles → (FileTable → FetchedFile) → Result R Why → Type 0
+abbrev pub GivesFound : {R : Type 0} → (R → Tree) → KnownFiles → (FileTable → FetchedFile)
+    → Result R Why → Type 0
 GivesFound view known given r = (t : FileTable) × IsFound known t × Gives view (given t) r
 
 -- the tree's places are within the limits of places under the name
 abbrev pub FitsUnder : List ℕ → Tree → Type 0
-FitsUnder name t = (p : Path) → is_there t p ≡ true → over_limit (record { db = name; path = p }) ≡ false
+FitsUnder name t =
+    (p : Path) → is_there t p ≡ true → over_limit (record { db = name; path = p }) ≡ false

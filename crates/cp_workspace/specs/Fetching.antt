@@ -62,7 +62,8 @@ form_given name (Csv key) bytes = csv_given (csv_tree bytes key)
 -- a file, which may be none, that is loaded under the name
 abbrev pub file_gives : List ℕ → Form → Option (List ℕ) → FetchedFile
 file_gives name form None = withholds why.NoFile
-file_gives name form (Some bytes) = if nat_lt FILE_MAX (length bytes) then withholds why.FileTooLong else form_given name form bytes
+file_gives name form (Some bytes) =
+    if nat_lt FILE_MAX (length bytes) then withholds why.FileTooLong else form_given name form bytes
 
 -- what a load finds in these files
 abbrev pub fetch : FileTable → Load → FetchedFile

@@ -25,10 +25,6 @@ more n (suc k) = one_more (more n k)
 abbrev pub HasRead : KnownFiles → KnownFiles → ℕ → Type 0
 HasRead before now k = now.reads ≡ more before.reads k
 
--- some number of files was read
-abbrev pub HasReadSome : KnownFiles → KnownFiles → Type 0
-HasReadSome before now = (k : ℕ) × HasRead before now k
-
 -- These are the files, where it is known what each name names.
 abbrev pub IsFound : KnownFiles → FileTable → Type 0
 IsFound known table = (files : FileTable) → known.found ≡ Some files → table ≡ files
@@ -41,12 +37,14 @@ AreFound known (t ∷ ts) = IsFound known t × AreFound known ts
 -- ---- calls that may fail at a file
 
 -- The files are what they were, and are blamed only where their count of faults rose, which stays where the call gave no error.
-pub record UsesFiles {T E : Type 0} (Blames : E → Type 0) (before now : KnownFiles) (result : Result T E) : Type 0 where
+pub record UsesFiles {T E : Type 0} (Blames : E → Type 0) (before now : KnownFiles)
+    (result : Result T E) : Type 0 where
   pub same : now.found ≡ before.found
   pub account : Accounts Blames before.faults now.faults result
 
 -- So many files were to be read by a call that gave this error: they were, or none was. Where a file is blamed it was the one that was to be read.
-pub record ReadsBefore {E : Type 0} (Blames : E → Type 0) (n : ℕ) (before now : KnownFiles) (error : E) : Type 0 where
+pub record ReadsBefore {E : Type 0} (Blames : E → Type 0) (n : ℕ) (before now : KnownFiles)
+    (error : E) : Type 0 where
   pub either : HasRead before now 0 ⊎ HasRead before now n
   pub blamed : Blames error → (n ≡ 1) × HasRead before now 1
 

@@ -12,9 +12,11 @@ pub record HasSpent (reads asks : ℕ) (fb fa : KnownFiles) (kb ka : KnownClock)
 
 -- A call that is to read so many files and to ask the clock so often did so. A file fails only in one that reads a file, the clock in one that asks it, and the disk in either.
 -- Where memory ran out, that was before anything was spent or after all was.
-abbrev pub Spends : {T : Type 0} → ℕ → ℕ → KnownFiles → KnownFiles → KnownClock → KnownClock → Result T WorkspaceFault → Type 0
+abbrev pub Spends : {T : Type 0} → ℕ → ℕ → KnownFiles → KnownFiles → KnownClock → KnownClock
+    → Result T WorkspaceFault → Type 0
 Spends reads asks fb fa kb ka (Ok x) = HasSpent reads asks fb fa kb ka
 Spends reads asks fb fa kb ka (Err File) = (reads ≡ 1) × HasSpent reads asks fb fa kb ka
 Spends reads asks fb fa kb ka (Err Disk) = (reads + asks ≡ 1) × HasSpent reads asks fb fa kb ka
 Spends reads asks fb fa kb ka (Err Clock) = (asks ≡ 1) × HasSpent reads asks fb fa kb ka
-Spends reads asks fb fa kb ka (Err Memory) = HasSpent 0 0 fb fa kb ka ⊎ HasSpent reads asks fb fa kb ka
+Spends reads asks fb fa kb ka (Err Memory) =
+    HasSpent 0 0 fb fa kb ka ⊎ HasSpent reads asks fb fa kb ka

@@ -1,5 +1,5 @@
 -- What a text says, and what a session is run with.
-use Rattle.std.specs.Prelude.{ℕ, ◌≡◌, List, Result, Ok, Err, length}
+use Rattle.std.specs.Prelude.{ℕ, ◌≡◌, false, List, Result, Ok, Err, length}
 use Rattle.cp_model.specs.Place.{Label}
 use Rattle.cp_lang.specs.Grammar.{bytes_reading}
 use Rattle.cp_lang.specs.declared.syntax_tree.Stmt.{Stmt}
@@ -35,9 +35,11 @@ abbrev pub setting : Terms → Setting
 setting terms = record {
   read = reading;
   fetch = fetch;
-  fits = λ history stamp ops records. has_room (end_of terms.ends history) (stamped_size stamp ops records);
+  fits = λ history stamp ops records. has_room (end_of terms.ends history)
+      (stamped_size stamp ops records);
   has_room = λ history n t. has_room (end_of terms.ends history) (load_size n t);
   curator = terms.curator;
+  shared = false;
 }
 
 -- What the code made of a text: a statement, or why it is refused.

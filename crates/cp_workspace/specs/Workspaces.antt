@@ -21,9 +21,6 @@ use Rattle.cp_db.specs.Databases as database
 use Rattle.cp_db.specs.Databases.{HoldsState, IsDatabase, IsReady, IsKept, HasCome, IsSameFile, end_in, is_spent, version_in}
 use Rattle.cp_db.specs.declared.database.Db.{Db}
 use Rattle.cp_workspace.specs.Texts.{Terms}
-use Rattle.cp_workspace.specs.Files.{KnownFiles}
-use Rattle.cp_workspace.specs.Clocks.{KnownClock}
-use Rattle.cp_workspace.specs.Supplies.{IsSupplied}
 use Rattle.cp_workspace.specs.declared.fault.WorkspaceFault.{WorkspaceFault}
 use Rattle.cp_workspace.specs.declared.workspace.Workspace.{Workspace}
 use Rattle.cp_frame.specs.Stands.{StandsForEither}
@@ -32,12 +29,14 @@ pub use Rattle.cp_lang.specs.Written.{IsWrittenStmt}
 -- ---- what it stands for
 
 -- the transaction, if one is open, has come as far as the session's
-abbrev pub Opens : {R S : Type 0} → (R → Tree) → (S → Tree) → Db R S → Option (Txn R) → OpenTransaction → Type 0
+abbrev pub Opens : {R S : Type 0} → (R → Tree) → (S → Tree) → Db R S → Option (Txn R)
+    → OpenTransaction → Type 0
 Opens view source_view d None closed = ⊤
 Opens view source_view d None (going ops) = ⊥
 Opens view source_view d None (failed i c) = ⊥
 Opens view source_view d (Some x) closed = ⊥
-Opens view source_view d (Some x) (going ops) = HasCome view source_view d x (txn.going ops) × (1 ≤ length ops)
+Opens view source_view d (Some x) (going ops) =
+    HasCome view source_view d x (txn.going ops) × (1 ≤ length ops)
 Opens view source_view d (Some x) (failed i c) = HasCome view source_view d x (txn.failed i c)
 
 -- the frames end here after the history, which begins with the entries of which it is known where they end
@@ -47,7 +46,8 @@ pub record EndsAt (f : FrameEnd) (h : List Entry) (at : ℕ) : Type 0 where
   pub is_end : at ≡ end_of f h
 
 -- the database stands for the session's history, and the transaction is the session's
-pub record Stands {R S : Type 0} (view : R → Tree) (source_view : S → Tree) (terms : Terms) (d : Workspace R S) (s : Session) : Type 0 where
+pub record Stands {R S : Type 0} (view : R → Tree) (source_view : S → Tree) (terms : Terms)
+    (d : Workspace R S) (s : Session) : Type 0 where
   pub db : database.Stands view source_view true d.db s.history
   pub ends : EndsAt terms.ends s.history (end_in d.db)
   pub curator : d.curator ≡ terms.curator
@@ -69,13 +69,15 @@ IsBegun view source_view d None = ⊤
 IsBegun view source_view d (Some x) = (p : txn.Progress) × HasCome view source_view d x p
 
 -- its database holds some state, and may be written
-pub record IsWorkspace {R S : Type 0} (view : R → Tree) (source_view : S → Tree) (d : Workspace R S) : Type 0 where
+pub record IsWorkspace {R S : Type 0} (view : R → Tree) (source_view : S → Tree)
+    (d : Workspace R S) : Type 0 where
   pub stands : IsDatabase view source_view d.db
   pub usable : is_spent d.db ≡ false
   pub begun : IsBegun view source_view d.db d.transaction
 
 -- and the disk, where it is known what that holds, is one on which it may be
-pub record IsUsable {R S : Type 0} (view : R → Tree) (source_view : S → Tree) (v : KnownDisk) (d : Workspace R S) : Type 0 where
+pub record IsUsable {R S : Type 0} (view : R → Tree) (source_view : S → Tree) (v : KnownDisk)
+    (d : Workspace R S) : Type 0 where
   pub workspace : IsWorkspace view source_view d
   pub ready : IsTrue v.known → IsReady d.db v.view
 
@@ -89,24 +91,53 @@ KeepsFile old new = IsSameFile old.db new.db
 
 -- ---- turns
 
+-- a workspace at one moment, and its disk
+pub record WorkspaceMoment (R S : Type 0) : Type 1 where
+  pub workspace : Workspace R S
+  pub disk : KnownDisk
+
+-- of its parts
+abbrev pub workspace_at : {R S : Type 0} → Workspace R S → KnownDisk → WorkspaceMoment R S
+workspace_at d v = record { workspace = d; disk = v }
+
+-- a turn that is to be made: what the session is run on, the turn, the session, and what is told after the turn
+pub record ExpectedTurn : Type 0 where
+  pub terms : Terms
+  pub turn : Turn
+  pub session : Session
+  pub rest : Supply
+
+-- of its parts
+abbrev pub expected : Terms → Turn → Session → Supply → ExpectedTurn
+expected terms t s rest = record { terms = terms; turn = t; session = s; rest = rest }
+
 -- the reply is the turn's, and what is kept stands for its next state
-abbrev pub Turned : {R S : Type 0} → (R → Tree) → (S → Tree) → Terms → Turn → Workspace R S → Option Reply → Type 0
+abbrev pub Turned : {R S : Type 0} → (R → Tree) → (S → Tree) → Terms → Turn → Workspace R S
+    → Option Reply → Type 0
 Turned view source_view terms t new r = (r ≡ t.reply) × Stands view source_view terms new t.next
 
--- The turn t of the session s was made, unless something failed: its reply was given, the rest is still told after it, and the disk holds its history.
+-- The turn was made, unless something failed: its reply was given, the rest is still told after it, and the disk holds its history.
 -- In any case each file that a crash leaves stands for the history before the turn or for the one after it.
-pub record TurnsAs {R S A : Type 0} (view : R → Tree) (source_view : S → Tree) (given : A → Option Reply) (terms : Terms) (t : Turn) (s : Session) (rest : Supply) (old new : Workspace R S) (v w : KnownDisk) (result : Result A WorkspaceFault) : Type 0 where
-  pub turned : IfOk result (λ r. Turned view source_view terms t new (given r))
-  pub taken : OnOk result (t.next.supply ≡ rest)
-  pub kept : IsTrue v.known → HoldsFile old s.history v → OnOk result (HoldsFile new t.next.history w)
-  pub leaves : IsTrue v.known → HoldsFile old s.history v → ViewKeeps (StandsForEither s.history t.next.history) v.view w.view
+pub record TurnsAs {R S A : Type 0} (view : R → Tree) (source_view : S → Tree)
+    (given : A → Option Reply) (x : ExpectedTurn) (before now : WorkspaceMoment R S)
+    (result : Result A WorkspaceFault) : Type 0 where
+  pub turned : IfOk result (λ r. Turned view source_view x.terms x.turn now.workspace (given r))
+  pub taken : OnOk result (x.turn.next.supply ≡ x.rest)
+  pub kept : IsTrue before.disk.known → HoldsFile before.workspace x.session.history before.disk
+      → OnOk result (HoldsFile now.workspace x.turn.next.history now.disk)
+  pub leaves : IsTrue before.disk.known → HoldsFile before.workspace x.session.history before.disk
+      → ViewKeeps (StandsForEither x.session.history x.turn.next.history)
+      before.disk.view now.disk.view
 
--- The clock told some moments and reads found some files; and whatever is told after those, the turn was made.
-pub record HasTurned {R S A : Type 0} (view : R → Tree) (source_view : S → Tree) (given : A → Option Reply) (turning : Terms → Session → Turn) (fb : KnownFiles) (kb ka : KnownClock) (old new : Workspace R S) (v w : KnownDisk) (result : Result A WorkspaceFault) : Type 0 where
+-- Something was told, of which this is so; and whatever is told after that, the turn was made.
+pub record HasTurned {R S A : Type 0} (view : R → Tree) (source_view : S → Tree)
+    (given : A → Option Reply) (turning : Terms → Session → Turn) (WasTold : Supply → Type 0)
+    (before now : WorkspaceMoment R S) (result : Result A WorkspaceFault) : Type 0 where
   pub supply : Supply
-  pub supplied : IsSupplied fb kb ka supply
-  pub turns : (terms : Terms) (s : Session) (rest : Supply) → Stands view source_view terms old s → s.supply ≡ followed_by supply rest
-      → TurnsAs view source_view given terms (turning terms s) s rest old new v w result
+  pub supplied : WasTold supply
+  pub turns : (terms : Terms) (s : Session) (rest : Supply)
+      → Stands view source_view terms before.workspace s → s.supply ≡ followed_by supply rest
+      → TurnsAs view source_view given (expected terms (turning terms s) s rest) before now result
 
 -- the transaction is open
 abbrev pub holding : {R S : Type 0} → Workspace R S → Txn R → Workspace R S
@@ -120,7 +151,9 @@ shown_tree t o q = if in_target q then Some (current_tree t o) else source t.sou
 
 -- the rows at and below a place of a tree, or that nothing stands there
 abbrev pub shown_reply : Loc → Tree → Reply
-shown_reply q t = if is_there t q.path then reply.Show q (map row_of (below q.path t)) else reply.Refused of.Statement (why.NoPlace q)
+shown_reply q t =
+    if is_there t q.path then reply.Show q (map row_of (below q.path t))
+    else reply.Refused of.Statement (why.NoPlace q)
 
 -- how far the transaction has come once one is open: where none was, it holds no operation
 abbrev pub progress_of : OpenTransaction → txn.Progress
@@ -130,12 +163,16 @@ progress_of (failed n c) = txn.failed n c
 
 -- the transaction is the session's, if one is open, or one that begins on the committed tree
 abbrev pub IsOpened : {R S : Type 0} → (R → Tree) → (S → Tree) → Workspace R S → Txn R → Type 0
-IsOpened view source_view d x = (terms : Terms) (s : Session) → Stands view source_view terms d s → HasCome view source_view d.db x (progress_of s.opened)
+IsOpened view source_view d x =
+    (terms : Terms) (s : Session) → Stands view source_view terms d s
+    → HasCome view source_view d.db x (progress_of s.opened)
 
 -- nothing is in the way of a source with this name, whatever its file gives
-pub record MayLoad {R S : Type 0} (view : R → Tree) (source_view : S → Tree) (d : Workspace R S) (name : List ℕ) : Type 0 where
+pub record MayLoad {R S : Type 0} (view : R → Tree) (source_view : S → Tree) (d : Workspace R S)
+    (name : List ℕ) : Type 0 where
   pub closed : d.transaction ≡ None
-  pub fresh : (s : State) → HoldsState view source_view d.db s → is_some (source s.sources name) ≡ false
+  pub fresh : (s : State) → HoldsState view source_view d.db s
+      → is_some (source s.sources name) ≡ false
   pub few : (s : State) → HoldsState view source_view d.db s → length s.sources + 1 ≤ SOURCES_MAX
 
 -- ---- beginnings
@@ -146,4 +183,4 @@ end_now h d = record { entries = h; at = end_in d }
 
 -- a session on this history, to which this is told
 abbrev pub opened_session : List Entry → Supply → Session
-opened_session h supply = record { history = h; opened = closed; supply = supply }
+opened_session h supply = record { history = h; opened = closed; desks = []; supply = supply }

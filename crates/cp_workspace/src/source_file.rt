@@ -59,7 +59,8 @@ fn from_json<R: TreeRep>(
     name: &Name,
     bytes: &[u8],
 ) -> Result<Result<R, Why>, AllocError>
-    ensures gives { IfOk result (λ r. Gives R.contents (form_given name.now Form.Json bytes.now) r) }
+    ensures gives { IfOk result
+        (λ r. Gives R.contents (form_given name.now Form.Json bytes.now) r) }
     ensures fits { IfOk result (λ r. IfOk r (λ t. FitsUnder name.now (R.contents t))) }
 {
     match tree_of_json(alloc, name, bytes) {
@@ -75,7 +76,9 @@ fn from_csv<R: TreeRep>(
     bytes: &[u8],
     key: Option<&Label>,
 ) -> Result<Result<R, Why>, AllocError>
-    ensures gives { IfOk result (λ r. Gives R.contents (form_given name.now (Form.Csv (option_map (λ k. k.now) key.entry)) bytes.now) r) }
+    ensures gives { IfOk result
+        (λ r. Gives R.contents
+        (form_given name.now (Form.Csv (option_map (λ k. k.now) key.entry)) bytes.now) r) }
     ensures fits { IfOk result (λ r. IfOk r (λ t. FitsUnder name.now (R.contents t))) }
 {
     match tree_of_csv(alloc, name, bytes, key) {
@@ -109,9 +112,12 @@ pub fn fetch<R: TreeRep, F: Files>(
     form: &Form,
     file: &str,
 ) -> Result<Result<R, Why>, FilesFault>
-    ensures gives { IfOk result (λ r. GivesFound R.contents (known_files F.Files files.old) (λ t. file_gives name.now form.now (t file.now)) r) }
+    ensures gives { IfOk result
+        (λ r. GivesFound R.contents (known_files F.Files files.old)
+        (λ t. file_gives name.now form.now (t file.now)) r) }
     ensures fits { IfOk result (λ r. IfOk r (λ t. FitsUnder name.now (R.contents t))) }
-    ensures used { UsesFiles (λ e. e ≡ FilesFault.Failed) (known_files F.Files files.old) (known_files F.Files files.new) result }
+    ensures used { UsesFiles (λ e. e ≡ FilesFault.Failed) (known_files F.Files files.old)
+        (known_files F.Files files.new) result }
     ensures read { HasRead (known_files F.Files files.old) (known_files F.Files files.new) 1 }
 {
     let mut bytes = Vec::new(alloc);

@@ -10,9 +10,10 @@ ghost use Rattle.cp_workspace.specs.Texts.{Terms, setting};
 ghost use Rattle.cp_workspace.specs.Loads.{statement_reads};
 ghost use Rattle.cp_workspace.specs.Clocks.{known_clock};
 ghost use Rattle.cp_workspace.specs.Commits.{statement_asks};
-ghost use Rattle.cp_workspace.specs.Files.{known_files, HasReadSome, UsesFiles};
+ghost use Rattle.cp_workspace.specs.Files.{known_files, UsesFiles};
 ghost use Rattle.cp_workspace.specs.Spending.{Spends};
-ghost use Rattle.cp_workspace.specs.Workspaces.{Stands, IsWorkspace, IsUsable, HasStamps, HasTurned, IsWrittenStmt, db_in, end_now, opened_session};
+ghost use Rattle.cp_workspace.specs.Workspaces.{Stands, IsWorkspace, IsUsable, HasStamps, HasTurned, IsWrittenStmt, db_in, end_now, opened_session, workspace_at};
+ghost use Rattle.cp_workspace.specs.Supplies.{IsSupplied};
 
 mod answer;
 mod commit;
@@ -53,8 +54,10 @@ impl<R: TreeRep, S: TreeRep> Workspace<R, S> {
         requires usable { is_spent db ≡ false }
         ensures workspace { IsWorkspace R.contents S.contents result }
         ensures same { db_in result ≡ db }
-        ensures stands { (h : List Entry) (supply : Supply) → database.Stands R.contents S.contents true db h
-            → Stands R.contents S.contents (record { ends = end_now h db; curator = curator }) result (opened_session h supply) }
+        ensures stands { (h : List Entry) (supply : Supply)
+            → database.Stands R.contents S.contents true db h
+            → Stands R.contents S.contents (record { ends = end_now h db; curator = curator })
+            result (opened_session h supply) }
     {
         Workspace {
             db,
@@ -100,19 +103,26 @@ impl<R: TreeRep, S: TreeRep> Workspace<R, S> {
         requires usable { IsUsable R.contents S.contents (D.known disk.old) self.old }
         requires written { IsWrittenStmt statement }
         requires stamps { statement ≡ Stmt.Commit → HasStamps self.old }
-        ensures turned { HasTurned R.contents S.contents (λ r. r) (λ terms s. turn_of (setting terms) s (says statement))
-            (known_files F.Files files.old) (known_clock K.Clock clock.old) (known_clock K.Clock clock.new) self.old self.new
-            (D.known disk.old) (D.known disk.new) result }
+        ensures turned { HasTurned R.contents S.contents (λ r. r)
+            (λ terms s. turn_of (setting terms) s (says statement))
+            (IsSupplied (known_files F.Files files.old) (known_clock K.Clock clock.old)
+            (known_clock K.Clock clock.new))
+            (workspace_at self.old (D.known disk.old))
+            (workspace_at self.new (D.known disk.new)) result }
         ensures stays { OnOk result (IsUsable R.contents S.contents (D.known disk.new) self.new) }
         ensures version { OnOk result (version_in (db_in self.new) ≡ version_in (db_in self.old)) }
         ensures file { KeepsVersion (D.known disk.old) (D.known disk.new) }
-        ensures spent { (terms : Terms) (s : Session) → Stands R.contents S.contents terms self.old s
-            → Spends (statement_reads s statement) (statement_asks s statement) (known_files F.Files files.old) (known_files F.Files files.new)
+        ensures spent { (terms : Terms) (s : Session)
+            → Stands R.contents S.contents terms self.old s
+            → Spends (statement_reads s statement) (statement_asks s statement)
+            (known_files F.Files files.old) (known_files F.Files files.new)
             (known_clock K.Clock clock.old) (known_clock K.Clock clock.new) result }
-        ensures read { HasReadSome (known_files F.Files files.old) (known_files F.Files files.new) }
-        ensures used { UsesFiles (λ e. e ≡ WorkspaceFault.File) (known_files F.Files files.old) (known_files F.Files files.new) result }
-        ensures disk { UsesDisk (λ e. e ≡ WorkspaceFault.Disk) (D.known disk.old) (D.known disk.new) result }
-        ensures clock { Accounts (λ e. e ≡ WorkspaceFault.Clock) (K.faults clock.old) (K.faults clock.new) result }
+        ensures used { UsesFiles (λ e. e ≡ WorkspaceFault.File) (known_files F.Files files.old)
+            (known_files F.Files files.new) result }
+        ensures disk { UsesDisk (λ e. e ≡ WorkspaceFault.Disk) (D.known disk.old)
+            (D.known disk.new) result }
+        ensures clock { Accounts (λ e. e ≡ WorkspaceFault.Clock) (K.faults clock.old)
+            (K.faults clock.new) result }
         ensures same { IsErrOf result WorkspaceFault.File → disk.new ≡ disk.old }
         ensures untouched { IsErrOf result WorkspaceFault.Clock → disk.new ≡ disk.old }
     {

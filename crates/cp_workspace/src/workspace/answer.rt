@@ -44,8 +44,10 @@ impl<R: TreeRep, S: TreeRep> Workspace<R, S> {
     /// Answers a query on the committed state. Reads no disk, and costs as the query. An error changes nothing.
     pub fn ask(&mut self, alloc: Global, query: Query) -> Result<Reply, AllocError>
         requires workspace { IsWorkspace R.contents S.contents self.old }
-        ensures turned { IfOk result (λ r. (terms : Terms) (s : Session) → Stands R.contents S.contents terms self.old s
-            → Turned R.contents S.contents terms (turn_of (setting terms) s (says (Stmt.Ask query))) self.new (Some r)) }
+        ensures turned { IfOk result (λ r. (terms : Terms) (s : Session)
+            → Stands R.contents S.contents terms self.old s
+            → Turned R.contents S.contents terms (turn_of (setting terms) s (says (Stmt.Ask query)))
+            self.new (Some r)) }
         ensures stays { OnOk result (IsWorkspace R.contents S.contents self.new) }
         ensures file { KeepsFile self.old self.new }
     {

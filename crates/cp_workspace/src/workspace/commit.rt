@@ -12,7 +12,8 @@ ghost use Rattle.cp_workspace.specs.Clocks.{known_clock};
 ghost use Rattle.cp_workspace.specs.Commits.{commit_asks};
 ghost use Rattle.cp_workspace.specs.Files.{KnownFiles};
 ghost use Rattle.cp_workspace.specs.Spending.{Spends};
-ghost use Rattle.cp_workspace.specs.Workspaces.{Stands, IsWorkspace, IsUsable, HasStamps, HasTurned, Turned, db_in, holding};
+ghost use Rattle.cp_workspace.specs.Workspaces.{Stands, IsWorkspace, IsUsable, HasStamps, HasTurned, Turned, db_in, holding, workspace_at};
+ghost use Rattle.cp_workspace.specs.Supplies.{IsSupplied};
 
 use crate::fault::WorkspaceFault;
 use crate::workspace::Workspace;
@@ -39,16 +40,23 @@ impl<R: TreeRep, S: TreeRep> Workspace<R, S> {
         requires usable { IsUsable R.contents S.contents (D.known disk.old) self.old }
         requires stamps { HasStamps self.old }
         requires taken { self.old.transaction ≡ None }
-        requires going { (ops : List OpValue) × HasCome R.contents S.contents self.old.db transaction (going ops) }
-        ensures turned { (f : KnownFiles) → HasTurned R.contents S.contents (λ r. Some r) (λ terms s. turn_of (setting terms) s (says Stmt.Commit))
-            f (known_clock K.Clock clock.old) (known_clock K.Clock clock.new) (holding self.old transaction) self.new
-            (D.known disk.old) (D.known disk.new) result }
+        requires going { (ops : List OpValue)
+            × HasCome R.contents S.contents self.old.db transaction (going ops) }
+        ensures turned { (f : KnownFiles) → HasTurned R.contents S.contents (λ r. Some r)
+            (λ terms s. turn_of (setting terms) s (says Stmt.Commit))
+            (IsSupplied f (known_clock K.Clock clock.old) (known_clock K.Clock clock.new))
+            (workspace_at (holding self.old transaction) (D.known disk.old))
+            (workspace_at self.new (D.known disk.new)) result }
         ensures stays { OnOk result (IsUsable R.contents S.contents (D.known disk.new) self.new) }
         ensures version { version_in (db_in self.new) ≡ version_in (db_in self.old) }
         ensures file { KeepsVersion (D.known disk.old) (D.known disk.new) }
-        ensures disk { UsesDisk (λ e. e ≡ WorkspaceFault.Disk) (D.known disk.old) (D.known disk.new) result }
-        ensures clock { Accounts (λ e. e ≡ WorkspaceFault.Clock) (K.faults clock.old) (K.faults clock.new) result }
-        ensures spent { (f : KnownFiles) → Spends 0 1 f f (known_clock K.Clock clock.old) (known_clock K.Clock clock.new) result }
+        ensures disk { UsesDisk (λ e. e ≡ WorkspaceFault.Disk) (D.known disk.old)
+            (D.known disk.new) result }
+        ensures clock { Accounts (λ e. e ≡ WorkspaceFault.Clock) (K.faults clock.old)
+            (K.faults clock.new) result }
+        ensures spent { (f : KnownFiles)
+            → Spends 0 1 f f (known_clock K.Clock clock.old)
+            (known_clock K.Clock clock.new) result }
         ensures kinds { IsErrOf result WorkspaceFault.File → ⊥ }
         ensures untouched { IsErrOf result WorkspaceFault.Clock → disk.new ≡ disk.old }
     {
@@ -81,15 +89,22 @@ impl<R: TreeRep, S: TreeRep> Workspace<R, S> {
     ) -> Result<Reply, WorkspaceFault>
         requires usable { IsUsable R.contents S.contents (D.known disk.old) self.old }
         requires stamps { HasStamps self.old }
-        ensures turned { (f : KnownFiles) → HasTurned R.contents S.contents (λ r. Some r) (λ terms s. turn_of (setting terms) s (says Stmt.Commit))
-            f (known_clock K.Clock clock.old) (known_clock K.Clock clock.new) self.old self.new (D.known disk.old) (D.known disk.new) result }
+        ensures turned { (f : KnownFiles) → HasTurned R.contents S.contents (λ r. Some r)
+            (λ terms s. turn_of (setting terms) s (says Stmt.Commit))
+            (IsSupplied f (known_clock K.Clock clock.old) (known_clock K.Clock clock.new))
+            (workspace_at self.old (D.known disk.old))
+            (workspace_at self.new (D.known disk.new)) result }
         ensures stays { OnOk result (IsUsable R.contents S.contents (D.known disk.new) self.new) }
         ensures version { version_in (db_in self.new) ≡ version_in (db_in self.old) }
         ensures file { KeepsVersion (D.known disk.old) (D.known disk.new) }
-        ensures disk { UsesDisk (λ e. e ≡ WorkspaceFault.Disk) (D.known disk.old) (D.known disk.new) result }
-        ensures clock { Accounts (λ e. e ≡ WorkspaceFault.Clock) (K.faults clock.old) (K.faults clock.new) result }
-        ensures spent { (terms : Terms) (s : Session) → Stands R.contents S.contents terms self.old s → (f : KnownFiles)
-            → Spends 0 (commit_asks s.opened) f f (known_clock K.Clock clock.old) (known_clock K.Clock clock.new) result }
+        ensures disk { UsesDisk (λ e. e ≡ WorkspaceFault.Disk) (D.known disk.old)
+            (D.known disk.new) result }
+        ensures clock { Accounts (λ e. e ≡ WorkspaceFault.Clock) (K.faults clock.old)
+            (K.faults clock.new) result }
+        ensures spent { (terms : Terms) (s : Session)
+            → Stands R.contents S.contents terms self.old s → (f : KnownFiles)
+            → Spends 0 (commit_asks s.opened) f f (known_clock K.Clock clock.old)
+            (known_clock K.Clock clock.new) result }
         ensures kinds { IsErrOf result WorkspaceFault.File → ⊥ }
         ensures untouched { IsErrOf result WorkspaceFault.Clock → disk.new ≡ disk.old }
     {
@@ -105,8 +120,10 @@ impl<R: TreeRep, S: TreeRep> Workspace<R, S> {
     /// Gives the open transaction up.
     pub(super) fn abort(&mut self) -> Reply
         requires workspace { IsWorkspace R.contents S.contents self.old }
-        ensures turned { (terms : Terms) (s : Session) → Stands R.contents S.contents terms self.old s
-            → Turned R.contents S.contents terms (turn_of (setting terms) s (says Stmt.Abort)) self.new (Some result) }
+        ensures turned { (terms : Terms) (s : Session)
+            → Stands R.contents S.contents terms self.old s
+            → Turned R.contents S.contents terms (turn_of (setting terms) s (says Stmt.Abort))
+            self.new (Some result) }
         ensures stays { IsWorkspace R.contents S.contents self.new }
         ensures same { self.new.db ≡ self.old.db }
     {

@@ -10,9 +10,10 @@ ghost use Rattle.cp_workspace.specs.Fetched.{FitsUnder};
 ghost use Rattle.cp_workspace.specs.Texts.{Terms, setting};
 ghost use Rattle.cp_workspace.specs.Loads.{why_not_loaded, statement_reads};
 ghost use Rattle.cp_workspace.specs.Clocks.{KnownClock};
-ghost use Rattle.cp_workspace.specs.Files.{known_files, HasReadSome, UsesFiles};
+ghost use Rattle.cp_workspace.specs.Files.{known_files, UsesFiles};
 ghost use Rattle.cp_workspace.specs.Spending.{Spends};
-ghost use Rattle.cp_workspace.specs.Workspaces.{Stands, IsWorkspace, IsUsable, MayLoad, HasTurned, TurnsAs, db_in};
+ghost use Rattle.cp_workspace.specs.Workspaces.{Stands, IsWorkspace, IsUsable, MayLoad, HasTurned, TurnsAs, db_in, workspace_at, expected};
+ghost use Rattle.cp_workspace.specs.Supplies.{IsSupplied};
 
 use crate::fault::WorkspaceFault;
 use crate::source_file::fetch;
@@ -41,14 +42,20 @@ impl<R: TreeRep, S: TreeRep> Workspace<R, S> {
         requires may { MayLoad R.contents S.contents self.old name }
         requires other { label_eq name target ≡ false }
         requires fits { FitsUnder name (S.contents tree) }
-        ensures turned { (terms : Terms) (s : Session) → Stands R.contents S.contents terms self.old s
-            → TurnsAs R.contents S.contents (λ r. Some r) terms (load_fetched (setting terms) s name (gives (S.contents tree))) s s.supply self.old self.new
-            (D.known disk.old) (D.known disk.new) result }
+        ensures turned { (terms : Terms) (s : Session)
+            → Stands R.contents S.contents terms self.old s
+            → TurnsAs R.contents S.contents (λ r. Some r)
+            (expected terms
+            (load_fetched (setting terms) s name (gives (S.contents tree))) s s.supply)
+            (workspace_at self.old (D.known disk.old))
+            (workspace_at self.new (D.known disk.new)) result }
         ensures stays { OnOk result (IsUsable R.contents S.contents (D.known disk.new) self.new) }
         ensures version { version_in (db_in self.new) ≡ version_in (db_in self.old) }
         ensures file { KeepsVersion (D.known disk.old) (D.known disk.new) }
-        ensures disk { UsesDisk (λ e. e ≡ WorkspaceFault.Disk) (D.known disk.old) (D.known disk.new) result }
-        ensures kinds { (IsErrOf result WorkspaceFault.File → ⊥) × (IsErrOf result WorkspaceFault.Clock → ⊥) }
+        ensures disk { UsesDisk (λ e. e ≡ WorkspaceFault.Disk) (D.known disk.old)
+            (D.known disk.new) result }
+        ensures kinds { (IsErrOf result WorkspaceFault.File → ⊥)
+            × (IsErrOf result WorkspaceFault.Clock → ⊥) }
     {
         // Its text says that the name is one.
         let _text = name.as_str();
@@ -70,9 +77,11 @@ impl<R: TreeRep, S: TreeRep> Workspace<R, S> {
     /// Why nothing is loaded under the name, whatever its file gives.
     fn why_not_loaded(&self, name: &Name) -> Result<Option<Why>, AllocError>
         requires workspace { IsWorkspace R.contents S.contents self.now }
-        ensures why { IfOk result (λ w. (terms : Terms) (s : Session) (z : Stands R.contents S.contents terms self.now s)
+        ensures why { IfOk result
+            (λ w. (terms : Terms) (s : Session) (z : Stands R.contents S.contents terms self.now s)
             → w ≡ why_not_loaded z.db.state s.opened name.now) }
-        ensures open { IfOk result (λ w. w ≡ None → MayLoad R.contents S.contents self.now name.now) }
+        ensures open { IfOk result (λ w. w ≡ None
+            → MayLoad R.contents S.contents self.now name.now) }
     {
         if self.transaction.is_some() {
             return Ok(Some(Why::TransactionOpen));
@@ -100,16 +109,22 @@ impl<R: TreeRep, S: TreeRep> Workspace<R, S> {
     ) -> Result<Reply, WorkspaceFault>
         requires usable { IsUsable R.contents S.contents (D.known disk.old) self.old }
         requires other { label_eq load.name target ≡ false }
-        ensures turned { (k : KnownClock) → HasTurned R.contents S.contents (λ r. Some r) (λ terms s. turn_of (setting terms) s (says (Stmt.Load load)))
-            (known_files F.Files files.old) k k self.old self.new (D.known disk.old) (D.known disk.new) result }
+        ensures turned { (k : KnownClock) → HasTurned R.contents S.contents (λ r. Some r)
+            (λ terms s. turn_of (setting terms) s (says (Stmt.Load load)))
+            (IsSupplied (known_files F.Files files.old) k k)
+            (workspace_at self.old (D.known disk.old))
+            (workspace_at self.new (D.known disk.new)) result }
         ensures stays { OnOk result (IsUsable R.contents S.contents (D.known disk.new) self.new) }
         ensures version { version_in (db_in self.new) ≡ version_in (db_in self.old) }
         ensures file { KeepsVersion (D.known disk.old) (D.known disk.new) }
-        ensures spent { (terms : Terms) (s : Session) → Stands R.contents S.contents terms self.old s → (k : KnownClock)
-            → Spends (statement_reads s (Stmt.Load load)) 0 (known_files F.Files files.old) (known_files F.Files files.new) k k result }
-        ensures read { HasReadSome (known_files F.Files files.old) (known_files F.Files files.new) }
-        ensures used { UsesFiles (λ e. e ≡ WorkspaceFault.File) (known_files F.Files files.old) (known_files F.Files files.new) result }
-        ensures disk { UsesDisk (λ e. e ≡ WorkspaceFault.Disk) (D.known disk.old) (D.known disk.new) result }
+        ensures spent { (terms : Terms) (s : Session)
+            → Stands R.contents S.contents terms self.old s → (k : KnownClock)
+            → Spends (statement_reads s (Stmt.Load load)) 0 (known_files F.Files files.old)
+            (known_files F.Files files.new) k k result }
+        ensures used { UsesFiles (λ e. e ≡ WorkspaceFault.File) (known_files F.Files files.old)
+            (known_files F.Files files.new) result }
+        ensures disk { UsesDisk (λ e. e ≡ WorkspaceFault.Disk) (D.known disk.old)
+            (D.known disk.new) result }
         ensures kinds { IsErrOf result WorkspaceFault.Clock → ⊥ }
         ensures untouched { IsErrOf result WorkspaceFault.File → disk.new ≡ disk.old }
     {

@@ -22,7 +22,8 @@ impl<R: TreeRep, S: TreeRep> Workspace<R, S> {
     fn take_opened(&mut self, alloc: Global) -> Result<Txn<R>, AllocError>
         requires workspace { IsWorkspace R.contents S.contents self.old }
         ensures opened { IfOk result (λ x. IsOpened R.contents S.contents self.old x) }
-        ensures begun { IfOk result (λ x. (p : Progress) × HasCome R.contents S.contents self.old.db x p) }
+        ensures begun { IfOk result (λ x. (p : Progress)
+            × HasCome R.contents S.contents self.old.db x p) }
         ensures taken { self.new ≡ record self.old { transaction = None } }
     {
         match self.transaction.take() {
@@ -36,8 +37,10 @@ impl<R: TreeRep, S: TreeRep> Workspace<R, S> {
     pub fn operate(&mut self, alloc: Global, op: Op) -> Result<Option<Reply>, AllocError>
         requires workspace { IsWorkspace R.contents S.contents self.old }
         requires written { IsWritten op }
-        ensures turned { IfOk result (λ r. (terms : Terms) (s : Session) → Stands R.contents S.contents terms self.old s
-            → Turned R.contents S.contents terms (turn_of (setting terms) s (says (Stmt.Op op))) self.new r) }
+        ensures turned { IfOk result (λ r. (terms : Terms) (s : Session)
+            → Stands R.contents S.contents terms self.old s
+            → Turned R.contents S.contents terms
+            (turn_of (setting terms) s (says (Stmt.Op op))) self.new r) }
         ensures stays { OnOk result (IsWorkspace R.contents S.contents self.new) }
         ensures same { self.new.db ≡ self.old.db }
     {
@@ -67,7 +70,8 @@ impl<R: TreeRep, S: TreeRep> Workspace<R, S> {
     /// A text that can't be read counts as an operation that is refused.
     pub(super) fn spoil(&mut self, alloc: Global) -> Result<(), AllocError>
         requires workspace { IsWorkspace R.contents S.contents self.old }
-        ensures stands { OnOk result ((terms : Terms) (s : Session) (w : WhyValue) → Stands R.contents S.contents terms self.old s
+        ensures stands { OnOk result ((terms : Terms) (s : Session) (w : WhyValue)
+            → Stands R.contents S.contents terms self.old s
             → Stands R.contents S.contents terms self.new (not_read s w).next) }
         ensures stays { OnOk result (IsWorkspace R.contents S.contents self.new) }
         ensures same { self.new.db ≡ self.old.db }

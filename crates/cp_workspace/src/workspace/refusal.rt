@@ -36,7 +36,8 @@ pub(super) fn refused_load(why: Why) -> Reply
 
 /// Why a change at the label below the place is refused.
 fn why_of_change(refusal: Refusal, place: Loc, label: Label) -> Why
-    ensures insertion { (tree : LiteralValue) → result ≡ why_refused (Ins place label tree) refusal }
+    ensures insertion { (tree : LiteralValue)
+        → result ≡ why_refused (Ins place label tree) refusal }
     ensures deletion { result ≡ why_refused (Del label place) refusal }
 {
     match refusal {

@@ -9,9 +9,10 @@ ghost use Rattle.cp_workspace.specs.Texts.{Terms, setting, reading};
 ghost use Rattle.cp_workspace.specs.Loads.{text_reads, cut_reads};
 ghost use Rattle.cp_workspace.specs.Clocks.{known_clock};
 ghost use Rattle.cp_workspace.specs.Commits.{text_asks, cut_asks};
-ghost use Rattle.cp_workspace.specs.Files.{known_files, HasReadSome, UsesFiles};
+ghost use Rattle.cp_workspace.specs.Files.{known_files, UsesFiles};
 ghost use Rattle.cp_workspace.specs.Spending.{Spends};
-ghost use Rattle.cp_workspace.specs.Workspaces.{Stands, IsWorkspace, IsUsable, HasStamps, HasTurned, Turned};
+ghost use Rattle.cp_workspace.specs.Workspaces.{Stands, IsWorkspace, IsUsable, HasStamps, HasTurned, Turned, workspace_at};
+ghost use Rattle.cp_workspace.specs.Supplies.{IsSupplied};
 
 use crate::fault::WorkspaceFault;
 use crate::text::read;
@@ -28,7 +29,8 @@ impl<R: TreeRep, S: TreeRep> Workspace<R, S> {
     /// Refuses a text that can't be read.
     fn refuse(&mut self, alloc: Global, why: Why) -> Result<Reply, AllocError>
         requires workspace { IsWorkspace R.contents S.contents self.old }
-        ensures turned { IfOk result (λ r. (terms : Terms) (s : Session) → Stands R.contents S.contents terms self.old s
+        ensures turned { IfOk result (λ r. (terms : Terms) (s : Session)
+            → Stands R.contents S.contents terms self.old s
             → Turned R.contents S.contents terms (not_read s why) self.new (Some r)) }
         ensures stays { OnOk result (IsWorkspace R.contents S.contents self.new) }
         ensures same { self.new.db ≡ self.old.db }
@@ -53,19 +55,26 @@ impl<R: TreeRep, S: TreeRep> Workspace<R, S> {
     ) -> Result<Option<Reply>, WorkspaceFault>
         requires usable { IsUsable R.contents S.contents (D.known disk.old) self.old }
         requires stamps { HasStamps self.old }
-        ensures turned { HasTurned R.contents S.contents (λ r. r) (λ terms s. turn_of (setting terms) s (reading text.now))
-            (known_files F.Files files.old) (known_clock K.Clock clock.old) (known_clock K.Clock clock.new) self.old self.new
-            (D.known disk.old) (D.known disk.new) result }
+        ensures turned { HasTurned R.contents S.contents (λ r. r)
+            (λ terms s. turn_of (setting terms) s (reading text.now))
+            (IsSupplied (known_files F.Files files.old) (known_clock K.Clock clock.old)
+            (known_clock K.Clock clock.new))
+            (workspace_at self.old (D.known disk.old))
+            (workspace_at self.new (D.known disk.new)) result }
         ensures stays { OnOk result (IsUsable R.contents S.contents (D.known disk.new) self.new) }
         ensures stamps { OnOk result (HasStamps self.new) }
         ensures file { KeepsVersion (D.known disk.old) (D.known disk.new) }
-        ensures spent { (terms : Terms) (s : Session) → Stands R.contents S.contents terms self.old s
-            → Spends (text_reads s (reading text.now)) (text_asks s (reading text.now)) (known_files F.Files files.old) (known_files F.Files files.new)
+        ensures spent { (terms : Terms) (s : Session)
+            → Stands R.contents S.contents terms self.old s
+            → Spends (text_reads s (reading text.now)) (text_asks s (reading text.now))
+            (known_files F.Files files.old) (known_files F.Files files.new)
             (known_clock K.Clock clock.old) (known_clock K.Clock clock.new) result }
-        ensures read { HasReadSome (known_files F.Files files.old) (known_files F.Files files.new) }
-        ensures used { UsesFiles (λ e. e ≡ WorkspaceFault.File) (known_files F.Files files.old) (known_files F.Files files.new) result }
-        ensures disk { UsesDisk (λ e. e ≡ WorkspaceFault.Disk) (D.known disk.old) (D.known disk.new) result }
-        ensures clock { Accounts (λ e. e ≡ WorkspaceFault.Clock) (K.faults clock.old) (K.faults clock.new) result }
+        ensures used { UsesFiles (λ e. e ≡ WorkspaceFault.File) (known_files F.Files files.old)
+            (known_files F.Files files.new) result }
+        ensures disk { UsesDisk (λ e. e ≡ WorkspaceFault.Disk) (D.known disk.old)
+            (D.known disk.new) result }
+        ensures clock { Accounts (λ e. e ≡ WorkspaceFault.Clock) (K.faults clock.old)
+            (K.faults clock.new) result }
         ensures same { IsErrOf result WorkspaceFault.File → disk.new ≡ disk.old }
         ensures untouched { IsErrOf result WorkspaceFault.Clock → disk.new ≡ disk.old }
     {
@@ -90,19 +99,26 @@ impl<R: TreeRep, S: TreeRep> Workspace<R, S> {
     ) -> Result<Option<Reply>, WorkspaceFault>
         requires usable { IsUsable R.contents S.contents (D.known disk.old) self.old }
         requires stamps { HasStamps self.old }
-        ensures turned { HasTurned R.contents S.contents (λ r. r) (λ terms s. turn (setting terms) s cut)
-            (known_files F.Files files.old) (known_clock K.Clock clock.old) (known_clock K.Clock clock.new) self.old self.new
-            (D.known disk.old) (D.known disk.new) result }
+        ensures turned { HasTurned R.contents S.contents (λ r. r)
+            (λ terms s. turn (setting terms) s cut)
+            (IsSupplied (known_files F.Files files.old) (known_clock K.Clock clock.old)
+            (known_clock K.Clock clock.new))
+            (workspace_at self.old (D.known disk.old))
+            (workspace_at self.new (D.known disk.new)) result }
         ensures stays { OnOk result (IsUsable R.contents S.contents (D.known disk.new) self.new) }
         ensures stamps { OnOk result (HasStamps self.new) }
         ensures file { KeepsVersion (D.known disk.old) (D.known disk.new) }
-        ensures spent { (terms : Terms) (s : Session) → Stands R.contents S.contents terms self.old s
-            → Spends (cut_reads s cut) (cut_asks s cut) (known_files F.Files files.old) (known_files F.Files files.new)
+        ensures spent { (terms : Terms) (s : Session)
+            → Stands R.contents S.contents terms self.old s
+            → Spends (cut_reads s cut) (cut_asks s cut) (known_files F.Files files.old)
+            (known_files F.Files files.new)
             (known_clock K.Clock clock.old) (known_clock K.Clock clock.new) result }
-        ensures read { HasReadSome (known_files F.Files files.old) (known_files F.Files files.new) }
-        ensures used { UsesFiles (λ e. e ≡ WorkspaceFault.File) (known_files F.Files files.old) (known_files F.Files files.new) result }
-        ensures disk { UsesDisk (λ e. e ≡ WorkspaceFault.Disk) (D.known disk.old) (D.known disk.new) result }
-        ensures clock { Accounts (λ e. e ≡ WorkspaceFault.Clock) (K.faults clock.old) (K.faults clock.new) result }
+        ensures used { UsesFiles (λ e. e ≡ WorkspaceFault.File) (known_files F.Files files.old)
+            (known_files F.Files files.new) result }
+        ensures disk { UsesDisk (λ e. e ≡ WorkspaceFault.Disk) (D.known disk.old)
+            (D.known disk.new) result }
+        ensures clock { Accounts (λ e. e ≡ WorkspaceFault.Clock) (K.faults clock.old)
+            (K.faults clock.new) result }
         ensures same { IsErrOf result WorkspaceFault.File → disk.new ≡ disk.old }
         ensures untouched { IsErrOf result WorkspaceFault.Clock → disk.new ≡ disk.old }
     {

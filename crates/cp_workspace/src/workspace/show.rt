@@ -40,8 +40,10 @@ impl<R: TreeRep, S: TreeRep> Workspace<R, S> {
 
     /// What stands at and below a place of T or of a source. Costs the rows' bytes.
     pub fn show(&self, alloc: Global, place: Loc) -> Result<Reply, AllocError>
-        ensures { IfOk result (λ r. (terms : Terms) (s : Session) → Stands R.contents S.contents terms self.now s
-            → Turned R.contents S.contents terms (turn_of (setting terms) s (says (Stmt.Show place))) self.now (Some r)) }
+        ensures { IfOk result (λ r. (terms : Terms) (s : Session)
+            → Stands R.contents S.contents terms self.now s
+            → Turned R.contents S.contents terms
+            (turn_of (setting terms) s (says (Stmt.Show place))) self.now (Some r)) }
     {
         if place.db.is_target() {
             return shown(alloc, self.current_tree(), place);

@@ -1,7 +1,7 @@
 use Rattle.std.proofs.Common.{sym, subst, ◌∙◌}
 use Rattle.cp_workspace.specs.Files.{known_files}
 use Rattle.cp_interpreter.specs.Outside.{known_clock, known_output}
-use Rattle.cp_interpreter.specs.Turns.{RanLast, HasClosed, has_refused}
+use Rattle.cp_interpreter.specs.Turns.{RanLast, HasClosed, has_refused, session_at}
 use Rattle.cp_interpreter.specs.declared.end.End.{End}
 use Rattle.cp_interpreter.proofs.Runs.{world, closed-stopped, closed-refused, closed-done}
 use Rattle.cp_interpreter.specs.Replied.{WroteReplies}
@@ -22,8 +22,8 @@ returns-in-Err-clause-closed g c =
     let oa = known_output g.O.Sink c.stopped.new.output in
     let v = g.D.Disk.known c.args.disk.now in
     let w = g.D.Disk.known c.close.new.disk in
-    let P : End → Type 0 = λ e. HasClosed view source_view first (world fb kb ob) (world fm km oa) v w e in
-    let ran = subst (RanLast view source_view first c.close.new.self (world fb kb ob) (world fm km om) v w) c.in-Err.is c.close.ensures.went in
+    let P : End → Type 0 = λ e. HasClosed view source_view (session_at first v (world fb kb ob)) (session_at c.close.new.self w (world fm km oa)) e in
+    let ran = subst (RanLast view source_view (session_at first v (world fb kb ob)) (session_at c.close.new.self w (world fm km om))) c.in-Err.is c.close.ensures.went in
     subst P (sym c.stopped.ensures.end) (closed-stopped view source_view first c.close.new.self fb fm kb km ob om oa v w c.in-Err.stop c.in-Err.ensures.opened ran c.in-Err.ensures.uses.output.refuses c.stopped.ensures.wrote)
 
 pub returns-in-Ok-clause-closed : goal.returns-in-Ok-clause-closed
@@ -39,7 +39,7 @@ returns-in-Ok-clause-closed g c =
     let om = known_output g.O.Sink c.close.new.output in
     let v = g.D.Disk.known c.args.disk.now in
     let w = g.D.Disk.known c.close.new.disk in
-    let ran = subst (RanLast view source_view first c.close.new.self (world fb kb ob) (world fm km om) v w) c.in-Ok.is c.close.ensures.went in
+    let ran = subst (RanLast view source_view (session_at first v (world fb kb ob)) (session_at c.close.new.self w (world fm km om))) c.in-Ok.is c.close.ensures.went in
     closed-refused view source_view first c.close.new.self fb fm kb km ob om om v w ran c.in-Ok.ensures.uses.output.refuses (sym c.refused.ensures ∙ c.if-refused.true)
 
 pub returns-in-Ok-2-clause-closed : goal.returns-in-Ok-2-clause-closed
@@ -55,7 +55,7 @@ returns-in-Ok-2-clause-closed g c =
     let om = known_output g.O.Sink c.close.new.output in
     let v = g.D.Disk.known c.args.disk.now in
     let w = g.D.Disk.known c.close.new.disk in
-    let ran = subst (RanLast view source_view first c.close.new.self (world fb kb ob) (world fm km om) v w) c.in-Ok-2.is c.close.ensures.went in
+    let ran = subst (RanLast view source_view (session_at first v (world fb kb ob)) (session_at c.close.new.self w (world fm km om))) c.in-Ok-2.is c.close.ensures.went in
     closed-done view source_view first c.close.new.self fb fm kb km ob om om v w ran c.in-Ok-2.ensures.uses.output.refuses (sym c.refused.ensures ∙ c.if-refused.false)
 
 pub returns-in-Err-clause-replied : goal.returns-in-Err-clause-replied

@@ -2,8 +2,8 @@ use Rattle.std.proofs.Common.{◌≡◌, ℕ, [], length, take, subst, sym, rule
 use Rattle.std.proofs.lemmas.List.{length-take-le}
 use Rattle.std.specs.Io.KnownBytes.{Consumes, IsAtEnd}
 use Rattle.cp_workspace.specs.Files.{known_files}
-use Rattle.cp_interpreter.specs.Outside.{known_input, known_clock, known_output, known_outside}
-use Rattle.cp_interpreter.specs.Turns.{RanFrom, WasFed, has_refused}
+use Rattle.cp_interpreter.specs.Outside.{call_at, known_input, known_clock, known_output, known_outside}
+use Rattle.cp_interpreter.specs.Turns.{RanFrom, WasFed, has_refused, session_at}
 use Rattle.cp_interpreter.specs.declared.end.End.{End}
 use Rattle.cp_interpreter.proofs.Runs.{parts, world, ran-input, ran-closed, ran-too-long, ran-stopped}
 use Rattle.cp_db.proofs.FileVersions.{version-none}
@@ -23,7 +23,7 @@ returns-then-count-eq0-clause-ends g c =
     let none : c.in-Ok.count ≡ 0 = c.if-count-eq0.true in
     let took : Consumes l0 l1 [] = let P : ℕ → Type 0 = λ n. Consumes l0 l1 (take n c.read.new.into) in subst P none c.in-Ok.ensures.bytes.0 in
     let end : IsAtEnd l1 = c.in-Ok.ensures.bytes.1 none (search rules) in
-    ran-closed g.R.TreeRep.contents g.S.TreeRep.contents c.args.session.now c.args.before
+    ran-closed g.R.TreeRep.contents g.S.TreeRep.contents c.args.session.now c.closing.new.session c.args.before
     (known_outside g.F.Files g.K.Clock g.I.Source g.O.Sink c.args.files.now c.args.clock.now c.args.input.now c.args.output.now)
     (known_outside g.F.Files g.K.Clock g.I.Source g.O.Sink c.closing.new.files c.closing.new.clock c.read.new.self c.closing.new.output)
     (g.D.Disk.known c.args.disk.now) (g.D.Disk.known c.closing.new.disk) c.closing.result c.requires.taken took (omega (arith, none, c.in-Ok.ensures.counted)) end c.closing.ensures.closed
@@ -55,8 +55,8 @@ returns-in-Err-clause-ends g c =
     let first = c.args.session.now in
     let view = g.R.TreeRep.contents in
     let source_view = g.S.TreeRep.contents in
-    let P : End → Type 0 = λ e. RanFrom view source_view first c.args.before (parts ib fb kb ob) (parts ia fm km oa) v w e in
-    let fed = subst (WasFed view source_view bytes first c.feed.new.self (world fb kb ob) (world fm km om) v w) c.in-Err.is c.feed.ensures.went in
+    let P : End → Type 0 = λ e. RanFrom view source_view first c.args.before (call_at v (parts ib fb kb ob)) (call_at w (parts ia fm km oa)) e in
+    let fed = subst (WasFed view source_view bytes (session_at first v (world fb kb ob)) (session_at c.feed.new.self w (world fm km om))) c.in-Err.is c.feed.ensures.went in
     subst P (sym c.stopped.ensures.end) (
     ran-stopped view source_view first c.feed.new.self c.args.before bytes ib ia fb fm kb km ob om oa v w c.in-Err.stop c.in-Err.ensures.opened
     (omega (arith, count, c.if-now-gt-INPUT_MAX.false)) c.in-Ok.ensures.bytes.0 (omega (arith, count, c.in-Ok.ensures.counted)) fed c.in-Err.ensures.uses.output.refuses c.stopped.ensures.wrote

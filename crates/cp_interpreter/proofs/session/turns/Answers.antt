@@ -1,6 +1,4 @@
-use Rattle.std.proofs.Common.{Ok, refl, arith}
-use Rattle.cp_workspace.specs.Files.{known_files}
-use Rattle.cp_workspace.proofs.ReadCounts.{some-then}
+use Rattle.std.proofs.Common.{Ok, arith}
 use Rattle.cp_interpreter.specs.Outside.{known_output, known_outside}
 use Rattle.cp_interpreter.proofs.Runs.{piece-none, piece-more, piece-ran, steady-none, steady-then, causes-after, disk-after}
 use Rattle.cp_db.proofs.FileVersions.{version-later, version-none}
@@ -64,10 +62,6 @@ returns-in-Err-clause-disk g c =
     let first = known_outside g.F.Files g.K.Clock g.I.Source g.O.Sink c.args.files.now c.args.clock.now c.args.input.now c.args.output.now in
     let here = known_outside g.F.Files g.K.Clock g.I.Source g.O.Sink c.loop-now.files c.loop-now.clock c.loop-now.input c.loop-now.output in
     disk-after first here (g.D.Disk.known c.args.disk.now) (g.D.Disk.known c.loop-now.disk) (g.D.Disk.known c.turn.new.disk) c.in-Err.end c.loop-now.invariant.steady c.in-Err.ensures.disk
-
-pub returns-in-Err-clause-read : goal.returns-in-Err-clause-read
-returns-in-Err-clause-read g c =
-    some-then (known_files g.F.Files c.args.files.now) (known_files g.F.Files c.loop-now.files) (known_files g.F.Files c.turn.new.files) c.loop-now.invariant.steady.read c.turn.ensures.read
 
 pub returns-in-Err-clause-replied : goal.returns-in-Err-clause-replied
 returns-in-Err-clause-replied g c =

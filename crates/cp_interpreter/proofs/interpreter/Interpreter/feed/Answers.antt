@@ -3,10 +3,9 @@ use Rattle.std.proofs.lemmas.List.{take_more, take_all}
 use Rattle.std.proofs.lemmas.Result.{err_from_is_err_and}
 use Rattle.cp_disk.proofs.Composing.{still}
 use Rattle.cp_interpreter.specs.Outside.{known_output, known_world}
-use Rattle.cp_interpreter.specs.Turns.{Uses, WasFed, has_refused}
+use Rattle.cp_interpreter.specs.Turns.{Uses, WasFed, has_refused, session_at}
 use Rattle.cp_interpreter.proofs.Blame.{uses-none, uses-then}
 use Rattle.cp_interpreter.proofs.Plays.{fed-none, fed-then, fed-until, split_at}
-use Rattle.cp_db.specs.FileVersions.{KeepsVersion}
 use Rattle.cp_db.proofs.FileVersions.{version-later, version-none}
 use Rattle.cp_interpreter.specs.Replied.{SendsReplies}
 use Rattle.cp_interpreter.proofs.Replied.{sent-none, sent-then}
@@ -37,7 +36,7 @@ loop-byte-preserved g c =
     let first = l.invariant.uses in
     let next = c.in_ok-push.ensures.uses in
     record {
-      went = subst (λ ys. WasFed g.R.TreeRep.contents g.S.TreeRep.contents ys c.args.self.now n.self b a v w (Ok tt)) (sym (take_more xs l.byte-index 0 (omega arith)))
+      went = subst (λ ys. WasFed g.R.TreeRep.contents g.S.TreeRep.contents ys (session_at c.args.self.now v b) (session_at n.self w a) (Ok tt)) (sym (take_more xs l.byte-index 0 (omega arith)))
           (fed-then g.R.TreeRep.contents g.S.TreeRep.contents (take l.byte-index xs) (get_or xs l.byte-index 0) c.args.self.now l.self n.self b m a v u w l.invariant.went first.files.same (still first.disk.same) c.in_ok-push.ensures.went);
       stays = c.in_ok-push.ensures.stays;
       uses = uses-then b m a v u w (Ok tt) first next;
@@ -62,8 +61,8 @@ returns-in_err-push-clause-went g c =
     let e = c.in_err-push.field-0.0 in
     let first = l.invariant.uses in
     let next = c.in_err-push.ensures.uses in
-    let whole : WasFed g.R.TreeRep.contents g.S.TreeRep.contents xs c.args.self.now n.self b a v w (Err e) =
-    subst (λ ys. WasFed g.R.TreeRep.contents g.S.TreeRep.contents ys c.args.self.now n.self b a v w (Err e)) (sym (split_at xs l.byte-index (omega arith)))
+    let whole : WasFed g.R.TreeRep.contents g.S.TreeRep.contents xs (session_at c.args.self.now v b) (session_at n.self w a) (Err e) =
+    subst (λ ys. WasFed g.R.TreeRep.contents g.S.TreeRep.contents ys (session_at c.args.self.now v b) (session_at n.self w a) (Err e)) (sym (split_at xs l.byte-index (omega arith)))
     (fed-until g.R.TreeRep.contents g.S.TreeRep.contents (take l.byte-index xs) (get_or xs l.byte-index 0) c.args.self.now l.self n.self b m a v u w l.invariant.went first.files.same (still first.disk.same) (drop (l.byte-index + 1) xs) e c.in_err-push.ensures.went) in
     let p = err_from_is_err_and c.from_residual.result c.from_residual.ensures.1 in rw (p.1, p.2) whole
 
@@ -85,9 +84,9 @@ pub returns-clause-went : goal.returns-clause-went
 returns-clause-went g c =
     let xs = c.args.piece.now in
     let l = c.loop-byte in
-    subst (λ ys. WasFed g.R.TreeRep.contents g.S.TreeRep.contents ys c.args.self.now l.self
-    (known_world g.F.Files g.K.Clock g.O.Sink c.args.files.now c.args.clock.now c.args.output.now) (known_world g.F.Files g.K.Clock g.O.Sink l.files l.clock l.output)
-    (g.D.Disk.known c.args.disk.now) (g.D.Disk.known l.disk) (Ok tt)) (take_all l.byte-index xs (omega (arith, c.loop-byte-test.false)))
+    subst (λ ys. WasFed g.R.TreeRep.contents g.S.TreeRep.contents ys
+    (session_at c.args.self.now (g.D.Disk.known c.args.disk.now) (known_world g.F.Files g.K.Clock g.O.Sink c.args.files.now c.args.clock.now c.args.output.now))
+    (session_at l.self (g.D.Disk.known l.disk) (known_world g.F.Files g.K.Clock g.O.Sink l.files l.clock l.output)) (Ok tt)) (take_all l.byte-index xs (omega (arith, c.loop-byte-test.false)))
     l.invariant.went
 
 pub returns-in_err-push-clause-replied : goal.returns-in_err-push-clause-replied

@@ -7,10 +7,11 @@ use Rattle.cp_disk.proofs.Composing.{still}
 use Rattle.cp_lang.specs.declared.cut.Cut.{Cut}
 use Rattle.cp_reply.specs.declared.reply.Reply.{Reply}
 use Rattle.cp_reply.specs.Session.{turn}
+use Rattle.cp_workspace.specs.Supplies.{IsSupplied}
 use Rattle.cp_workspace.specs.Texts.{setting}
-use Rattle.cp_workspace.specs.Workspaces.{HasTurned}
+use Rattle.cp_workspace.specs.Workspaces.{workspace_at, HasTurned}
 use Rattle.cp_interpreter.specs.Outside.{known_output, known_world}
-use Rattle.cp_interpreter.specs.Turns.{Went, cuts_play, after_cuts}
+use Rattle.cp_interpreter.specs.Turns.{Went, cuts_played, session_at}
 use Rattle.cp_interpreter.proofs.Plays.{after_reply, went-none, went-silent, went-said, went-stopped_early}
 use Rattle.cp_db.proofs.FileVersions.{version-none}
 use Rattle.cp_interpreter.specs.Turns.{has_refused}
@@ -24,7 +25,7 @@ returns-in_default-clause-went g c =
     let k = c.args.self.now in
     let a = known_world g.F.Files g.K.Clock g.O.Sink c.args.files.now c.args.clock.now c.args.output.now in
     let v = g.D.Disk.known c.args.disk.now in
-    let P : Option Cut → Type 0 = λ o. Went view source_view (λ s. cuts_play s (option_to_list o)) (λ s. after_cuts s (option_to_list o)) k k a a v v (Ok tt) in
+    let P : Option Cut → Type 0 = λ o. Went view source_view (λ s. cuts_played s (option_to_list o)) (session_at k v a) (session_at k v a) (Ok tt) in
     subst P (sym c.in_default.is) (went-none view source_view k a v)
 
 pub returns-in-Some-2-clause-went : goal.returns-in-Some-2-clause-went
@@ -40,8 +41,8 @@ returns-in-Some-2-clause-went g c =
     let w = g.D.Disk.known n.disk in
     let cut = c.in-Some.cut in
     let r = c.in-Some-2.reply in
-    let T : Option Reply → Type 0 = λ o. HasTurned view source_view (λ (z : Option Reply). z) (λ terms s. turn (setting terms) s cut) b.files b.clock a.clock old.workspace mid.workspace v w (Ok o) in
-    let P : Option Cut → Type 0 = λ o. Went view source_view (λ s. cuts_play s (option_to_list o)) (λ s. after_cuts s (option_to_list o)) old c.say.new.self b a v w c.say.result in
+    let T : Option Reply → Type 0 = λ o. HasTurned view source_view (λ (z : Option Reply). z) (λ terms s. turn (setting terms) s cut) (IsSupplied b.files b.clock a.clock) (workspace_at old.workspace v) (workspace_at mid.workspace w) (Ok o) in
+    let P : Option Cut → Type 0 = λ o. Went view source_view (λ s. cuts_played s (option_to_list o)) (session_at old v b) (session_at c.say.new.self w a) c.say.result in
     subst P (sym c.in-Some.is) (went-said view source_view cut r old mid c.say.new.self b a v w c.say.result (subst T c.in-Some-2.is c.in_ok-reply.ensures.turned) c.in_ok-reply.ensures.spent (λ k. still (sym c.in_ok-reply.ensures.disk.same) k) refl refl
     c.say.ensures.went c.say.ensures.held c.say.ensures.workspace c.say.ensures.refused)
 
@@ -57,8 +58,8 @@ returns-in-None-clause-went g c =
     let v = g.D.Disk.known c.args.disk.now in
     let w = g.D.Disk.known n.disk in
     let cut = c.in-Some.cut in
-    let T : Option Reply → Type 0 = λ o. HasTurned view source_view (λ (z : Option Reply). z) (λ terms s. turn (setting terms) s cut) b.files b.clock a.clock old.workspace new.workspace v w (Ok o) in
-    let P : Option Cut → Type 0 = λ o. Went view source_view (λ s. cuts_play s (option_to_list o)) (λ s. after_cuts s (option_to_list o)) old new b a v w (Ok tt) in
+    let T : Option Reply → Type 0 = λ o. HasTurned view source_view (λ (z : Option Reply). z) (λ terms s. turn (setting terms) s cut) (IsSupplied b.files b.clock a.clock) (workspace_at old.workspace v) (workspace_at new.workspace w) (Ok o) in
+    let P : Option Cut → Type 0 = λ o. Went view source_view (λ s. cuts_played s (option_to_list o)) (session_at old v b) (session_at new w a) (Ok tt) in
     subst P (sym c.in-Some.is) (went-silent view source_view cut old new b a v w (subst T c.in-None.is c.in_ok-reply.ensures.turned) c.in_ok-reply.ensures.spent (λ k. still (sym c.in_ok-reply.ensures.disk.same) k) (Appends-nil b.output.contents) refl refl)
 
 pub returns-in_err-reply-clause-went : goal.returns-in_err-reply-clause-went
@@ -76,7 +77,7 @@ returns-in_err-reply-clause-went g c =
     let met = c.in_err-reply.ensures in
     let e = c.in_err-reply.field-0.0 in
     let p = err_from_is_err_and c.from_residual.result c.from_residual.ensures.1 in
-    let P : Option Cut → Type 0 = λ o. Went view source_view (λ s. cuts_play s (option_to_list o)) (λ s. after_cuts s (option_to_list o)) old new b a v w (Err p.0) in
+    let P : Option Cut → Type 0 = λ o. Went view source_view (λ s. cuts_played s (option_to_list o)) (session_at old v b) (session_at new w a) (Err p.0) in
     rw p.1 (subst P (sym c.in-Some.is) (went-stopped_early view source_view cut old new b a v w e p.0 met.turned met.spent (λ k. still (sym met.disk.same) k) p.2
     (λ is z image. subst (λ d. (g.D.Disk.known d).view.images z) (met.same (ap (λ y. Err y) is)) image) (λ is z image. subst (λ d. (g.D.Disk.known d).view.images z) (met.untouched (ap (λ y. Err y) is)) image) (Appends-nil b.output.contents)))
 

@@ -2,8 +2,9 @@ use Rattle.std.proofs.Common.{ℕ, refl, sym, ap, subst, ◌∙◌}
 use Rattle.std.specs.declared.option.Option.TheVariants.{Some}
 use Rattle.cp_lang.specs.declared.syntax_tree.Stmt.TheVariants as stmt
 use Rattle.cp_reply.specs.Session.{no_supply, says, turn_of}
+use Rattle.cp_workspace.specs.Supplies.{IsSupplied}
 use Rattle.cp_workspace.specs.Texts.{setting}
-use Rattle.cp_workspace.specs.Workspaces.{IsBegun, HasTurned}
+use Rattle.cp_workspace.specs.Workspaces.{workspace_at, IsBegun, HasTurned}
 use Rattle.cp_workspace.specs.Clocks.{known_clock}
 use Rattle.cp_workspace.specs.Spending.{Spends}
 use Rattle.cp_workspace.proofs.Committing.{turns-nothing, turns-unfinished, going-come, held-again}
@@ -32,8 +33,7 @@ pub returns-in-Going-clause-turned : goal.returns-in-Going-clause-turned
 returns-in-Going-clause-turned g c = λ f.
     let old = c.args.self.now in
     let turned = c.commit_going.ensures.turned f in
-    subst (λ d. HasTurned g.R.TreeRep.contents g.S.TreeRep.contents (λ r. Some r) (λ terms s. turn_of (setting terms) s (says stmt.Commit)) f (known_clock g.K.Clock c.args.clock.now) (known_clock g.K.Clock c.commit_going.new.clock) d c.commit_going.new.self
-    (g.D.Disk.known c.args.disk.now) (g.D.Disk.known c.commit_going.new.disk) c.commit_going.result)
+    subst (λ d. HasTurned g.R.TreeRep.contents g.S.TreeRep.contents (λ r. Some r) (λ terms s. turn_of (setting terms) s (says stmt.Commit)) (IsSupplied f (known_clock g.K.Clock c.args.clock.now) (known_clock g.K.Clock c.commit_going.new.clock)) (workspace_at d (g.D.Disk.known c.args.disk.now)) (workspace_at c.commit_going.new.self (g.D.Disk.known c.commit_going.new.disk)) c.commit_going.result)
     (held-again old (record old { transaction = c.take.new.self }) c.in-Some.transaction (ap (λ y. record old { transaction = y }) c.take.ensures.after) (sym c.take.ensures.value ∙ c.in-Some.is)) turned
 
 pub returns-in-Failed-clause-turned : goal.returns-in-Failed-clause-turned

@@ -7,11 +7,12 @@ use Rattle.cp_lang.specs.declared.syntax_tree.Stmt.TheVariants as stmt
 use Rattle.cp_reply.specs.declared.reply.Of.TheVariants as of
 use Rattle.cp_reply.specs.declared.reply.Reply.TheVariants as reply
 use Rattle.cp_reply.specs.Session.{no_supply, after_read, says, turn_of}
+use Rattle.cp_workspace.specs.Supplies.{IsSupplied}
 use Rattle.cp_workspace.specs.Texts.{setting}
 use Rattle.cp_workspace.specs.Files.{known_files}
 use Rattle.cp_workspace.specs.Fetched.{GivesFound}
 use Rattle.cp_workspace.specs.Loads.{load_reads}
-use Rattle.cp_workspace.specs.Workspaces.{HasTurned}
+use Rattle.cp_workspace.specs.Workspaces.{workspace_at, HasTurned}
 use Rattle.cp_workspace.proofs.Fetched.{given-tree, given-why}
 use Rattle.cp_workspace.proofs.Loading.{turns-not_loaded, turns-withheld, turns-given, reads-unless}
 use Rattle.cp_workspace.proofs.Spent.{spends-nothing, spends-file, spends-failed, spends-unread}
@@ -36,7 +37,7 @@ returns-in-Some-clause-turned g c = λ k.
     let old = c.args.self.now in
     let b = known_files g.F.Files c.args.files.now in
     let v = g.D.Disk.known c.args.disk.now in
-    let T : Load → Type 0 = λ x. HasTurned view source_view (λ r. Some r) (λ terms s. turn_of (setting terms) s (says (stmt.Load x))) b k k old old v v (Ok (reply.Refused of.Load c.in-Some.why)) in
+    let T : Load → Type 0 = λ x. HasTurned view source_view (λ r. Some r) (λ terms s. turn_of (setting terms) s (says (stmt.Load x))) (IsSupplied b k k) (workspace_at old v) (workspace_at old v) (Ok (reply.Refused of.Load c.in-Some.why)) in
     rw (c.refused_load.ensures)
     (subst T c.load.view_is (record {
       supply = no_supply;
@@ -70,7 +71,7 @@ returns-in-Ok-clause-turned g c = λ k.
     let v = g.D.Disk.known c.args.disk.now in
     let w = g.D.Disk.known c.keep_source.new.disk in
     let found = subst (GivesFound source_view b _) c.in-Ok.is c.in_ok-tree.ensures.gives in
-    let T : Load → Type 0 = λ x. HasTurned view source_view (λ r. Some r) (λ terms s. turn_of (setting terms) s (says (stmt.Load x))) b k k old new v w c.keep_source.result in
+    let T : Load → Type 0 = λ x. HasTurned view source_view (λ r. Some r) (λ terms s. turn_of (setting terms) s (says (stmt.Load x))) (IsSupplied b k k) (workspace_at old v) (workspace_at new w) c.keep_source.result in
     subst T c.load.view_is (record {
       supply = one_table found.0;
       supplied = supplied-table b k found.0 found.1;
@@ -94,7 +95,7 @@ returns-in-Err-clause-turned g c = λ k.
     let b = known_files g.F.Files c.args.files.now in
     let v = g.D.Disk.known c.args.disk.now in
     let found = subst (GivesFound source_view b _) c.in-Err.is c.in_ok-tree.ensures.gives in
-    let T : Load → Type 0 = λ x. HasTurned view source_view (λ r. Some r) (λ terms s. turn_of (setting terms) s (says (stmt.Load x))) b k k old old v v (Ok (reply.Refused of.Load c.in-Err.why)) in
+    let T : Load → Type 0 = λ x. HasTurned view source_view (λ r. Some r) (λ terms s. turn_of (setting terms) s (says (stmt.Load x))) (IsSupplied b k k) (workspace_at old v) (workspace_at old v) (Ok (reply.Refused of.Load c.in-Err.why)) in
     rw (c.refused_load-in-Err.ensures)
     (subst T c.load.view_is (record {
       supply = one_table found.0;

@@ -4,13 +4,14 @@ use Rattle.std.specs.declared.option.Option.TheVariants.{Some}
 use Rattle.cp_lang.specs.declared.cut.Cut.{Cut}
 use Rattle.cp_reply.specs.declared.reply.Why.TheVariants as why
 use Rattle.cp_reply.specs.Session.{Session, turn, turn_of, not_read}
+use Rattle.cp_workspace.specs.Supplies.{IsSupplied}
 use Rattle.cp_workspace.specs.Texts.{Terms, setting, reading}
 use Rattle.cp_workspace.specs.Loads.{text_reads, cut_reads}
 use Rattle.cp_workspace.specs.Files.{known_files}
 use Rattle.cp_workspace.specs.Clocks.{known_clock}
 use Rattle.cp_workspace.specs.Commits.{text_asks, cut_asks}
 use Rattle.cp_workspace.specs.Spending.{HasSpent, Spends}
-use Rattle.cp_workspace.specs.Workspaces.{Stands, Turned, HasTurned}
+use Rattle.cp_workspace.specs.Workspaces.{workspace_at, Stands, Turned, HasTurned}
 use Rattle.cp_workspace.proofs.Spent.{spent-none, spends-nothing}
 use Rattle.cp_workspace.proofs.Turning.{file-same, usable-kept, quiet-unread, turned-quiet, turned-failed}
 use Rattle.cp_workspace.proofs.workspace.Workspace.reply_to.Goals as goal
@@ -25,8 +26,8 @@ returns-in-Text-clause-turned g c =
     let w = g.D.Disk.known c.run_text.new.disk in
     let clock = known_clock g.K.Clock c.args.clock.now in
     let ka = known_clock g.K.Clock c.run_text.new.clock in
-    let P : Cut → Type 0 = λ x. HasTurned view source_view (λ r. r) (λ terms s. turn (setting terms) s x) before clock ka c.args.self.now c.run_text.new.self v w c.run_text.result in
-    let Q : List ℕ → Type 0 = λ x. HasTurned view source_view (λ r. r) (λ terms s. turn_of (setting terms) s (reading x)) before clock ka c.args.self.now c.run_text.new.self v w c.run_text.result in
+    let P : Cut → Type 0 = λ x. HasTurned view source_view (λ r. r) (λ terms s. turn (setting terms) s x) (IsSupplied before clock ka) (workspace_at c.args.self.now v) (workspace_at c.run_text.new.self w) c.run_text.result in
+    let Q : List ℕ → Type 0 = λ x. HasTurned view source_view (λ r. r) (λ terms s. turn_of (setting terms) s (reading x)) (IsSupplied before clock ka) (workspace_at c.args.self.now v) (workspace_at c.run_text.new.self w) c.run_text.result in
     subst P (sym c.in-Text.is) (subst Q c.as_slice.ensures c.run_text.ensures.turned)
 
 pub returns-in-Text-clause-spent : goal.returns-in-Text-clause-spent
@@ -74,7 +75,7 @@ returns-in_ok-refuse-in-TooLong-clause-turned g c =
     let v = g.D.Disk.known c.args.disk.now in
     let clock = known_clock g.K.Clock c.args.clock.now in
     let r = Some c.in_ok-refuse-in-TooLong.field-0 in
-    let P : Cut → Type 0 = λ x. HasTurned view source_view (λ r. r) (λ terms s. turn (setting terms) s x) b clock clock old new v v (Ok r) in
+    let P : Cut → Type 0 = λ x. HasTurned view source_view (λ r. r) (λ terms s. turn (setting terms) s x) (IsSupplied b clock clock) (workspace_at old v) (workspace_at new v) (Ok r) in
     subst P (sym c.in-TooLong.is)
     (turned-quiet view source_view (λ terms s. not_read s why.StatementTooLong) old new v (λ r. r) b clock (Ok r) (file-same old.db new.db c.in_ok-refuse-in-TooLong.ensures.same) (λ terms s. quiet-unread s why.StatementTooLong) c.in_ok-refuse-in-TooLong.ensures.turned)
 
@@ -100,7 +101,7 @@ returns-in_ok-refuse-in-Unfinished-clause-turned g c =
     let v = g.D.Disk.known c.args.disk.now in
     let clock = known_clock g.K.Clock c.args.clock.now in
     let r = Some c.in_ok-refuse-in-Unfinished.field-0 in
-    let P : Cut → Type 0 = λ x. HasTurned view source_view (λ r. r) (λ terms s. turn (setting terms) s x) b clock clock old new v v (Ok r) in
+    let P : Cut → Type 0 = λ x. HasTurned view source_view (λ r. r) (λ terms s. turn (setting terms) s x) (IsSupplied b clock clock) (workspace_at old v) (workspace_at new v) (Ok r) in
     subst P (sym c.in-Unfinished.is)
     (turned-quiet view source_view (λ terms s. not_read s (why.Syntax (length c.in-Unfinished.text))) old new v (λ r. r) b clock (Ok r) (file-same old.db new.db c.in_ok-refuse-in-Unfinished.ensures.same) (λ terms s. quiet-unread s (why.Syntax (length c.in-Unfinished.text))) (subst (λ (x : List ℕ). (terms : Terms) (s : Session) → Stands view source_view terms old s → Turned view source_view terms (not_read s (why.Syntax (length x))) new r) c.as_slice-in-Unfinished.ensures c.in_ok-refuse-in-Unfinished.ensures.turned))
 

@@ -6,13 +6,14 @@ use Rattle.cp_lang.specs.declared.syntax_tree.Stmt.TheVariants as stmt
 use Rattle.cp_model.specs.History.{replay}
 use Rattle.cp_reply.specs.declared.reply.Reply.{Reply}
 use Rattle.cp_reply.specs.Session.{says, turn_of}
+use Rattle.cp_workspace.specs.Supplies.{IsSupplied}
 use Rattle.cp_workspace.specs.Texts.{setting}
 use Rattle.cp_workspace.specs.Clocks.{known_clock}
 use Rattle.cp_workspace.specs.Commits.{statement_asks}
 use Rattle.cp_workspace.specs.Files.{known_files}
 use Rattle.cp_workspace.specs.Loads.{statement_reads}
 use Rattle.cp_workspace.specs.Spending.{HasSpent, Spends}
-use Rattle.cp_workspace.specs.Workspaces.{HasTurned}
+use Rattle.cp_workspace.specs.Workspaces.{workspace_at, HasTurned}
 use Rattle.cp_workspace.proofs.Spent.{spent-none, spends-nothing, spends-passed}
 use Rattle.cp_workspace.proofs.Turning.{file-same, usable-kept, quiet-op, quiet-abort, quiet-ask, quiet-show, ran-quiet, turned-failed, turned-given, turned-passed}
 use Rattle.cp_workspace.proofs.workspace.Workspace.run.Goals as goal
@@ -135,7 +136,7 @@ returns-in_ok-commit-in-Commit-clause-turned g c =
     let before = known_clock g.K.Clock c.args.clock.now in
     let after = known_clock g.K.Clock c.commit.new.clock in
     let r = c.in_ok-commit-in-Commit.field-0 in
-    subst (λ x. HasTurned view source_view (λ r. r) (λ terms s. turn_of (setting terms) s (says x)) b before after old c.commit.new.self v w (Ok (Some r))) (sym c.in-Commit.is)
+    subst (λ x. HasTurned view source_view (λ r. r) (λ terms s. turn_of (setting terms) s (says x)) (IsSupplied b before after) (workspace_at old v) (workspace_at c.commit.new.self w) (Ok (Some r))) (sym c.in-Commit.is)
     (turned-given view source_view (λ r. Some r) (λ terms s. turn_of (setting terms) s (says stmt.Commit)) b before after old c.commit.new.self v w (Ok r) (λ r. r) (c.in_ok-commit-in-Commit.ensures.turned b) r (Some r) refl refl)
 
 pub returns-in_err-commit-in-Commit-clause-turned : goal.returns-in_err-commit-in-Commit-clause-turned
@@ -150,7 +151,7 @@ returns-in_err-commit-in-Commit-clause-turned g c =
     let after = known_clock g.K.Clock c.commit.new.clock in
     let r = c.from_residual-in_err-commit-in-Commit.result in
     let p = err_from_is_err_and r c.from_residual-in_err-commit-in-Commit.ensures.1 in
-    subst (λ x. HasTurned view source_view (λ r. r) (λ terms s. turn_of (setting terms) s (says x)) b before after old c.commit.new.self v w r) (sym c.in-Commit.is)
+    subst (λ x. HasTurned view source_view (λ r. r) (λ terms s. turn_of (setting terms) s (says x)) (IsSupplied b before after) (workspace_at old v) (workspace_at c.commit.new.self w) r) (sym c.in-Commit.is)
     (turned-passed view source_view (λ r. Some r) (λ terms s. turn_of (setting terms) s (says stmt.Commit)) b before after old c.commit.new.self v w _ (λ r. r) (c.in_err-commit-in-Commit.ensures.turned b) r p.0 p.1)
 
 pub returns-in_ok-load-in-Load-clause-turned : goal.returns-in_ok-load-in-Load-clause-turned
@@ -164,7 +165,7 @@ returns-in_ok-load-in-Load-clause-turned g c =
     let clock = known_clock g.K.Clock c.args.clock.now in
     let load = c.in-Load.load in
     let r = c.in_ok-load-in-Load.field-0 in
-    subst (λ x. HasTurned view source_view (λ r. r) (λ terms s. turn_of (setting terms) s (says x)) b clock clock old c.load.new.self v w (Ok (Some r))) (sym c.in-Load.is)
+    subst (λ x. HasTurned view source_view (λ r. r) (λ terms s. turn_of (setting terms) s (says x)) (IsSupplied b clock clock) (workspace_at old v) (workspace_at c.load.new.self w) (Ok (Some r))) (sym c.in-Load.is)
     (turned-given view source_view (λ r. Some r) (λ terms s. turn_of (setting terms) s (says (stmt.Load load))) b clock clock old c.load.new.self v w (Ok r) (λ r. r) (c.in_ok-load-in-Load.ensures.turned clock) r (Some r) refl refl)
 
 pub returns-in_err-load-in-Load-clause-turned : goal.returns-in_err-load-in-Load-clause-turned
@@ -179,7 +180,7 @@ returns-in_err-load-in-Load-clause-turned g c =
     let load = c.in-Load.load in
     let r = c.from_residual-in_err-load-in-Load.result in
     let p = err_from_is_err_and r c.from_residual-in_err-load-in-Load.ensures.1 in
-    subst (λ x. HasTurned view source_view (λ r. r) (λ terms s. turn_of (setting terms) s (says x)) b clock clock old c.load.new.self v w r) (sym c.in-Load.is)
+    subst (λ x. HasTurned view source_view (λ r. r) (λ terms s. turn_of (setting terms) s (says x)) (IsSupplied b clock clock) (workspace_at old v) (workspace_at c.load.new.self w) r) (sym c.in-Load.is)
     (turned-passed view source_view (λ r. Some r) (λ terms s. turn_of (setting terms) s (says (stmt.Load load))) b clock clock old c.load.new.self v w _ (λ r. r) (c.in_err-load-in-Load.ensures.turned clock) r p.0 p.1)
 
 pub returns-in_ok-operate-in-Op-clause-spent : goal.returns-in_ok-operate-in-Op-clause-spent

@@ -3,12 +3,13 @@ use Rattle.std.proofs.lemmas.Result.{err_from_is_err_and}
 use Rattle.std.specs.Prelude.{Ok}
 use Rattle.std.specs.declared.option.Option.TheVariants.{Some}
 use Rattle.cp_reply.specs.Session.{turn_of, not_read}
+use Rattle.cp_workspace.specs.Supplies.{IsSupplied}
 use Rattle.cp_workspace.specs.Texts.{SaysAs, setting, reading}
 use Rattle.cp_workspace.specs.Files.{known_files}
 use Rattle.cp_workspace.specs.Clocks.{known_clock}
 use Rattle.cp_workspace.specs.Commits.{text_asks}
 use Rattle.cp_workspace.specs.Loads.{text_reads}
-use Rattle.cp_workspace.specs.Workspaces.{HasTurned}
+use Rattle.cp_workspace.specs.Workspaces.{workspace_at, HasTurned}
 use Rattle.cp_workspace.proofs.Spent.{spent-none, spends-nothing}
 use Rattle.cp_workspace.proofs.Turning.{file-same, usable-kept, quiet-unread, turned-quiet, turned-failed}
 use Rattle.cp_workspace.proofs.workspace.Workspace.run_text.Goals as goal
@@ -46,7 +47,7 @@ returns-in_ok-refuse-in-Err-clause-turned g c =
     let clock = known_clock g.K.Clock c.args.clock.now in
     let reads = subst (SaysAs c.args.text.now) c.in-Err.is c.in_ok-statement.ensures in
     let r = Some c.in_ok-refuse-in-Err.field-0 in
-    subst (λ x. HasTurned view source_view (λ r. r) (λ terms s. turn_of (setting terms) s x) b clock clock old new v v (Ok r)) (sym reads)
+    subst (λ x. HasTurned view source_view (λ r. r) (λ terms s. turn_of (setting terms) s x) (IsSupplied b clock clock) (workspace_at old v) (workspace_at new v) (Ok r)) (sym reads)
     (turned-quiet view source_view (λ terms s. not_read s c.in-Err.why) old new v (λ r. r) b clock (Ok r) (file-same old.db new.db c.in_ok-refuse-in-Err.ensures.same) (λ terms s. quiet-unread s c.in-Err.why)
     c.in_ok-refuse-in-Err.ensures.turned)
 
