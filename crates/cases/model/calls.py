@@ -10,6 +10,7 @@ about such bytes. Calls of the outside that fail one after another are passed ov
 """
 import csv
 import io
+import itertools
 import json
 import os
 import re
@@ -29,9 +30,12 @@ usage: cpdb verify STORE
 usage: cpdb checkpoint STORE
 usage: cpdb gen SEED COUNT KIND
 usage: cpdb log STORE
+usage: cpdb at STORE TID STATEMENT
+usage: cpdb archive STORE
 usage: cpdb uses STORE PLACE
 """
 KINDS = ("n", "t", "h", "ht")
+PLACE_QUERIES = ("src", "hist", "mod", "trace", "from", "show")
 QUERIES = ("src", "hist", "mod", "trace", "from", "show", "records", "stats")
 TRIGGERS = set(map(chr, range(0x21))) | set('";{}:,')
 ESCAPES = {'"': '\\"', "\\": "\\\\", "\b": "\\b", "\f": "\\f", "\n": "\\n", "\r": "\\r", "\t": "\\t"}
@@ -403,9 +407,10 @@ class Store:
     """A kind, a tree whose places carry their past, sources, and the commits."""
 
     def __init__(self, kind, tree):
-        self.kind = kind
+        self.kind, self.start = kind, tree
         self.tree = {path: (content, []) for path, content in tree.items()}
         self.sources = {}
+        self.steps = []
         self.tid = 0
         self.records = []
         self.log = []
@@ -413,12 +418,33 @@ class Store:
     def commit(self, ops, curator, moment):
         low = self.tid + 1
         for step in [[op] for op in ops] if self.kind in ("n", "h") else [ops]:
-            work = carrying_themselves(self.tree)
-            for op in step:
-                self.apply(work, op)
-            self.settle(work)
+            self.take_step(step)
         self.log.append((low, self.tid, curator, moment, len(ops)))
         return low, self.tid
+
+    def take_step(self, ops):
+        work = carrying_themselves(self.tree)
+        for op in ops:
+            self.apply(work, op)
+        self.settle(work)
+        self.steps.append(ops)
+
+    def versions(self):
+        """A store that replays the steps alone, after none of them, after the first, and so on."""
+        store = Store(self.kind, self.start)
+        store.sources = self.sources
+        yield store
+        for ops in self.steps:
+            store.take_step(ops)
+            yield store
+
+    def archive(self):
+        count, ranges, before = 0, 0, {}
+        for store in self.versions():
+            now = {path: content for path, (content, _) in store.tree.items()}
+            ranges += sum(before.get(path) != content for path, content in now.items())
+            count, before = count + 1, now
+        return "archive: versions %d, ranges %d" % (count, ranges)
 
     def apply(self, work, op):
         verb, place, what = op[0], op[1][1:], op[2]
@@ -664,6 +690,14 @@ def fit(words):
                 return parse(statement.encode())[0] in QUERIES
             except Fault:
                 return False
+        case ["at", _, tid, statement]:
+            try:
+                verb, place, *_ = parse(statement.encode())
+            except (Fault, ValueError):
+                return False
+            return is_decimal(tid, 0, 2**64 - 1) and verb in PLACE_QUERIES and place[0] == "T"
+        case ["archive", _]:
+            return True
         case ["uses", _, place]:
             return place_of(place) is not None
         case ["gen", seed, count, kind]:
@@ -766,6 +800,14 @@ class World:
             Session(store, "", self).take(("load", name, form, file, words[3] if len(words) > 3 else None))
         elif command == "query":
             Session(store, "", self).take(parse(words[0].encode()))
+        elif command == "at":
+            tid, statement = int(words[0]), parse(words[1].encode())
+            if tid > store.tid:
+                self.lines.append("refused: no version %d" % tid)
+            else:
+                Session(next(itertools.islice(store.versions(), tid, None)), "", self).take(statement)
+        elif command == "archive":
+            self.lines.append(store.archive())
         elif command == "uses":
             self.lines.append(store.uses(place_of(words[0])))
         elif command == "verify":
@@ -859,7 +901,7 @@ def sessions_of(path):
             cases.append((line, [("words", "scratch n", []), ("in", "-", [line[2:]]), ("out", "", [])], []))
         elif line.startswith("$ bin/cpdb "):
             block, words = "session", line[11:]
-            if words.split()[0] not in ("run", "commit", "load", "query", "log", "verify", "uses"):
+            if words.split()[0] not in ("run", "commit", "load", "query", "log", "verify", "at", "archive", "uses"):
                 cases.append((line, [], []))
             moment = 1_795_910_400 + 60 * (len(cases[-1][1]) // 4)
             moments = "%d %d %d" % (moment, moment + 1, moment + 2)

@@ -19,6 +19,7 @@ use Rattle.cp_reply.specs.Lines.{lines}
 use Rattle.cp_reply.specs.declared.reply.Reply.{Reply}
 use Rattle.cp_program.specs.Answering.{Answered, Generated, IsAnswerTo, IsLogOf, IsVerdictOn}
 use Rattle.cp_program.specs.Using.{IsUsesOf}
+use Rattle.cp_program.specs.Versions.{IsAnswerAt, IsArchiveOf}
 use Rattle.cp_program.specs.Calls.{DidCommand, HasItsStore, IsShort, Called}
 use Rattle.cp_program.specs.FileVersions.{LeavesVersion, VersionLeft}
 use Rattle.cp_db.specs.FileVersions.{IsVacantOrNewest}
@@ -70,6 +71,8 @@ fits (words.Show p) before now v w e r = answered-fits Opens (IsAnswerTo (stmt.S
 fits (words.Generate seed count k) before now v w e r = generated-not k seed count before now e how.Usage r (λ h. absurd (cc)) (λ line said h. said-not-usage line false before.output now.output e said h)
 fits words.Log before now v w e r = answered-fits OpensAndReplays IsLogOf before now v w e r
 fits words.Verify before now v w e r = answered-fits OpensAndReplays IsVerdictOn before now v w e r
+fits (words.At tid asked) before now v w e r = answered-fits OpensAndReplays (IsAnswerAt tid asked) before now v w e r
+fits words.Archive before now v w e r = answered-fits OpensAndReplays IsArchiveOf before now v w e r
 fits (words.Uses q) before now v w e r = answered-fits Opens (IsUsesOf q) before now v w e r
 
 -- where there is a store, if there is to be one, it is found
@@ -84,6 +87,8 @@ opens (words.Show p) before now v w e r has at h = (r.no_store has.0 at h).1.nev
 opens (words.Generate seed count k) before now v w e r has at h = generated-not k seed count before now e (how.NoStore at) r (λ g. absurd (cc)) (λ line said g. said-not-none line false before.output now.output e said at g) h
 opens words.Log before now v w e r has at h = (r.no_store has.0 at h).1.never has.1
 opens words.Verify before now v w e r has at h = (r.no_store has.0 at h).1.never has.1
+opens (words.At tid asked) before now v w e r has at h = (r.no_store has.0 at h).1.never has.1
+opens words.Archive before now v w e r has at h = (r.no_store has.0 at h).1.never has.1
 opens (words.Uses q) before now v w e r has at h = (r.no_store has.0 at h).1.never has.1
 
 -- where nothing failed and little came, the call ends with an answer
@@ -150,6 +155,8 @@ left-out (Some (words.Show p)) i f k o1 o2 v w = version-none v.view
 left-out (Some (words.Generate seed count kind)) i f k o1 o2 v w = version-none v.view
 left-out (Some words.Log) i f k o1 o2 v w = version-none v.view
 left-out (Some words.Verify) i f k o1 o2 v w = version-none v.view
+left-out (Some (words.At tid asked)) i f k o1 o2 v w = version-none v.view
+left-out (Some words.Archive) i f k o1 o2 v w = version-none v.view
 left-out (Some (words.Uses q)) i f k o1 o2 v w = version-none v.view
 
 -- a call whose words took too much memory

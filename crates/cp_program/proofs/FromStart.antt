@@ -28,7 +28,7 @@ use Rattle.cp_workspace.proofs.Supplied.{found-any, supplied-none, supplied-then
 use Rattle.cp_interpreter.specs.Texts.{file_line, memory_line}
 use Rattle.cp_scratch.specs.Sessions.{scratch_session, scratch_terms}
 use Rattle.cp_program.specs.InMemory.{refused_start, DidFrom, Ran}
-use Rattle.cp_interpreter.specs.Outside.{KnownInput, KnownClock, KnownOutput, Outside}
+use Rattle.cp_interpreter.specs.Outside.{call_at, KnownInput, KnownClock, KnownOutput, Outside}
 use Rattle.cp_interpreter.specs.Play.{begun}
 use Rattle.cp_interpreter.specs.Story.{WritesLast, SaidLine, left_on, Did, result_of}
 use Rattle.cp_program.specs.Begun.{Begun, BegunFrom}
@@ -50,7 +50,7 @@ on-done (Err e) f h = tt
 
 -- a run of a session that begins on its start tree
 pub ran-begun : {R S : Type 0} (view : R → Tree) (source_view : S → Tree) (j : Kind) (given : FileTable → FetchedFile) (k : ℕ) (x : Interpreter R S) (i : KnownInput) (f fb : KnownFiles) (c : KnownClock) (o : KnownOutput) (a : Outside) (v w : KnownDisk) (e : End)
-    → fb.found ≡ f.found → HasRead f fb k → has_refused x ≡ false → BegunFrom view source_view v j f given (Ok x) → RanFrom view source_view x 0 (parts i fb c o) a v w e → Ran j given k (parts i f c o) a e
+    → fb.found ≡ f.found → HasRead f fb k → has_refused x ≡ false → BegunFrom view source_view v j f given (Ok x) → RanFrom view source_view x 0 (call_at v (parts i fb c o)) (call_at w a) e → Ran j given k (parts i f c o) a e
 ran-begun {R} {S} view source_view j given k x i f fb c o a v w e same read none begins ran = record {
   taken = ran.taken;
   took = ran.took;

@@ -1,6 +1,7 @@
 mod FromStart
 mod Used
 mod Verdicts
+mod Versioned
 mod Answered
 mod FileVersions
 mod Called

@@ -18,6 +18,7 @@ use Rattle.cp_interpreter.specs.Story.{WritesLast, RanOn, Made, HasCauses, DiskC
 use Rattle.cp_interpreter.specs.Alone.{Loaded}
 use Rattle.cp_program.specs.Answering.{Answered, Generated, IsAnswerTo, IsLogOf, IsVerdictOn}
 use Rattle.cp_program.specs.Using.{IsUsesOf}
+use Rattle.cp_program.specs.Versions.{IsAnswerAt, IsArchiveOf}
 use Rattle.cp_interpreter.specs.Scripts.{Committed}
 use Rattle.cp_interpreter.specs.Replied.{WroteReplies}
 use Rattle.cp_program.specs.FileVersions.{VersionLeft}
@@ -55,6 +56,8 @@ DidCommand (words.Show p) before now v w end = Answered Opens (IsAnswerTo (stmt.
 DidCommand (words.Generate seed count k) before now v w end = Generated k seed count before now end
 DidCommand words.Log before now v w end = Answered OpensAndReplays IsLogOf before now v w end
 DidCommand words.Verify before now v w end = Answered OpensAndReplays IsVerdictOn before now v w end
+DidCommand (words.At tid asked) before now v w end = Answered OpensAndReplays (IsAnswerAt tid asked) before now v w end
+DidCommand words.Archive before now v w end = Answered OpensAndReplays IsArchiveOf before now v w end
 DidCommand (words.Uses q) before now v w end = Answered Opens (IsUsesOf q) before now v w end
 
 -- What was done for the words: for their command, or, where they fit no row, the usage was given.
@@ -74,6 +77,8 @@ LeavesDisk (words.Show p) = ⊥
 LeavesDisk (words.Generate seed count k) = ⊤
 LeavesDisk words.Log = ⊥
 LeavesDisk words.Verify = ⊥
+LeavesDisk (words.At tid asked) = ⊥
+LeavesDisk words.Archive = ⊥
 LeavesDisk (words.Uses q) = ⊥
 
 -- The words ask for nothing of the disk.
@@ -95,7 +100,7 @@ HasOpenStore v = IsTrue v.known × Opens v.view.content
 abbrev pub HasWholeStore : KnownDisk → Type 0
 HasWholeStore v = IsTrue v.known × OpensAndReplays v.view.content
 
--- The command needs no store, or there is one from which it works: `log` and `verify` read the whole file.
+-- The command needs no store, or there is one from which it works: `log`, `verify`, `at` and `archive` read the whole file.
 abbrev pub HasItsStore : Command → KnownDisk → Type 0
 HasItsStore (words.Scratch k from) v = ⊤
 HasItsStore (words.Init k from) v = ⊤
@@ -107,6 +112,8 @@ HasItsStore (words.Show p) v = HasOpenStore v
 HasItsStore (words.Generate seed count k) v = ⊤
 HasItsStore words.Log v = HasWholeStore v
 HasItsStore words.Verify v = HasWholeStore v
+HasItsStore (words.At tid asked) v = HasWholeStore v
+HasItsStore words.Archive v = HasWholeStore v
 HasItsStore (words.Uses q) v = HasOpenStore v
 
 -- What the words ask for needs no store, or the disk is known to hold one that opens.

@@ -103,8 +103,11 @@ pub(crate) fn give_answer<O: Sink>(
     answer: Result<Reply, Stop>,
     output: &mut O,
 ) -> End
-    ensures gave { GaveAnswer answer (known_output O.Sink output.old) (known_output O.Sink output.new) result }
-    ensures cause { IfErr answer IsOpeningStop → Accounts (λ e. e ≡ End.Output) (O.faults output.old) (O.faults output.new) (result_of result) }
+    ensures gave { GaveAnswer answer (known_output O.Sink output.old)
+        (known_output O.Sink output.new) result }
+    ensures cause { IfErr answer IsOpeningStop
+        → Accounts (λ e. e ≡ End.Output) (O.faults output.old) (O.faults output.new)
+        (result_of result) }
 {
     match answer {
         Ok(reply) => end_with(alloc, reply, output),
@@ -119,13 +122,15 @@ pub(crate) fn ask<R: TreeRep, S: TreeRep, D: Disk, O: Sink>(
     disk: &mut D,
     output: &mut O,
 ) -> End
-    ensures ran { (i : KnownInput) (f : KnownFiles) (k : KnownClock) → Answered Opens (IsAnswerTo (stmt.Ask query))
+    ensures ran { (i : KnownInput) (f : KnownFiles) (k : KnownClock)
+        → Answered Opens (IsAnswerTo (stmt.Ask query))
         (record { input = i; files = f; clock = k; output = known_output O.Sink output.old })
         (record { input = i; files = f; clock = k; output = known_output O.Sink output.new })
         (D.known disk.old) (D.known disk.new) result }
     ensures causes { (i : KnownInput) (f : KnownFiles) (k : KnownClock) → HasCauses
         (record { input = i; files = f; clock = k; output = known_output O.Sink output.old })
-        (record { input = i; files = f; clock = k; output = known_output O.Sink output.new }) result }
+        (record { input = i; files = f; clock = k; output = known_output O.Sink output.new })
+        result }
     ensures disk { DiskCauses (D.known disk.old) (D.known disk.new) result }
     ensures short { result ≡ End.TooLong → ⊥ }
 {
@@ -140,13 +145,15 @@ pub(crate) fn show<R: TreeRep, S: TreeRep, D: Disk, O: Sink>(
     disk: &mut D,
     output: &mut O,
 ) -> End
-    ensures ran { (i : KnownInput) (f : KnownFiles) (k : KnownClock) → Answered Opens (IsAnswerTo (stmt.Show place))
+    ensures ran { (i : KnownInput) (f : KnownFiles) (k : KnownClock)
+        → Answered Opens (IsAnswerTo (stmt.Show place))
         (record { input = i; files = f; clock = k; output = known_output O.Sink output.old })
         (record { input = i; files = f; clock = k; output = known_output O.Sink output.new })
         (D.known disk.old) (D.known disk.new) result }
     ensures causes { (i : KnownInput) (f : KnownFiles) (k : KnownClock) → HasCauses
         (record { input = i; files = f; clock = k; output = known_output O.Sink output.old })
-        (record { input = i; files = f; clock = k; output = known_output O.Sink output.new }) result }
+        (record { input = i; files = f; clock = k; output = known_output O.Sink output.new })
+        result }
     ensures disk { DiskCauses (D.known disk.old) (D.known disk.new) result }
     ensures short { result ≡ End.TooLong → ⊥ }
 {
@@ -160,13 +167,15 @@ pub(crate) fn list_commits<R: TreeRep, S: TreeRep, D: Disk, O: Sink>(
     disk: &mut D,
     output: &mut O,
 ) -> End
-    ensures ran { (i : KnownInput) (f : KnownFiles) (k : KnownClock) → Answered OpensAndReplays IsLogOf
+    ensures ran { (i : KnownInput) (f : KnownFiles) (k : KnownClock)
+        → Answered OpensAndReplays IsLogOf
         (record { input = i; files = f; clock = k; output = known_output O.Sink output.old })
         (record { input = i; files = f; clock = k; output = known_output O.Sink output.new })
         (D.known disk.old) (D.known disk.new) result }
     ensures causes { (i : KnownInput) (f : KnownFiles) (k : KnownClock) → HasCauses
         (record { input = i; files = f; clock = k; output = known_output O.Sink output.old })
-        (record { input = i; files = f; clock = k; output = known_output O.Sink output.new }) result }
+        (record { input = i; files = f; clock = k; output = known_output O.Sink output.new })
+        result }
     ensures disk { DiskCauses (D.known disk.old) (D.known disk.new) result }
     ensures short { result ≡ End.TooLong → ⊥ }
 {
@@ -181,13 +190,15 @@ pub(crate) fn verify_records<R: TreeRep, S: TreeRep, D: Disk, O: Sink>(
     disk: &mut D,
     output: &mut O,
 ) -> End
-    ensures ran { (i : KnownInput) (f : KnownFiles) (k : KnownClock) → Answered OpensAndReplays IsVerdictOn
+    ensures ran { (i : KnownInput) (f : KnownFiles) (k : KnownClock)
+        → Answered OpensAndReplays IsVerdictOn
         (record { input = i; files = f; clock = k; output = known_output O.Sink output.old })
         (record { input = i; files = f; clock = k; output = known_output O.Sink output.new })
         (D.known disk.old) (D.known disk.new) result }
     ensures causes { (i : KnownInput) (f : KnownFiles) (k : KnownClock) → HasCauses
         (record { input = i; files = f; clock = k; output = known_output O.Sink output.old })
-        (record { input = i; files = f; clock = k; output = known_output O.Sink output.new }) result }
+        (record { input = i; files = f; clock = k; output = known_output O.Sink output.new })
+        result }
     ensures disk { DiskCauses (D.known disk.old) (D.known disk.new) result }
     ensures short { result ≡ End.TooLong → ⊥ }
 {

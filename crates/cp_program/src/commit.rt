@@ -1,13 +1,13 @@
 //! The statements of a file, run on a store and committed.
 ghost use Rattle.std.specs.Prelude.{◌≡◌, ◌<◌, ◌≤◌, false, IsTrue, length};
-ghost use Rattle.cp_workspace.specs.Files.{known_files, HasReadSome};
+ghost use Rattle.cp_workspace.specs.Files.{known_files};
 ghost use Rattle.cp_interpreter.specs.Outside.{KnownInput, known_clock, known_output, known_world};
 ghost use Rattle.cp_db.specs.FileVersions.{KeepsVersion};
 ghost use Rattle.cp_interpreter.specs.Replied.{WroteReplies};
 ghost use Rattle.cp_interpreter.specs.Scripts.{Committed};
 ghost use Rattle.cp_program.specs.FileVersions.{RunsOnNewest};
 ghost use Rattle.cp_interpreter.specs.Story.{HasCauses, WorldCauses, DiskCauses};
-ghost use Rattle.cp_interpreter.specs.Turns.{MayGoOn, RanScript, has_refused};
+ghost use Rattle.cp_interpreter.specs.Turns.{MayGoOn, RanScript, has_refused, session_at};
 
 use crate::store::begin;
 use cp_disk::Disk;
@@ -45,12 +45,15 @@ fn play_file<R: TreeRep, S: TreeRep, D: Disk, F: Files, K: Clock, O: Sink>(
     requires room { 0 < length piece.old }
     requires bounded { length piece.old ≤ PIECE_MAX }
     requires fresh { has_refused session.old ≡ false }
-    ensures ran { RanScript R.contents S.contents session.old file.now
-        (known_world F.Files K.Clock O.Sink files.old clock.old output.old) (known_world F.Files K.Clock O.Sink files.new clock.new output.new)
-        (D.known disk.old) (D.known disk.new) result }
-    ensures causes { WorldCauses (known_world F.Files K.Clock O.Sink files.old clock.old output.old) (known_world F.Files K.Clock O.Sink files.new clock.new output.new) result }
+    ensures ran { RanScript R.contents S.contents file.now
+        (session_at session.old (D.known disk.old)
+        (known_world F.Files K.Clock O.Sink files.old clock.old output.old))
+        (session_at session.new (D.known disk.new)
+        (known_world F.Files K.Clock O.Sink files.new clock.new output.new)) result }
+    ensures causes { WorldCauses
+        (known_world F.Files K.Clock O.Sink files.old clock.old output.old)
+        (known_world F.Files K.Clock O.Sink files.new clock.new output.new) result }
     ensures disk { DiskCauses (D.known disk.old) (D.known disk.new) result }
-    ensures read { HasReadSome (known_files F.Files files.old) (known_files F.Files files.new) }
     ensures replied { WroteReplies false
         (known_output O.Sink output.old) (known_output O.Sink output.new) result }
     ensures file { KeepsVersion (D.known disk.old) (D.known disk.new) }
@@ -73,18 +76,48 @@ pub(crate) fn commit<R: TreeRep, S: TreeRep, D: Disk, F: Files, K: Clock, O: Sin
     output: &mut O,
 ) -> End
     ensures ran { (i : KnownInput) → Committed file curator
-        (record { input = i; files = known_files F.Files files.old; clock = known_clock K.Clock clock.old; output = known_output O.Sink output.old })
-        (record { input = i; files = known_files F.Files files.new; clock = known_clock K.Clock clock.new; output = known_output O.Sink output.new })
+        (record {
+          input = i;
+          files = known_files F.Files files.old;
+          clock = known_clock K.Clock clock.old;
+          output = known_output O.Sink output.old;
+        })
+        (record {
+          input = i;
+          files = known_files F.Files files.new;
+          clock = known_clock K.Clock clock.new;
+          output = known_output O.Sink output.new;
+        })
         (D.known disk.old) (D.known disk.new) result }
     ensures causes { (i : KnownInput) → HasCauses
-        (record { input = i; files = known_files F.Files files.old; clock = known_clock K.Clock clock.old; output = known_output O.Sink output.old })
-        (record { input = i; files = known_files F.Files files.new; clock = known_clock K.Clock clock.new; output = known_output O.Sink output.new }) result }
+        (record {
+          input = i;
+          files = known_files F.Files files.old;
+          clock = known_clock K.Clock clock.old;
+          output = known_output O.Sink output.old;
+        })
+        (record {
+          input = i;
+          files = known_files F.Files files.new;
+          clock = known_clock K.Clock clock.new;
+          output = known_output O.Sink output.new;
+        }) result }
     ensures disk { DiskCauses (D.known disk.old) (D.known disk.new) result }
     ensures replied { WroteReplies false
         (known_output O.Sink output.old) (known_output O.Sink output.new) result }
     ensures file { IsTrue (D.known disk.old).known → (i : KnownInput) → RunsOnNewest
-        (record { input = i; files = known_files F.Files files.old; clock = known_clock K.Clock clock.old; output = known_output O.Sink output.old })
-        (record { input = i; files = known_files F.Files files.new; clock = known_clock K.Clock clock.new; output = known_output O.Sink output.new })
+        (record {
+          input = i;
+          files = known_files F.Files files.old;
+          clock = known_clock K.Clock clock.old;
+          output = known_output O.Sink output.old;
+        })
+        (record {
+          input = i;
+          files = known_files F.Files files.new;
+          clock = known_clock K.Clock clock.new;
+          output = known_output O.Sink output.new;
+        })
         (D.known disk.old) (D.known disk.new) result }
 {
     let Ok(mut piece) = vec![in alloc; 0u8; PIECE_MAX] else {

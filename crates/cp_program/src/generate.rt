@@ -22,10 +22,12 @@ pub(crate) fn generate<R: TreeRep, S: TreeRep, O: Sink>(
 ) -> End
     ensures ran { (i : KnownInput) (f : KnownFiles) (k : KnownClock) → Generated kind seed count
         (record { input = i; files = f; clock = k; output = known_output O.Sink output.old })
-        (record { input = i; files = f; clock = k; output = known_output O.Sink output.new }) result }
+        (record { input = i; files = f; clock = k; output = known_output O.Sink output.new })
+        result }
     ensures causes { (i : KnownInput) (f : KnownFiles) (k : KnownClock) → HasCauses
         (record { input = i; files = f; clock = k; output = known_output O.Sink output.old })
-        (record { input = i; files = f; clock = k; output = known_output O.Sink output.new }) result }
+        (record { input = i; files = f; clock = k; output = known_output O.Sink output.new })
+        result }
     ensures disk { result ≡ End.Disk → ⊥ }
     ensures short { result ≡ End.TooLong → ⊥ }
 {

@@ -42,7 +42,8 @@ fn create<R: TreeRep, D: Disk>(
 ) -> Result<Reply, Stop>
     ensures created { IfKnown (D.known disk.old) (λ v. IsVacant v.content
         → CreatedAs kind (R.contents tree) (D.known disk.new) result) }
-    ensures crash { Keeps (IsOldOrVacantOrStart (D.known disk.old).view kind (R.contents tree)) (D.known disk.old) (D.known disk.new) }
+    ensures crash { Keeps (IsOldOrVacantOrStart (D.known disk.old).view kind (R.contents tree))
+        (D.known disk.old) (D.known disk.new) }
     ensures settles { IfKnown (D.known disk.old) (λ v.
         SettlesInto (IsVacantOrStart kind (R.contents tree)) v (D.known disk.new).view) }
     ensures cause { UsesDisk (λ e. e ≡ Stop.Disk) (D.known disk.old) (D.known disk.new) result }
@@ -72,13 +73,17 @@ fn make<R: TreeRep, D: Disk, F: Files>(
     files: &mut F,
 ) -> Result<Reply, Stop>
     ensures made { StoreMade kind (λ t. start_given t start) (start_reads start)
-        (known_files F.Files files.old) (known_files F.Files files.new) (D.known disk.old) (D.known disk.new) result }
-    ensures used { UsesFiles (λ e. e ≡ Stop.File) (known_files F.Files files.old) (known_files F.Files files.new) result }
+        (known_files F.Files files.old) (known_files F.Files files.new) (D.known disk.old)
+        (D.known disk.new) result }
+    ensures used { UsesFiles (λ e. e ≡ Stop.File) (known_files F.Files files.old)
+        (known_files F.Files files.new) result }
     ensures cause { UsesDisk (λ e. e ≡ Stop.Disk) (D.known disk.old) (D.known disk.new) result }
     ensures file { IfKnown (D.known disk.old) (λ v. IsVacant v.content
         → LeavesFiles IsVacantOrNewest v (D.known disk.new).view) }
-    ensures newest { IfOk result (λ r. is_refusal r ≡ false → IsAtVersion newest_version (D.known disk.new)) }
-    ensures refused { IfOk result (λ r. is_refusal r ≡ true → Rests (D.known disk.old) (D.known disk.new)) }
+    ensures newest { IfOk result (λ r. is_refusal r ≡ false
+        → IsAtVersion newest_version (D.known disk.new)) }
+    ensures refused { IfOk result (λ r. is_refusal r ≡ true
+        → Rests (D.known disk.old) (D.known disk.new)) }
 {
     if !Journal::vacant(disk)? {
         return Ok(refused(Why::StoreExists));
@@ -98,17 +103,39 @@ pub(crate) fn init<R: TreeRep, D: Disk, F: Files, O: Sink>(
     files: &mut F,
     output: &mut O,
 ) -> End
-    ensures made { (i : KnownInput) (c : KnownClock) → Made kind (λ t. start_given t start) (start_reads start)
-        (record { input = i; files = known_files F.Files files.old; clock = c; output = known_output O.Sink output.old })
-        (record { input = i; files = known_files F.Files files.new; clock = c; output = known_output O.Sink output.new })
+    ensures made { (i : KnownInput) (c : KnownClock)
+        → Made kind (λ t. start_given t start) (start_reads start)
+        (record {
+          input = i;
+          files = known_files F.Files files.old;
+          clock = c;
+          output = known_output O.Sink output.old;
+        })
+        (record {
+          input = i;
+          files = known_files F.Files files.new;
+          clock = c;
+          output = known_output O.Sink output.new;
+        })
         (D.known disk.old) (D.known disk.new) result }
     ensures causes { (i : KnownInput) (c : KnownClock) → HasCauses
-        (record { input = i; files = known_files F.Files files.old; clock = c; output = known_output O.Sink output.old })
-        (record { input = i; files = known_files F.Files files.new; clock = c; output = known_output O.Sink output.new }) result }
+        (record {
+          input = i;
+          files = known_files F.Files files.old;
+          clock = c;
+          output = known_output O.Sink output.old;
+        })
+        (record {
+          input = i;
+          files = known_files F.Files files.new;
+          clock = c;
+          output = known_output O.Sink output.new;
+        }) result }
     ensures disk { DiskCauses (D.known disk.old) (D.known disk.new) result }
     ensures replied { WroteReplies false
         (known_output O.Sink output.old) (known_output O.Sink output.new) result }
-    ensures file { IsTrue (D.known disk.old).known → MakesNewest (D.known disk.old) (D.known disk.new) result }
+    ensures file { IsTrue (D.known disk.old).known
+        → MakesNewest (D.known disk.old) (D.known disk.new) result }
     ensures short { result ≡ End.TooLong → ⊥ }
 {
     match make::<R, D, F>(alloc, kind, start, disk, files) {

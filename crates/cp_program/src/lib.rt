@@ -11,6 +11,7 @@ mod run;
 mod scratch;
 mod store;
 mod uses;
+mod version;
 
 pub use cp_interpreter::Status;
 pub use run::run_cpdb;

@@ -3,7 +3,7 @@ ghost use Rattle.std.specs.Prelude.{◌≡◌, false, IsTrue, IfOk, IfErr};
 ghost use Rattle.cp_disk.specs.Counts.{UsesDisk};
 ghost use Rattle.cp_disk.specs.Views.{Rests};
 ghost use Rattle.cp_model.specs.Place.{label_eq, target};
-ghost use Rattle.cp_workspace.specs.Files.{known_files, HasReadSome, UsesFiles};
+ghost use Rattle.cp_workspace.specs.Files.{known_files, UsesFiles};
 ghost use Rattle.cp_workspace.specs.Workspaces.{IsUsable};
 ghost use Rattle.cp_db.specs.FileVersions.{KeepsVersion};
 ghost use Rattle.cp_interpreter.specs.Alone.{Loaded};
@@ -48,9 +48,11 @@ fn reply_to_load<R: TreeRep, S: TreeRep, D: Disk, F: Files>(
     files: &mut F,
 ) -> Result<Reply, Stop>
     requires other { label_eq source.name target ≡ false }
-    ensures loaded { (k : KnownClock) → LoadedAs source k (known_files F.Files files.old) (known_files F.Files files.new) (D.known disk.old) (D.known disk.new) result }
-    ensures used { UsesFiles (λ e. e ≡ Stop.File) (known_files F.Files files.old) (known_files F.Files files.new) result }
-    ensures read { HasReadSome (known_files F.Files files.old) (known_files F.Files files.new) }
+    ensures loaded { (k : KnownClock)
+        → LoadedAs source k (known_files F.Files files.old) (known_files F.Files files.new)
+        (D.known disk.old) (D.known disk.new) result }
+    ensures used { UsesFiles (λ e. e ≡ Stop.File) (known_files F.Files files.old)
+        (known_files F.Files files.new) result }
     ensures file { KeepsVersion (D.known disk.old) (D.known disk.new) }
     ensures cause { UsesDisk (λ e. e ≡ Stop.Disk) (D.known disk.old) (D.known disk.new) result }
 {
@@ -77,12 +79,32 @@ pub(crate) fn load<R: TreeRep, S: TreeRep, D: Disk, F: Files, O: Sink>(
 ) -> End
     requires other { label_eq source.name target ≡ false }
     ensures ran { (i : KnownInput) (k : KnownClock) → Loaded source
-        (record { input = i; files = known_files F.Files files.old; clock = k; output = known_output O.Sink output.old })
-        (record { input = i; files = known_files F.Files files.new; clock = k; output = known_output O.Sink output.new })
+        (record {
+          input = i;
+          files = known_files F.Files files.old;
+          clock = k;
+          output = known_output O.Sink output.old;
+        })
+        (record {
+          input = i;
+          files = known_files F.Files files.new;
+          clock = k;
+          output = known_output O.Sink output.new;
+        })
         (D.known disk.old) (D.known disk.new) result }
     ensures causes { (i : KnownInput) (k : KnownClock) → HasCauses
-        (record { input = i; files = known_files F.Files files.old; clock = k; output = known_output O.Sink output.old })
-        (record { input = i; files = known_files F.Files files.new; clock = k; output = known_output O.Sink output.new }) result }
+        (record {
+          input = i;
+          files = known_files F.Files files.old;
+          clock = k;
+          output = known_output O.Sink output.old;
+        })
+        (record {
+          input = i;
+          files = known_files F.Files files.new;
+          clock = k;
+          output = known_output O.Sink output.new;
+        }) result }
     ensures disk { DiskCauses (D.known disk.old) (D.known disk.new) result }
     ensures replied { WroteReplies false
         (known_output O.Sink output.old) (known_output O.Sink output.new) result }

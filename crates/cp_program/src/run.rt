@@ -19,6 +19,7 @@ use crate::load::load;
 use crate::scratch::scratch;
 use crate::store::run;
 use crate::uses::uses;
+use crate::version::{ask_version, count_versions};
 use cp_disk::Disk;
 use cp_interpreter::{End, Status, last_line, out_of_memory};
 use cp_outside::{Clock, Files, Sink, Source};
@@ -27,7 +28,7 @@ use cp_words::{Command, command_of};
 use std::alloc::Global;
 
 const USAGE: &[u8] =
-    b"usage: cpdb scratch KIND [JSON]\nusage: cpdb init STORE KIND [JSON]\nusage: cpdb run STORE [CURATOR]\nusage: cpdb commit STORE FILE [CURATOR]\nusage: cpdb load STORE NAME json FILE\nusage: cpdb load STORE NAME csv FILE [COLUMN]\nusage: cpdb query STORE STATEMENT\nusage: cpdb verify STORE\nusage: cpdb checkpoint STORE\nusage: cpdb gen SEED COUNT KIND\nusage: cpdb log STORE\nusage: cpdb uses STORE PLACE\n";
+    b"usage: cpdb scratch KIND [JSON]\nusage: cpdb init STORE KIND [JSON]\nusage: cpdb run STORE [CURATOR]\nusage: cpdb commit STORE FILE [CURATOR]\nusage: cpdb load STORE NAME json FILE\nusage: cpdb load STORE NAME csv FILE [COLUMN]\nusage: cpdb query STORE STATEMENT\nusage: cpdb verify STORE\nusage: cpdb checkpoint STORE\nusage: cpdb gen SEED COUNT KIND\nusage: cpdb log STORE\nusage: cpdb at STORE TID STATEMENT\nusage: cpdb archive STORE\nusage: cpdb uses STORE PLACE\n";
 
 /// Does what the command asks for.
 fn run_command<R: TreeRep, S: TreeRep, D: Disk, F: Files, K: Clock, I: Source, O: Sink>(
@@ -46,7 +47,8 @@ fn run_command<R: TreeRep, S: TreeRep, D: Disk, F: Files, K: Clock, I: Source, O
         (D.known disk.old) (D.known disk.new) result }
     ensures causes { HasCauses
         (known_outside F.Files K.Clock I.Source O.Sink files.old clock.old input.old output.old)
-        (known_outside F.Files K.Clock I.Source O.Sink files.new clock.new input.new output.new) result }
+        (known_outside F.Files K.Clock I.Source O.Sink files.new clock.new input.new output.new)
+        result }
     ensures disk { DiskCauses (D.known disk.old) (D.known disk.new) result }
     ensures untouched { LeavesDisk command → disk.new ≡ disk.old }
     ensures short { result ≡ End.TooLong → I.given input.old + INPUT_MAX < I.given input.new }
@@ -78,6 +80,8 @@ fn run_command<R: TreeRep, S: TreeRep, D: Disk, F: Files, K: Clock, I: Source, O
         }
         Command::Log => list_commits::<R, S, D, O>(alloc, disk, output),
         Command::Verify => verify_records::<R, S, D, O>(alloc, disk, output),
+        Command::At { tid, asked } => ask_version::<R, S, D, O>(alloc, tid, asked, disk, output),
+        Command::Archive => count_versions::<R, S, D, O>(alloc, disk, output),
         Command::Uses(place) => uses::<R, S, D, O>(alloc, place, disk, output),
     }
 }
@@ -85,7 +89,8 @@ fn run_command<R: TreeRep, S: TreeRep, D: Disk, F: Files, K: Clock, I: Source, O
 /// Writes the usage.
 fn give_usage<O: Sink>(output: &mut O) -> End
     ensures end { result ≡ End.Usage }
-    ensures wrote { WritesLast (known_output O.Sink output.old) (known_output O.Sink output.new) [] usage_text }
+    ensures wrote { WritesLast (known_output O.Sink output.old)
+        (known_output O.Sink output.new) [] usage_text }
     ensures later { O.faults output.old ≤ O.faults output.new }
 {
     last_line(output, USAGE);
@@ -128,9 +133,12 @@ pub fn run_cpdb<R: TreeRep, S: TreeRep, D: Disk, F: Files, K: Clock, I: Source, 
         (known_outside F.Files K.Clock I.Source O.Sink files.new clock.new input.new output.new)
         (D.known disk.old) (D.known disk.new) result.code }
     ensures usage { result.code ≡ 2 → command_of (map string_bytes words.now) ≡ None }
-    ensures unfitting { command_of (map string_bytes words.now) ≡ None → (result.code ≡ 2) ⊎ (result.code ≡ 7) }
-    ensures untouched { NeedsNoDisk (command_of (map string_bytes words.now)) → disk.new ≡ disk.old }
-    ensures refused { result.code ≡ 1 → TookRefusal (O.contents output.old) (O.contents output.new) }
+    ensures unfitting { command_of (map string_bytes words.now) ≡ None → (result.code ≡ 2)
+        ⊎ (result.code ≡ 7) }
+    ensures untouched { NeedsNoDisk (command_of (map string_bytes words.now))
+        → disk.new ≡ disk.old }
+    ensures refused { result.code ≡ 1
+        → TookRefusal (O.contents output.old) (O.contents output.new) }
 {
     let Ok(asked) = command_of(alloc, words) else {
         return status_of(out_of_memory(output));

@@ -34,9 +34,12 @@ fn session_on<R: TreeRep, S: TreeRep>(
     disk: &mut SureDisk,
 ) -> Result<Interpreter<R, S>, AllocError>
     requires vacant { IsVacant (sure_view disk.old).content }
-    ensures follows { IfOk result (λ x. (supply : Supply) → Follows R.contents S.contents (sure_disk disk.new) x
-        (begun (scratch_terms kind (R.contents tree)) (scratch_session kind (R.contents tree) supply))) }
-    ensures goes_on { IfOk result (λ x. MayGoOn R.contents S.contents (sure_disk disk.new) x × (has_refused x ≡ false)) }
+    ensures follows { IfOk result (λ x. (supply : Supply)
+        → Follows R.contents S.contents (sure_disk disk.new) x
+        (begun (scratch_terms kind (R.contents tree))
+        (scratch_session kind (R.contents tree) supply))) }
+    ensures goes_on { IfOk result (λ x. MayGoOn R.contents S.contents (sure_disk disk.new) x
+        × (has_refused x ≡ false)) }
 {
     let curator = no_curator(alloc)?;
     let db = new_db(alloc, kind, tree, disk)?;
@@ -52,10 +55,15 @@ fn begin<R: TreeRep, S: TreeRep, F: Files>(
     files: &mut F,
 ) -> Result<Result<Interpreter<R, S>, Why>, FilesFault>
     requires vacant { IsVacant (sure_view disk.old).content }
-    ensures begun { IfOk result (λ r. BegunFrom R.contents S.contents (sure_disk disk.new) kind (known_files F.Files files.old) (λ t. start_given t start) r) }
-    ensures goes_on { IfOk result (λ r. IfOk r (λ x. MayGoOn R.contents S.contents (sure_disk disk.new) x × (has_refused x ≡ false))) }
-    ensures used { UsesFiles (λ e. e ≡ FilesFault.Failed) (known_files F.Files files.old) (known_files F.Files files.new) result }
-    ensures reads { Reads (λ e. e ≡ FilesFault.Failed) (start_reads start) (known_files F.Files files.old) (known_files F.Files files.new) result }
+    ensures begun { IfOk result (λ r. BegunFrom R.contents S.contents (sure_disk disk.new) kind
+        (known_files F.Files files.old) (λ t. start_given t start) r) }
+    ensures goes_on { IfOk result
+        (λ r. IfOk r (λ x. MayGoOn R.contents S.contents (sure_disk disk.new) x
+        × (has_refused x ≡ false))) }
+    ensures used { UsesFiles (λ e. e ≡ FilesFault.Failed) (known_files F.Files files.old)
+        (known_files F.Files files.new) result }
+    ensures reads { Reads (λ e. e ≡ FilesFault.Failed) (start_reads start)
+        (known_files F.Files files.old) (known_files F.Files files.new) result }
 {
     match start_tree::<R, F>(alloc, start, files)? {
         Ok(tree) => Ok(Ok(session_on(alloc, kind, tree, disk)?)),
@@ -90,10 +98,12 @@ fn play<R: TreeRep, S: TreeRep, F: Files, K: Clock, I: Source, O: Sink>(
     requires bounded { length piece.old ≤ PIECE_MAX }
     ensures ran { Ran kind (λ t. start_given t start) (start_reads start)
         (known_outside F.Files K.Clock I.Source O.Sink files.old clock.old input.old output.old)
-        (known_outside F.Files K.Clock I.Source O.Sink files.new clock.new input.new output.new) result }
+        (known_outside F.Files K.Clock I.Source O.Sink files.new clock.new input.new output.new)
+        result }
     ensures causes { HasCauses
         (known_outside F.Files K.Clock I.Source O.Sink files.old clock.old input.old output.old)
-        (known_outside F.Files K.Clock I.Source O.Sink files.new clock.new input.new output.new) result }
+        (known_outside F.Files K.Clock I.Source O.Sink files.new clock.new input.new output.new)
+        result }
     ensures disk { result ≡ End.Disk → ⊥ }
     ensures replied { WroteReplies false
         (known_output O.Sink output.old) (known_output O.Sink output.new) result }
@@ -121,10 +131,12 @@ pub(crate) fn scratch<R: TreeRep, S: TreeRep, F: Files, K: Clock, I: Source, O: 
 ) -> End
     ensures ran { Ran kind (λ t. start_given t start) (start_reads start)
         (known_outside F.Files K.Clock I.Source O.Sink files.old clock.old input.old output.old)
-        (known_outside F.Files K.Clock I.Source O.Sink files.new clock.new input.new output.new) result }
+        (known_outside F.Files K.Clock I.Source O.Sink files.new clock.new input.new output.new)
+        result }
     ensures causes { HasCauses
         (known_outside F.Files K.Clock I.Source O.Sink files.old clock.old input.old output.old)
-        (known_outside F.Files K.Clock I.Source O.Sink files.new clock.new input.new output.new) result }
+        (known_outside F.Files K.Clock I.Source O.Sink files.new clock.new input.new output.new)
+        result }
     ensures disk { result ≡ End.Disk → ⊥ }
     ensures replied { WroteReplies false
         (known_output O.Sink output.old) (known_output O.Sink output.new) result }

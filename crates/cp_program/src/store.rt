@@ -30,12 +30,15 @@ fn migrate<R: TreeRep, S: TreeRep, D: Disk>(
     requires stands { IsDatabase R.contents S.contents db }
     requires ready { IfKnown (D.known disk.old) (λ v. IsReady db v) }
     requires gate { IsAtVersion (version_in db) (D.known disk.old) }
-    ensures migrated { Migrated R.contents S.contents db (D.known disk.old) (D.known disk.new) result }
+    ensures migrated { Migrated R.contents S.contents db (D.known disk.old)
+        (D.known disk.new) result }
     ensures newest { OnOk result (IsAtVersion newest_version (D.known disk.new)) }
     ensures file { IfKnown (D.known disk.old) (λ v.
         LeavesFiles (HasVersionOrNewest (file_version v.content)) v (D.known disk.new).view) }
-    ensures older { IfKnown (D.known disk.old) (λ v. OnErr result (HasVersion newest_version v.content → ⊥)) }
-    ensures usable { IfOk result (λ d. IsDatabase R.contents S.contents d × (is_spent d ≡ false) × (version_in d ≡ 2)) }
+    ensures older { IfKnown (D.known disk.old)
+        (λ v. OnErr result (HasVersion newest_version v.content → ⊥)) }
+    ensures usable { IfOk result (λ d. IsDatabase R.contents S.contents d × (is_spent d ≡ false)
+        × (version_in d ≡ 2)) }
     ensures ready { IfKnown (D.known disk.new) (λ v. IfOk result (λ d. IsReady d v)) }
     ensures cause { UsesDisk (λ e. e ≡ Stop.Disk) (D.known disk.old) (D.known disk.new) result }
     ensures kinds { IfErr result (λ e. (e ≡ Stop.Disk) ⊎ (e ≡ Stop.Memory)) }
@@ -67,7 +70,8 @@ fn open_db<R: TreeRep, S: TreeRep, D: Disk>(alloc: Global, disk: &mut D) -> Resu
         LeavesFiles (HasVersionOrNewest (file_version v.content)) v (D.known disk.new).view) }
     ensures kept { IfKnown (D.known disk.old) (λ v.
         OnErr result (HasVersion newest_version v.content → ViewRests v (D.known disk.new).view)) }
-    ensures usable { IfOk result (λ d. IsDatabase R.contents S.contents d × (is_spent d ≡ false) × (version_in d ≡ 2)) }
+    ensures usable { IfOk result (λ d. IsDatabase R.contents S.contents d × (is_spent d ≡ false)
+        × (version_in d ≡ 2)) }
     ensures ready { IfKnown (D.known disk.new) (λ v. IfOk result (λ d. IsReady d v)) }
     ensures cause { UsesDisk (λ e. e ≡ Stop.Disk) (D.known disk.old) (D.known disk.new) result }
     ensures kinds { IfErr result IsOpeningStop }
@@ -90,7 +94,8 @@ pub(crate) fn begin<R: TreeRep, S: TreeRep, D: Disk>(
         LeavesFiles (HasVersionOrNewest (file_version v.content)) v (D.known disk.new).view) }
     ensures kept { IfKnown (D.known disk.old) (λ v.
         OnErr result (HasVersion newest_version v.content → ViewRests v (D.known disk.new).view)) }
-    ensures goes_on { IfOk result (λ x. MayGoOn R.contents S.contents (D.known disk.new) x × (has_refused x ≡ false)) }
+    ensures goes_on { IfOk result (λ x. MayGoOn R.contents S.contents (D.known disk.new) x
+        × (has_refused x ≡ false)) }
     ensures cause { UsesDisk (λ e. e ≡ Stop.Disk) (D.known disk.old) (D.known disk.new) result }
     ensures kinds { IfErr result IsOpeningStop }
 {
@@ -114,7 +119,8 @@ pub(crate) fn run<R: TreeRep, S: TreeRep, D: Disk, F: Files, K: Clock, I: Source
         (D.known disk.old) (D.known disk.new) result }
     ensures causes { HasCauses
         (known_outside F.Files K.Clock I.Source O.Sink files.old clock.old input.old output.old)
-        (known_outside F.Files K.Clock I.Source O.Sink files.new clock.new input.new output.new) result }
+        (known_outside F.Files K.Clock I.Source O.Sink files.new clock.new input.new output.new)
+        result }
     ensures disk { DiskCauses (D.known disk.old) (D.known disk.new) result }
     ensures replied { WroteReplies false
         (known_output O.Sink output.old) (known_output O.Sink output.new) result }

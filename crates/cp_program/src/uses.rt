@@ -112,13 +112,15 @@ pub(crate) fn uses<R: TreeRep, S: TreeRep, D: Disk, O: Sink>(
     disk: &mut D,
     output: &mut O,
 ) -> End
-    ensures ran { (i : KnownInput) (f : KnownFiles) (k : KnownClock) → Answered Opens (IsUsesOf place)
+    ensures ran { (i : KnownInput) (f : KnownFiles) (k : KnownClock)
+        → Answered Opens (IsUsesOf place)
         (record { input = i; files = f; clock = k; output = known_output O.Sink output.old })
         (record { input = i; files = f; clock = k; output = known_output O.Sink output.new })
         (D.known disk.old) (D.known disk.new) result }
     ensures causes { (i : KnownInput) (f : KnownFiles) (k : KnownClock) → HasCauses
         (record { input = i; files = f; clock = k; output = known_output O.Sink output.old })
-        (record { input = i; files = f; clock = k; output = known_output O.Sink output.new }) result }
+        (record { input = i; files = f; clock = k; output = known_output O.Sink output.new })
+        result }
     ensures disk { DiskCauses (D.known disk.old) (D.known disk.new) result }
     ensures short { result ≡ End.TooLong → ⊥ }
 {

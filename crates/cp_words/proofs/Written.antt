@@ -11,10 +11,12 @@ use Rattle.cp_lang.specs.declared.syntax_tree.Stmt.{Stmt}
 use Rattle.cp_lang.specs.declared.syntax_tree.Stmt.TheVariants as stmt
 use Rattle.cp_lang.specs.declared.syntax_tree.StmtFault.{StmtFault}
 use Rattle.cp_words.specs.Operands.{is_operand, kind_named, curator_by, form_by, number_of, count_in, count_of, place_of}
-use Rattle.cp_words.specs.Commands.{start_by, load_by, generate_by, asked_in, asked_where_read, scratch_of, init_of, run_of, commit_of, load_of, query_of, generate_of, log_of, verify_of, uses_of, row_of, command_of, IsWrittenCommand}
+use Rattle.cp_words.specs.Commands.{start_by, load_by, generate_by, asked_in, asked_where_read, is_of_target, where_of_target, asked_of_version, version_where_read, asked_by, scratch_of, init_of, run_of, commit_of, load_of, query_of, generate_of, log_of, verify_of, at_of, archive_of, uses_of, row_of, command_of, IsWrittenCommand}
 use Rattle.cp_words.specs.declared.limits.TheConstants.{COUNT_MAX}
+use Rattle.cp_words.specs.declared.command.Asked.{Asked}
+use Rattle.cp_words.specs.declared.command.Asked.TheVariants as of_version
 use Rattle.cp_words.specs.declared.command.Command.{Command}
-use Rattle.cp_words.specs.declared.command.Command.TheVariants.{Scratch, Init, Run, Commit, Load, Generate, Uses}
+use Rattle.cp_words.specs.declared.command.Command.TheVariants.{Scratch, Init, Run, Commit, Load, Generate, At, Uses}
 
 abbrev pub AreWritten : Option Command → Type 0
 AreWritten o = IfSome o IsWrittenCommand
@@ -126,6 +128,45 @@ verify_written [] = tt
 verify_written (a ∷ []) = tt
 verify_written (a ∷ b ∷ ws) = tt
 
+-- what is asked of a version is about a place of T
+abbrev IsOfTarget : Asked → Type 0
+IsOfTarget a = is_of_target a ≡ true
+
+target_only : (a : Asked) → IfSome (where_of_target a) IsOfTarget
+target_only a = go (is_of_target a) refl
+  where
+    go : (b : Bool) → is_of_target a ≡ b → IfSome (if b then Some a else None) IsOfTarget
+    go true e = e
+    go false e = tt
+
+asked_target : (s : Stmt) → IfSome (asked_of_version s) IsOfTarget
+asked_target (stmt.Op op) = tt
+asked_target stmt.Commit = tt
+asked_target stmt.Abort = tt
+asked_target (stmt.Load l) = tt
+asked_target (stmt.Ask q) = target_only (of_version.Ask q)
+asked_target (stmt.Show p) = target_only (of_version.Show p)
+
+version_target : (r : Result Stmt StmtFault) → IfSome (version_where_read r) IsOfTarget
+version_target (Ok s) = asked_target s
+version_target (Err e) = tt
+
+asked_mapped : (t : ℕ) (o : Option Asked) → IfSome o IsOfTarget → AreWritten (option_map (λ a. At t a) o)
+asked_mapped t None h = tt
+asked_mapped t (Some a) h = h
+
+at_written : (ws : List (List ℕ)) → AreWritten (at_of ws)
+at_written [] = tt
+at_written (a ∷ []) = tt
+at_written (a ∷ b ∷ []) = tt
+at_written (a ∷ b ∷ c ∷ []) = followed (λ t. option_map (λ a. At t a) (asked_by c)) (number_of b) (λ t. asked_mapped t (asked_by c) (version_target (statement_reading c)))
+at_written (a ∷ b ∷ c ∷ d ∷ ws) = tt
+
+archive_written : (ws : List (List ℕ)) → AreWritten (archive_of ws)
+archive_written [] = tt
+archive_written (a ∷ []) = tt
+archive_written (a ∷ b ∷ ws) = tt
+
 uses_written : (ws : List (List ℕ)) → AreWritten (uses_of ws)
 uses_written [] = tt
 uses_written (a ∷ []) = tt
@@ -140,7 +181,8 @@ row_written (w ∷ ws) =
     (either (bytes_eq (codes "load") w) _ _ (load_written ws) (either (bytes_eq (codes "query") w) _ _ (query_written ws)
     (either (bytes_eq (codes "gen") w) _ _ (generate_written ws) (either (bytes_eq (codes "log") w) _ _ (log_written ws)
     (either (bytes_eq (codes "verify") w) _ _ (verify_written ws)
-    (either (bytes_eq (codes "uses") w) _ _ (uses_written ws) tt)))))))))
+    (either (bytes_eq (codes "at") w) _ _ (at_written ws) (either (bytes_eq (codes "archive") w) _ _ (archive_written ws)
+    (either (bytes_eq (codes "uses") w) _ _ (uses_written ws) tt)))))))))))
 
 pub command_written : (ws : List (List ℕ)) → AreWritten (command_of ws)
 command_written [] = tt

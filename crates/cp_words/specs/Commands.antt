@@ -1,7 +1,10 @@
 -- What the words of a call ask for.
-use Rattle.std.specs.Prelude.{ℕ, List, [], ◌∷◌, ◌≤◌, codes, if◌then◌else◌, Option, Some, None, option_map, option_and_then, Result, Ok}
+use Rattle.std.specs.Prelude.{ℕ, ◌≡◌, true, false, Bool, List, [], ◌∷◌, ◌≤◌, codes, if◌then◌else◌, Option, Some, None, option_map, option_and_then, Result, Ok}
 use Rattle.std.specs.List.{list_all}
 use Rattle.std.specs.Str.{bytes_eq}
+use Rattle.cp_model.specs.Place.{in_target}
+use Rattle.cp_model.specs.declared.query.Query.{Query}
+use Rattle.cp_model.specs.declared.query.Query.TheVariants as query
 use Rattle.cp_lang.specs.Grammar.{statement_reading}
 use Rattle.cp_lang.specs.Written.{IsWrittenStmt}
 use Rattle.cp_lang.specs.declared.syntax_tree.Stmt.{Stmt}
@@ -9,10 +12,12 @@ use Rattle.cp_lang.specs.declared.syntax_tree.Stmt.TheVariants as stmt
 use Rattle.cp_lang.specs.declared.syntax_tree.StmtFault.{StmtFault}
 use Rattle.cp_words.specs.Operands.{is_operand, kind_named, curator_by, source_name, form_by, number_of, count_of, place_of}
 use Rattle.cp_words.specs.declared.limits.TheConstants.{COUNT_MAX}
+use Rattle.cp_words.specs.declared.command.Asked.{Asked}
+use Rattle.cp_words.specs.declared.command.Asked.TheVariants as of_version
 use Rattle.cp_words.specs.declared.command.Start.{Start}
 use Rattle.cp_words.specs.declared.command.Start.TheVariants.{Alone, TreeIn}
 use Rattle.cp_words.specs.declared.command.Command.{Command}
-use Rattle.cp_words.specs.declared.command.Command.TheVariants.{Scratch, Init, Run, Commit, Load, Ask, Show, Generate, Log, Verify, Uses}
+use Rattle.cp_words.specs.declared.command.Command.TheVariants.{Scratch, Init, Run, Commit, Load, Ask, Show, Generate, Log, Verify, At, Archive, Uses}
 
 -- ---- what the operands of a command ask for
 
@@ -61,6 +66,44 @@ query_by statement = asked_where_read (statement_reading statement)
 abbrev pub generate_by : List ℕ → List ℕ → List ℕ → Option Command
 generate_by seed count kind =
     option_and_then (λ s. option_and_then (λ n. option_map (λ k. Generate s n k) (kind_named kind)) (count_of count)) (number_of seed)
+
+-- the query is about a place of T
+abbrev pub asks_of_target : Query → Bool
+asks_of_target (query.Src q) = in_target q
+asks_of_target (query.Hist q) = in_target q
+asks_of_target (query.Mod q) = in_target q
+asks_of_target (query.Trace q) = in_target q
+asks_of_target (query.From q) = in_target q
+asks_of_target (query.Records t) = false
+asks_of_target query.Stats = false
+
+-- what is asked of a version is about a place of T
+abbrev pub is_of_target : Asked → Bool
+is_of_target (of_version.Ask q) = asks_of_target q
+is_of_target (of_version.Show p) = in_target p
+
+-- it may be asked where it is
+abbrev pub where_of_target : Asked → Option Asked
+where_of_target a = if is_of_target a then Some a else None
+
+-- a statement asks something of a version where it is a `show` or a query of a place, and that place is in T
+abbrev pub asked_of_version : Stmt → Option Asked
+asked_of_version (stmt.Ask q) = where_of_target (of_version.Ask q)
+asked_of_version (stmt.Show p) = where_of_target (of_version.Show p)
+asked_of_version s = None
+
+-- what is asked of a version, where a text was read as a statement
+abbrev pub version_where_read : Result Stmt StmtFault → Option Asked
+version_where_read (Ok s) = asked_of_version s
+version_where_read r = None
+
+-- what the one statement that the word is asks of a version
+abbrev pub asked_by : List ℕ → Option Asked
+asked_by statement = version_where_read (statement_reading statement)
+
+-- what is asked of the version of which the first word spells the number
+abbrev pub at_by : List ℕ → List ℕ → Option Command
+at_by tid statement = option_and_then (λ t. option_map (λ a. At t a) (asked_by statement)) (number_of tid)
 
 -- the places that use the one that the word spells
 abbrev pub uses_by : List ℕ → Option Command
@@ -118,6 +161,16 @@ abbrev pub verify_of : List (List ℕ) → Option Command
 verify_of (store ∷ []) = Some Verify
 verify_of operands = None
 
+-- `at STORE TID STATEMENT`
+abbrev pub at_of : List (List ℕ) → Option Command
+at_of (store ∷ tid ∷ statement ∷ []) = at_by tid statement
+at_of operands = None
+
+-- `archive STORE`
+abbrev pub archive_of : List (List ℕ) → Option Command
+archive_of (store ∷ []) = Some Archive
+archive_of operands = None
+
 -- `uses STORE PLACE`
 abbrev pub uses_of : List (List ℕ) → Option Command
 uses_of (store ∷ place ∷ []) = uses_by place
@@ -136,6 +189,8 @@ row_of (command ∷ operands) =
     else if bytes_eq (codes "gen") command then generate_of operands
     else if bytes_eq (codes "log") command then log_of operands
     else if bytes_eq (codes "verify") command then verify_of operands
+    else if bytes_eq (codes "at") command then at_of operands
+    else if bytes_eq (codes "archive") command then archive_of operands
     else if bytes_eq (codes "uses") command then uses_of operands
     else None
 
@@ -146,10 +201,11 @@ command_of (program ∷ words) = if list_all is_operand words then row_of words 
 
 -- ---- what is always so
 
--- a load has another name than T, and a script's number of statements is within its limits
+-- a load has another name than T, a script's number of statements is within its limits, and what is asked of a version is about a place of T
 abbrev pub IsWrittenCommand : Command → Type 0
 IsWrittenCommand (Load l) = IsWrittenStmt (stmt.Load l)
 IsWrittenCommand (Ask q) = IsWrittenStmt (stmt.Ask q)
 IsWrittenCommand (Show p) = IsWrittenStmt (stmt.Show p)
 IsWrittenCommand (Generate seed count kind) = (1 ≤ count) × (count ≤ COUNT_MAX)
+IsWrittenCommand (At tid asked) = is_of_target asked ≡ true
 IsWrittenCommand c = Unit {0}

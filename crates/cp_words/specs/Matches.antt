@@ -2,9 +2,9 @@
 use Rattle.std.specs.Prelude.{List, Option, Some, None, option_and_then, codes, if◌then◌else◌}
 use Rattle.std.specs.Str.{bytes_eq}
 use Rattle.clap.specs.Words.{Row, Text, first_of}
-use Rattle.cp_words.specs.Commands.{scratch_by, init_by, run_by, commit_by, load_by, query_by, generate_by, uses_by}
+use Rattle.cp_words.specs.Commands.{scratch_by, init_by, run_by, commit_by, load_by, query_by, generate_by, at_by, uses_by}
 use Rattle.cp_words.specs.declared.command.Command.{Command}
-use Rattle.cp_words.specs.declared.command.Command.TheVariants.{Log, Verify}
+use Rattle.cp_words.specs.declared.command.Command.TheVariants.{Log, Verify, Archive}
 
 -- goes on with an operand, where it was found
 abbrev pub with_operand : Text → List Row → (Text → Option Command) → Option Command
@@ -49,6 +49,14 @@ log_from rows = Some Log
 abbrev pub verify_from : List Row → Option Command
 verify_from rows = Some Verify
 
+-- the operands of `at`
+abbrev pub at_from : List Row → Option Command
+at_from rows = with_operand (codes "TID") rows (λ tid. with_operand (codes "STATEMENT") rows (λ statement. at_by tid statement))
+
+-- `archive` needs none
+abbrev pub archive_from : List Row → Option Command
+archive_from rows = Some Archive
+
 -- the operands of `uses`
 abbrev pub uses_from : List Row → Option Command
 uses_from rows = with_operand (codes "PLACE") rows uses_by
@@ -66,5 +74,7 @@ command_from (Some p) =
     else if bytes_eq p.0 (codes "gen") then generate_from p.1
     else if bytes_eq p.0 (codes "log") then log_from p.1
     else if bytes_eq p.0 (codes "verify") then verify_from p.1
+    else if bytes_eq p.0 (codes "at") then at_from p.1
+    else if bytes_eq p.0 (codes "archive") then archive_from p.1
     else if bytes_eq p.0 (codes "uses") then uses_from p.1
     else None

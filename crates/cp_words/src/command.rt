@@ -11,6 +11,15 @@ pub enum Start {
     TreeIn(Text),
 }
 
+/// What is asked of a version of a store, about a place of T.
+#[derive(Drop)]
+pub enum Asked {
+    /// A query of a place.
+    Ask(Query),
+    /// What stands at and below a place.
+    Show(Loc),
+}
+
 /// What the words ask for. The store, where there is one, is the word after the command.
 #[derive(Drop)]
 pub enum Command {
@@ -34,6 +43,10 @@ pub enum Command {
     Log,
     /// Whether the records of the store are those that its operations make.
     Verify,
+    /// What is asked of the version of the store after the step `tid`.
+    At { tid: u64, asked: Asked },
+    /// How many versions the store has, and how many ranges of them in which a path is there with one content.
+    Archive,
     /// The places of the store that use this one.
     Uses(Loc),
 }

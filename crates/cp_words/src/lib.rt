@@ -8,6 +8,6 @@ mod parser;
 mod row;
 mod words;
 
-pub use command::{Command, Start};
+pub use command::{Asked, Command, Start};
 pub use limits::COUNT_MAX;
 pub use words::command_of;

@@ -19,7 +19,7 @@ struct Row<'a> {
 }
 
 /// All commands.
-static ROWS: [Row<'static>; 10] = [
+static ROWS: [Row<'static>; 12] = [
     Row {
         name: "scratch",
         operands: &[("KIND", true), ("JSON", false)],
@@ -60,6 +60,14 @@ static ROWS: [Row<'static>; 10] = [
     },
     Row {
         name: "verify",
+        operands: &[("STORE", true)],
+    },
+    Row {
+        name: "at",
+        operands: &[("STORE", true), ("TID", true), ("STATEMENT", true)],
+    },
+    Row {
+        name: "archive",
         operands: &[("STORE", true)],
     },
     Row {

@@ -2,9 +2,10 @@
 ghost use Rattle.std.specs.Prelude.{◌≡◌, IfOk, option_map};
 ghost use Rattle.cp_words.specs.Commands as row;
 
-use crate::command::{Command, Start};
+use crate::command::{Asked, Command, Start};
 use crate::operand::{count_of, curator_by, form_by, kind_named, number_of, place_of, source_name};
 use cp_lang::{Load, Stmt, StmtFault, parse};
+use cp_model::Query;
 use cp_path::Text;
 use std::alloc::{AllocError, Global};
 
@@ -135,6 +136,83 @@ pub(crate) fn generate_by(
     };
     match kind_named(kind) {
         Some(kind) => Ok(Some(Command::Generate { seed, count, kind })),
+        None => Ok(None),
+    }
+}
+
+/// Whether the query is about a place of T.
+fn asks_of_target(query: &Query) -> bool
+    ensures { result ≡ row.asks_of_target query.now }
+{
+    match query {
+        Query::Src(place)
+        | Query::Hist(place)
+        | Query::Mod(place)
+        | Query::Trace(place)
+        | Query::From(place) => place.db.is_target(),
+        Query::Records(_) | Query::Stats => false,
+    }
+}
+
+/// Whether what is asked of a version is about a place of T.
+fn is_of_target(asked: &Asked) -> bool
+    ensures { result ≡ row.is_of_target asked.now }
+{
+    match asked {
+        Asked::Ask(query) => asks_of_target(query),
+        Asked::Show(place) => place.db.is_target(),
+    }
+}
+
+/// What is asked of a version, where it is about a place of T.
+fn where_of_target(asked: Asked) -> Option<Asked>
+    ensures { result ≡ row.where_of_target asked }
+{
+    if is_of_target(&asked) {
+        Some(asked)
+    } else {
+        None
+    }
+}
+
+/// What a statement asks of a version, where it may ask that.
+fn asked_of_version(statement: Stmt) -> Option<Asked>
+    ensures { result ≡ row.asked_of_version statement }
+{
+    match statement {
+        Stmt::Ask(query) => where_of_target(Asked::Ask(query)),
+        Stmt::Show(place) => where_of_target(Asked::Show(place)),
+        other => {
+            drop(other);
+            None
+        }
+    }
+}
+
+/// What a word asks of a version, where it is a statement that may.
+fn asked_by(alloc: Global, statement: &str) -> Result<Option<Asked>, AllocError>
+    ensures { IfOk result (λ o. o ≡ row.asked_by statement.now) }
+{
+    match parse(alloc, statement) {
+        Ok(found) => Ok(asked_of_version(found)),
+        Err(StmtFault::Memory) => Err(AllocError),
+        Err(_) => Ok(None),
+    }
+}
+
+/// `at STORE TID STATEMENT`
+pub(crate) fn at_by(
+    alloc: Global,
+    tid: &str,
+    statement: &str,
+) -> Result<Option<Command>, AllocError>
+    ensures { IfOk result (λ o. o ≡ row.at_by tid.now statement.now) }
+{
+    let Some(tid) = number_of(alloc, tid)? else {
+        return Ok(None);
+    };
+    match asked_by(alloc, statement)? {
+        Some(asked) => Ok(Some(Command::At { tid, asked })),
         None => Ok(None),
     }
 }

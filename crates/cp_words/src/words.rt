@@ -7,7 +7,9 @@ ghost use Rattle.cp_words.specs.Matches as found;
 use crate::command::Command;
 use crate::operand::are_operands;
 use crate::parser::parser;
-use crate::row::{commit_by, generate_by, init_by, load_by, query_by, run_by, scratch_by, uses_by};
+use crate::row::{
+    at_by, commit_by, generate_by, init_by, load_by, query_by, run_by, scratch_by, uses_by,
+};
 use clap::ArgMatches;
 use clap::error::ErrorKind;
 use std::alloc::{AllocError, Global};
@@ -92,6 +94,18 @@ fn generate(alloc: Global, matches: &ArgMatches<'_>) -> Result<Option<Command>, 
     }
 }
 
+fn at(alloc: Global, matches: &ArgMatches<'_>) -> Result<Option<Command>, AllocError>
+    ensures { IfOk result (λ o. o ≡ found.at_from (rows_of (found_of matches.now))) }
+{
+    let Some(tid) = operand(matches, "TID") else {
+        return Ok(None);
+    };
+    match operand(matches, "STATEMENT") {
+        Some(statement) => at_by(alloc, tid, statement),
+        None => Ok(None),
+    }
+}
+
 fn uses(alloc: Global, matches: &ArgMatches<'_>) -> Result<Option<Command>, AllocError>
     ensures { IfOk result (λ o. o ≡ found.uses_from (rows_of (found_of matches.now))) }
 {
@@ -118,6 +132,8 @@ fn command_in(alloc: Global, matches: &ArgMatches<'_>) -> Result<Option<Command>
         "gen" => generate(alloc, operands),
         "log" => Ok(Some(Command::Log)),
         "verify" => Ok(Some(Command::Verify)),
+        "at" => at(alloc, operands),
+        "archive" => Ok(Some(Command::Archive)),
         "uses" => uses(alloc, operands),
         _ => Ok(None),
     }

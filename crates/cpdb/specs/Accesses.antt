@@ -18,6 +18,8 @@ access_of (words.Show p) = Reads
 access_of (words.Generate seed count k) = Reads
 access_of words.Log = Reads
 access_of words.Verify = Reads
+access_of (words.At tid asked) = Reads
+access_of words.Archive = Reads
 access_of (words.Uses q) = Reads
 
 -- What words may do with a store; those that fit no row make no call on a disk.

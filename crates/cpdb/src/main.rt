@@ -38,9 +38,13 @@ fn access_of(command: &Command) -> Access
         Command::Init { .. } | Command::Run { .. } | Command::Commit { .. } | Command::Load(_) => {
             Access::Writes
         }
-        Command::Ask(_) | Command::Show(_) | Command::Log | Command::Verify | Command::Uses(_) => {
-            Access::Reads
-        }
+        Command::Ask(_)
+        | Command::Show(_)
+        | Command::Log
+        | Command::Verify
+        | Command::At { .. }
+        | Command::Archive
+        | Command::Uses(_) => Access::Reads,
         Command::Scratch { .. } | Command::Generate { .. } => Access::Reads,
     }
 }

@@ -8,7 +8,7 @@ use Rattle.cp_interpreter.specs.Outside.{known_clock, known_output}
 use Rattle.cp_interpreter.specs.Begins.{BegunOn}
 use Rattle.cp_interpreter.specs.Scripts.{Committed}
 use Rattle.cp_interpreter.specs.Story.{HasCauses, DiskCauses, result_of}
-use Rattle.cp_interpreter.specs.Turns.{RanScript, end_of_stop}
+use Rattle.cp_interpreter.specs.Turns.{RanScript, end_of_stop, session_at}
 use Rattle.cp_interpreter.specs.declared.end.End.TheVariants as how
 use Rattle.cp_interpreter.proofs.Runs.{parts, world}
 use Rattle.cp_interpreter.proofs.Opened.{same-rests, rests-leave, stop-early, causes-early-end, stop-disk, none-stopped, never-stopped, out-disk}
@@ -55,9 +55,9 @@ returns-in-Ok-begin-clause-ran g c = λ i.
     let v = g.D.Disk.known c.args.disk.now in
     let m = g.D.Disk.known c.begin.new.disk in
     let w = g.D.Disk.known c.play_file-end.new.disk in
-    committed-ran view source_view c.args.file c.args.curator c.in-Ok-begin.session i f fa k ka o oa v m w c.play_file-end.result
+    committed-ran view source_view c.args.file c.args.curator c.in-Ok-begin.session c.play_file-end.new.session i f fa k ka o oa v m w c.play_file-end.result
     c.in-Ok-begin.ensures.goes_on.1 (still c.in-Ok-begin.ensures.cause.same) (λ known. subst (BegunOn view source_view c.args.curator v m) c.in-Ok-begin.is (c.begin.ensures.begun known)) c.begin.ensures.leaves
-    (subst (λ n. RanScript view source_view c.in-Ok-begin.session n (world f k o) (world fa ka oa) m w c.play_file-end.result) c.as_str.ensures c.play_file-end.ensures.ran)
+    (subst (λ n. RanScript view source_view n (session_at c.in-Ok-begin.session m (world f k o)) (session_at c.play_file-end.new.session w (world fa ka oa)) c.play_file-end.result) c.as_str.ensures c.play_file-end.ensures.ran)
 
 pub returns-in-Ok-begin-clause-causes : goal.returns-in-Ok-begin-clause-causes
 returns-in-Ok-begin-clause-causes g c = λ i.

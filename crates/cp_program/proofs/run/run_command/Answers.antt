@@ -231,3 +231,47 @@ returns-in-Generate-clause-file g c = λ known.
 
 pub returns-in-Generate-clause-replied : goal.returns-in-Generate-clause-replied
 returns-in-Generate-clause-replied g c = replied-generated _ _ _ _ _ c.generate.result (c.generate.ensures.ran (known_input g.I.Source c.args.input.now) (known_files g.F.Files c.args.files.now) (known_clock g.K.Clock c.args.clock.now))
+
+pub returns-in-At-clause-ran : goal.returns-in-At-clause-ran
+returns-in-At-clause-ran g c =
+    let before = known_outside g.F.Files g.K.Clock g.I.Source g.O.Sink c.args.files.now c.args.clock.now c.args.input.now c.args.output.now in
+    let now = known_outside g.F.Files g.K.Clock g.I.Source g.O.Sink c.args.files.now c.args.clock.now c.args.input.now c.ask_version.new.output in
+    let v = g.D.Disk.known c.args.disk.now in
+    let w = g.D.Disk.known c.ask_version.new.disk in
+    subst (λ (a : Command). DidCommand a before now v w c.ask_version.result) (sym c.in-At.is) (c.ask_version.ensures.ran (known_input g.I.Source c.args.input.now) (known_files g.F.Files c.args.files.now) (known_clock g.K.Clock c.args.clock.now))
+
+pub returns-in-At-clause-causes : goal.returns-in-At-clause-causes
+returns-in-At-clause-causes g c = c.ask_version.ensures.causes (known_input g.I.Source c.args.input.now) (known_files g.F.Files c.args.files.now) (known_clock g.K.Clock c.args.clock.now)
+
+pub returns-in-At-clause-file : goal.returns-in-At-clause-file
+returns-in-At-clause-file g c = λ known.
+    let before = known_outside g.F.Files g.K.Clock g.I.Source g.O.Sink c.args.files.now c.args.clock.now c.args.input.now c.args.output.now in
+    let now = known_outside g.F.Files g.K.Clock g.I.Source g.O.Sink c.args.files.now c.args.clock.now c.args.input.now c.ask_version.new.output in
+    let v = g.D.Disk.known c.args.disk.now in
+    let w = g.D.Disk.known c.ask_version.new.disk in
+    subst (λ (a : Command). LeavesVersion a before now v w c.ask_version.result) (sym c.in-At.is) (version-rested v.view w.view ((c.ask_version.ensures.ran (known_input g.I.Source c.args.input.now) (known_files g.F.Files c.args.files.now) (known_clock g.K.Clock c.args.clock.now)).rests known))
+
+pub returns-in-At-clause-replied : goal.returns-in-At-clause-replied
+returns-in-At-clause-replied g c = replied-answered _ _ _ _ _ _ c.ask_version.result (c.ask_version.ensures.ran (known_input g.I.Source c.args.input.now) (known_files g.F.Files c.args.files.now) (known_clock g.K.Clock c.args.clock.now))
+
+pub returns-in-Archive-clause-ran : goal.returns-in-Archive-clause-ran
+returns-in-Archive-clause-ran g c =
+    let before = known_outside g.F.Files g.K.Clock g.I.Source g.O.Sink c.args.files.now c.args.clock.now c.args.input.now c.args.output.now in
+    let now = known_outside g.F.Files g.K.Clock g.I.Source g.O.Sink c.args.files.now c.args.clock.now c.args.input.now c.count_versions.new.output in
+    let v = g.D.Disk.known c.args.disk.now in
+    let w = g.D.Disk.known c.count_versions.new.disk in
+    subst (λ (a : Command). DidCommand a before now v w c.count_versions.result) (sym c.in-Archive.is) (c.count_versions.ensures.ran (known_input g.I.Source c.args.input.now) (known_files g.F.Files c.args.files.now) (known_clock g.K.Clock c.args.clock.now))
+
+pub returns-in-Archive-clause-causes : goal.returns-in-Archive-clause-causes
+returns-in-Archive-clause-causes g c = c.count_versions.ensures.causes (known_input g.I.Source c.args.input.now) (known_files g.F.Files c.args.files.now) (known_clock g.K.Clock c.args.clock.now)
+
+pub returns-in-Archive-clause-file : goal.returns-in-Archive-clause-file
+returns-in-Archive-clause-file g c = λ known.
+    let before = known_outside g.F.Files g.K.Clock g.I.Source g.O.Sink c.args.files.now c.args.clock.now c.args.input.now c.args.output.now in
+    let now = known_outside g.F.Files g.K.Clock g.I.Source g.O.Sink c.args.files.now c.args.clock.now c.args.input.now c.count_versions.new.output in
+    let v = g.D.Disk.known c.args.disk.now in
+    let w = g.D.Disk.known c.count_versions.new.disk in
+    subst (λ (a : Command). LeavesVersion a before now v w c.count_versions.result) (sym c.in-Archive.is) (version-rested v.view w.view ((c.count_versions.ensures.ran (known_input g.I.Source c.args.input.now) (known_files g.F.Files c.args.files.now) (known_clock g.K.Clock c.args.clock.now)).rests known))
+
+pub returns-in-Archive-clause-replied : goal.returns-in-Archive-clause-replied
+returns-in-Archive-clause-replied g c = replied-answered _ _ _ _ _ _ c.count_versions.result (c.count_versions.ensures.ran (known_input g.I.Source c.args.input.now) (known_files g.F.Files c.args.files.now) (known_clock g.K.Clock c.args.clock.now))
