@@ -7,7 +7,7 @@ _cpdb_options() {
     diff) echo --below= --by= --full --json ;;
     find) echo --all --below= --exact --ignore-case --labels --places --values ;;
     history) echo --by= --full --reverse --since= --until= --values ;;
-    json) echo --arrays --base= --csv --key= --prov --provenance ;;
+    json) echo --all --arrays --at= --base= --csv --key= --prov --provenance ;;
     ls) echo --full --long --places --recursive ;;
     outdated) echo --all --by= --format= --new ;;
     prepare) echo --at= --comment= --encoding= --escape= --from= --header= --ins= --key= --quote= --ragged= --repeated= --separator= --verbose ;;
@@ -24,14 +24,15 @@ _cpdb_options() {
 _cpdb_command() {
     case $COMP_CWORD:${COMP_WORDS[1]-} in
     1:*)
-        words="scratch init run commit load query gen log verify uses help $tools"
+        words="scratch init run commit load query gen log at archive verify uses help $tools"
         case $word in -*) words='--help --version' ;; esac
         ;;
     2:help) words=$tools ;;
     2:scratch | 3:init | 4:gen) words='n t h ht' ;;
     4:load) words='json csv' ;;
     3:query) words='records show stats' ;;
-    [23]:commit | [24]:init | [25]:load | 3:scratch | 2:run | 2:query | 2:log | 2:verify | 2:uses) files=-o ;;
+    4:at) words=show ;;
+    [23]:commit | [24]:init | [25]:load | 3:scratch | 2:run | 2:query | 2:log | 2:at | 2:archive | 2:verify | 2:uses) files=-o ;;
     esac
 }
 

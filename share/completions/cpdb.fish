@@ -41,6 +41,8 @@ complete -c cpdb -n __fish_is_first_token -a load -d 'Load a source into a store
 complete -c cpdb -n __fish_is_first_token -a query -d 'Answer one statement from a store'
 complete -c cpdb -n __fish_is_first_token -a gen -d 'Run a generated workload in memory'
 complete -c cpdb -n __fish_is_first_token -a log -d 'List the commits of a store'
+complete -c cpdb -n __fish_is_first_token -a at -d 'Answer one statement in a version of a store'
+complete -c cpdb -n __fish_is_first_token -a archive -d 'Tell how many versions a store has'
 complete -c cpdb -n __fish_is_first_token -a verify -d 'Compare the records of a store with a replay'
 complete -c cpdb -n __fish_is_first_token -a uses -d 'Tell which places use the data of one'
 complete -c cpdb -n __fish_is_first_token -a help -d 'Tell the commands and tools, or how a tool is used'
@@ -75,12 +77,12 @@ complete -c cpdb -n '__cpdb_at 4 load' -a json -d 'A tree'
 complete -c cpdb -n '__cpdb_at 4 load' -a csv -d 'A table with a header'
 
 complete -c cpdb -n '__cpdb_at 3 query' -a records -d 'All records'
-complete -c cpdb -n '__cpdb_at 3 query' -a show -d 'The tree'
+complete -c cpdb -n '__cpdb_at 3 query; or __cpdb_at 4 at' -a show -d 'The tree'
 complete -c cpdb -n '__cpdb_at 3 query' -a stats -d 'Numbers of the store'
 
 complete -c cpdb -n '__cpdb_at 2 shell' -a scratch -d 'A session in memory'
 
-complete -c cpdb -n '__cpdb_at 2 init run commit load query log verify uses' -F
+complete -c cpdb -n '__cpdb_at 2 init run commit load query log at archive verify uses' -F
 complete -c cpdb -n '__cpdb_at 3 scratch commit' -F
 complete -c cpdb -n '__cpdb_at 4 init; or __cpdb_at 5 load' -F
 complete -c cpdb -n '__cpdb_at 2 backup diff find history json ls outdated page prepare rescue revert shell sources stats try update' -F
@@ -113,7 +115,9 @@ complete -c cpdb -n '__cpdb_is history' -l since -x -d 'The commits from a date 
 complete -c cpdb -n '__cpdb_is history' -l until -x -d 'The commits up to a date'
 complete -c cpdb -n '__cpdb_is history' -l values -d 'Tell the values before and after'
 
+complete -c cpdb -n '__cpdb_is json' -l all -d 'Tell in PROV-JSON also what stood there once'
 complete -c cpdb -n '__cpdb_is json' -l arrays -d 'Write nodes with the labels 0 to n as arrays'
+complete -c cpdb -n '__cpdb_is json' -l at -x -d 'The version that is written'
 complete -c cpdb -n '__cpdb_is json' -l base -x -d 'How the identifiers of PROV-JSON begin'
 complete -c cpdb -n '__cpdb_is json' -l csv -d 'Write a table as CSV'
 complete -c cpdb -n '__cpdb_is json' -l key -x -d 'The header of the column with the labels of the rows'

@@ -26,16 +26,20 @@ class Page {
     addEventListener('afterprint', () => this.print(false));
   }
 
-  // Addresses: `#T/a/b` a place, `#@commits`, `#@step/7`, `#@sources`, `#@source/P`; `#@places` the tree and no place of it.
+  // Addresses: `#T/a/b` a place, `#@commits`, `#@step/7`, `#@versions`, `#@version/7` and `#@version/7/3` with another one beside
+  // it, `#@sources`, `#@source/P`; `#@places` the tree and no place of it.
 
   route() {
     const address = location.hash.slice(1);
     const step = /^@step\/(\d+)$/.exec(address);
+    const version = /^@version\/(\d+)(?:\/(\d+))?$/.exec(address);
     const source = /^@source\/(\w+)$/.exec(address);
     if (address === '' || address === '@places') this.showPlace(['T'], false);
     else if (address === '@commits') this.show('commits', commitsView(this.store), 'Commits', false);
     else if (address === '@sources') this.show('sources', sourcesView(this.store), 'Sources', false);
     else if (step) this.showStep(Number(step[1]));
+    else if (address === '@versions') this.showVersion(this.store.tid, null, false);
+    else if (version) this.showVersion(Number(version[1]), version[2] === undefined ? null : Number(version[2]), true);
     else if (source) this.showSource(source[1]);
     else this.showPlace(pathOf(address), true);
   }
@@ -79,6 +83,26 @@ class Page {
     return this.list.reveal(at);
   }
 
+  // A version, with another one beside it or null. Where the pane is shown already, it stays, so that its slider keeps the focus.
+  showVersion(version, beside, isDetail) {
+    const { store } = this;
+    const lacking = [version, beside].find((it) => it !== null && !store.versions.has(it));
+    if (lacking !== undefined) return this.show('versions', noVersionView(store, lacking), `No version ${lacking}`, true);
+    this.pane = this.pane || new VersionPane(store, (to, other) => this.turnVersion(to, other));
+    this.pane.turn(version, beside);
+    const isShown = isDetail && document.body.dataset.pane === 'detail' && byId('detail').contains(this.pane.box);
+    if (!isShown) this.show('versions', [this.pane.box], versionText(version), isDetail);
+    document.title = `${versionText(version)} \u2013 ${seen(store.name)}`;
+    return this.list.reveal(isDetail ? version : -1);
+  }
+
+  // What the slider does: the address goes along, in the place of the one before.
+  turnVersion(version, beside) {
+    history.replaceState(null, '', versionAddress(version, beside));
+    document.body.dataset.pane = 'detail';
+    this.showVersion(version, beside, true);
+  }
+
   showSource(name) {
     const root = this.store.rootNames.get(name);
     if (!root) return this.show('sources', missingView(this.store, [name]), name, true);
@@ -88,7 +112,7 @@ class Page {
   }
 
   backButton() {
-    const names = { tree: 'The tree', commits: 'All commits', sources: 'All sources' };
+    const names = { tree: 'The tree', commits: 'All commits', versions: 'All versions', sources: 'All sources' };
     return element('button', { type: 'button', class: 'back', onclick: () => { document.body.dataset.pane = 'list'; byId('rows').focus(); } }, `\u2039 ${names[this.view]}`);
   }
 
@@ -102,6 +126,7 @@ class Page {
     const words = {
       tree: ['Search labels and values', 'Fold all', 'tree', 'Places'],
       commits: ['Search curators, dates and places', 'Oldest first', 'listbox', 'Commits'],
+      versions: ['Search places, curators and dates', '', 'listbox', 'Versions'],
       sources: ['Search sources', '', 'listbox', 'Sources'],
     }[view];
     byId('search').placeholder = words[0];
@@ -112,7 +137,7 @@ class Page {
     box.setAttribute('aria-label', words[3]);
     this.list = this.made(view, box);
     this.tellCount(0);
-    for (const it of ['tree', 'commits', 'sources']) {
+    for (const it of ['tree', 'commits', 'versions', 'sources']) {
       if (it === view) byId(`tab-${it}`).setAttribute('aria-current', 'page');
       else byId(`tab-${it}`).removeAttribute('aria-current');
     }
@@ -122,6 +147,7 @@ class Page {
   made(view, box) {
     const { store } = this;
     if (view === 'commits') return new CommitList(store, box, (commit, isWalk) => this.go(`#@step/${store.commits.first[commit]}`, isWalk));
+    if (view === 'versions') return new VersionList(store, box, (version, isWalk) => this.go(`#@version/${version}`, isWalk));
     if (view === 'sources') return new SourceList(store, box, (root, isWalk) => this.go(`#@source/${store.roots[root].name}`, isWalk));
     const choose = (place, isWalk) => this.go(addressOf(store.path(place)), isWalk);
     if (this.places) this.places.moveTo(box);
@@ -137,13 +163,15 @@ class Page {
 
   // How many were found; without a search how many there are.
   tellCount(found) {
-    const { roots, commits } = this.store;
+    const { roots, commits, versions } = this.store;
     const inSources = roots.slice(1).reduce((sum, it) => sum + it.rows, 0);
     const all = {
       tree: () => `${count(roots[0].rows, 'place')} in T${inSources > 0 ? `, ${NUMBERS.format(inSources)} in sources` : ''}`,
-      commits: () => count(commits.first.length, 'commit'), sources: () => count(roots.length - 1, 'source'),
+      commits: () => count(commits.first.length, 'commit'),
+      versions: () => (versions.oldest > 0 ? `the newest ${NUMBERS.format(versions.last - versions.oldest + 1)} of ${count(versions.last + 1, 'version')}` : count(versions.last + 1, 'version')),
+      sources: () => count(roots.length - 1, 'source'),
     };
-    const names = { tree: 'place', commits: 'commit', sources: 'source' };
+    const names = { tree: 'place', commits: 'commit', versions: 'version', sources: 'source' };
     byId('count').textContent = byId('search').value ? `${count(found, names[this.view])} found` : all[this.view]();
   }
 
@@ -171,7 +199,7 @@ class Page {
   }
 
   key(event) {
-    const isTyping = event.target.closest('input');
+    const isTyping = event.target.closest('input[type="search"], input[readonly]');
     if (event.ctrlKey || event.metaKey || event.altKey) return;
     if (event.key === '/' && !isTyping) {
       event.preventDefault();

@@ -35,6 +35,7 @@ class Store {
     this.readPasts(columns.pasts);
     this.readParts(columns.parts);
     this.readSteps(columns.steps);
+    this.versions = new Versions(this, columns.versions);
   }
 
   // Places

@@ -298,7 +298,8 @@ function commitView(store, at, tid) {
 function commitStep(store, step, records, isWanted) {
   const box = element('div');
   const content = records.length === 0 ? element('p', { class: 'none' }, 'nothing, as a copy of a place onto itself does') : someRows(box, records, (it) => element('div', {}, recordNode(store, it)));
-  return element('li', { class: isWanted ? 'own wanted' : '' }, element('div', { class: 'who' }, stepLink(step)), content);
+  const after = store.versions.has(step) && element('a', { href: `#@version/${step}` }, 'the tree after it');
+  return element('li', { class: isWanted ? 'own wanted' : '' }, element('div', { class: 'who' }, stepLink(step), after), content);
 }
 
 function commitsView(store) {

@@ -6,10 +6,10 @@ import subprocess
 import tempfile
 from typing import Iterator, List, NamedTuple, Optional, Union
 
-from .replies import Commit, Ended, Refused, number_behind, read_commit, read_uses
+from .replies import Archive, Commit, Ended, Refused, number_behind, read_archive, read_commit, read_uses
 from .spelling import Place
 
-__all__ = ["copy_of", "init", "log", "program", "query", "uses", "verify"]
+__all__ = ["archive", "at", "copy_of", "init", "log", "program", "query", "uses", "verify"]
 
 Name = Union[str, "os.PathLike[str]"]
 
@@ -68,6 +68,19 @@ def verify(store: Name) -> str:
 def query(store: Name, statement: str) -> List[str]:
     """The lines that answer one query on a store, refusals as they are."""
     return _call("query", store, statement).lines
+
+
+def at(store: Name, tid: int, statement: str) -> List[str]:
+    """The lines that answer one `src`, `hist`, `mod`, `trace`, `from` or `show` of a place of T in a version, refusals as they are.
+
+    They are what the program would answer if the step `tid` had been the last; 0 is the start.
+    """
+    return _call("at", store, str(tid), statement).lines
+
+
+def archive(store: Name) -> Archive:
+    """How many versions a store has, and how many ranges: longest runs of versions in which a place holds one content."""
+    return read_archive(_call("archive", store).lines[-1])
 
 
 def uses(store: Name, place: Union[Place, str]) -> List[Place]:

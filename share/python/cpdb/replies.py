@@ -4,8 +4,8 @@ from typing import Dict, List, NamedTuple, Optional, Sequence, Tuple
 
 from .spelling import Place, SpellingError, Tree, read_label, read_place_at, read_written_place, read_written_tree
 
-__all__ = ["Commit", "Committed", "End", "Ended", "Origin", "Record", "Refused", "Segment", "Stats", "Trace",
-           "read_commit", "read_committed", "read_origin", "read_record", "read_records", "read_show", "read_src",
+__all__ = ["Archive", "Commit", "Committed", "End", "Ended", "Origin", "Record", "Refused", "Segment", "Stats", "Trace",
+           "read_archive", "read_commit", "read_committed", "read_origin", "read_record", "read_records", "read_show", "read_src",
            "read_stats", "read_tids", "read_trace", "read_uses"]
 
 
@@ -91,7 +91,15 @@ class Commit(NamedTuple):
     operations: int
 
 
+class Archive(NamedTuple):
+    """The reply of `archive`: how many versions a store has, the start among them, and how many ranges these have in all."""
+
+    versions: int
+    ranges: int
+
+
 _STATS = re.compile(r"stats: kind (n|t|h|ht), tid (\d+), transactions (\d+), records (\d+), nodes (\d+), sources (\d+)")
+_ARCHIVE = re.compile(r"archive: versions (\d+), ranges (\d+)")
 _COMMITTED = re.compile(r"committed (\d+)(?:\.\.(\d+))?")
 _COMMIT = re.compile(r"commit (\d+)(?:\.\.(\d+))? by (.*) at (\d+), operations (\d+)", re.DOTALL)
 _AT = re.compile(r" at (\d+)$")
@@ -213,6 +221,14 @@ def read_stats(line: str) -> Stats:
         raise _unread(line)
     kind, *numbers = found.groups()
     return Stats(kind, *map(int, numbers))
+
+
+def read_archive(line: str) -> Archive:
+    """The reply of `archive`."""
+    found = _ARCHIVE.fullmatch(line)
+    if not found:
+        raise _unread(line)
+    return Archive(*map(int, found.groups()))
 
 
 def read_committed(line: str) -> Committed:

@@ -7,7 +7,7 @@ from .spelling import Place, Tree, copy_text, delete_text, insert_text
 
 __all__ = ["CommitEntry", "Copy", "Delete", "Entry", "FormatError", "Frame", "Frames", "Header", "Insert", "Load", "Operation",
            "Sizes", "Slot", "Start", "entry", "entries_of", "frame_at",
-           "frames", "header", "is_vacant", "operation_text", "sizes"]
+           "frames", "header", "is_vacant", "operation_text", "sizes", "upto"]
 
 KINDS = ("n", "t", "h", "ht")
 FIRST_FRAME = 192
@@ -207,6 +207,57 @@ def entries_of(path: Union[str, "os.PathLike[str]"]) -> Iterator[Entry]:
                 yield entry(frame.body)
             except FormatError as error:
                 raise FormatError(frame.body_offset + error.offset, error.cause) from None
+
+
+def upto(data: Buffer, version: int) -> bytes:
+    """The bytes of a store whose history ends with a version: the start, all loads, and the operations and records up to there."""
+    found, last, pieces = frames(data), 0, [bytes(data[:_SLOTS[0]]), bytes(FIRST_FRAME - _SLOTS[0])]
+    kind = ""
+    for frame in found.frames:
+        body = frame.body
+        if frame.tag != "E":
+            continue
+        if body[0] == 1:
+            kind = KINDS[body[1]]
+        elif body[0] != 2:
+            left = version - last
+            last += _steps_of(body, kind)
+            body = body if last <= version else _first_steps(body, left, version) if left > 0 else b""
+        if body:
+            pieces.append(b"\x01E" + len(body).to_bytes(8, "big") + body)
+    return b"".join([*pieces, b"\x00"])
+
+
+def _steps_of(body: bytes, kind: str) -> int:
+    """How many steps the body of a commit has."""
+    return _past_stamp(body).number(4) if kind in ("n", "h") else 1
+
+
+def _first_steps(body: bytes, count: int, last: int) -> bytes:
+    """The body of a commit with its first operations alone, of which each is a step, and their records."""
+    reader = _past_stamp(body)
+    first, total = reader.offset, reader.number(4)
+    for _ in range(count):
+        reader.operation()
+    operations = body[first + 4:reader.offset]
+    for _ in range(total - count):
+        reader.operation()
+    records = 0
+    start, end = reader.offset + 4, reader.offset + 4
+    for _ in range(reader.number(4)):
+        if reader.record().tid > last:
+            break
+        records, end = records + 1, reader.offset
+    return body[:first] + count.to_bytes(4, "big") + operations + records.to_bytes(4, "big") + body[start:end]
+
+
+def _past_stamp(body: bytes) -> "_Reader":
+    """Reads the body of a commit up to the number of its operations."""
+    reader = _Reader(body)
+    if reader.number(1) == 4:
+        reader.label()
+        reader.number(8)
+    return reader
 
 
 class _Reader:

@@ -11,6 +11,10 @@ from typing import Dict, Iterable, Iterator, List, NamedTuple, Optional, Set, Tu
 
 import cpdb
 from cpdb import Place, Segment, Trace, tool
+from cpdb.past import content_of
+from cpdb.versions import Course, is_same
+
+from .versions import Versions, undone_on, versions_of
 
 # How many places of sources, and how many characters of their replies, a page has in whole trees. Of a source beyond
 # that it has the places that were taken.
@@ -18,7 +22,7 @@ MOST_PLACES, MOST_TEXT = 100_000, 8_000_000
 
 
 class Disagreement(Exception):
-    """An answer of the program isn't the one that follows from another answer."""
+    """An answer of the program isn't the one that follows from another answer, or from the operations of its file."""
 
     def __init__(self, answered: str, expected: str) -> None:
         super().__init__(f"the program answers {answered!r}, where {expected!r} follows from its other answers")
@@ -73,19 +77,29 @@ class Answers(NamedTuple):
     parts: Dict[int, List[int]]
     changes: List[Change]
     sources: List[Source]
+    versions: Versions
 
 
 def collect(store: str) -> Answers:
     """Asks the program in one session over a copy of the store."""
     with tool.reading(store) as (copy, session):
-        commits, loads = cpdb.log(copy), loads_of(copy)
-        stats = session.stats()
-        rows = rows_of(Place("T"), session.show())
+        commits, loads = tool.Commits(copy), loads_of(copy)
+        stats, tree = session.stats(), session.show()
+        rows = rows_of(Place("T"), tree)
         pasts = pasts_of(session, rows, stats.tid)
         parts = parts_of(session, rows, pasts)
         changes = changes_of(session.send("records")[:-1])
         sources = sources_of(session, loads, rows, pasts, changes)
-    return Answers(stats, commits, rows, pasts, parts, changes, sources)
+        versions = versions_in(Course(copy, commits), tree, [it.name for it in sources if it.is_whole])
+    return Answers(stats, commits.all, rows, pasts, parts, changes, sources, versions)
+
+
+def versions_in(course: Course, tree: cpdb.Tree, whole: List[str]) -> Versions:
+    """The versions of a file, of which the last one has this tree."""
+    undone = undone_on(course)
+    if not is_same(course.tree(), content_of(tree)):
+        raise Disagreement(f"show T: {cpdb.tree_text(tree)[:200]}", f"T after {tool.counted(course.version, 'step')} of the file")
+    return versions_of(undone, course.trees, whole)
 
 
 def loads_of(store: str) -> List[Tuple[str, int]]:

@@ -9,6 +9,7 @@ import cpdb
 from cpdb import Place
 
 from .answers import Answers, Change, Past, Row
+from .versions import Branch, Kept, Leaf, Versions
 
 FORM = 1
 # The ends of a past that are no place.
@@ -52,6 +53,7 @@ def columns_of(answers: Answers, name: str, moment: int) -> Dict[str, Any]:
     standing = columns_of_rows(rows, numbers)
     pasts = [number for past in answers.pasts for number in past_numbers(past, numbers)]
     steps = columns_of_changes(answers.changes, numbers)
+    versions = columns_of_versions(answers.versions, numbers)
     return {
         "form": FORM, "name": name, "made": moment, "stats": answers.stats._asdict(),
         "roots": [{"name": "T", "rows": len(answers.rows), "places": len(answers.rows), "whole": True, "after": 0}] + [
@@ -59,7 +61,7 @@ def columns_of(answers: Answers, name: str, moment: int) -> Dict[str, Any]:
             for it in answers.sources],
         "standing": standing, "pasts": pasts,
         "parts": [[place, *steps_] for place, steps_ in sorted(answers.parts.items())],
-        "commits": columns_of_commits(answers.commits), "steps": steps,
+        "commits": columns_of_commits(answers.commits), "steps": steps, "versions": versions,
         "others": {"parents": [it[0] for it in numbers.others], "labels": [it[1] for it in numbers.others]},
         "labels": list(numbers.labels),
     }
@@ -108,6 +110,33 @@ def columns_of_changes(changes: List[Change], numbers: Numbers) -> Dict[str, Any
             "places": [numbers.place(it.place) for it in records],
             "sources": [numbers.place(it.source) for it in records if it.source is not None],
             "below": [it.below for it in changes]}
+
+
+def columns_of_versions(versions: Versions, numbers: Numbers) -> Dict[str, Any]:
+    """Of each version after the oldest how many places its step changed; of these their numbers, and 0 or one more than the
+    number of what stood there before. The contents have the letters of rows, or `p` where they stand at a place; `below` has of
+    a node how many children it has, then each with its label and its content, and of a `p` the number of the place."""
+    kinds, texts, below = [], [], []
+    for kept in versions.contents:
+        kind, text, numbers_below = kept_columns(kept, numbers)
+        kinds.append(kind)
+        below += numbers_below
+        if text is not None:
+            texts.append(text)
+    changes = [it for step in versions.steps for it in step]
+    return {"oldest": versions.oldest, "counts": [len(it) for it in versions.steps],
+            "places": [numbers.place(it[0]) for it in changes], "before": [0 if it[1] is None else it[1] + 1 for it in changes],
+            "kinds": "".join(kinds), "texts": texts, "below": below}
+
+
+def kept_columns(kept: Kept, numbers: Numbers) -> Tuple[str, Optional[str], List[int]]:
+    """The letter of a content, its text where it has one, and its numbers."""
+    if isinstance(kept, Place):
+        return "p", None, [numbers.place(kept)]
+    if isinstance(kept, Leaf):
+        return (*letter_of(kept.value), [])
+    assert isinstance(kept, Branch)
+    return "n", None, [len(kept.children), *(it for label, number in kept.children for it in (numbers.label(label), number))]
 
 
 def columns_of_commits(commits: List[cpdb.Commit]) -> Dict[str, Any]:

@@ -92,7 +92,7 @@ syntax match cpdbByWhom /\<by\>/ contained nextgroup=cpdbCurator,cpdbQuotedCurat
 syntax match cpdbCurator /\k\+/ contained nextgroup=cpdbNumbersAfter
 syntax region cpdbQuotedCurator start=/"/ skip=/\\./ end=/"/ contained contains=cpdbEscape nextgroup=cpdbNumbersAfter
 syntax match cpdbNumbersAfter / at \d.*$/ contained contains=cpdbNumber,cpdbComma
-syntax match cpdbDone /^\s*\%(committed\|aborted\|loaded\|created\|agrees\|log:\|gen:\)\>\?\%( .*\)\?$/ contains=cpdbSteps,cpdbNumber
+syntax match cpdbDone /^\s*\%(committed\|aborted\|loaded\|created\|agrees\|archive:\|log:\|gen:\)\>\?\%( .*\)\?$/ contains=cpdbSteps,cpdbNumber
 syntax match cpdbSteps /\<\d\+\.\.\d\+\>/ contained
 syntax match cpdbRefused /^\s*\%(refused\|error\|differs\)\>.*$/
 syntax match cpdbTid /^\s*\zs\d\+\ze [ICDK] / nextgroup=cpdbRecord skipwhite
