@@ -1,8 +1,9 @@
 -- What differs at and below the places that a step touched.
-use Rattle.std.specs.Prelude.{◌+◌, ◌≤◌, Bool, List, [], ◌∷◌, ◌++◌, length, is_some, if◌then◌else◌}
+use Rattle.std.specs.Prelude.{◌≡◌, ◌+◌, ◌≤◌, Bool, List, [], ◌∷◌, ◌++◌, length, is_some, if◌then◌else◌}
 use Rattle.std.proofs.Common.{T}
 use Rattle.std.specs.List.{All, flat_map}
 use Rattle.std.specs.FinMap.Entries.{is_sorted}
+use Rattle.std.specs.declared.cmp.Ordering.TheVariants.{Less}
 use Rattle.std.specs.declared.option.Option.TheVariants.{None, Some}
 use Rattle.cp_path.specs.declared.limits.TheConstants.{LABELS_MAX, TEXT_MAX}
 use Rattle.cp_model.specs.Place.{Path, path_cmp}
@@ -25,6 +26,11 @@ pub record CanDiffer (x : Touched) : Type 0 where
   pub after : T (is_sorted path_cmp (entries_in x.after))
   pub old : All (FitsBelow x.place) x.before
   pub new : All (FitsBelow x.place) x.after
+
+-- rows in order that have what all of them have at each path after p
+pub record AreAfter (p : Path) (all left : List Row) : Type 0 where
+  pub sorted : T (is_sorted path_cmp (entries_in left))
+  pub same : (q : Path) → path_cmp p q ≡ Less → look q (entries_in left) ≡ look q (entries_in all)
 
 -- the path of a row, unless it is still there
 abbrev pub gone_at : Path → List Row → Row → List Difference

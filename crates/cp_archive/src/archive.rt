@@ -92,8 +92,7 @@ impl Archive {
     }
 
     /// Adds the next version, to which a step led that touched these places, and gives its number. Costs the rows that it is told,
-    /// each with a logarithm of them, and for each path that differs a logarithm of all paths that were ever there. After an error
-    /// the archive is as it was.
+    /// and for each path that differs a logarithm of all paths that were ever there. After an error the archive is as it was.
     pub fn add_step(&mut self, alloc: Global, touched: &[Touched]) -> Result<u64, AllocError>
         requires few { length self.old < 2 ^ 63 }
         requires step { (tree : Tree) × Leads touched.now (newest self.old) tree }

@@ -7,7 +7,7 @@ ghost use Rattle.std.specs.FinMap.Entries.{is_sorted};
 ghost use Rattle.cp_model.specs.Place.{path_cmp};
 ghost use Rattle.cp_model.specs.Keyed.{look};
 ghost use Rattle.cp_tree.specs.Rows.{entries_in};
-ghost use Rattle.cp_archive.specs.Differences.{FitsBelow, CanDiffer, gone_at, begun_at, differences_at, begins};
+ghost use Rattle.cp_archive.specs.Differences.{AreAfter, FitsBelow, CanDiffer, gone_at, begun_at, differences_at, begins};
 
 use crate::same::is_same;
 use crate::touched::Touched;
@@ -15,6 +15,7 @@ use cp_model::{Content, Row};
 use cp_path::Path;
 use cp_tree::SharedContent;
 use std::alloc::{AllocError, Global};
+use std::cmp::Ordering;
 
 /// What a step left at a path where it changed something: a content, or nothing.
 #[derive(Drop)]
@@ -23,62 +24,71 @@ pub struct Difference {
     pub(crate) content: Option<SharedContent>,
 }
 
-/// Finds what rows have at a path. Costs a logarithm of them.
-fn content_in<'a>(rows: &'a [Row], path: &Path) -> Option<&'a Content>
+/// Finds what rows have at a path, and which of them come after it. Costs the rows that it passes.
+fn pass_to<'a>(rows: &'a [Row], path: &Path) -> (Option<&'a Content>, &'a [Row])
     requires { T (is_sorted path_cmp (entries_in rows.now)) }
-    ensures { option_copied result ≡ look path.now (entries_in rows.now) }
+    ensures content { option_copied result.0 ≡ look path.now (entries_in rows.now) }
+    ensures after { AreAfter path.now rows.now result.1.now }
 {
-    match rows.binary_search_by(|row| row.path.cmp(path)) {
-        Ok(index) => Some(&rows[index].content),
-        Err(_) => None,
+    let mut left = rows;
+    while let Some((row, after)) = left.split_first() {
+        match row.path.cmp(path) {
+            Ordering::Less => left = after,
+            Ordering::Equal => return (Some(&row.content), after),
+            Ordering::Greater => break,
+        }
     }
+    (None, left)
 }
 
-/// Adds a row's path, unless it is still there.
-fn add_if_gone(
+/// Adds a row's path, unless it is still there. Gives the rows of the others that come after it.
+fn add_if_gone<'a>(
     alloc: Global,
     place: &Path,
     row: &Row,
-    after: &[Row],
+    others: &'a [Row],
     found: &mut Vec<Difference>,
-) -> Result<(), AllocError>
-    requires sorted { T (is_sorted path_cmp (entries_in after.now)) }
+) -> Result<&'a [Row], AllocError>
+    requires sorted { T (is_sorted path_cmp (entries_in others.now)) }
     requires fits { FitsBelow place.now row.now }
-    ensures { OnOk result (found.new.items ≡ found.old.items ++ gone_at place.now after.now row.now) }
+    ensures found { OnOk result (found.new.items ≡ found.old.items ++ gone_at place.now others.now row.now) }
+    ensures after { IfOk result (λ left. AreAfter row.now.path others.now left.now) }
 {
-    if content_in(after, &row.path).is_some() {
-        return Ok(());
+    let (content, left) = pass_to(others, &row.path);
+    if content.is_none() {
+        let path = place.joined(row.path.labels())?;
+        let content = None;
+        found.push(Difference { path, content })?;
     }
-    let path = place.joined(row.path.labels())?;
-    let content = None;
-    found.push(Difference { path, content })?;
-    Ok(())
+    Ok(left)
 }
 
-/// Adds a row's path with its content, unless it was there with that content.
-fn add_if_begun(
+/// Adds a row's path with its content, unless it was there with that content. Gives the rows of the others that come after it.
+fn add_if_begun<'a>(
     alloc: Global,
     place: &Path,
     row: &Row,
-    before: &[Row],
+    others: &'a [Row],
     found: &mut Vec<Difference>,
-) -> Result<(), AllocError>
-    requires sorted { T (is_sorted path_cmp (entries_in before.now)) }
+) -> Result<&'a [Row], AllocError>
+    requires sorted { T (is_sorted path_cmp (entries_in others.now)) }
     requires fits { FitsBelow place.now row.now }
-    ensures { OnOk result (found.new.items ≡ found.old.items ++ begun_at place.now before.now row.now) }
+    ensures found { OnOk result (found.new.items ≡ found.old.items ++ begun_at place.now others.now row.now) }
+    ensures after { IfOk result (λ left. AreAfter row.now.path others.now left.now) }
 {
-    if let Some(content) = content_in(before, &row.path) {
+    let (content, left) = pass_to(others, &row.path);
+    if let Some(content) = content {
         if is_same(content, &row.content) {
-            return Ok(());
+            return Ok(left);
         }
     }
     let path = place.joined(row.path.labels())?;
     let content = Some(SharedContent::of(alloc, &row.content)?);
     found.push(Difference { path, content })?;
-    Ok(())
+    Ok(left)
 }
 
-/// Adds the paths of the rows that aren't there any more.
+/// Adds the paths of the rows that aren't there any more. Costs the rows of both.
 fn add_gone(
     alloc: Global,
     place: &Path,
@@ -86,17 +96,19 @@ fn add_gone(
     after: &[Row],
     found: &mut Vec<Difference>,
 ) -> Result<(), AllocError>
-    requires sorted { T (is_sorted path_cmp (entries_in after.now)) }
+    requires before { T (is_sorted path_cmp (entries_in before.now)) }
+    requires after { T (is_sorted path_cmp (entries_in after.now)) }
     requires fits { All (FitsBelow place.now) before.now }
     ensures { OnOk result (found.new.items ≡ found.old.items ++ flat_map (gone_at place.now after.now) before.now) }
 {
+    let mut left = after;
     for row in before {
-        add_if_gone(alloc, place, row, after, found)?;
+        left = add_if_gone(alloc, place, row, left, found)?;
     }
     Ok(())
 }
 
-/// Adds the paths of the rows that are new or have a new content.
+/// Adds the paths of the rows that are new or have a new content. Costs the rows of both.
 fn add_begun(
     alloc: Global,
     place: &Path,
@@ -104,12 +116,14 @@ fn add_begun(
     after: &[Row],
     found: &mut Vec<Difference>,
 ) -> Result<(), AllocError>
-    requires sorted { T (is_sorted path_cmp (entries_in before.now)) }
+    requires before { T (is_sorted path_cmp (entries_in before.now)) }
+    requires after { T (is_sorted path_cmp (entries_in after.now)) }
     requires fits { All (FitsBelow place.now) after.now }
     ensures { OnOk result (found.new.items ≡ found.old.items ++ flat_map (begun_at place.now before.now) after.now) }
 {
+    let mut left = before;
     for row in after {
-        add_if_begun(alloc, place, row, before, found)?;
+        left = add_if_begun(alloc, place, row, left, found)?;
     }
     Ok(())
 }
@@ -130,8 +144,7 @@ fn add_differences(
     add_begun(alloc, place, before, after, found)
 }
 
-/// Finds what differs at and below the places. Costs the logarithm of their rows for each row, and the path and the text of
-/// each difference.
+/// Finds what differs at and below the places. Costs their rows, and the path and the text of each difference.
 pub(crate) fn differences(alloc: Global, touched: &[Touched]) -> Result<Vec<Difference>, AllocError>
     requires { All CanDiffer touched.now }
     ensures { IfOk result (λ v. v.items ≡ flat_map differences_at touched.now) }

@@ -1,8 +1,6 @@
-use Rattle.std.proofs.Common.{◌≡◌, ◌++◌, drop}
-use Rattle.std.specs.List.{flat_map}
-use Rattle.cp_archive.specs.Differences.{begun_at}
+use Rattle.std.proofs.Common.{drop}
+use Rattle.cp_archive.proofs.Finding.{begun_with, AreGiven}
 use Rattle.cp_archive.proofs.difference.add_begun.Given as goal
 
--- what is found and what the rows to come give is what all give
 abbrev pub invariant-loop-row : goal.invariant-loop-row
-invariant-loop-row l = l.found.items ++ flat_map (begun_at l.place l.before) (drop l.row-index l.after) ≡ l.fn.found.items ++ flat_map (begun_at l.place l.before) l.after
+invariant-loop-row l = AreGiven (begun_with l.place) l.fn.found.items l.found.items l.before l.left l.after (drop l.row-index l.after)
