@@ -32,6 +32,7 @@ usage: cpdb gen SEED COUNT KIND
 usage: cpdb log STORE
 usage: cpdb at STORE TID STATEMENT
 usage: cpdb archive STORE
+usage: cpdb share STORE
 usage: cpdb uses STORE PLACE
 """
 KINDS = ("n", "t", "h", "ht")
@@ -525,14 +526,29 @@ class Store:
         return "stats: kind %s, tid %d, transactions %d, records %d, nodes %d, sources %d" % numbers
 
 
+def texts(data):
+    """Each text that isn't white space alone, with the fault that it has as a whole."""
+    for text, is_ended in cuts(data):
+        if text.strip(b" \t\n\r"):
+            if len(text) > STATEMENT_MAX:
+                yield text, "statement too long"
+            else:
+                yield text, None if is_ended else "syntax at %d" % len(text)
+
+
 class Session:
     def __init__(self, store, curator, world):
         self.store, self.curator, self.world = store, curator, world
         self.ops, self.failed, self.work = [], None, None
-        self.lines = world.lines
 
     def say(self, line):
-        self.lines.append(line)
+        self.world.lines.append(line)
+
+    def is_open(self):
+        return self.work is not None or self.failed is not None
+
+    def may_load(self):
+        return not self.is_open()
 
     def fail(self, cause):
         if self.failed is None:
@@ -540,20 +556,19 @@ class Session:
         self.say("refused: " + cause)
 
     def run(self, data):
-        for text, is_ended in cuts(data):
-            if not text.strip(b" \t\n\r"):
-                continue
-            if len(text) > STATEMENT_MAX:
-                self.fail("statement too long")
-            elif not is_ended:
-                self.fail("syntax at %d" % len(text))
-            else:
-                try:
-                    statement = parse(text)
-                except Fault as fault:
-                    self.fail(str(fault))
-                    continue
-                self.take(statement)
+        for text, fault in texts(data):
+            self.meet(text, fault)
+
+    def meet(self, text, fault):
+        """A text, or the fault that it has as a whole."""
+        try:
+            if fault:
+                raise Fault(fault)
+            statement = parse(text)
+        except Fault as fault:
+            self.fail(str(fault))
+        else:
+            self.take(statement)
 
     def take(self, statement):
         verb = statement[0]
@@ -570,7 +585,8 @@ class Session:
             self.show(statement[1])
         elif verb == "records":
             records = [it for it in self.store.records if statement[1] in (None, it[0])]
-            self.lines += [record_text(record) for record in records]
+            for record in records:
+                self.say(record_text(record))
             self.say("records: %d" % len(records))
         elif verb == "stats":
             self.say(self.store.stats())
@@ -630,7 +646,7 @@ class Session:
     def load(self, statement):
         _, name, form, file, key = statement
         try:
-            if self.work is not None or self.failed is not None:
+            if not self.may_load():
                 raise Refused("a transaction is open")
             if name in self.store.sources:
                 raise Refused("source %s is there" % name)
@@ -658,6 +674,59 @@ class Session:
             self.say("show %s: %s" % (place_text(place), tree_text(tree, place[1:])))
 
 
+class Curator(Session):
+    """One of several curators, whose transaction stays on the tree on which it began."""
+
+    def __init__(self, name, desks, world):
+        super().__init__(desks.store, name, world)
+        self.desks, self.since = desks, None
+
+    def say(self, line):
+        super().say("@%s %s" % (self.curator, line))
+
+    def may_load(self):
+        return not any(one.is_open() for one in self.desks.curators.values())
+
+    def operate(self, op):
+        if not self.is_open():
+            self.since = self.store.tid
+        super().operate(op)
+
+    def commit(self):
+        if self.failed is None and self.ops and self.since < self.store.tid:
+            self.say("refused commit: stale at %d" % self.store.tid)
+            self.ops, self.work = [], None
+        else:
+            super().commit()
+
+
+class Desks:
+    """The input of several curators, each text of which begins with the name of one."""
+
+    def __init__(self, store, world):
+        self.store, self.world, self.curators = store, world, {}
+
+    def run(self, data):
+        for text, fault in texts(data):
+            found = re.match(rb'[ \t\n\r]*@([A-Za-z][A-Za-z0-9_]{0,31})(?=[\x00-\x20";{}:,]|\Z)', text)
+            if found and len(text) <= STATEMENT_MAX:
+                name = found[1].decode()
+                blanks = b" " * len(found[0])
+                self.curators.setdefault(name, Curator(name, self, self.world)).meet(blanks + text[len(blanks) :], fault)
+            else:
+                self.world.lines.append("refused: " + self.fault_of_nobody(text, fault))
+
+    def fault_of_nobody(self, text, fault):
+        """Where a text is refused that is nobody's."""
+        if len(text) > STATEMENT_MAX:
+            return fault
+        try:
+            text.decode()
+        except UnicodeDecodeError as bad:
+            return "syntax at %d" % bad.start
+        return fault or "syntax at %d" % (len(text) - len(text.lstrip(b" \t\n\r")))
+
+
 # Calls.
 
 
@@ -677,7 +746,7 @@ def fit(words):
     match words:
         case ["scratch", kind] | ["scratch", kind, _] | ["init", _, kind] | ["init", _, kind, _]:
             return kind in KINDS
-        case ["run", _] | ["commit", _, _] | ["log", _] | ["verify", _]:
+        case ["run", _] | ["commit", _, _] | ["log", _] | ["verify", _] | ["archive", _] | ["share", _]:
             return True
         case ["run", _, curator] | ["commit", _, _, curator]:
             return size(curator) <= 255
@@ -696,8 +765,6 @@ def fit(words):
             except (Fault, ValueError):
                 return False
             return is_decimal(tid, 0, 2**64 - 1) and verb in PLACE_QUERIES and place[0] == "T"
-        case ["archive", _]:
-            return True
         case ["uses", _, place]:
             return place_of(place) is not None
         case ["gen", seed, count, kind]:
@@ -788,6 +855,8 @@ class World:
     def on_store(self, command, store, words):
         if command == "run":
             Session(store, "".join(words), self).run(self.take_input())
+        elif command == "share":
+            Desks(store, self).run(self.take_input())
         elif command == "commit":
             try:
                 data = self.read(words[0])
@@ -828,7 +897,7 @@ class World:
             return
         try:
             self.call()
-            self.status = int(any(line.startswith(("refused", "differs")) for line in self.lines))
+            self.status = int(any(re.match("(@[A-Za-z0-9_]+ )?(refused|differs)", line) for line in self.lines))
         except Ended as end:
             self.status = end.args[0]
             self.lines.append(end.args[1])
@@ -901,7 +970,7 @@ def sessions_of(path):
             cases.append((line, [("words", "scratch n", []), ("in", "-", [line[2:]]), ("out", "", [])], []))
         elif line.startswith("$ bin/cpdb "):
             block, words = "session", line[11:]
-            if words.split()[0] not in ("run", "commit", "load", "query", "log", "verify", "at", "archive", "uses"):
+            if words.split()[0] not in ("run", "commit", "load", "query", "log", "verify", "at", "archive", "share", "uses"):
                 cases.append((line, [], []))
             moment = 1_795_910_400 + 60 * (len(cases[-1][1]) // 4)
             moments = "%d %d %d" % (moment, moment + 1, moment + 2)

@@ -305,7 +305,7 @@ class Disks(World):
     def on_store(self, command, store, words):
         name = self.words[1]
         data = self.data[name]
-        if command in ("run", "commit"):
+        if command in ("run", "commit", "share"):
             data = data[:6] + b"\1" + data[7:]
         try:
             if command == "verify":

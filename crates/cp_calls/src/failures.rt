@@ -3,6 +3,7 @@
 use crate::call::{Call, Device, Outcome};
 use crate::files::CaseFiles;
 use crate::program::Program;
+use cp_cases::line_of;
 use cp_disk::{Crash, MemDisk};
 use cp_outside::MemFiles;
 use cp_tree_arena::ArenaTree;
@@ -60,7 +61,7 @@ pub(crate) struct Bounds {
 fn entries_told(output: &[u8]) -> Option<u64> {
     let text = std::str::from_utf8(output).unwrap_or("");
     let mut told = None;
-    for line in text.split('\n') {
+    for line in text.split('\n').map(line_of) {
         if line.starts_with("created ") {
             told = Some(0);
         } else if line.starts_with("committed ") || line.starts_with("loaded ") {

@@ -3,11 +3,12 @@
 //! Examples stand in blocks that are indented by four spaces. After `< ` comes the whole input of a call of `scratch n`, and
 //! the lines below it are its output. After `$ bin/cpdb ` come the words of a session: of the lines of this block and of all
 //! later ones, those that end in a semicolon go in, and all others come out. The status is 1 where a line refuses something.
-//! A session whose first word is `run`, `commit`, `load`, `query`, `log`, `verify`, `at`, `archive` or `uses` goes on in the
-//! case of the call before it, whose store it opens. The clock tells `FIRST_MOMENT` in the first call of a case and a minute
-//! more in each later one, and a second more at each further commit of a call, of which it tells three.
+//! A session whose first word is `run`, `commit`, `load`, `query`, `log`, `verify`, `at`, `archive`, `share` or `uses` goes on in
+//! the case of the call before it, whose store it opens. The clock tells `FIRST_MOMENT` in the first call of a case and a
+//! minute more in each later one, and a second more at each further commit of a call, of which it tells three.
 
 use crate::sheet::{Case, Sheet};
+use crate::words::line_of;
 use std::alloc::{AllocError, Global};
 
 /// When the clock begins, in seconds since 1970-01-01 00:00 UTC: 2026-11-29 00:00 UTC.
@@ -64,7 +65,16 @@ fn add_call(alloc: Global, case: &mut Case, line: Line<'_>, words: &str) -> Resu
 fn opens_store(words: &str) -> bool {
     let (command, _) = words.split_once(' ').unwrap_or((words, ""));
     match command {
-        "run" | "commit" | "load" | "query" | "log" | "verify" | "at" | "archive" | "uses" => true,
+        "run"
+        | "commit"
+        | "load"
+        | "query"
+        | "log"
+        | "verify"
+        | "at"
+        | "archive"
+        | "share"
+        | "uses" => true,
         _ => false,
     }
 }
@@ -171,7 +181,7 @@ fn refuses(case: &Case) -> bool {
         return false;
     };
     for line in output.lines.iter() {
-        if line.as_str().starts_with("refused") {
+        if line_of(line.as_str()).starts_with("refused") {
             return true;
         }
     }

@@ -17,4 +17,4 @@ mod words;
 pub use hex::{bytes_in, hex_of};
 pub use player::{Player, play_files};
 pub use sheet::Step;
-pub use words::{compare, number_of, numbers_of, words_of};
+pub use words::{compare, line_of, number_of, numbers_of, words_of};

@@ -48,6 +48,14 @@ pub fn words_of(alloc: Global, line: &str) -> Result<Vec<String>, AllocError> {
     Ok(words)
 }
 
+/// A line of an output without the curator, of several, to whom it goes.
+pub fn line_of(line: &str) -> &str {
+    match line.strip_prefix("@") {
+        Some(rest) => rest.split_once(' ').map_or(line, |parts| parts.1),
+        None => line,
+    }
+}
+
 /// The numbers of a line; words that are none are left out.
 pub fn numbers_of(alloc: Global, line: &str) -> Result<Vec<u64>, AllocError> {
     let mut numbers = Vec::new(alloc);

@@ -1,7 +1,6 @@
 -- Workspaces that commit nothing, and sources that a call loads by itself.
 use Rattle.std.proofs.Common.{◌≡◌, ℕ, List, [], Bool, true, Ok, Err, inl, inr, refl, sym, ap, subst, ◌∙◌, arith}
 use Rattle.std.specs.Prelude.{IsTrue, Result, ◌⊎◌, ◌≤◌}
-use Rattle.std.specs.declared.option.Option.TheVariants.{Some}
 use Rattle.cp_outside.specs.Causes.{Accounts, Rose}
 use Rattle.cp_model.specs.Tree.{Tree}
 use Rattle.cp_model.specs.History.{Entry}
@@ -26,13 +25,13 @@ use Rattle.cp_workspace.specs.Texts.{Terms, setting}
 use Rattle.cp_workspace.specs.Loads.{statement_reads}
 use Rattle.cp_workspace.specs.Files.{KnownFiles, HasRead, UsesFiles}
 use Rattle.cp_workspace.specs.Spending.{Spends}
-use Rattle.cp_workspace.specs.Workspaces.{workspace_at, Stands, HoldsFile, HasTurned, db_in, end_now, opened_session}
+use Rattle.cp_workspace.specs.Workspaces.{workspace_at, of_nobody, Stands, HoldsFile, HasTurned, db_in, end_now, opened_session}
 use Rattle.cp_workspace.specs.declared.fault.WorkspaceFault.{WorkspaceFault}
 use Rattle.cp_workspace.specs.declared.fault.WorkspaceFault.TheVariants as fails
 use Rattle.cp_workspace.specs.declared.workspace.Workspace.{Workspace}
 use Rattle.cp_interpreter.specs.Job.{Report, is_refusal}
 use Rattle.cp_interpreter.specs.Outside.{KnownInput, KnownClock, KnownOutput, Outside}
-use Rattle.cp_interpreter.specs.Story.{Writes, StopsIn, SaidLine, HasCauses, DiskCauses, HasNotBegun, result_of, left_on, store_terms, frames_end}
+use Rattle.cp_interpreter.specs.Story.{Writes, StopsIn, SaidLine, HasCauses, DiskCauses, HasNotBegun, result_of, left_on, one_curator, terms_from, store_terms, frames_end}
 use Rattle.cp_interpreter.specs.Alone.{report_on, DidStatement, Loaded}
 use Rattle.cp_interpreter.specs.Begins.{IsOpeningStop, OpenedAlone, NotOpened, LoadGives, LoadedAs}
 use Rattle.cp_interpreter.specs.Turns.{TellsStop, end_of_stop}
@@ -49,15 +48,15 @@ use Rattle.cp_interpreter.proofs.Said.{statement-said, said-short, said-fitting,
 -- a workspace on the database that was opened
 pub alone-opened : {R S : Type 0} (view : R → Tree) (source_view : S → Tree) (v w : KnownDisk) (db : Db R S) (d : Workspace R S) (curator : List ℕ) → curator ≡ [] → db_in d ≡ db
     → HasOpened view source_view db v.view.content w.view → ViewRests v.view w.view → w.view.images w.view.content
-    → ((h : List Entry) (supply : Supply) → database.Stands view source_view true db h → Stands view source_view (record { ends = end_now h db; curator = curator }) d (opened_session h supply))
+    → ((h : List Entry) (supply : Supply) → database.Stands view source_view true db h → Stands view source_view (terms_from (end_now h db) (one_curator curator)) d (opened_session h supply))
     → OpenedAlone view source_view v w (Ok d)
 alone-opened view source_view v w db d curator none same o r i f = (
   o.opens,
   λ h supply store. (
       let x = o.stands true h store.told in
       let ends = kept-end db h w.view x.1 i ∙ ap frames_end r.content in (
-        subst (λ n. Stands view source_view (record { ends = record { entries = h; at = n }; curator = [] }) d (opened_session h supply)) ends
-            (subst (λ u. Stands view source_view (record { ends = end_now h db; curator = u }) d (opened_session h supply)) none (f h supply x.0)),
+        subst (λ n. Stands view source_view (terms_from (record { entries = h; at = n }) (one_curator [])) d (opened_session h supply)) ends
+            (subst (λ u. Stands view source_view (terms_from (end_now h db) (one_curator u)) d (opened_session h supply)) none (f h supply x.0)),
         subst (λ y. IsKept true y h w.view) (sym same) x.1,
       )
       ),
@@ -130,7 +129,7 @@ module _ {R S : Type 0} (view : R → Tree) (source_view : S → Tree) (l : Load
   module _ (old new : Workspace R S) (same : IsTrue v.known → IsTrue m.known) (rests : IsTrue v.known → ViewRests v.view m.view) (opened : IsTrue v.known → OpenedAlone view source_view v m (Ok old)) where
     -- the load made its turn
     abbrev MadeTurn : Result Reply WorkspaceFault → Type 0
-    MadeTurn r = HasTurned view source_view (λ (y : Reply). Some y) (λ terms s. turn_of (setting terms) s (says (stmt.Load l))) (IsSupplied f k k) (workspace_at old m) (workspace_at new w) r
+    MadeTurn r = HasTurned view source_view of_nobody (λ terms s. turn_of (setting terms) s (says (stmt.Load l))) (IsSupplied f k k) (workspace_at old m) (workspace_at new w) r
 
     -- and read its file, or none
     abbrev HasSpentAs : Result Reply WorkspaceFault → Type 0
@@ -138,7 +137,7 @@ module _ {R S : Type 0} (view : R → Tree) (source_view : S → Tree) (l : Load
 
     module _ (known : IsTrue v.known) (h : List Entry) (store : IsStore h v.view.content) where
       abbrev terms : Terms
-      terms = store_terms h v.view.content []
+      terms = store_terms h v.view.content (one_curator [])
 
       -- the session, to which this is told
       abbrev session : Supply → Session

@@ -33,7 +33,7 @@ use Rattle.cp_workspace.specs.Spending.{HasSpent}
 use Rattle.cp_workspace.proofs.Spent.{spent-as}
 use Rattle.cp_workspace.proofs.Supplied.{supplied-none}
 use Rattle.cp_interpreter.specs.Outside.{call_at, KnownInput, KnownClock, KnownOutput, Outside}
-use Rattle.cp_interpreter.specs.Story.{LeavesHistory, WritesLast, frames_end, store_terms, left_on, DidOn, session_on, work_on, Leaving, Did, IsEarly, early_line, HasNotBegun, RanOn, HasCauses, DiskCauses, result_of, StandsForFront}
+use Rattle.cp_interpreter.specs.Story.{LeavesHistory, WritesLast, frames_end, Committers, terms_from, store_terms, left_on, DidOn, session_on, work_on, Leaving, Did, IsEarly, early_line, HasNotBegun, RanOn, HasCauses, DiskCauses, result_of, StandsForFront}
 use Rattle.cp_interpreter.specs.Turns.{Follows, MayGoOn, LeavesAlong, RanFrom, TellsStop, end_of_stop, work_from}
 use Rattle.cp_interpreter.specs.Begins.{LeavesStore, Migrated, OpenedAs, BegunOn, IsOpeningStop}
 use Rattle.cp_interpreter.specs.declared.interpreter.Interpreter.{Interpreter}
@@ -111,31 +111,31 @@ opened-fault view source_view v w (opens.NoStore at) stop becomes o r = subst (�
 -- ---- sessions on a store
 
 -- the session on each history that the content tells
-pub begun-on : {R S : Type 0} (view : R → Tree) (source_view : S → Tree) (curator : List ℕ) (v w : KnownDisk) (d : Db R S) (x : Interpreter R S) → OpenedAs view source_view v w (Ok d)
-    → ((h : List Entry) (supply : Supply) → database.Stands view source_view true d h → IsKept true d h w.view → Follows view source_view w x (begun (record { ends = end_now h d; curator = curator }) (opened_session h supply)))
-    → BegunOn view source_view curator v w (Ok x)
-begun-on view source_view curator v w d x o f = (
+pub begun-on : {R S : Type 0} (view : R → Tree) (source_view : S → Tree) (who : Committers) (v w : KnownDisk) (d : Db R S) (x : Interpreter R S) → OpenedAs view source_view v w (Ok d)
+    → ((h : List Entry) (supply : Supply) → database.Stands view source_view true d h → IsKept true d h w.view → Follows view source_view w x (begun (terms_from (end_now h d) who) (opened_session h supply)))
+    → BegunOn view source_view who v w (Ok x)
+begun-on view source_view who v w d x o f = (
   o.0,
   λ h supply store. (
       let y = o.1 h store in
-      subst (λ n. Follows view source_view w x (begun (record { ends = record { entries = h; at = n }; curator = curator }) (opened_session h supply))) y.is_end (f h supply y.stands y.kept)
+      subst (λ n. Follows view source_view w x (begun (terms_from (record { entries = h; at = n }) who) (opened_session h supply))) y.is_end (f h supply y.stands y.kept)
       ),
 )
 
 -- or none
-pub begun-not : {R S : Type 0} (view : R → Tree) (source_view : S → Tree) (curator : List ℕ) (v w : KnownDisk) (stop : Stop) → IsOpeningStop stop → OpenedAs {R = R} {S = S} view source_view v w (Err stop) → BegunOn {R = R} {S = S} view source_view curator v w (Err stop)
-begun-not view source_view curator v w stop k o = elim k [
-  | inl e ↦ subst (λ s. BegunOn view source_view curator v w (Err s)) (sym e) (subst (λ s. OpenedAs view source_view v w (Err s)) e o)
+pub begun-not : {R S : Type 0} (view : R → Tree) (source_view : S → Tree) (who : Committers) (v w : KnownDisk) (stop : Stop) → IsOpeningStop stop → OpenedAs {R = R} {S = S} view source_view v w (Err stop) → BegunOn {R = R} {S = S} view source_view who v w (Err stop)
+begun-not view source_view who v w stop k o = elim k [
+  | inl e ↦ subst (λ s. BegunOn view source_view who v w (Err s)) (sym e) (subst (λ s. OpenedAs view source_view v w (Err s)) e o)
   | inr l ↦ elim l [
-    | inl a ↦ subst (λ s. BegunOn view source_view curator v w (Err s)) (sym a.1) (subst (λ s. OpenedAs view source_view v w (Err s)) a.1 o)
-    | inr e ↦ subst (λ s. BegunOn view source_view curator v w (Err s)) (sym e) (subst (λ s. OpenedAs view source_view v w (Err s)) e o)
+    | inl a ↦ subst (λ s. BegunOn view source_view who v w (Err s)) (sym a.1) (subst (λ s. OpenedAs view source_view v w (Err s)) a.1 o)
+    | inr e ↦ subst (λ s. BegunOn view source_view who v w (Err s)) (sym e) (subst (λ s. OpenedAs view source_view v w (Err s)) e o)
   ]
 ]
 
 -- no byte leads on
-first-history : (h : List Entry) (c curator : List ℕ) (supply : Supply) → ((session_on h c curator supply).so_far []).history ≡ h
+first-history : (h : List Entry) (c : List ℕ) (who : Committers) (supply : Supply) → ((session_on h c who supply).so_far []).history ≡ h
 unfolding plays job_so_far scan_bytes session_after
-first-history h c curator supply = refl
+first-history h c who supply = refl
 
 -- no reads before others
 no_more : (b a : Outside) {n k : ℕ} → HasSpent n k b.files a.files b.clock a.clock → HasSpent (0 + n) k b.files a.files b.clock a.clock
@@ -236,10 +236,10 @@ causes-early-end i f k o p e early later = record {
 }
 
 -- a call that ran no session on its store
-pub ran-early-on : (curator : List ℕ) (i : KnownInput) (f : KnownFiles) (k : KnownClock) (o p : KnownOutput) (v w : KnownDisk) (e : End) → IsEarly e → WritesLast o p [] (early_line e)
+pub ran-early-on : (who : Committers) (i : KnownInput) (f : KnownFiles) (k : KnownClock) (o p : KnownOutput) (v w : KnownDisk) (e : End) → IsEarly e → WritesLast o p [] (early_line e)
     → (IsTrue v.known → (at : ℕ) → e ≡ how.NoStore at → IsNot Opens v.view.content at × ViewRests v.view w.view) → (IsTrue v.known → (Opens v.view.content → ⊥) → ViewRests v.view w.view) → LeavesStore v w
-    → RanOn curator (record { input = i; files = f; clock = k; output = o }) (record { input = i; files = f; clock = k; output = p }) v w e
-ran-early-on curator i f k o p v w e early wrote none never leaves = record {
+    → RanOn who (record { input = i; files = f; clock = k; output = o }) (record { input = i; files = f; clock = k; output = p }) v w e
+ran-early-on who i f k o p v w e early wrote none never leaves = record {
   taken = [];
   took = Consumes-nil i.left;
   counted = omega arith;
@@ -255,7 +255,7 @@ ran-early-on curator i f k o p v w e early wrote none never leaves = record {
     later = l.later;
     crash = λ rest t c le x. elim (l.since t c le x) [
       | inl old ↦ inl old
-      | inr s ↦ inr (0, omega arith, subst (λ g. StandsFor g c) (sym (first-history h v.view.content curator (followed_by no_supply rest))) s)
+      | inr s ↦ inr (0, omega arith, subst (λ g. StandsFor g c) (sym (first-history h v.view.content who (followed_by no_supply rest))) s)
     ];
   });
 }
@@ -264,11 +264,11 @@ ran-early-on curator i f k o p v w e early wrote none never leaves = record {
     not_begun = record { early = early; none_taken = refl; none_told = refl; files = refl; clock = refl; wrote = wrote }
 
 -- a call that ran a session on its store
-module _ {R S : Type 0} (view : R → Tree) (source_view : S → Tree) (curator : List ℕ) (x : Interpreter R S) (b a : Outside) (v m w : KnownDisk) (e : End)
-    (none : x.refused ≡ false) (same : IsTrue v.known → IsTrue m.known) (opened : IsTrue v.known → BegunOn view source_view curator v m (Ok x)) (leaves : LeavesStore v m) (r : RanFrom view source_view x 0 (call_at m b) (call_at w a) e) where
+module _ {R S : Type 0} (view : R → Tree) (source_view : S → Tree) (who : Committers) (x : Interpreter R S) (b a : Outside) (v m w : KnownDisk) (e : End)
+    (none : x.refused ≡ false) (same : IsTrue v.known → IsTrue m.known) (opened : IsTrue v.known → BegunOn view source_view who v m (Ok x)) (leaves : LeavesStore v m) (r : RanFrom view source_view x 0 (call_at m b) (call_at w a) e) where
   module _ (known : IsTrue v.known) (h : List Entry) (store : IsStore h v.view.content) where
     abbrev terms : Terms
-    terms = store_terms h v.view.content curator
+    terms = store_terms h v.view.content who
 
     abbrev session : Supply → Session
     session rest = opened_session h (followed_by r.supply rest)
@@ -279,25 +279,25 @@ module _ {R S : Type 0} (view : R → Tree) (source_view : S → Tree) (curator 
     left : LeavesHistory h v m
     left = leaves known h store
 
-    crashed : (rest : Supply) → ViewLeaves (StandsForFront (session_on h v.view.content curator (followed_by r.supply rest)) r.taken) v.view w.view
+    crashed : (rest : Supply) → ViewLeaves (StandsForFront (session_on h v.view.content who (followed_by r.supply rest)) r.taken) v.view w.view
     crashed rest t c le i =
         let y = (went rest).1 (same known) in
         elim (y.1 t c (omega (arith, le, left.later)) i) [
           | inl old ↦ elim (left.since t c le old) [
             | inl o ↦ inl o
-            | inr s ↦ inr (0, omega arith, subst (λ g. StandsFor g c) (sym (first-history h v.view.content curator (followed_by r.supply rest))) s)
+            | inr s ↦ inr (0, omega arith, subst (λ g. StandsFor g c) (sym (first-history h v.view.content who (followed_by r.supply rest))) s)
           ]
           | inr f ↦ inr (f.0, f.1, along-on terms (session rest) r.taken f.0 c f.2)
         ]
 
-    did_on : DidOn h curator r.taken r.supply (call_at v b) (call_at w a) e
+    did_on : DidOn h who r.taken r.supply (call_at v b) (call_at w a) e
     did_on = record {
       did = λ rest. inr (did-on terms (session rest) (left_on w) r.taken b a e (subst (λ z. Did (work_from (begun terms (session rest)) z) (left_on w) 0 r.taken b a e) none (went rest).0));
       later = omega (arith, left.later, ((went no_supply).1 (same known)).0);
       crash = crashed;
     }
 
-  pub ran-on : RanOn curator b a v w e
+  pub ran-on : RanOn who b a v w e
   ran-on = record {
     taken = r.taken;
     took = r.took;
@@ -329,25 +329,25 @@ stop-disk v w stop k uses = elim k [
 ]
 
 -- what isn't opened is no store
-pub none-stopped : {R S : Type 0} (view : R → Tree) (source_view : S → Tree) (curator : List ℕ) (v w : KnownDisk) (stop : Stop) → IsOpeningStop stop → (at : ℕ) → end_of_stop stop ≡ how.NoStore at → BegunOn {R = R} {S = S} view source_view curator v w (Err stop)
+pub none-stopped : {R S : Type 0} (view : R → Tree) (source_view : S → Tree) (who : Committers) (v w : KnownDisk) (stop : Stop) → IsOpeningStop stop → (at : ℕ) → end_of_stop stop ≡ how.NoStore at → BegunOn {R = R} {S = S} view source_view who v w (Err stop)
     → IsNot Opens v.view.content at × ViewRests v.view w.view
-none-stopped view source_view curator v w Output k at h b = absurd (cc)
-none-stopped view source_view curator v w Full k at h b = absurd (cc)
-none-stopped view source_view curator v w File k at h b = absurd (cc)
-none-stopped view source_view curator v w Disk k at h b = absurd (cc)
-none-stopped view source_view curator v w (NoStore n) k at h b = let same : n ≡ at = cc h in subst (λ m. IsNot Opens v.view.content m × ViewRests v.view w.view) same b
-none-stopped view source_view curator v w Clock k at h b = absurd (cc)
-none-stopped view source_view curator v w Memory k at h b = absurd (cc)
+none-stopped view source_view who v w Output k at h b = absurd (cc)
+none-stopped view source_view who v w Full k at h b = absurd (cc)
+none-stopped view source_view who v w File k at h b = absurd (cc)
+none-stopped view source_view who v w Disk k at h b = absurd (cc)
+none-stopped view source_view who v w (NoStore n) k at h b = let same : n ≡ at = cc h in subst (λ m. IsNot Opens v.view.content m × ViewRests v.view w.view) same b
+none-stopped view source_view who v w Clock k at h b = absurd (cc)
+none-stopped view source_view who v w Memory k at h b = absurd (cc)
 
 -- where none opens, a crash leaves what it could leave
-pub never-stopped : {R S : Type 0} (view : R → Tree) (source_view : S → Tree) (curator : List ℕ) (v w : KnownDisk) (stop : Stop) → IsOpeningStop stop → (Opens v.view.content → ⊥) → BegunOn {R = R} {S = S} view source_view curator v w (Err stop) → ViewRests v.view w.view
-never-stopped view source_view curator v w Output k never b = b never
-never-stopped view source_view curator v w Full k never b = b never
-never-stopped view source_view curator v w File k never b = b never
-never-stopped view source_view curator v w Disk k never b = b never
-never-stopped view source_view curator v w (NoStore n) k never b = b.1
-never-stopped view source_view curator v w Clock k never b = b never
-never-stopped view source_view curator v w Memory k never b = b never
+pub never-stopped : {R S : Type 0} (view : R → Tree) (source_view : S → Tree) (who : Committers) (v w : KnownDisk) (stop : Stop) → IsOpeningStop stop → (Opens v.view.content → ⊥) → BegunOn {R = R} {S = S} view source_view who v w (Err stop) → ViewRests v.view w.view
+never-stopped view source_view who v w Output k never b = b never
+never-stopped view source_view who v w Full k never b = b never
+never-stopped view source_view who v w File k never b = b never
+never-stopped view source_view who v w Disk k never b = b never
+never-stopped view source_view who v w (NoStore n) k never b = b.1
+never-stopped view source_view who v w Clock k never b = b never
+never-stopped view source_view who v w Memory k never b = b never
 
 -- what isn't so is false
 pub unspent : (b : Bool) → (IsTrue b → ⊥) → b ≡ false

@@ -23,15 +23,17 @@ use Rattle.cp_model.specs.Tree.{Tree}
 use Rattle.cp_model.specs.History.{Entry}
 use Rattle.cp_frame.specs.Stands.{StandsFor, StandsForEither}
 use Rattle.cp_db.proofs.Keeping.{kept-images}
-use Rattle.cp_reply.specs.Lines.{lines}
-use Rattle.cp_reply.specs.declared.reply.Reply.{Reply}
-use Rattle.cp_reply.specs.Session.{Supply, no_supply, followed_by, Session, Setting, turn, replies_to, session_after}
+use Rattle.cp_reply.specs.Lines.{said_lines}
+use Rattle.cp_reply.specs.declared.reply.Why.TheVariants as why
+use Rattle.cp_reply.specs.declared.said.Said.{Said}
+use Rattle.cp_reply.specs.Session.{Supply, no_supply, followed_by, Session, Setting, unread, turn, turn_alone, turn_by_owner, shared_turn, replies_to, session_after}
+use Rattle.cp_reply.specs.Sharing.{owner, bad_byte_or}
 use Rattle.cp_reply.proofs.Appended.{replies_to-append, session_after-append}
 use Rattle.cp_reply.proofs.Supplies.{followed-assoc}
 use Rattle.cp_workspace.specs.Supplies.{IsSupplied}
 use Rattle.cp_workspace.specs.Texts.{Terms, setting}
-use Rattle.cp_workspace.specs.Loads.{cut_reads}
-use Rattle.cp_workspace.specs.Commits.{cut_asks}
+use Rattle.cp_workspace.specs.Loads.{cut_reads, cut_reads_alone, shared_reads}
+use Rattle.cp_workspace.specs.Commits.{cut_asks, cut_asks_alone, shared_asks}
 use Rattle.cp_workspace.specs.Spending.{HasSpent, Spends}
 use Rattle.cp_disk.specs.Views.{KnownDisk, Leaves}
 use Rattle.cp_workspace.specs.Workspaces.{expected, workspace_at, Stands, IsUsable, HasStamps, HoldsFile, TurnsAs, HasTurned}
@@ -40,7 +42,7 @@ use Rattle.cp_workspace.specs.declared.fault.WorkspaceFault.TheVariants as fails
 use Rattle.cp_workspace.specs.declared.workspace.Workspace.{Workspace}
 use Rattle.cp_workspace.proofs.Supplied.{supplied-none, supplied-then}
 use Rattle.cp_workspace.proofs.Spent.{spent-none, spent-sum, spent-as}
-use Rattle.cp_interpreter.specs.Job.{Report, report_of, is_refusal, reads_in, asks_in}
+use Rattle.cp_interpreter.specs.Job.{Report, report_of, says_refusal, reads_in, asks_in}
 use Rattle.cp_interpreter.specs.Outside.{World}
 use Rattle.cp_interpreter.specs.Play.{Seen, played_as, bytes_played, plays, after_play, closes, plays_all}
 use Rattle.cp_interpreter.specs.Story.{TakesFrom, left_on, SpentAs, SpentNothing}
@@ -64,14 +66,14 @@ report : List ℕ → Bool → ℕ → ℕ → List Entry → Report
 report out refused reads asks history = record { out = out; refused = refused; reads = reads; asks = asks; history = history }
 
 -- the lines of replies, where so many files were read, the clock was asked so often, and the history is this
-told : List Reply → ℕ → ℕ → List Entry → Report
-told rs n k h = report (flat_map lines rs) (list_any is_refusal rs) n k h
+told : List Said → ℕ → ℕ → List Entry → Report
+told xs n k h = report (flat_map said_lines xs) (list_any says_refusal xs) n k h
 
 -- the lines of replies one after another
-told-append : (xs ys : List Reply) (n k : ℕ) (h : List Entry) → told (xs ++ ys) n k h ≡ report (flat_map lines xs ++ flat_map lines ys) (list_any is_refusal xs || list_any is_refusal ys) n k h
+told-append : (xs ys : List Said) (n k : ℕ) (h : List Entry) → told (xs ++ ys) n k h ≡ report (flat_map said_lines xs ++ flat_map said_lines ys) (list_any says_refusal xs || list_any says_refusal ys) n k h
 unfolding told report
 told-append xs ys n k h =
-    ap (λ o. report o (list_any is_refusal (xs ++ ys)) n k h) (flat_map-append lines xs ys) ∙ ap (λ b. report (flat_map lines xs ++ flat_map lines ys) b n k h) (list_any-append is_refusal xs ys)
+    ap (λ o. report o (list_any says_refusal (xs ++ ys)) n k h) (flat_map-append said_lines xs ys) ∙ ap (λ b. report (flat_map said_lines xs ++ flat_map said_lines ys) b n k h) (list_any-append says_refusal xs ys)
 
 -- the files that cuts read one after another
 reads_in-append : (c : Setting) (s : Session) (xs ys : List Cut) → reads_in c s (xs ++ ys) ≡ reads_in c s xs + reads_in c (session_after c s xs) ys
@@ -183,11 +185,11 @@ pub cuts-then : (terms : Terms) (s : Session) (xs ys : List Cut) → report_of t
 unfolding told report
 cuts-then terms s xs ys =
     let c = setting terms in
-    let out = flat_map lines (replies_to c s xs) ++ flat_map lines (replies_to c (session_after c s xs) ys) in
-    let refused = list_any is_refusal (replies_to c s xs) || list_any is_refusal (replies_to c (session_after c s xs) ys) in
+    let out = flat_map said_lines (replies_to c s xs) ++ flat_map said_lines (replies_to c (session_after c s xs) ys) in
+    let refused = list_any says_refusal (replies_to c s xs) || list_any says_refusal (replies_to c (session_after c s xs) ys) in
     let reads = reads_in c s xs + reads_in c (session_after c s xs) ys in
     let asks = asks_in c s xs + asks_in c (session_after c s xs) ys in
-    ap (λ rs. told rs (reads_in c s (xs ++ ys)) (asks_in c s (xs ++ ys)) (session_after c s (xs ++ ys)).history) (replies_to-append c s xs ys)
+    ap (λ (all : List Said). told all (reads_in c s (xs ++ ys)) (asks_in c s (xs ++ ys)) (session_after c s (xs ++ ys)).history) (replies_to-append c s xs ys)
     ∙ told-append (replies_to c s xs) (replies_to c (session_after c s xs) ys) (reads_in c s (xs ++ ys)) (asks_in c s (xs ++ ys)) (session_after c s (xs ++ ys)).history
     ∙ ap (λ n. report out refused n (asks_in c s (xs ++ ys)) (session_after c s (xs ++ ys)).history) (reads_in-append c s xs ys)
     ∙ ap (λ n. report out refused reads n (session_after c s (xs ++ ys)).history) (asks_in-append c s xs ys)
@@ -250,6 +252,20 @@ pub all-none : (s : Seen) → plays_all s [] ≡ closes s
 unfolding plays_all closes scan_bytes
 all-none s = refl
 
+-- a cut that isn't the text of a statement reads no file, whosever input it is
+unread-reads : (c : Setting) (u : Session) (x : Cut) → AreUnread (x ∷ []) → cut_reads c u x ≡ 0
+unfolding AreUnread
+unread-reads c u (Text x) a = absurd a
+unread-reads c u TooLong a = elim c.shared as (λ b. (if b then shared_reads u TooLong else cut_reads_alone u TooLong) ≡ 0) [ true ↦ refl | false ↦ refl ]
+unread-reads c u (Unfinished x) a = elim c.shared as (λ b. (if b then shared_reads u (Unfinished x) else cut_reads_alone u (Unfinished x)) ≡ 0) [ true ↦ refl | false ↦ refl ]
+
+-- nor does it ask the clock
+unread-asks : (c : Setting) (u : Session) (x : Cut) → AreUnread (x ∷ []) → cut_asks c u x ≡ 0
+unfolding AreUnread
+unread-asks c u (Text x) a = absurd a
+unread-asks c u TooLong a = elim c.shared as (λ b. (if b then shared_asks u TooLong else cut_asks_alone u TooLong) ≡ 0) [ true ↦ refl | false ↦ refl ]
+unread-asks c u (Unfinished x) a = elim c.shared as (λ b. (if b then shared_asks u (Unfinished x) else cut_asks_alone u (Unfinished x)) ≡ 0) [ true ↦ refl | false ↦ refl ]
+
 -- the cut at the end reads no file
 pub closes-reads : (s : Seen) → (closes s).reads ≡ 0
 unfolding closes reads_in AreUnread
@@ -258,8 +274,8 @@ closes-reads s = none s.session (rest_of s.scan) (rest-unread s.scan)
     none : (u : Session) (cuts : List Cut) → AreUnread cuts → reads_in (setting s.terms) u cuts ≡ 0
     none u [] a = refl
     none u (Text x ∷ cuts) a = absurd a
-    none u (TooLong ∷ cuts) a = omega (arith, none (turn (setting s.terms) u TooLong).next cuts a)
-    none u (Unfinished x ∷ cuts) a = omega (arith, none (turn (setting s.terms) u (Unfinished x)).next cuts a)
+    none u (TooLong ∷ cuts) a = omega (arith, unread-reads (setting s.terms) u TooLong tt, none (turn (setting s.terms) u TooLong).next cuts a)
+    none u (Unfinished x ∷ cuts) a = omega (arith, unread-reads (setting s.terms) u (Unfinished x) tt, none (turn (setting s.terms) u (Unfinished x)).next cuts a)
 
 -- nor does it ask the clock
 pub closes-asks : (s : Seen) → (closes s).asks ≡ 0
@@ -269,19 +285,34 @@ closes-asks s = none s.session (rest_of s.scan) (rest-unread s.scan)
     none : (u : Session) (cuts : List Cut) → AreUnread cuts → asks_in (setting s.terms) u cuts ≡ 0
     none u [] a = refl
     none u (Text x ∷ cuts) a = absurd a
-    none u (TooLong ∷ cuts) a = omega (arith, none (turn (setting s.terms) u TooLong).next cuts a)
-    none u (Unfinished x ∷ cuts) a = omega (arith, none (turn (setting s.terms) u (Unfinished x)).next cuts a)
+    none u (TooLong ∷ cuts) a = omega (arith, unread-asks (setting s.terms) u TooLong tt, none (turn (setting s.terms) u TooLong).next cuts a)
+    none u (Unfinished x ∷ cuts) a = omega (arith, unread-asks (setting s.terms) u (Unfinished x) tt, none (turn (setting s.terms) u (Unfinished x)).next cuts a)
 
--- nor does it add an entry
+-- a text that nobody, or somebody, left unfinished adds no entry
+unfinished-kept : (c : Setting) (u : Session) (at : ℕ) (o : Option (List ℕ)) (n : ℕ) → (turn_by_owner c u at o (unread (why.Syntax n))).next.history ≡ u.history
+unfinished-kept c u at None n = refl
+unfinished-kept c u at (Some name) n = refl
+
+-- nor does one cut that isn't the text of a statement, whosever input it is
+turn-kept : (c : Setting) (u : Session) (x : Cut) → AreUnread (x ∷ []) → (turn c u x).next.history ≡ u.history
+unfolding turn AreUnread
+turn-kept c u (Text x) a = absurd a
+turn-kept c u TooLong a = elim c.shared as (λ b. (if b then shared_turn c u TooLong else turn_alone c u TooLong).next.history ≡ u.history) [ true ↦ refl | false ↦ refl ]
+turn-kept c u (Unfinished x) a = elim c.shared as (λ b. (if b then shared_turn c u (Unfinished x) else turn_alone c u (Unfinished x)).next.history ≡ u.history) [
+  | true ↦ unfinished-kept c u (bad_byte_or (length x) x) (owner x) (length x)
+  | false ↦ refl
+]
+
+-- nor does the last cut
 pub closes-history : (s : Seen) → (closes s).history ≡ s.session.history
-unfolding closes session_after turn AreUnread
+unfolding closes session_after AreUnread
 closes-history s = none s.session (rest_of s.scan) (rest-unread s.scan)
   where
     none : (u : Session) (cuts : List Cut) → AreUnread cuts → (session_after (setting s.terms) u cuts).history ≡ u.history
     none u [] a = refl
     none u (Text x ∷ cuts) a = absurd a
-    none u (TooLong ∷ cuts) a = none (turn (setting s.terms) u TooLong).next cuts a
-    none u (Unfinished x ∷ cuts) a = none (turn (setting s.terms) u (Unfinished x)).next cuts a
+    none u (TooLong ∷ cuts) a = none (turn (setting s.terms) u TooLong).next cuts a ∙ turn-kept (setting s.terms) u TooLong tt
+    none u (Unfinished x ∷ cuts) a = none (turn (setting s.terms) u (Unfinished x)).next cuts a ∙ turn-kept (setting s.terms) u (Unfinished x) tt
 
 -- ---- what a crash leaves along bytes
 
@@ -330,30 +361,30 @@ along-more s xs ys v w along = λ known. (
 -- ---- cuts
 
 -- what one cut spends
-one_read : (terms : Terms) (s : Session) (cut : Cut) → cut_reads s cut ≡ reads_in (setting terms) s (cut ∷ [])
+one_read : (terms : Terms) (s : Session) (cut : Cut) → cut_reads (setting terms) s cut ≡ reads_in (setting terms) s (cut ∷ [])
 unfolding reads_in
 one_read terms s cut = omega arith
 
-one_ask : (terms : Terms) (s : Session) (cut : Cut) → cut_asks s cut ≡ asks_in (setting terms) s (cut ∷ [])
+one_ask : (terms : Terms) (s : Session) (cut : Cut) → cut_asks (setting terms) s cut ≡ asks_in (setting terms) s (cut ∷ [])
 unfolding asks_in
 one_ask terms s cut = omega arith
 
-one_spent : (s : Seen) (cut : Cut) (b a : World) → HasSpent (cut_reads s.session cut) (cut_asks s.session cut) b.files a.files b.clock a.clock → SpentAs (cuts_play s (cut ∷ [])) b a
+one_spent : (s : Seen) (cut : Cut) (b a : World) → HasSpent (cut_reads (setting s.terms) s.session cut) (cut_asks (setting s.terms) s.session cut) b.files a.files b.clock a.clock → SpentAs (cuts_play s (cut ∷ [])) b a
 one_spent s cut b a n =
-    spent-as b.files a.files b.clock a.clock (cut_reads s.session cut) (cut_asks s.session cut) (cuts_play s (cut ∷ [])).reads (cuts_play s (cut ∷ [])).asks
+    spent-as b.files a.files b.clock a.clock (cut_reads (setting s.terms) s.session cut) (cut_asks (setting s.terms) s.session cut) (cuts_play s (cut ∷ [])).reads (cuts_play s (cut ∷ [])).asks
     (sym (one_read s.terms s.session cut)) (sym (one_ask s.terms s.session cut)) n
 
 -- a turn leaves the history before it or after it
-pub turned-both : {R S : Type 0} (view : R → Tree) (source_view : S → Tree) (s : Seen) (cut : Cut) (rest : Supply) (old new : Workspace R S) (v w : KnownDisk) (result : Result (Option Reply) WorkspaceFault)
-    → TurnsAs view source_view (λ (r : Option Reply). r) (expected s.terms (turn (setting s.terms) s.session cut) s.session rest) (workspace_at old v) (workspace_at new w) result → (IsTrue v.known → HoldsFile old s.session.history v)
+pub turned-both : {R S : Type 0} (view : R → Tree) (source_view : S → Tree) (s : Seen) (cut : Cut) (rest : Supply) (old new : Workspace R S) (v w : KnownDisk) (result : Result (Option Said) WorkspaceFault)
+    → TurnsAs view source_view (λ (r : Option Said). r) (expected s.terms (turn (setting s.terms) s.session cut) s.session rest) (workspace_at old v) (workspace_at new w) result → (IsTrue v.known → HoldsFile old s.session.history v)
     → Leaves (StandsForEither s.session.history (cuts_play s (cut ∷ [])).history) v w
 unfolding session_after
 turned-both view source_view s cut rest old new v w result t holds = λ known. (let l = t.leaves known (holds known) in (l.later, l.since))
 
 -- a cut brought no reply
 pub ran-silent : {R S : Type 0} (view : R → Tree) (source_view : S → Tree) (s : Seen) (cut : Cut) (rest : Supply) (old new : Interpreter R S) (b a : World) (v w : KnownDisk)
-    → TurnsAs view source_view (λ (r : Option Reply). r) (expected s.terms (turn (setting s.terms) s.session cut) s.session rest) (workspace_at old.workspace v) (workspace_at new.workspace w) (Ok None) → (IsTrue w.known → IsTrue v.known)
-    → Follows view source_view v old s → HasSpent (cut_reads s.session cut) (cut_asks s.session cut) b.files a.files b.clock a.clock → Appends b.output.contents a.output.contents [] → new.cutter ≡ old.cutter → new.refused ≡ old.refused
+    → TurnsAs view source_view (λ (r : Option Said). r) (expected s.terms (turn (setting s.terms) s.session cut) s.session rest) (workspace_at old.workspace v) (workspace_at new.workspace w) (Ok None) → (IsTrue w.known → IsTrue v.known)
+    → Follows view source_view v old s → HasSpent (cut_reads (setting s.terms) s.session cut) (cut_asks (setting s.terms) s.session cut) b.files a.files b.clock a.clock → Appends b.output.contents a.output.contents [] → new.cutter ≡ old.cutter → new.refused ≡ old.refused
     → Goes view source_view (played_as (cuts_play s (cut ∷ [])) (after_cuts s (cut ∷ []))) s.session.history rest (session_at old v b) (session_at new w a) (Ok tt)
 unfolding replies_to session_after
 ran-silent view source_view s cut rest old new b a v w t still f n o h r =
@@ -366,49 +397,49 @@ ran-silent view source_view s cut rest old new b a v w t still f n o h r =
     )
 
 -- the lines of a cut's reply were written
-pub ran-said : {R S : Type 0} (view : R → Tree) (source_view : S → Tree) (s : Seen) (cut : Cut) (r : Reply) (rest : Supply) (old mid new : Interpreter R S) (b a : World) (v w : KnownDisk) (result : Result ⊤ Stop)
-    → TurnsAs view source_view (λ (o : Option Reply). o) (expected s.terms (turn (setting s.terms) s.session cut) s.session rest) (workspace_at old.workspace v) (workspace_at mid.workspace w) (Ok (Some r)) → (IsTrue w.known → IsTrue v.known)
-    → Follows view source_view v old s → HasSpent (cut_reads s.session cut) (cut_asks s.session cut) b.files a.files b.clock a.clock → mid.cutter ≡ old.cutter → mid.refused ≡ old.refused
-    → SendsOut (lines r) b.output.contents a.output.contents result → OnOk result (new.cutter ≡ mid.cutter) → OnOk result (new.workspace ≡ mid.workspace) → OnOk result (new.refused ≡ (mid.refused || is_refusal r))
+pub ran-said : {R S : Type 0} (view : R → Tree) (source_view : S → Tree) (s : Seen) (cut : Cut) (x : Said) (rest : Supply) (old mid new : Interpreter R S) (b a : World) (v w : KnownDisk) (result : Result ⊤ Stop)
+    → TurnsAs view source_view (λ (o : Option Said). o) (expected s.terms (turn (setting s.terms) s.session cut) s.session rest) (workspace_at old.workspace v) (workspace_at mid.workspace w) (Ok (Some x)) → (IsTrue w.known → IsTrue v.known)
+    → Follows view source_view v old s → HasSpent (cut_reads (setting s.terms) s.session cut) (cut_asks (setting s.terms) s.session cut) b.files a.files b.clock a.clock → mid.cutter ≡ old.cutter → mid.refused ≡ old.refused
+    → SendsOut (said_lines x) b.output.contents a.output.contents result → OnOk result (new.cutter ≡ mid.cutter) → OnOk result (new.workspace ≡ mid.workspace) → OnOk result (new.refused ≡ (mid.refused || says_refusal x))
     → Goes view source_view (played_as (cuts_play s (cut ∷ [])) (after_cuts s (cut ∷ []))) s.session.history rest (session_at old v b) (session_at new w a) result
 unfolding replies_to session_after
-ran-said view source_view s cut r rest old mid new b a v w (Ok x) t still f n h g o h' l' g' =
+ran-said view source_view s cut x rest old mid new b a v w (Ok y) t still f n h g o h' l' g' =
     rw (sym t.turned.0) (
       record {
         cutter = h' ∙ h ∙ f.cutter;
         stands = subst (λ z. Stands view source_view s.terms z (turn (setting s.terms) s.session cut).next) (sym l') t.turned.1;
         holds = λ known. subst (λ z. HoldsFile z (turn (setting s.terms) s.session cut).next.history w) (sym l') (t.kept (still known) (f.holds (still known)));
       },
-      g' ∙ ap (λ z. z || is_refusal r) g ∙ ap (λ z. old.refused || z) (or-false (is_refusal r)),
-      subst (Appends b.output.contents a.output.contents) (sym (append-nil (lines r))) o,
+      g' ∙ ap (λ z. z || says_refusal x) g ∙ ap (λ z. old.refused || z) (or-false (says_refusal x)),
+      subst (Appends b.output.contents a.output.contents) (sym (append-nil (said_lines x))) o,
       one_spent s cut b a n,
       t.taken,
     )
-ran-said view source_view s cut r rest old mid new b a v w (Err Output) t still f n h g o h' l' g' =
+ran-said view source_view s cut x rest old mid new b a v w (Err Output) t still f n h g o h' l' g' =
     rw (sym t.turned.0) (
-      subst (TakesLess b.output.contents a.output.contents) (sym (append-nil (lines r))) o,
+      subst (TakesLess b.output.contents a.output.contents) (sym (append-nil (said_lines x))) o,
       one_spent s cut b a n,
       held-left mid.workspace _ _ w (λ known. t.kept (still known) (f.holds (still known))),
     )
-ran-said view source_view s cut r rest old mid new b a v w (Err Full) t still f n h g o h' l' g' =
+ran-said view source_view s cut x rest old mid new b a v w (Err Full) t still f n h g o h' l' g' =
     rw (sym t.turned.0) (
-      subst (TakesLess b.output.contents a.output.contents) (sym (append-nil (lines r))) o,
+      subst (TakesLess b.output.contents a.output.contents) (sym (append-nil (said_lines x))) o,
       one_spent s cut b a n,
       held-left mid.workspace _ _ w (λ known. t.kept (still known) (f.holds (still known))),
     )
-ran-said view source_view s cut r rest old mid new b a v w (Err File) t still f n h g o h' l' g' = absurd o
-ran-said view source_view s cut r rest old mid new b a v w (Err Disk) t still f n h g o h' l' g' = absurd o
-ran-said view source_view s cut r rest old mid new b a v w (Err (NoStore at)) t still f n h g o h' l' g' = absurd o
-ran-said view source_view s cut r rest old mid new b a v w (Err Clock) t still f n h g o h' l' g' = absurd o
-ran-said view source_view s cut r rest old mid new b a v w (Err Memory) t still f n h g o h' l' g' =
+ran-said view source_view s cut x rest old mid new b a v w (Err File) t still f n h g o h' l' g' = absurd o
+ran-said view source_view s cut x rest old mid new b a v w (Err Disk) t still f n h g o h' l' g' = absurd o
+ran-said view source_view s cut x rest old mid new b a v w (Err (NoStore at)) t still f n h g o h' l' g' = absurd o
+ran-said view source_view s cut x rest old mid new b a v w (Err Clock) t still f n h g o h' l' g' = absurd o
+ran-said view source_view s cut x rest old mid new b a v w (Err Memory) t still f n h g o h' l' g' =
     (o, inr (one_spent s cut b a n), held-left_second mid.workspace _ _ w (λ known. t.kept (still known) (f.holds (still known))))
 
 -- a cut stopped the session before its reply: its file, the disk or the clock failed, or memory ran out
 pub ran-stopped_early : {R S : Type 0} (view : R → Tree) (source_view : S → Tree) (s : Seen) (cut : Cut) (rest : Supply) (old new : Interpreter R S) (b a : World) (v w : KnownDisk) (fault : WorkspaceFault) (stop : Stop)
-    → TurnsAs view source_view (λ (o : Option Reply). o) (expected s.terms (turn (setting s.terms) s.session cut) s.session rest) (workspace_at old.workspace v) (workspace_at new.workspace w) (Err fault) → (IsTrue w.known → IsTrue v.known) → Follows view source_view v old s
+    → TurnsAs view source_view (λ (o : Option Said). o) (expected s.terms (turn (setting s.terms) s.session cut) s.session rest) (workspace_at old.workspace v) (workspace_at new.workspace w) (Err fault) → (IsTrue w.known → IsTrue v.known) → Follows view source_view v old s
     → (fault ≡ fails.File → stop ≡ File) → (fault ≡ fails.Disk → stop ≡ Disk) → (fault ≡ fails.Clock → stop ≡ Clock) → (fault ≡ fails.Memory → stop ≡ Memory)
     → (fault ≡ fails.File → left_on w s.session.history s.session.history) → (fault ≡ fails.Clock → left_on w s.session.history s.session.history)
-    → Spends {T = Option Reply} (cut_reads s.session cut) (cut_asks s.session cut) b.files a.files b.clock a.clock (Err fault) → Appends b.output.contents a.output.contents []
+    → Spends {T = Option Said} (cut_reads (setting s.terms) s.session cut) (cut_asks (setting s.terms) s.session cut) b.files a.files b.clock a.clock (Err fault) → Appends b.output.contents a.output.contents []
     → Goes view source_view (played_as (cuts_play s (cut ∷ [])) (after_cuts s (cut ∷ []))) s.session.history rest (session_at old v b) (session_at new w a) (Err stop)
 unfolding session_after
 ran-stopped_early view source_view s cut rest old new b a v w fails.File stop t still f file disk clock memory same untouched n o =
@@ -639,8 +670,8 @@ module _ {R S : Type 0} (view : R → Tree) (source_view : S → Tree) where
 
   -- a cut brought no reply
   pub went-silent : (cut : Cut) (old new : Interpreter R S) (b a : World) (v w : KnownDisk)
-      → HasTurned view source_view (λ (o : Option Reply). o) (λ terms s. turn (setting terms) s cut) (IsSupplied b.files b.clock a.clock) (workspace_at old.workspace v) (workspace_at new.workspace w) (Ok None)
-      → ((terms : Terms) (s : Session) → Stands view source_view terms old.workspace s → HasSpent (cut_reads s cut) (cut_asks s cut) b.files a.files b.clock a.clock) → (IsTrue w.known → IsTrue v.known)
+      → HasTurned view source_view (λ (o : Option Said). o) (λ terms s. turn (setting terms) s cut) (IsSupplied b.files b.clock a.clock) (workspace_at old.workspace v) (workspace_at new.workspace w) (Ok None)
+      → ((terms : Terms) (s : Session) → Stands view source_view terms old.workspace s → HasSpent (cut_reads (setting terms) s cut) (cut_asks (setting terms) s cut) b.files a.files b.clock a.clock) → (IsTrue w.known → IsTrue v.known)
       → Appends b.output.contents a.output.contents [] → new.cutter ≡ old.cutter → new.refused ≡ old.refused
       → Went view source_view (λ s. cuts_played s (cut ∷ [])) (session_at old v b) (session_at new w a) (Ok tt)
   went-silent cut old new b a v w turned spent still o h r = record {
@@ -654,11 +685,11 @@ module _ {R S : Type 0} (view : R → Tree) (source_view : S → Tree) where
   }
 
   -- the lines of a cut's reply were written
-  pub went-said : (cut : Cut) (y : Reply) (old mid new : Interpreter R S) (b a : World) (v w : KnownDisk) (result : Result ⊤ Stop)
-      → HasTurned view source_view (λ (o : Option Reply). o) (λ terms s. turn (setting terms) s cut) (IsSupplied b.files b.clock a.clock) (workspace_at old.workspace v) (workspace_at mid.workspace w) (Ok (Some y))
-      → ((terms : Terms) (s : Session) → Stands view source_view terms old.workspace s → HasSpent (cut_reads s cut) (cut_asks s cut) b.files a.files b.clock a.clock) → (IsTrue w.known → IsTrue v.known)
+  pub went-said : (cut : Cut) (y : Said) (old mid new : Interpreter R S) (b a : World) (v w : KnownDisk) (result : Result ⊤ Stop)
+      → HasTurned view source_view (λ (o : Option Said). o) (λ terms s. turn (setting terms) s cut) (IsSupplied b.files b.clock a.clock) (workspace_at old.workspace v) (workspace_at mid.workspace w) (Ok (Some y))
+      → ((terms : Terms) (s : Session) → Stands view source_view terms old.workspace s → HasSpent (cut_reads (setting terms) s cut) (cut_asks (setting terms) s cut) b.files a.files b.clock a.clock) → (IsTrue w.known → IsTrue v.known)
       → mid.cutter ≡ old.cutter → mid.refused ≡ old.refused
-      → SendsOut (lines y) b.output.contents a.output.contents result → OnOk result (new.cutter ≡ mid.cutter) → OnOk result (new.workspace ≡ mid.workspace) → OnOk result (new.refused ≡ (mid.refused || is_refusal y))
+      → SendsOut (said_lines y) b.output.contents a.output.contents result → OnOk result (new.cutter ≡ mid.cutter) → OnOk result (new.workspace ≡ mid.workspace) → OnOk result (new.refused ≡ (mid.refused || says_refusal y))
       → Went view source_view (λ s. cuts_played s (cut ∷ [])) (session_at old v b) (session_at new w a) result
   went-said cut y old mid new b a v w result turned spent still h r o h' l' r' = record {
     supply = turned.supply;
@@ -672,8 +703,8 @@ module _ {R S : Type 0} (view : R → Tree) (source_view : S → Tree) where
 
   -- a cut stopped the session before its reply; where a file or the clock failed, the disk is as it was
   pub went-stopped_early : (cut : Cut) (old new : Interpreter R S) (b a : World) (v w : KnownDisk) (fault : WorkspaceFault) (stop : Stop)
-      → HasTurned view source_view (λ (o : Option Reply). o) (λ terms s. turn (setting terms) s cut) (IsSupplied b.files b.clock a.clock) (workspace_at old.workspace v) (workspace_at new.workspace w) (Err fault)
-      → ((terms : Terms) (s : Session) → Stands view source_view terms old.workspace s → Spends {T = Option Reply} (cut_reads s cut) (cut_asks s cut) b.files a.files b.clock a.clock (Err fault)) → (IsTrue w.known → IsTrue v.known)
+      → HasTurned view source_view (λ (o : Option Said). o) (λ terms s. turn (setting terms) s cut) (IsSupplied b.files b.clock a.clock) (workspace_at old.workspace v) (workspace_at new.workspace w) (Err fault)
+      → ((terms : Terms) (s : Session) → Stands view source_view terms old.workspace s → Spends {T = Option Said} (cut_reads (setting terms) s cut) (cut_asks (setting terms) s cut) b.files a.files b.clock a.clock (Err fault)) → (IsTrue w.known → IsTrue v.known)
       → (fault ≡ fails.File → stop ≡ File) × (fault ≡ fails.Disk → stop ≡ Disk) × (fault ≡ fails.Clock → stop ≡ Clock) × (fault ≡ fails.Memory → stop ≡ Memory)
       → (fault ≡ fails.File → (c : List ℕ) → w.view.images c → v.view.images c) → (fault ≡ fails.Clock → (c : List ℕ) → w.view.images c → v.view.images c)
       → Appends b.output.contents a.output.contents []

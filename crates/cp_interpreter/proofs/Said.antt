@@ -1,14 +1,17 @@
 -- What one statement replies, and calls that say one line.
-use Rattle.std.proofs.Common.{◌≡◌, ℕ, List, [], Bool, refl, sym, subst, append-nil, arith}
+use Rattle.std.proofs.Common.{◌≡◌, ℕ, List, [], Bool, refl, sym, ap, subst, append-nil, arith}
 use Rattle.std.specs.List.{flat_map, list_any}
 use Rattle.std.specs.declared.option.Option.{Option}
-use Rattle.std.specs.declared.option.Option.TheVariants.{Some}
+use Rattle.std.specs.declared.option.Option.TheVariants.{None, Some}
+use Rattle.std.specs.Option.{option_map}
 use Rattle.cp_outside.specs.Causes.{Accounts}
 use Rattle.cp_lang.specs.declared.syntax_tree.Stmt.{Stmt}
 use Rattle.cp_reply.specs.Lines.{lines}
 use Rattle.cp_reply.specs.declared.reply.Reply.{Reply}
-use Rattle.cp_reply.specs.Session.{Session, says, turn_of, with_reply, replies_to_statements}
+use Rattle.cp_reply.specs.declared.said.Said.{Said}
+use Rattle.cp_reply.specs.Session.{Session, says, turn_of, said_to, said_in, with_reply, replies_to_statements}
 use Rattle.cp_workspace.specs.Texts.{Terms, setting}
+use Rattle.cp_workspace.specs.Workspaces.{of_nobody}
 use Rattle.cp_disk.specs.Views.{KnownDisk}
 use Rattle.cp_workspace.specs.Files.{KnownFiles}
 use Rattle.cp_interpreter.specs.Job.{is_refusal}
@@ -25,11 +28,16 @@ use Rattle.cp_interpreter.proofs.Plays.{or-false}
 one-reply : (o : Option Reply) (y : Reply) → Some y ≡ o → (lines y ≡ flat_map lines (with_reply o [])) × (is_refusal y ≡ list_any is_refusal (with_reply o []))
 one-reply o y is = subst (λ z. (lines y ≡ flat_map lines (with_reply z [])) × (is_refusal y ≡ list_any is_refusal (with_reply z []))) is (sym (append-nil (lines y)), or-false (is_refusal y))
 
+-- the reply of what was said
+reply-said : (whose : Option (List ℕ)) (o : Option Reply) (y : Reply) → of_nobody y ≡ option_map (said_to whose) o → Some y ≡ o
+reply-said whose None y is = absurd (cc)
+reply-said whose (Some r) y is = let same : said_to None y ≡ said_to whose r = cc in ap (λ (x : Said). Some x.reply) same
+
 -- the report of a statement that got this reply
-pub statement-said : (terms : Terms) (s : Session) (x : Stmt) (y : Reply) → Some y ≡ (turn_of (setting terms) s (says x)).reply
+pub statement-said : (terms : Terms) (s : Session) (x : Stmt) (y : Reply) → of_nobody y ≡ said_in (turn_of (setting terms) s (says x))
     → (lines y ≡ (statement_report terms s x).out) × (is_refusal y ≡ (statement_report terms s x).refused)
 unfolding replies_to_statements
-statement-said terms s x y is = one-reply (turn_of (setting terms) s (says x)).reply y is
+statement-said terms s x y is = let t = turn_of (setting terms) s (says x) in one-reply t.reply y (reply-said t.whose t.reply y is)
 
 -- ---- ends of calls that say one line
 

@@ -31,7 +31,7 @@ use Rattle.cp_interpreter.specs.Texts.{file_line, memory_line}
 use Rattle.cp_interpreter.specs.Job.{job_so_far, job}
 use Rattle.cp_interpreter.specs.Outside.{call_at, KnownInput, KnownClock, KnownOutput, World}
 use Rattle.cp_interpreter.specs.Play.{Seen, begun, plays, plays_all}
-use Rattle.cp_interpreter.specs.Story.{LeavesHistory, WritesLast, SaidLine, Leaving, left_on, Work, AllDone, OutputStopped, OutOfMemory, Did, work_on, store_terms, IsEarly, early_line, HasNotBegun, HasCauses, WorldCauses, DiskCauses, result_of, StandsForFront}
+use Rattle.cp_interpreter.specs.Story.{LeavesHistory, WritesLast, SaidLine, Leaving, left_on, Work, AllDone, OutputStopped, OutOfMemory, Did, work_on, one_curator, store_terms, IsEarly, early_line, HasNotBegun, HasCauses, WorldCauses, DiskCauses, result_of, StandsForFront}
 use Rattle.cp_interpreter.specs.Scripts.{task_of, script_of, next_script, commit_text, ScriptState, refused_script, ScriptFailed, DidScript, script_session, DidCommit, Committed}
 use Rattle.cp_interpreter.specs.Turns.{session_at, Follows, script_read, LeavesAlong, RanFrom, RanScript, IsClosing, TellsStop, end_of_stop, work_from, script_from}
 use Rattle.cp_interpreter.specs.Begins.{LeavesStore, BegunOn, GivesScript, GivesScriptOf}
@@ -286,10 +286,10 @@ committed-early file curator i f k o p v w e early wrote none never leaves = rec
 
 -- a call that ran the script of its file, or said why there is none
 module _ {R S : Type 0} (view : R → Tree) (source_view : S → Tree) (file curator : List ℕ) (x y : Interpreter R S) (i : KnownInput) (f fa : KnownFiles) (k ka : KnownClock) (o oa : KnownOutput) (v m w : KnownDisk) (e : End)
-    (none : x.refused ≡ false) (same : IsTrue v.known → IsTrue m.known) (opened : IsTrue v.known → BegunOn view source_view curator v m (Ok x)) (leaves : LeavesStore v m) (r : RanScript view source_view file (session_at x m (world f k o)) (session_at y w (world fa ka oa)) e) where
+    (none : x.refused ≡ false) (same : IsTrue v.known → IsTrue m.known) (opened : IsTrue v.known → BegunOn view source_view (one_curator curator) v m (Ok x)) (leaves : LeavesStore v m) (r : RanScript view source_view file (session_at x m (world f k o)) (session_at y w (world fa ka oa)) e) where
   module _ (known : IsTrue v.known) (h : List Entry) (store : IsStore h v.view.content) where
     abbrev terms : Terms
-    terms = store_terms h v.view.content curator
+    terms = store_terms h v.view.content (one_curator curator)
 
     abbrev session : Supply → Session
     session rest = opened_session h (followed_by r.supply rest)

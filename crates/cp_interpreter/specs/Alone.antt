@@ -19,7 +19,7 @@ use Rattle.cp_workspace.specs.Workspaces.{opened_session}
 use Rattle.cp_interpreter.specs.Texts.{file_line, disk_line, memory_line}
 use Rattle.cp_interpreter.specs.Job.{Report, is_refusal}
 use Rattle.cp_interpreter.specs.Outside.{Outside}
-use Rattle.cp_interpreter.specs.Story.{Writes, StopsIn, WritesLast, Leaving, left_on, store_terms, HasNotBegun}
+use Rattle.cp_interpreter.specs.Story.{Writes, StopsIn, WritesLast, Leaving, left_on, one_curator, store_terms, HasNotBegun}
 use Rattle.cp_interpreter.specs.declared.end.End.{End}
 use Rattle.cp_interpreter.specs.declared.end.End.TheVariants as how
 
@@ -35,7 +35,7 @@ statement_report terms s x = record {
 
 -- the same in a session that begins on the history h, which the content c tells, and to which this is told; it has no curator
 abbrev pub report_on : Supply → List Entry → List ℕ → Stmt → Report
-report_on supply h c x = statement_report (store_terms h c []) (opened_session h supply) x
+report_on supply h c x = statement_report (store_terms h c (one_curator [])) (opened_session h supply) x
 
 -- What the one statement did, by how the call ended: its report, or what came of it where something failed in it.
 abbrev pub DidStatement : Report → List Entry → Leaving → Outside → Outside → End → Type 0

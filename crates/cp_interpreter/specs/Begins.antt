@@ -30,7 +30,7 @@ use Rattle.cp_workspace.specs.declared.workspace.Workspace.{Workspace}
 use Rattle.cp_interpreter.specs.Job.{Report, is_refusal}
 use Rattle.cp_interpreter.specs.Outside.{KnownOutput}
 use Rattle.cp_interpreter.specs.Play.{begun}
-use Rattle.cp_interpreter.specs.Story.{LeavesHistory, frames_end, left_on, store_terms, SaidLine, LeavesStart}
+use Rattle.cp_interpreter.specs.Story.{LeavesHistory, frames_end, left_on, store_terms, SaidLine, LeavesStart, Committers, one_curator}
 use Rattle.cp_interpreter.specs.Alone.{report_on}
 use Rattle.cp_interpreter.specs.Scripts.{ScriptState, script_of}
 use Rattle.cp_interpreter.specs.Turns.{Follows, TellsStop, end_of_stop}
@@ -79,15 +79,15 @@ OpenedAs view source_view v w (Err (NoStore at)) =
 OpenedAs view source_view v w (Err stop) = (Opens v.view.content → ⊥) → ViewRests v.view w.view
 
 -- the same of its session
-abbrev pub BegunOn : {R S : Type 0} → (R → Tree) → (S → Tree) → List ℕ → KnownDisk → KnownDisk
+abbrev pub BegunOn : {R S : Type 0} → (R → Tree) → (S → Tree) → Committers → KnownDisk → KnownDisk
     → Result (Interpreter R S) Stop → Type 0
-BegunOn view source_view curator v w (Ok x) = Opens v.view.content
+BegunOn view source_view who v w (Ok x) = Opens v.view.content
     × ((h : List Entry) (supply : Supply) → IsStore h v.view.content
     → Follows view source_view w x
-    (begun (store_terms h v.view.content curator) (opened_session h supply)))
-BegunOn view source_view curator v w (Err (NoStore at)) =
+    (begun (store_terms h v.view.content who) (opened_session h supply)))
+BegunOn view source_view who v w (Err (NoStore at)) =
     IsNot Opens v.view.content at × ViewRests v.view w.view
-BegunOn view source_view curator v w (Err stop) =
+BegunOn view source_view who v w (Err stop) =
     (Opens v.view.content → ⊥) → ViewRests v.view w.view
 
 -- a store isn't opened for one of these
@@ -151,7 +151,7 @@ abbrev pub OpenedAlone : {R S : Type 0} → (R → Tree) → (S → Tree) → Kn
     → Result (Workspace R S) Stop → Type 0
 OpenedAlone view source_view v w (Ok d) = Opens v.view.content
     × ((h : List Entry) (supply : Supply) → IsStore h v.view.content
-    → workspace.Stands view source_view (store_terms h v.view.content []) d
+    → workspace.Stands view source_view (store_terms h v.view.content (one_curator [])) d
     (opened_session h supply) × HoldsFile d h w)
 OpenedAlone view source_view v w (Err (NoStore at)) = IsNot Opens v.view.content at
 OpenedAlone view source_view v w (Err stop) = ⊤

@@ -6,9 +6,10 @@ use Rattle.cp_model.specs.declared.record.Verdict.{Verdict}
 use Rattle.cp_model.specs.declared.record.Verdict.TheVariants.{Agrees}
 use Rattle.cp_lang.specs.Cuts.{cuts_in, cuts_of}
 use Rattle.cp_lang.specs.declared.cut.Cut.{Cut}
-use Rattle.cp_reply.specs.Lines.{lines}
+use Rattle.cp_reply.specs.Lines.{said_lines}
 use Rattle.cp_reply.specs.declared.reply.Reply.{Reply}
 use Rattle.cp_reply.specs.declared.reply.Reply.TheVariants as reply
+use Rattle.cp_reply.specs.declared.said.Said.{Said}
 use Rattle.cp_reply.specs.Session.{Setting, Session, turn, replies_to, session_after}
 use Rattle.cp_workspace.specs.Texts.{Terms, setting}
 use Rattle.cp_workspace.specs.Loads.{cut_reads}
@@ -25,15 +26,19 @@ is_refusal (reply.Refused o w) = true
 is_refusal (reply.Verified v) = is_difference v
 is_refusal r = false
 
+-- and so is the one that is said, to whomever
+abbrev pub says_refusal : Said → Bool
+says_refusal x = is_refusal x.reply
+
 -- how many files cuts read, one after another
 unfoldable pub reads_in : Setting → Session → List Cut → ℕ
 reads_in c s [] = 0
-reads_in c s (x ∷ xs) = cut_reads s x + reads_in c (turn c s x).next xs
+reads_in c s (x ∷ xs) = cut_reads c s x + reads_in c (turn c s x).next xs
 
 -- how often they ask the clock
 unfoldable pub asks_in : Setting → Session → List Cut → ℕ
 asks_in c s [] = 0
-asks_in c s (x ∷ xs) = cut_asks s x + asks_in c (turn c s x).next xs
+asks_in c s (x ∷ xs) = cut_asks c s x + asks_in c (turn c s x).next xs
 
 -- what is written, whether some line is a refusal, how many files are read, how often the clock is asked, and the history to which it comes
 pub record Report : Type 0 where
@@ -46,10 +51,10 @@ pub record Report : Type 0 where
 -- what cuts do
 abbrev pub report_of : Terms → Session → List Cut → Report
 report_of terms s cuts =
-    let replies = replies_to (setting terms) s cuts in
+    let said = replies_to (setting terms) s cuts in
     record {
-      out = flat_map lines replies;
-      refused = list_any is_refusal replies;
+      out = flat_map said_lines said;
+      refused = list_any says_refusal said;
       reads = reads_in (setting terms) s cuts;
       asks = asks_in (setting terms) s cuts;
       history = (session_after (setting terms) s cuts).history;

@@ -18,7 +18,7 @@ use Rattle.cp_workspace.specs.Supplies.{IsSupplied}
 use Rattle.cp_workspace.specs.Workspaces.{opened_session}
 use Rattle.cp_interpreter.specs.Texts.{file_line, memory_line}
 use Rattle.cp_interpreter.specs.Outside.{World, Outside, Moment, call_at, world_of}
-use Rattle.cp_interpreter.specs.Story.{WritesLast, Leaving, left_on, Work, Did, result_of, work_on, store_terms, SaidLine, HasNotBegun, LeavesHistory, StandsForFront}
+use Rattle.cp_interpreter.specs.Story.{WritesLast, Leaving, left_on, Work, Did, result_of, work_on, one_curator, store_terms, SaidLine, HasNotBegun, LeavesHistory, StandsForFront}
 use Rattle.cp_interpreter.specs.declared.end.End.{End}
 use Rattle.cp_interpreter.specs.declared.end.End.TheVariants as how
 
@@ -100,7 +100,7 @@ next_script file supply = script_of (next_table supply.tables file)
 -- The session on the history h, which the content c tells, to which this is told; its commit file is the first that was read.
 abbrev pub script_session : List Entry → List ℕ → List ℕ → Supply → Work
 script_session h c curator supply =
-    work_on (store_terms h c curator) (after_read (opened_session h supply)) 1
+    work_on (store_terms h c (one_curator curator)) (after_read (opened_session h supply)) 1
 
 -- What was done on a store that stands for the history h, which the content tells at entry, whatever would be told after this.
 pub record DidCommit (h : List Entry) (file curator taken : List ℕ) (supply : Supply)

@@ -17,6 +17,7 @@ use Rattle.cp_journal.specs.NewStores.{IsVacant, SettlesInto}
 use Rattle.cp_journal.specs.declared.limits.TheConstants.{HEADER_SIZE}
 use Rattle.cp_frame.specs.Stands.{IsStore, Opens, StandsFor}
 use Rattle.cp_frame.specs.Stops.{IsNot}
+use Rattle.cp_frame.specs.Sizes.{FrameEnd}
 use Rattle.cp_db.specs.Writing.{IsOldOrVacantOrStart, IsVacantOrStart}
 use Rattle.cp_reply.specs.Lines.{lines}
 use Rattle.cp_reply.specs.declared.reply.Of.TheVariants as of
@@ -266,10 +267,26 @@ work_on terms s reads =
 abbrev pub frames_end : List ℕ → ℕ
 frames_end c = walk_end HEADER_SIZE (frames_of (drop HEADER_SIZE c))
 
--- what a session is run on in a file that stands for this history
-abbrev pub store_terms : List Entry → List ℕ → List ℕ → Terms
-store_terms h c curator =
-    record { ends = record { entries = h; at = frames_end c }; curator = curator }
+-- who makes the commits of a session: one curator, or each of several, whose texts begin with their names
+pub record Committers : Type 0 where
+  pub curator : List ℕ
+  pub shared : Bool
+
+-- one curator of this label
+abbrev pub one_curator : List ℕ → Committers
+one_curator label = record { curator = label; shared = false }
+
+-- several, each by his name
+abbrev pub several_curators : Committers
+several_curators = record { curator = []; shared = true }
+
+-- what their session is run on where the frames end so
+abbrev pub terms_from : FrameEnd → Committers → Terms
+terms_from ends who = record { ends = ends; curator = who.curator; shared = who.shared }
+
+-- and in a file that stands for this history
+abbrev pub store_terms : List Entry → List ℕ → Committers → Terms
+store_terms h c who = terms_from (record { entries = h; at = frames_end c }) who
 
 -- the last line of a call that ended before its session began
 abbrev pub early_line : End → List ℕ
@@ -299,9 +316,9 @@ pub record HasNotBegun (taken : List ℕ) (supply : Supply) (before now : Outsid
   pub clock : now.clock ≡ before.clock
   pub wrote : WritesLast before.output now.output [] (early_line end)
 
--- The session on the history h, which the content c tells, to which this is told.
-abbrev pub session_on : List Entry → List ℕ → List ℕ → Supply → Work
-session_on h c curator supply = work_on (store_terms h c curator) (opened_session h supply) 0
+-- Their session on the history h, which the content c tells, to which this is told.
+abbrev pub session_on : List Entry → List ℕ → Committers → Supply → Work
+session_on h c who supply = work_on (store_terms h c who) (opened_session h supply) 0
 
 -- It stands for what the work makes of a front of the bytes that were taken.
 abbrev pub StandsForFront : Work → List ℕ → List ℕ → Type 0
@@ -317,22 +334,22 @@ pub record LeavesHistory (h : List Entry) (v w : KnownDisk) : Type 0 where
   pub now : (c : List ℕ) → w.view.images c → v.view.images c ⊎ StandsFor h c
 
 -- What was done on a store that stands for the history h, which the content tells at entry: its session, whatever would be told after this; or none was run, and the history is left.
-pub record DidOn (h : List Entry) (curator taken : List ℕ) (supply : Supply) (before now : Moment)
-    (end : End) : Type 0 where
+pub record DidOn (h : List Entry) (who : Committers) (taken : List ℕ) (supply : Supply)
+    (before now : Moment) (end : End) : Type 0 where
   pub did : (rest : Supply)
       → (HasNotBegun taken supply before.outside now.outside end
       × LeavesHistory h before.disk now.disk)
-      ⊎ Did (session_on h before.disk.view.content curator (followed_by supply rest))
+      ⊎ Did (session_on h before.disk.view.content who (followed_by supply rest))
       (left_on now.disk) 0 taken before.outside now.outside end
   pub later : before.disk.view.moment ≤ now.disk.view.moment
   pub crash : (rest : Supply)
       → ViewLeaves (StandsForFront
-      (session_on h before.disk.view.content curator (followed_by supply rest)) taken)
+      (session_on h before.disk.view.content who (followed_by supply rest)) taken)
       before.disk.view now.disk.view
 
 -- A call that ran a session on a store took these bytes of the input, all of them where all was done; more than a call takes exactly at that end.
 -- What isn't opened is no store, and what is none isn't opened. What stands for a history has its session, to which the clock told some moments, and reads some files.
-pub record RanOn (curator : List ℕ) (before now : Outside) (v w : KnownDisk)
+pub record RanOn (who : Committers) (before now : Outside) (v w : KnownDisk)
     (end : End) : Type 0 where
   pub taken : List ℕ
   pub took : Consumes before.input.left now.input.left taken
@@ -348,7 +365,7 @@ pub record RanOn (curator : List ℕ) (before now : Outside) (v w : KnownDisk)
   pub unopened : IsTrue v.known → (Opens v.view.content → ⊥)
       → HasNotBegun taken supply before now end × ViewRests v.view w.view
   pub did : IsTrue v.known → (h : List Entry) → IsStore h v.view.content
-      → DidOn h curator taken supply (call_at v before) (call_at w now) end
+      → DidOn h who taken supply (call_at v before) (call_at w now) end
 
 -- ---- a new store
 

@@ -2,8 +2,8 @@
 ghost use Rattle.std.specs.Prelude.{◌≡◌, ◌||◌, false, OnOk, IfErr, [], ◌∷◌};
 ghost use Rattle.cp_disk.specs.Views.{Keeps};
 ghost use Rattle.std.specs.Option.{option_to_list};
-ghost use Rattle.cp_reply.specs.Lines.{lines};
-ghost use Rattle.cp_interpreter.specs.Job.{is_refusal};
+ghost use Rattle.cp_reply.specs.Lines.{said_lines};
+ghost use Rattle.cp_interpreter.specs.Job.{says_refusal};
 ghost use Rattle.cp_lang.specs.Cuts.{scan_start};
 ghost use Rattle.cp_lang.specs.CutterState.{held_of};
 ghost use Rattle.cp_interpreter.specs.Outside.{known_output, known_world};
@@ -13,11 +13,11 @@ ghost use Rattle.cp_interpreter.specs.Replied.{SendsReplies};
 ghost use Rattle.cp_interpreter.specs.Turns.{MayGoOn, SendsOut, Went, WasFed, RanLast, Uses, UsesOutput, IsOpenedStop, cuts_played, session_at, cutter_in, workspace_in, has_refused};
 
 use crate::stop::Stop;
-use crate::tell::{is_refusal, tell};
+use crate::tell::{says_refusal, tell};
 use cp_disk::Disk;
 use cp_lang::{Cut, Cutter};
 use cp_outside::{Clock, Files, Sink};
-use cp_reply::Reply;
+use cp_reply::Said;
 use cp_tree::TreeRep;
 use cp_workspace::Workspace;
 use std::alloc::Global;
@@ -74,20 +74,20 @@ impl<R: TreeRep, S: TreeRep> Interpreter<R, S> {
     }
 
     /// Writes the lines of a reply, and notes whether it is a refusal.
-    fn say<O: Sink>(&mut self, reply: Reply, output: &mut O) -> Result<(), Stop>
-        ensures went { SendsOut (lines reply) (O.contents output.old)
+    fn say<O: Sink>(&mut self, said: Said, output: &mut O) -> Result<(), Stop>
+        ensures went { SendsOut (said_lines said) (O.contents output.old)
             (O.contents output.new) result }
         ensures held { OnOk result (self.new.cutter ≡ self.old.cutter) }
         ensures workspace { OnOk result (self.new.workspace ≡ self.old.workspace) }
-        ensures refused { OnOk result (self.new.refused ≡ (self.old.refused || is_refusal reply)) }
+        ensures refused { OnOk result (self.new.refused ≡ (self.old.refused || says_refusal said)) }
         ensures replied { SendsReplies (has_refused self.old) (has_refused self.new)
             (known_output O.Sink output.old) (known_output O.Sink output.new) result }
         ensures used { UsesOutput (known_output O.Sink output.old)
             (known_output O.Sink output.new) result }
     {
-        let told = tell(self.alloc, &reply, &mut self.text, output);
-        let refused = is_refusal(&reply);
-        reply.discard();
+        let told = tell(self.alloc, &said, &mut self.text, output);
+        let refused = says_refusal(&said);
+        said.discard();
         told?;
         self.refused = self.refused || refused;
         Ok(())
@@ -125,7 +125,7 @@ impl<R: TreeRep, S: TreeRep> Interpreter<R, S> {
             .workspace
             .reply_to(self.alloc, cut, disk, files, clock)?
         {
-            Some(reply) => self.say(reply, output),
+            Some(said) => self.say(said, output),
             None => Ok(()),
         }
     }

@@ -1,10 +1,11 @@
 //! Lines that go to the output: replies, and the last line of a call that doesn't end with one.
 ghost use Rattle.std.specs.Prelude.{◌≡◌, ◌≤◌, []};
 ghost use Rattle.cp_outside.specs.Causes.{Accounts};
-ghost use Rattle.cp_reply.specs.Lines.{lines};
-ghost use Rattle.cp_interpreter.specs.Job.{is_difference, is_refusal};
+ghost use Rattle.cp_reply.specs.Lines.{lines, said_lines};
+ghost use Rattle.cp_interpreter.specs.Job.{is_difference, is_refusal, says_refusal};
 ghost use Rattle.cp_interpreter.specs.Texts.{memory_line, no_store_line};
 ghost use Rattle.cp_interpreter.specs.Outside.{known_output};
+ghost use Rattle.cp_interpreter.specs.Replied.{IsNamed};
 ghost use Rattle.cp_interpreter.specs.Story.{SaidLine, WritesLast, result_of};
 ghost use Rattle.cp_interpreter.specs.Turns.{SendsOut, TellsStop, UsesOutput, end_of_stop};
 
@@ -12,7 +13,7 @@ use crate::end::End;
 use crate::stop::Stop;
 use cp_model::Verdict;
 use cp_outside::{Sink, write_all};
-use cp_reply::{Reply, lines};
+use cp_reply::{Reply, Said, lines, said_lines};
 use itoa::Buffer;
 use std::alloc::Global;
 
@@ -24,7 +25,7 @@ fn is_difference(verdict: &Verdict) -> bool
 }
 
 /// Whether a reply refuses something, or tells of a difference.
-pub(crate) fn is_refusal(reply: &Reply) -> bool
+fn is_refusal(reply: &Reply) -> bool
     ensures { result ≡ is_refusal reply.now }
 {
     match reply {
@@ -34,20 +35,32 @@ pub(crate) fn is_refusal(reply: &Reply) -> bool
     }
 }
 
-/// Writes the lines of a reply, by way of `text`, whose old contents are dropped.
+/// The same of what is said, to nobody or to a curator, whose name is one.
+pub(crate) fn says_refusal(said: &Said) -> bool
+    ensures refusal { result ≡ says_refusal said.now }
+    ensures named { IsNamed said.now.whose }
+{
+    if let Some(name) = &said.whose {
+        // Its text says that the name is one.
+        let _text = name.as_str();
+    }
+    is_refusal(&said.reply)
+}
+
+/// Writes the lines of a reply to whom it goes, by way of `text`, whose old contents are dropped.
 pub(crate) fn tell<O: Sink>(
     alloc: Global,
-    reply: &Reply,
+    said: &Said,
     text: &mut Vec<u8>,
     output: &mut O,
 ) -> Result<(), Stop>
-    ensures went { SendsOut (lines reply.now) (O.contents output.old)
+    ensures went { SendsOut (said_lines said.now) (O.contents output.old)
         (O.contents output.new) result }
     ensures used { UsesOutput (known_output O.Sink output.old)
         (known_output O.Sink output.new) result }
 {
     text.clear();
-    lines(alloc, reply, text)?;
+    said_lines(alloc, said, text)?;
     write_all(output, text)?;
     Ok(())
 }
@@ -129,7 +142,9 @@ fn tell_alone<O: Sink>(alloc: Global, reply: &Reply, output: &mut O) -> Result<(
         (known_output O.Sink output.new) result }
 {
     let mut text = Vec::new(alloc);
-    tell(alloc, reply, &mut text, output)
+    lines(alloc, reply, &mut text)?;
+    write_all(output, &text)?;
+    Ok(())
 }
 
 /// Writes the lines of a reply with which a call ends, and gives the end: whether the reply refuses something or tells of a

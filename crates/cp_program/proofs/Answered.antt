@@ -19,11 +19,11 @@ use Rattle.cp_reply.specs.declared.reply.Reply.TheVariants as reply
 use Rattle.cp_reply.specs.Session.{no_supply, Session, says, turn_of}
 use Rattle.cp_workspace.specs.Texts.{Terms, setting}
 use Rattle.cp_workspace.specs.Files.{KnownFiles}
-use Rattle.cp_workspace.specs.Workspaces.{Stands, Turned, opened_session}
+use Rattle.cp_workspace.specs.Workspaces.{Stands, Turned, of_nobody, opened_session}
 use Rattle.cp_workspace.specs.declared.workspace.Workspace.{Workspace}
 use Rattle.cp_interpreter.specs.Job.{is_refusal}
 use Rattle.cp_interpreter.specs.Outside.{KnownInput, KnownClock, KnownOutput, Outside}
-use Rattle.cp_interpreter.specs.Story.{SaidLine, HasCauses, DiskCauses, result_of, store_terms}
+use Rattle.cp_interpreter.specs.Story.{SaidLine, HasCauses, DiskCauses, result_of, one_curator, store_terms}
 use Rattle.cp_program.specs.Answering.{IsAnswerTo, IsLogOf, IsVerdictOn, Answered}
 use Rattle.cp_interpreter.specs.Begins.{IsOpeningStop, OpenedAlone, AnsweredAs, GaveAnswer}
 use Rattle.cp_interpreter.specs.Turns.{TellsStop, end_of_stop}
@@ -39,11 +39,11 @@ use Rattle.cp_program.proofs.Verdicts.{verdict-opens}
 
 -- a statement was run on the workspace that was opened
 pub answered-statement : {R S : Type 0} (view : R → Tree) (source_view : S → Tree) (v m : KnownDisk) (old new : Workspace R S) (x : Stmt) (y : Reply) → OpenedAlone view source_view v m (Ok old)
-    → ((terms : Terms) (s : Session) → Stands view source_view terms old s → Turned view source_view terms (turn_of (setting terms) s (says x)) new (Some y))
+    → ((terms : Terms) (s : Session) → Stands view source_view terms old s → Turned view source_view terms (turn_of (setting terms) s (says x)) new (of_nobody y))
     → AnsweredAs Opens (IsAnswerTo x) v (Ok y)
 answered-statement view source_view v m old new x y o f = (
   o.0,
-  λ h store. statement-said (store_terms h v.view.content []) (opened_session h no_supply) x y (f (store_terms h v.view.content []) (opened_session h no_supply) (o.1 h no_supply store).0).0,
+  λ h store. statement-said (store_terms h v.view.content (one_curator [])) (opened_session h no_supply) x y (f (store_terms h v.view.content (one_curator [])) (opened_session h no_supply) (o.1 h no_supply store).0).0,
 )
 
 -- the records of a store were compared

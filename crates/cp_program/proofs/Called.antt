@@ -73,6 +73,7 @@ fits words.Log before now v w e r = answered-fits OpensAndReplays IsLogOf before
 fits words.Verify before now v w e r = answered-fits OpensAndReplays IsVerdictOn before now v w e r
 fits (words.At tid asked) before now v w e r = answered-fits OpensAndReplays (IsAnswerAt tid asked) before now v w e r
 fits words.Archive before now v w e r = answered-fits OpensAndReplays IsArchiveOf before now v w e r
+fits words.Share before now v w e r = r.fitting
 fits (words.Uses q) before now v w e r = answered-fits Opens (IsUsesOf q) before now v w e r
 
 -- where there is a store, if there is to be one, it is found
@@ -89,6 +90,7 @@ opens words.Log before now v w e r has at h = (r.no_store has.0 at h).1.never ha
 opens words.Verify before now v w e r has at h = (r.no_store has.0 at h).1.never has.1
 opens (words.At tid asked) before now v w e r has at h = (r.no_store has.0 at h).1.never has.1
 opens words.Archive before now v w e r has at h = (r.no_store has.0 at h).1.never has.1
+opens words.Share before now v w e r has at h = (r.no_store has.0 at h).2.never has.1
 opens (words.Uses q) before now v w e r has at h = (r.no_store has.0 at h).1.never has.1
 
 -- where nothing failed and little came, the call ends with an answer
@@ -157,6 +159,7 @@ left-out (Some words.Log) i f k o1 o2 v w = version-none v.view
 left-out (Some words.Verify) i f k o1 o2 v w = version-none v.view
 left-out (Some (words.At tid asked)) i f k o1 o2 v w = version-none v.view
 left-out (Some words.Archive) i f k o1 o2 v w = version-none v.view
+left-out (Some words.Share) i f k o1 o2 v w = newest-untouched i f k o1 o2 v how.Memory (inr (inr refl)) w
 left-out (Some (words.Uses q)) i f k o1 o2 v w = version-none v.view
 
 -- a call whose words took too much memory

@@ -86,13 +86,13 @@ refused-given view source_view v j (withholds y) w h = h
 module _ {R S : Type 0} (view : R → Tree) (source_view : S → Tree) (d : Db R S) (m : Workspace R S) (x : Interpreter R S) (v : KnownDisk) (same : db_in m ≡ d) (cutter : cutter_in x ≡ held_of scan_start) (workspace : workspace_in x ≡ m) where
   -- follows the one on its history
   pub scratch-follows : (j : Kind) (t : Tree) (curator : Label) → curator ≡ [] → end_in d ≡ HEADER_SIZE + FRAME_HEAD + start_size t → IsKept true d (start j t ∷ []) v.view
-      → ((supply : Supply) → Stands view source_view (record { ends = end_now (start j t ∷ []) d; curator = curator }) m (scratch_session j t supply))
+      → ((supply : Supply) → Stands view source_view (record { ends = end_now (start j t ∷ []) d; curator = curator; shared = false }) m (scratch_session j t supply))
       → (supply : Supply) → Follows view source_view v x (begun (scratch_terms j t) (scratch_session j t supply))
   scratch-follows j t curator none size kept stands supply =
       let h = start j t ∷ [] in
       let s = scratch_session j t supply in
-      let P : ℕ → Type 0 = λ n. Stands view source_view (record { ends = record { entries = h; at = n }; curator = curator }) m s in
-      let Q : Label → Type 0 = λ a. Stands view source_view (record { ends = record { entries = h; at = HEADER_SIZE + FRAME_HEAD + start_size t }; curator = a }) m s in
+      let P : ℕ → Type 0 = λ n. Stands view source_view (record { ends = record { entries = h; at = n }; curator = curator; shared = false }) m s in
+      let Q : Label → Type 0 = λ a. Stands view source_view (record { ends = record { entries = h; at = HEADER_SIZE + FRAME_HEAD + start_size t }; curator = a; shared = false }) m s in
       record {
         cutter = cutter;
         stands = subst (λ z. Stands view source_view (scratch_terms j t) z s) (sym workspace) (subst Q none (subst P size (stands supply)));

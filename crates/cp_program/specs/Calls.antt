@@ -14,7 +14,7 @@ use Rattle.cp_scratch.specs.Starts.{start_given, start_reads}
 use Rattle.cp_program.specs.InMemory.{Ran}
 use Rattle.cp_interpreter.specs.Outside.{KnownInput, Outside}
 use Rattle.cp_interpreter.specs.Ends.{code_of}
-use Rattle.cp_interpreter.specs.Story.{WritesLast, RanOn, Made, HasCauses, DiskCauses, IsFaultless}
+use Rattle.cp_interpreter.specs.Story.{WritesLast, RanOn, one_curator, several_curators, Made, HasCauses, DiskCauses, IsFaultless}
 use Rattle.cp_interpreter.specs.Alone.{Loaded}
 use Rattle.cp_program.specs.Answering.{Answered, Generated, IsAnswerTo, IsLogOf, IsVerdictOn}
 use Rattle.cp_program.specs.Using.{IsUsesOf}
@@ -48,7 +48,7 @@ pub record RanOut (before now : Outside) (v w : KnownDisk) (end : End) : Type 0 
 abbrev pub DidCommand : Command → Outside → Outside → KnownDisk → KnownDisk → End → Type 0
 DidCommand (words.Scratch k from) before now v w end = Ran k (λ files. start_given files from) (start_reads from) before now end × (end ≡ how.Disk → ⊥)
 DidCommand (words.Init k from) before now v w end = Made k (λ files. start_given files from) (start_reads from) before now v w end × (end ≡ how.TooLong → ⊥)
-DidCommand (words.Run curator) before now v w end = RanOn curator before now v w end
+DidCommand (words.Run curator) before now v w end = RanOn (one_curator curator) before now v w end
 DidCommand (words.Commit file curator) before now v w end = Committed file curator before now v w end
 DidCommand (words.Load l) before now v w end = Loaded l before now v w end
 DidCommand (words.Ask q) before now v w end = Answered Opens (IsAnswerTo (stmt.Ask q)) before now v w end
@@ -58,6 +58,7 @@ DidCommand words.Log before now v w end = Answered OpensAndReplays IsLogOf befor
 DidCommand words.Verify before now v w end = Answered OpensAndReplays IsVerdictOn before now v w end
 DidCommand (words.At tid asked) before now v w end = Answered OpensAndReplays (IsAnswerAt tid asked) before now v w end
 DidCommand words.Archive before now v w end = Answered OpensAndReplays IsArchiveOf before now v w end
+DidCommand words.Share before now v w end = RanOn several_curators before now v w end
 DidCommand (words.Uses q) before now v w end = Answered Opens (IsUsesOf q) before now v w end
 
 -- What was done for the words: for their command, or, where they fit no row, the usage was given.
@@ -79,6 +80,7 @@ LeavesDisk words.Log = ⊥
 LeavesDisk words.Verify = ⊥
 LeavesDisk (words.At tid asked) = ⊥
 LeavesDisk words.Archive = ⊥
+LeavesDisk words.Share = ⊥
 LeavesDisk (words.Uses q) = ⊥
 
 -- The words ask for nothing of the disk.
@@ -114,6 +116,7 @@ HasItsStore words.Log v = HasWholeStore v
 HasItsStore words.Verify v = HasWholeStore v
 HasItsStore (words.At tid asked) v = HasWholeStore v
 HasItsStore words.Archive v = HasWholeStore v
+HasItsStore words.Share v = HasOpenStore v
 HasItsStore (words.Uses q) v = HasOpenStore v
 
 -- What the words ask for needs no store, or the disk is known to hold one that opens.

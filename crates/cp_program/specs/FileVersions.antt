@@ -36,6 +36,7 @@ abbrev pub LeavesVersion : Command → Outside → Outside → KnownDisk → Kno
 LeavesVersion (words.Init k from) before now v w end = MakesNewest v w end
 LeavesVersion (words.Run curator) before now v w end = RunsOnNewest before now v w end
 LeavesVersion (words.Commit file curator) before now v w end = RunsOnNewest before now v w end
+LeavesVersion words.Share before now v w end = RunsOnNewest before now v w end
 LeavesVersion x before now v w end = KeepsFileVersion v.view w.view
 
 -- What the words leave of it: where they fit no row, it stays.

@@ -125,7 +125,7 @@ pub(crate) fn commit<R: TreeRep, S: TreeRep, D: Disk, F: Files, K: Clock, O: Sin
         drop(curator);
         return out_of_memory(output);
     };
-    match begin::<R, S, D>(alloc, curator, disk) {
+    match begin::<R, S, D>(alloc, curator, false, disk) {
         Ok(mut session) => {
             let end = play_file(
                 alloc,

@@ -4,7 +4,7 @@ ghost use Rattle.cp_disk.specs.Counts.{UsesDisk};
 ghost use Rattle.cp_disk.specs.Views.{Rests};
 ghost use Rattle.cp_model.specs.Place.{label_eq, target};
 ghost use Rattle.cp_workspace.specs.Files.{known_files, UsesFiles};
-ghost use Rattle.cp_workspace.specs.Workspaces.{IsUsable};
+ghost use Rattle.cp_workspace.specs.Workspaces.{IsOfOne, IsUsable};
 ghost use Rattle.cp_db.specs.FileVersions.{KeepsVersion};
 ghost use Rattle.cp_interpreter.specs.Alone.{Loaded};
 ghost use Rattle.cp_interpreter.specs.Replied.{WroteReplies};
@@ -32,6 +32,7 @@ pub(crate) fn open_workspace<R: TreeRep, S: TreeRep, D: Disk>(
         OpenedAlone R.contents S.contents (D.known disk.old) (D.known disk.new) result }
     ensures rests { Rests (D.known disk.old) (D.known disk.new) }
     ensures usable { IfOk result (λ d. IsUsable R.contents S.contents (D.known disk.new) d) }
+    ensures alone { IfOk result (λ d. IsOfOne d) }
     ensures cause { UsesDisk (λ e. e ≡ Stop.Disk) (D.known disk.old) (D.known disk.new) result }
     ensures kinds { IfErr result IsOpeningStop }
 {

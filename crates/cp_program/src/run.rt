@@ -17,7 +17,7 @@ use crate::generate::generate;
 use crate::init::init;
 use crate::load::load;
 use crate::scratch::scratch;
-use crate::store::run;
+use crate::store::{run, share};
 use crate::uses::uses;
 use crate::version::{ask_version, count_versions};
 use cp_disk::Disk;
@@ -28,7 +28,7 @@ use cp_words::{Command, command_of};
 use std::alloc::Global;
 
 const USAGE: &[u8] =
-    b"usage: cpdb scratch KIND [JSON]\nusage: cpdb init STORE KIND [JSON]\nusage: cpdb run STORE [CURATOR]\nusage: cpdb commit STORE FILE [CURATOR]\nusage: cpdb load STORE NAME json FILE\nusage: cpdb load STORE NAME csv FILE [COLUMN]\nusage: cpdb query STORE STATEMENT\nusage: cpdb verify STORE\nusage: cpdb checkpoint STORE\nusage: cpdb gen SEED COUNT KIND\nusage: cpdb log STORE\nusage: cpdb at STORE TID STATEMENT\nusage: cpdb archive STORE\nusage: cpdb uses STORE PLACE\n";
+    b"usage: cpdb scratch KIND [JSON]\nusage: cpdb init STORE KIND [JSON]\nusage: cpdb run STORE [CURATOR]\nusage: cpdb commit STORE FILE [CURATOR]\nusage: cpdb load STORE NAME json FILE\nusage: cpdb load STORE NAME csv FILE [COLUMN]\nusage: cpdb query STORE STATEMENT\nusage: cpdb verify STORE\nusage: cpdb checkpoint STORE\nusage: cpdb gen SEED COUNT KIND\nusage: cpdb log STORE\nusage: cpdb at STORE TID STATEMENT\nusage: cpdb archive STORE\nusage: cpdb share STORE\nusage: cpdb uses STORE PLACE\n";
 
 /// Does what the command asks for.
 fn run_command<R: TreeRep, S: TreeRep, D: Disk, F: Files, K: Clock, I: Source, O: Sink>(
@@ -67,7 +67,7 @@ fn run_command<R: TreeRep, S: TreeRep, D: Disk, F: Files, K: Clock, I: Source, O
             init::<R, D, F, O>(alloc, kind, start, disk, files, output)
         }
         Command::Run { curator } => {
-            run::<R, S, D, F, K, I, O>(alloc, curator, disk, files, clock, input, output)
+            run::<R, S, D, F, K, I, O>(alloc, curator, false, disk, files, clock, input, output)
         }
         Command::Commit { file, curator } => {
             commit::<R, S, D, F, K, O>(alloc, file, curator, disk, files, clock, output)
@@ -82,6 +82,7 @@ fn run_command<R: TreeRep, S: TreeRep, D: Disk, F: Files, K: Clock, I: Source, O
         Command::Verify => verify_records::<R, S, D, O>(alloc, disk, output),
         Command::At { tid, asked } => ask_version::<R, S, D, O>(alloc, tid, asked, disk, output),
         Command::Archive => count_versions::<R, S, D, O>(alloc, disk, output),
+        Command::Share => { share::<R, S, D, F, K, I, O>(alloc, disk, files, clock, input, output) }
         Command::Uses(place) => uses::<R, S, D, O>(alloc, place, disk, output),
     }
 }

@@ -5,3 +5,8 @@ pub mod Worked
 pub mod Appended
 pub mod SessionLemmas
 pub mod Supplies
+pub mod VersionsKept
+mod Desks
+mod SharedTurns
+mod OnLastTree
+mod AnsweredAlone

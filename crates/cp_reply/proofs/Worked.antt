@@ -16,7 +16,7 @@ use Rattle.cp_model.specs.Versions.{version}
 use Rattle.cp_model.specs.Answers.{answer_to}
 use Rattle.cp_model.specs.Trees.{tree_at}
 use Rattle.cp_reply.specs.Lines.{lines, lines_for}
-use Rattle.cp_reply.specs.Session.{turn, session_after, replies_to_statements, session_after_statements}
+use Rattle.cp_reply.specs.Session.{turn, session_after, replies_to, replies_to_statements, session_after_statements}
 use Rattle.cp_reply.specs.Examples.{CopyPasteHolds, CopiesHold, NetEffectsHold, InsertedTreesHold, TransactionsHold, RefusalsHold, SourcesHold, SharedHold, SpellingsHold}
 
 pub copy_paste : CopyPasteHolds
@@ -48,7 +48,7 @@ unfolding replies_to_statements session_after_statements replay start_state afte
 sources = record { copied = refl; there = refl; once = refl; in_turn = refl }
 
 pub shared : SharedHold
-unfolding turn session_after version utf8_valid_len is_utf8 chars encode replay start_state after_commit after_step after_settling answer_to lines lines_for tree_at settle loses_child full_here reduced_here all_paths step then_op apply_op refusal cases_of tree_after weight with_subtree without entries_under below keyed.entries keyed.empty keyed.get keyed.insert keyed.retain_keys keyed.put_all keyed.len digits escape_byte
+unfolding turn replies_to session_after version utf8_valid_len is_utf8 chars encode replay start_state after_commit after_step after_settling answer_to lines lines_for tree_at settle loses_child full_here reduced_here all_paths step then_op apply_op refusal cases_of tree_after weight with_subtree without entries_under below keyed.entries keyed.empty keyed.get keyed.insert keyed.retain_keys keyed.put_all keyed.len digits escape_byte
 shared = record { first = refl; signed = refl; own = refl; tree_naive = refl; tree_transactional = refl; tree_hierarchical = refl; tree_hierarchical_transactional = refl; failed = refl; names = refl; cuts = refl }
 
 pub spellings : SpellingsHold

@@ -2,7 +2,6 @@
 use Rattle.std.specs.Prelude.{ℕ, zero, suc, ◌≡◌, ◌==◌, pos, List, [], ◌∷◌, ◌++◌, true, false, codes, flat_map, map, length, nat_lt, if◌then◌else◌}
 use Rattle.std.specs.declared.option.Option.{Option}
 use Rattle.std.specs.declared.option.Option.TheVariants.{None, Some}
-use Rattle.std.specs.Option.{option_to_list}
 use Prim.Native.String.{String}
 use Rattle.cp_path.specs.Place.{Path, label_eq, child_place}
 use Rattle.cp_path.specs.Text.{text_eq}
@@ -25,11 +24,11 @@ use Rattle.cp_lang.specs.declared.cut.Cut.{Cut}
 use Rattle.cp_lang.specs.declared.cut.Cut.TheVariants as cut
 use Rattle.cp_lang.specs.declared.syntax_tree.Stmt.{Stmt}
 use Rattle.cp_lang.specs.declared.syntax_tree.Stmt.TheVariants as stmt
-use Rattle.cp_reply.specs.Lines.{lines, lines_for}
+use Rattle.cp_reply.specs.Lines.{lines, said_lines}
 use Rattle.cp_reply.specs.declared.reply.Reply.TheVariants as reply
 use Rattle.cp_reply.specs.declared.reply.Why.TheVariants as why
 use Rattle.cp_reply.specs.Sharing.{statement_in}
-use Rattle.cp_reply.specs.Session.{Setting, Session, Turn, going, TextReading, says, unread, FetchedFile, gives, withholds, fresh, turn, session_after, replies_to_statements, session_after_statements}
+use Rattle.cp_reply.specs.Session.{Setting, Session, going, TextReading, says, unread, FetchedFile, gives, withholds, fresh, replies_to, session_after, replies_to_statements, session_after_statements}
 
 -- ---- places, trees and statements in short
 
@@ -631,14 +630,9 @@ reading_among (g ∷ gs) text = if text_eq text (statement_in (codes g.text)) th
 abbrev pub shared_setting : List Given → Setting
 shared_setting texts = record example_setting { read = reading_among texts; shared = true }
 
--- the line or lines of a turn
-abbrev pub lines_of_turn : Turn → List ℕ
-lines_of_turn t = flat_map (λ r. lines_for t.whose r) (option_to_list t.reply)
-
--- those of the turns that cuts bring
+-- what several curators' session writes whose input is cut so
 abbrev pub lines_of_cuts : Setting → Session → List Cut → List ℕ
-lines_of_cuts c s [] = []
-lines_of_cuts c s (x ∷ xs) = lines_of_turn (turn c s x) ++ lines_of_cuts c (turn c s x).next xs
+lines_of_cuts c s cuts = flat_map said_lines (replies_to c s cuts)
 
 abbrev pub cuts_of_texts : List Given → List Cut
 cuts_of_texts texts = map (λ g. cut.Text (codes g.text)) texts

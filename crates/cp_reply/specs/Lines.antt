@@ -33,6 +33,7 @@ use Rattle.cp_reply.specs.declared.reply.Why.{Why}
 use Rattle.cp_reply.specs.declared.reply.Why.TheVariants as why
 use Rattle.cp_reply.specs.declared.reply.Reply.{Reply}
 use Rattle.cp_reply.specs.declared.reply.Reply.TheVariants as reply
+use Rattle.cp_reply.specs.declared.said.Said.{Said}
 
 -- a line ends with a line feed
 abbrev pub line : List ℕ → List ℕ
@@ -252,3 +253,7 @@ lines_for whose (reply.Refused o w) = line_for whose (refused_front o ++ why_tex
 -- for nobody
 unfoldable pub lines : Reply → List ℕ
 lines r = lines_for None r
+
+-- for whom it is
+abbrev pub said_lines : Said → List ℕ
+said_lines x = lines_for x.whose x.reply

@@ -3,6 +3,7 @@ use Rattle.cp_model.specs.declared.limits.TheConstants.{OPS_MAX, SOURCES_MAX}
 use Rattle.std.specs.Prelude.{ℕ, ◌+◌, ◌-◌, ◌==◌, ◌&&◌, List, [], ◌∷◌, ◌++◌, Bool, true, false, not, drop, length, map, is_some, nat_lt, if◌then◌else◌}
 use Rattle.std.specs.declared.option.Option.{Option}
 use Rattle.std.specs.declared.option.Option.TheVariants.{None, Some}
+use Rattle.std.specs.Option.{option_map}
 use Rattle.cp_outside.specs.FileReads.{FileTable}
 use Rattle.cp_path.specs.Text.{text_eq}
 use Rattle.cp_path.specs.declared.loc.Loc.{Loc}
@@ -40,6 +41,7 @@ use Rattle.cp_reply.specs.declared.reply.Why.{Why}
 use Rattle.cp_reply.specs.declared.reply.Why.TheVariants as why
 use Rattle.cp_reply.specs.declared.reply.Reply.{Reply}
 use Rattle.cp_reply.specs.declared.reply.Reply.TheVariants as reply
+use Rattle.cp_reply.specs.declared.said.Said.{Said}
 use Rattle.cp_reply.specs.Sharing.{owner, statement_in, bad_byte_or}
 
 -- ---- what a session is run with
@@ -450,15 +452,23 @@ turn c s cut = if c.shared then shared_turn c s cut else turn_alone c s cut
 
 -- ---- whole sessions
 
--- one reply more, if there is one
-abbrev pub with_reply : Option Reply → List Reply → List Reply
-with_reply None rs = rs
-with_reply (Some r) rs = r ∷ rs
+-- a reply, and whose it is
+abbrev pub said_to : Option (List ℕ) → Reply → Said
+said_to whose r = record { whose = whose; reply = r }
+
+-- the reply of a turn, if it has one
+abbrev pub said_in : Turn → Option Said
+said_in t = option_map (said_to t.whose) t.reply
+
+-- one more before them, if there is one
+abbrev pub with_said : Option Said → List Said → List Said
+with_said None xs = xs
+with_said (Some x) xs = x ∷ xs
 
 -- the replies to cuts, in order
-unfoldable pub replies_to : Setting → Session → List Cut → List Reply
+unfoldable pub replies_to : Setting → Session → List Cut → List Said
 replies_to c s [] = []
-replies_to c s (x ∷ xs) = with_reply (turn c s x).reply (replies_to c (turn c s x).next xs)
+replies_to c s (x ∷ xs) = with_said (said_in (turn c s x)) (replies_to c (turn c s x).next xs)
 
 -- the state behind them
 unfoldable pub session_after : Setting → Session → List Cut → Session
@@ -468,6 +478,11 @@ session_after c s (x ∷ xs) = session_after c (turn c s x).next xs
 -- a session on a history of its own, which has a start tree alone, with these moments of the clock
 abbrev pub fresh : Kind → Tree → List ℕ → Session
 fresh k t moments = record { history = start k t ∷ []; opened = closed; desks = []; supply = record { moments = moments; tables = [] } }
+
+-- one reply more, if there is one
+abbrev pub with_reply : Option Reply → List Reply → List Reply
+with_reply None rs = rs
+with_reply (Some r) rs = r ∷ rs
 
 -- the replies to statements that are handed over as values
 unfoldable pub replies_to_statements : Setting → Session → List Stmt → List Reply

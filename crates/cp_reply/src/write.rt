@@ -2,13 +2,14 @@ ghost use Rattle.std.specs.Prelude.{◌≡◌, ◌++◌, ℕ, List, OnOk, IfOk, 
 ghost use Rattle.cp_path.specs.Spelling.{place_text};
 ghost use Rattle.cp_model.specs.Trees.{tree_text};
 ghost use Rattle.cp_reply.specs.Front.{Begins};
-ghost use Rattle.cp_reply.specs.Lines.{line, line_for, lines, lines_for, whose_text, answer_lines_for, query_text, record_text, commit_text, range_text, kind_text, refused_front, why_text, stats_text};
+ghost use Rattle.cp_reply.specs.Lines.{line, line_for, lines, lines_for, said_lines, whose_text, answer_lines_for, query_text, record_text, commit_text, range_text, kind_text, refused_front, why_text, stats_text};
 
 use crate::answer::{from_text, query_text, tid_or_none, tids_text, trace_text};
 use crate::places::uses_text;
 use crate::record::{commit_text, range_text, record_text, stats_text, verdict_text};
 use crate::refusal::why_text;
 use crate::reply::{Of, Reply, Why};
+use crate::said::Said;
 use crate::tree::tree_text;
 use crate::word::{kind_text, refused_front};
 use cp_model::{Answer, Kind, LogLine, Query, Record, Row, Stats};
@@ -374,4 +375,12 @@ pub fn lines(alloc: Global, reply: &Reply, out: &mut Vec<u8>) -> Result<(), Allo
     ensures front { Begins out.old.items out.new.items }
 {
     lines_for(alloc, &None, reply, out)
+}
+
+/// The same for whom the reply is.
+pub fn said_lines(alloc: Global, said: &Said, out: &mut Vec<u8>) -> Result<(), AllocError>
+    ensures ok { OnOk result (out.new.items ≡ out.old.items ++ said_lines said.now) }
+    ensures front { Begins out.old.items out.new.items }
+{
+    lines_for(alloc, &said.whose, &said.reply, out)
 }

@@ -13,7 +13,7 @@ use Rattle.cp_model.specs.declared.stamp.Stamp.{Stamp}
 use Rattle.cp_lang.specs.declared.syntax_tree.Stmt.{Stmt}
 use Rattle.cp_lang.specs.declared.syntax_tree.Stmt.TheVariants as stmt
 use Rattle.cp_reply.specs.declared.reply.Reply.{Reply}
-use Rattle.cp_reply.specs.Session.{Supply, no_supply, Session, Setting, Turn, OpenTransaction, closed, going, failed, says, turn_of, turn_by, on_operation, on_commit, decide_op, refusal_after, next_moment, new_records, session_after_statements}
+use Rattle.cp_reply.specs.Session.{Supply, no_supply, Session, Setting, Turn, OpenTransaction, Desk, closed, going, failed, says, turn_of, turn_by, on_operation, on_commit, decide_op, refusal_after, next_moment, new_records, session_after_statements}
 use Rattle.cp_gen.specs.Script.{IsOpOrCommit, script}
 use Rattle.cp_gen.specs.Summaries.{IsAt, summary_of}
 use Rattle.cp_db.specs.declared.database.Db.{Db}
@@ -23,7 +23,7 @@ use Rattle.cp_workspace.specs.Files.{KnownFiles}
 use Rattle.cp_workspace.specs.Clocks.{KnownClock}
 use Rattle.cp_workspace.specs.Texts.{Terms, setting}
 use Rattle.cp_disk.specs.Views.{KnownDisk}
-use Rattle.cp_workspace.specs.Workspaces.{workspace_at, Stands, HasTurned, db_in}
+use Rattle.cp_workspace.specs.Workspaces.{workspace_at, of_nobody, Stands, HasTurned, db_in}
 use Rattle.cp_workspace.specs.declared.workspace.Workspace.{Workspace}
 use Rattle.cp_scratch.specs.Workloads.{ComesTo, workload_session, workload_terms}
 
@@ -126,19 +126,29 @@ module _ (c : Setting) (s : Session) (x : Supply) (same : next_moment x.moments 
   by-state-opened None = refl
   by-state-opened (Some t) = commit-opened s t s.opened ∙ sym (commit-opened other t s.opened)
 
+  commit-desks : (q : Session) (t : State) (x : OpenTransaction) → (on_commit c q t x).next.desks ≡ q.desks
+  commit-desks q t closed = refl
+  commit-desks q t (going ops) = either-turn (λ y. y.next.desks) (c.fits q.history (stamp (next_moment q.supply.moments)) ops (new_records t (after_commit t ops))) _ _ q.desks refl refl
+  commit-desks q t (failed n k) = refl
+
+  by-state-desks : (o : Option State) → (turn_by c s o stmt.Commit).next.desks ≡ (turn_by c other o stmt.Commit).next.desks
+  by-state-desks None = refl
+  by-state-desks (Some t) = commit-desks s t s.opened ∙ sym (commit-desks other t s.opened)
+
 -- ---- what a workspace stands for
 
 module _ {R S : Type 0} (view : R → Tree) (source_view : S → Tree) where
   -- what it stands for has nothing to do with what is told
-  restand : (terms : Terms) (d : Workspace R S) (s t : Session) → t.history ≡ s.history → t.opened ≡ s.opened → Stands view source_view terms d s → Stands view source_view terms d t
-  restand terms d s t h o z =
-      let moved : Stands view source_view terms d (record { history = s.history; opened = s.opened; desks = t.desks; supply = t.supply }) = record { db = z.db; ends = z.ends; curator = z.curator; opened = z.opened } in
-      let same : Stands view source_view terms d (record { history = t.history; opened = s.opened; desks = t.desks; supply = t.supply }) = subst (λ a. Stands view source_view terms d (record { history = a; opened = s.opened; desks = t.desks; supply = t.supply })) (sym h) moved in
-      subst (λ b. Stands view source_view terms d (record { history = t.history; opened = b; desks = t.desks; supply = t.supply })) (sym o) same
+  restand : (terms : Terms) (d : Workspace R S) (s t : Session) → t.history ≡ s.history → t.opened ≡ s.opened → t.desks ≡ s.desks → Stands view source_view terms d s → Stands view source_view terms d t
+  restand terms d s t h o k z =
+      let at : List Entry → OpenTransaction → List Desk → Session = λ history opened desks. record { history = history; opened = opened; desks = desks; supply = t.supply } in
+      let moved : Stands view source_view terms d (at s.history s.opened s.desks) = record { db = z.db; ends = z.ends; curator = z.curator; opened = z.opened; shared = z.shared; desks = z.desks } in
+      subst (λ y. Stands view source_view terms d (at t.history t.opened y)) (sym k)
+      (subst (λ y. Stands view source_view terms d (at t.history y s.desks)) (sym o) (subst (λ y. Stands view source_view terms d (at y s.opened s.desks)) (sym h) moved))
 
   -- a commit was run
   pub commit-stands : (files : KnownFiles) (kb ka : KnownClock) (old new : Workspace R S) (v w : KnownDisk) (before left : List ℕ) (r : Reply) → before ≡ [] → kb.left ≡ Some before → ka.left ≡ Some left
-      → HasTurned view source_view (λ y. Some y) (λ terms s. turn_of (setting terms) s (says stmt.Commit)) (IsSupplied files kb ka) (workspace_at old v) (workspace_at new w) (Ok r)
+      → HasTurned view source_view of_nobody (λ terms s. turn_of (setting terms) s (says stmt.Commit)) (IsSupplied files kb ka) (workspace_at old v) (workspace_at new w) (Ok r)
       → (left ≡ []) × ((terms : Terms) (s : Session) → Stands view source_view terms old s → s.supply.moments ≡ [] → Stands view source_view terms new (turn_of (setting terms) s (says stmt.Commit)).next)
   commit-stands files kb ka old new v w before left r silent was is h =
       let x = h.supply in
@@ -148,9 +158,9 @@ module _ {R S : Type 0} (view : R → Tree) (source_view : S → Tree) where
             let c = setting terms in
             let o : Session = record { history = s.history; opened = s.opened; desks = s.desks; supply = x } in
             let same : next_moment x.moments ≡ next_moment s.supply.moments = told.1 ∙ sym (ap next_moment none) in
-            let turned = (h.turns terms o no_supply (restand terms old s o refl refl z) (sym (followed-none x))).turned in
+            let turned = (h.turns terms o no_supply (restand terms old s o refl refl refl z) (sym (followed-none x))).turned in
             restand terms new (turn_of c o (says stmt.Commit)).next (turn_of c s (says stmt.Commit)).next
-            (by-state-history c s x same (replay s.history)) (by-state-opened c s x same (replay s.history)) turned.1,
+            (by-state-history c s x same (replay s.history)) (by-state-opened c s x same (replay s.history)) (by-state-desks c s x same (replay s.history)) turned.1,
       )
 
   -- ---- a whole script

@@ -1,5 +1,5 @@
 -- Sessions on a database that is made for one call, in memory.
-use Rattle.std.specs.Prelude.{◌+◌, true, [], ◌∷◌}
+use Rattle.std.specs.Prelude.{◌+◌, true, false, [], ◌∷◌}
 use Rattle.cp_model.specs.Keyed as keyed
 use Rattle.cp_model.specs.Tree.{Tree}
 use Rattle.cp_model.specs.History.{start}
@@ -30,6 +30,7 @@ scratch_terms k t =
         at = HEADER_SIZE + FRAME_HEAD + start_size t;
       };
       curator = [];
+      shared = false;
     }
 
 abbrev pub scratch_session : Kind → Tree → Supply → Session

@@ -8,7 +8,7 @@ ghost use Rattle.cp_db.specs.Databases as database;
 ghost use Rattle.cp_db.specs.Databases.{IsReady, end_in, is_spent, version_in};
 ghost use Rattle.cp_gen.specs.Script.{IsOpOrCommit};
 ghost use Rattle.cp_workspace.specs.Texts.{Terms, setting};
-ghost use Rattle.cp_workspace.specs.Workspaces.{Stands, EndsAt, HasStamps, IsUsable, IsWorkspace, IsWrittenStmt, db_in};
+ghost use Rattle.cp_workspace.specs.Workspaces.{Stands, EndsAt, HasStamps, IsOfOne, IsUsable, IsWorkspace, IsWrittenStmt, db_in};
 ghost use Rattle.cp_scratch.specs.Sessions.{sure_disk};
 ghost use Rattle.cp_scratch.specs.Workloads.{ComesTo, workload_session, workload_start, workload_terms};
 
@@ -64,6 +64,7 @@ fn begin<R: TreeRep, S: TreeRep>(
         (λ x. Stands R.contents S.contents (workload_terms kind) x (workload_session kind)) }
     ensures usable { IfOk result (λ x. IsUsable R.contents S.contents (sure_disk disk.new) x) }
     ensures stamps { IfOk result (λ x. HasStamps x) }
+    ensures alone { IfOk result (λ x. IsOfOne x) }
 {
     let curator = no_curator(alloc)?;
     let db = db_with_source(alloc, kind, disk)?;
@@ -77,12 +78,14 @@ fn run_operation<R: TreeRep, S: TreeRep>(
     op: Op,
 ) -> Result<(), AllocError>
     requires workspace { IsWorkspace R.contents S.contents workspace.old }
+    requires alone { IsOfOne workspace.old }
     requires written { IsWritten op }
     ensures turned { OnOk result ((terms : Terms) (s : Session)
         → Stands R.contents S.contents terms workspace.old s
         → Stands R.contents S.contents terms workspace.new
         (turn_of (setting terms) s (says (Stmt.Op op))).next) }
     ensures stays { OnOk result (IsWorkspace R.contents S.contents workspace.new) }
+    ensures alone { IsOfOne workspace.new }
     ensures same { db_in workspace.new ≡ db_in workspace.old }
 {
     drop(workspace.operate(alloc, op)?);
@@ -98,6 +101,7 @@ fn run_commit<R: TreeRep, S: TreeRep>(
 ) -> Result<(), AllocError>
     requires usable { IsUsable R.contents S.contents (sure_disk disk.old) workspace.old }
     requires stamps { HasStamps workspace.old }
+    requires alone { IsOfOne workspace.old }
     requires silent { clock.old.left ≡ [] }
     ensures turned { OnOk result ((terms : Terms) (s : Session)
         → Stands R.contents S.contents terms workspace.old s → s.supply.moments ≡ []
@@ -106,6 +110,7 @@ fn run_commit<R: TreeRep, S: TreeRep>(
     ensures stays { OnOk result
         (IsUsable R.contents S.contents (sure_disk disk.new) workspace.new) }
     ensures stamps { OnOk result (HasStamps workspace.new) }
+    ensures alone { IsOfOne workspace.new }
     ensures silent { OnOk result (clock.new.left ≡ []) }
 {
     match workspace.commit(alloc, disk, clock) {
@@ -128,6 +133,7 @@ fn run_statement<R: TreeRep, S: TreeRep>(
 ) -> Result<(), AllocError>
     requires usable { IsUsable R.contents S.contents (sure_disk disk.old) workspace.old }
     requires stamps { HasStamps workspace.old }
+    requires alone { IsOfOne workspace.old }
     requires written { IsWrittenStmt statement }
     requires only { IsOpOrCommit statement }
     requires silent { clock.old.left ≡ [] }
@@ -138,6 +144,7 @@ fn run_statement<R: TreeRep, S: TreeRep>(
     ensures stays { OnOk result
         (IsUsable R.contents S.contents (sure_disk disk.new) workspace.new) }
     ensures stamps { OnOk result (HasStamps workspace.new) }
+    ensures alone { IsOfOne workspace.new }
     ensures silent { OnOk result (clock.new.left ≡ []) }
 {
     match statement {
@@ -157,6 +164,7 @@ fn run_script<R: TreeRep, S: TreeRep>(
 ) -> Result<(), AllocError>
     requires usable { IsUsable R.contents S.contents (sure_disk disk.old) workspace.old }
     requires stamps { HasStamps workspace.old }
+    requires alone { IsOfOne workspace.old }
     requires silent { clock.old.left ≡ [] }
     ensures ran { OnOk result ((terms : Terms) (s : Session)
         → Stands R.contents S.contents terms workspace.old s → s.supply.moments ≡ []

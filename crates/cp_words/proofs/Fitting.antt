@@ -4,8 +4,8 @@ use Rattle.clap.specs.Words.{Text}
 use Rattle.clap.specs.declared.error.kind.ErrorKind.TheVariants.{MissingRequiredArgument}
 use Rattle.clap.specs.Walk.{nothing_held}
 use Rattle.clap.proofs.OnLiterals.{clap_on_literals}
-use Rattle.cp_words.specs.Commands.{scratch_of, init_of, run_of, commit_of, load_of, query_of, generate_of, log_of, verify_of, at_of, archive_of, uses_of}
-use Rattle.cp_words.specs.Matches.{scratch_from, init_from, run_from, commit_from, load_from, query_from, generate_from, log_from, verify_from, at_from, archive_from, uses_from}
+use Rattle.cp_words.specs.Commands.{scratch_of, init_of, run_of, commit_of, load_of, query_of, generate_of, log_of, verify_of, at_of, archive_of, share_of, uses_of}
+use Rattle.cp_words.specs.Matches.{scratch_from, init_from, run_from, commit_from, load_from, query_from, generate_from, log_from, verify_from, at_from, archive_from, share_from, uses_from}
 use Rattle.cp_words.proofs.Leaf.{ArePlain, Right, sub_at, leaf_faults, leaf_rows, no_words, one_more, too_many, then_stray, fits_by_walk, lacks, strays}
 
 pub scratch_right : (ws : List Text) → ArePlain ws → Right scratch_from (scratch_of ws) (leaf_faults (sub_at 0) ws) (leaf_rows (sub_at 0) ws)
@@ -185,17 +185,29 @@ archive_right (a ∷ b ∷ more) h =
     let s = sub_at 10 in
     strays archive_from s (a ∷ b ∷ more) (then_stray s nothing_held _ 1 _ a (b ∷ more) h.0 refl refl (too_many s _ 2 b more h.1.0 refl refl))
 
-pub uses_right : (ws : List Text) → ArePlain ws → Right uses_from (uses_of ws) (leaf_faults (sub_at 11) ws) (leaf_rows (sub_at 11) ws)
+pub share_right : (ws : List Text) → ArePlain ws → Right share_from (share_of ws) (leaf_faults (sub_at 11) ws) (leaf_rows (sub_at 11) ws)
+unfolding clap_on_literals
+share_right [] h =
+    let s = sub_at 11 in
+    lacks share_from MissingRequiredArgument [] s [] _ (no_words s nothing_held 1) refl
+share_right (a ∷ []) h =
+    let s = sub_at 11 in
+    fits_by_walk share_from (share_of (a ∷ [])) s (a ∷ []) _ (one_more s nothing_held _ _ 1 _ a [] h.0 refl refl (no_words s _ _)) refl refl
+share_right (a ∷ b ∷ more) h =
+    let s = sub_at 11 in
+    strays share_from s (a ∷ b ∷ more) (then_stray s nothing_held _ 1 _ a (b ∷ more) h.0 refl refl (too_many s _ 2 b more h.1.0 refl refl))
+
+pub uses_right : (ws : List Text) → ArePlain ws → Right uses_from (uses_of ws) (leaf_faults (sub_at 12) ws) (leaf_rows (sub_at 12) ws)
 unfolding clap_on_literals
 uses_right [] h =
-    let s = sub_at 11 in
+    let s = sub_at 12 in
     lacks uses_from MissingRequiredArgument [] s [] _ (no_words s nothing_held 1) refl
 uses_right (a ∷ []) h =
-    let s = sub_at 11 in
+    let s = sub_at 12 in
     lacks uses_from MissingRequiredArgument [] s (a ∷ []) _ (one_more s nothing_held _ _ 1 _ a [] h.0 refl refl (no_words s _ _)) refl
 uses_right (a ∷ b ∷ []) h =
-    let s = sub_at 11 in
+    let s = sub_at 12 in
     fits_by_walk uses_from (uses_of (a ∷ b ∷ [])) s (a ∷ b ∷ []) _ (one_more s nothing_held _ _ 1 _ a (b ∷ []) h.0 refl refl (one_more s _ _ _ 2 _ b [] h.1.0 refl refl (no_words s _ _))) refl refl
 uses_right (a ∷ b ∷ c ∷ more) h =
-    let s = sub_at 11 in
+    let s = sub_at 12 in
     strays uses_from s (a ∷ b ∷ c ∷ more) (then_stray s nothing_held _ 1 _ a (b ∷ c ∷ more) h.0 refl refl (then_stray s _ _ 2 _ b (c ∷ more) h.1.0 refl refl (too_many s _ 3 c more h.1.1.0 refl refl)))

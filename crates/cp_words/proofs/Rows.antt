@@ -15,12 +15,12 @@ use Rattle.clap.specs.declared.error.kind.ErrorKind.TheVariants.{MissingSubcomma
 use Rattle.clap.proofs.OnLiterals.{clap_on_literals}
 use Rattle.clap.proofs.FaultLemmas.{stopped_fault}
 use Rattle.cp_words.specs.Operands.{is_operand}
-use Rattle.cp_words.specs.Commands.{scratch_of, init_of, run_of, commit_of, load_of, query_of, generate_of, log_of, verify_of, at_of, archive_of, uses_of, row_of, command_of}
-use Rattle.cp_words.specs.Matches.{scratch_from, init_from, run_from, commit_from, load_from, query_from, generate_from, log_from, verify_from, at_from, archive_from, uses_from, command_from}
+use Rattle.cp_words.specs.Commands.{scratch_of, init_of, run_of, commit_of, load_of, query_of, generate_of, log_of, verify_of, at_of, archive_of, share_of, uses_of, row_of, command_of}
+use Rattle.cp_words.specs.Matches.{scratch_from, init_from, run_from, commit_from, load_from, query_from, generate_from, log_from, verify_from, at_from, archive_from, share_from, uses_from, command_from}
 use Rattle.cp_words.specs.Shapes.{whole}
 use Rattle.cp_words.specs.declared.command.Command.{Command}
 use Rattle.cp_words.proofs.Leaf.{Plain, plain_word, ArePlain, Right, sub_at, leaf_faults, leaf_rows, missing}
-use Rattle.cp_words.proofs.Fitting.{scratch_right, init_right, run_right, commit_right, load_right, query_right, generate_right, log_right, verify_right, at_right, archive_right, uses_right}
+use Rattle.cp_words.proofs.Fitting.{scratch_right, init_right, run_right, commit_right, load_right, query_right, generate_right, log_right, verify_right, at_right, archive_right, share_right, uses_right}
 
 pub whole_is_simple : is_simple whole ≡ true
 unfolding clap_on_literals
@@ -161,11 +161,17 @@ archive_fits name w rest plain met =
     fits_by (archive_of rest) archive_from (sub_at 10) name w rest (archive_right rest plain)
     (fault_by name w (codes "archive") rest met refl ∙ or_nil (leaf_faults (sub_at 10) rest)) (ap command_from (rows_by name w (codes "archive") rest met))
 
+share_fits : (name w : Text) (rest : List Text) → ArePlain rest → subcommand_met N idle w ≡ Some (codes "share") → Fits (share_of rest) name (w ∷ rest)
+unfolding clap_on_literals
+share_fits name w rest plain met =
+    fits_by (share_of rest) share_from (sub_at 11) name w rest (share_right rest plain)
+    (fault_by name w (codes "share") rest met refl ∙ or_nil (leaf_faults (sub_at 11) rest)) (ap command_from (rows_by name w (codes "share") rest met))
+
 uses_fits : (name w : Text) (rest : List Text) → ArePlain rest → subcommand_met N idle w ≡ Some (codes "uses") → Fits (uses_of rest) name (w ∷ rest)
 unfolding clap_on_literals
 uses_fits name w rest plain met =
-    fits_by (uses_of rest) uses_from (sub_at 11) name w rest (uses_right rest plain)
-    (fault_by name w (codes "uses") rest met refl ∙ or_nil (leaf_faults (sub_at 11) rest)) (ap command_from (rows_by name w (codes "uses") rest met))
+    fits_by (uses_of rest) uses_from (sub_at 12) name w rest (uses_right rest plain)
+    (fault_by name w (codes "uses") rest met refl ∙ or_nil (leaf_faults (sub_at 12) rest)) (ap command_from (rows_by name w (codes "uses") rest met))
 
 -- ---- no command
 
@@ -189,45 +195,47 @@ are_plain : (ws : List Text) → list_all is_operand ws ≡ true → ArePlain ws
 are_plain [] h = tt
 are_plain (w ∷ ws) h = let p = and_parts (is_operand w) (list_all is_operand ws) h in (plain_word w p.0, are_plain ws p.1)
 
-met_by : (w : Text) (a b c d e f g i j k l m : Bool) → bytes_eq (codes "scratch") w ≡ a → bytes_eq (codes "init") w ≡ b → bytes_eq (codes "run") w ≡ c → bytes_eq (codes "commit") w ≡ d → bytes_eq (codes "load") w ≡ e → bytes_eq (codes "query") w ≡ f → bytes_eq (codes "gen") w ≡ g → bytes_eq (codes "log") w ≡ i → bytes_eq (codes "verify") w ≡ j → bytes_eq (codes "at") w ≡ k → bytes_eq (codes "archive") w ≡ l → bytes_eq (codes "uses") w ≡ m
-    → subcommand_met N idle w ≡ (if a then Some (codes "scratch") else if b then Some (codes "init") else if c then Some (codes "run") else if d then Some (codes "commit") else if e then Some (codes "load") else if f then Some (codes "query") else if g then Some (codes "gen") else if i then Some (codes "log") else if j then Some (codes "verify") else if k then Some (codes "at") else if l then Some (codes "archive") else if m then Some (codes "uses") else None)
+met_by : (w : Text) (a b c d e f g i j k l m n : Bool) → bytes_eq (codes "scratch") w ≡ a → bytes_eq (codes "init") w ≡ b → bytes_eq (codes "run") w ≡ c → bytes_eq (codes "commit") w ≡ d → bytes_eq (codes "load") w ≡ e → bytes_eq (codes "query") w ≡ f → bytes_eq (codes "gen") w ≡ g → bytes_eq (codes "log") w ≡ i → bytes_eq (codes "verify") w ≡ j → bytes_eq (codes "at") w ≡ k → bytes_eq (codes "archive") w ≡ l → bytes_eq (codes "share") w ≡ m → bytes_eq (codes "uses") w ≡ n
+    → subcommand_met N idle w ≡ (if a then Some (codes "scratch") else if b then Some (codes "init") else if c then Some (codes "run") else if d then Some (codes "commit") else if e then Some (codes "load") else if f then Some (codes "query") else if g then Some (codes "gen") else if i then Some (codes "log") else if j then Some (codes "verify") else if k then Some (codes "at") else if l then Some (codes "archive") else if m then Some (codes "share") else if n then Some (codes "uses") else None)
 unfolding clap_on_literals
-met_by w true b c d e f g i j k l m p1 p2 p3 p4 p5 p6 p7 p8 p9 p10 p11 p12 = rw p1 refl
-met_by w false true c d e f g i j k l m p1 p2 p3 p4 p5 p6 p7 p8 p9 p10 p11 p12 = rw (p1, p2) refl
-met_by w false false true d e f g i j k l m p1 p2 p3 p4 p5 p6 p7 p8 p9 p10 p11 p12 = rw (p1, p2, p3) refl
-met_by w false false false true e f g i j k l m p1 p2 p3 p4 p5 p6 p7 p8 p9 p10 p11 p12 = rw (p1, p2, p3, p4) refl
-met_by w false false false false true f g i j k l m p1 p2 p3 p4 p5 p6 p7 p8 p9 p10 p11 p12 = rw (p1, p2, p3, p4, p5) refl
-met_by w false false false false false true g i j k l m p1 p2 p3 p4 p5 p6 p7 p8 p9 p10 p11 p12 = rw (p1, p2, p3, p4, p5, p6) refl
-met_by w false false false false false false true i j k l m p1 p2 p3 p4 p5 p6 p7 p8 p9 p10 p11 p12 = rw (p1, p2, p3, p4, p5, p6, p7) refl
-met_by w false false false false false false false true j k l m p1 p2 p3 p4 p5 p6 p7 p8 p9 p10 p11 p12 = rw (p1, p2, p3, p4, p5, p6, p7, p8) refl
-met_by w false false false false false false false false true k l m p1 p2 p3 p4 p5 p6 p7 p8 p9 p10 p11 p12 = rw (p1, p2, p3, p4, p5, p6, p7, p8, p9) refl
-met_by w false false false false false false false false false true l m p1 p2 p3 p4 p5 p6 p7 p8 p9 p10 p11 p12 = rw (p1, p2, p3, p4, p5, p6, p7, p8, p9, p10) refl
-met_by w false false false false false false false false false false true m p1 p2 p3 p4 p5 p6 p7 p8 p9 p10 p11 p12 = rw (p1, p2, p3, p4, p5, p6, p7, p8, p9, p10, p11) refl
-met_by w false false false false false false false false false false false true p1 p2 p3 p4 p5 p6 p7 p8 p9 p10 p11 p12 = rw (p1, p2, p3, p4, p5, p6, p7, p8, p9, p10, p11, p12) refl
-met_by w false false false false false false false false false false false false p1 p2 p3 p4 p5 p6 p7 p8 p9 p10 p11 p12 = rw (p1, p2, p3, p4, p5, p6, p7, p8, p9, p10, p11, p12) refl
+met_by w true b c d e f g i j k l m n p1 p2 p3 p4 p5 p6 p7 p8 p9 p10 p11 p12 p13 = rw p1 refl
+met_by w false true c d e f g i j k l m n p1 p2 p3 p4 p5 p6 p7 p8 p9 p10 p11 p12 p13 = rw (p1, p2) refl
+met_by w false false true d e f g i j k l m n p1 p2 p3 p4 p5 p6 p7 p8 p9 p10 p11 p12 p13 = rw (p1, p2, p3) refl
+met_by w false false false true e f g i j k l m n p1 p2 p3 p4 p5 p6 p7 p8 p9 p10 p11 p12 p13 = rw (p1, p2, p3, p4) refl
+met_by w false false false false true f g i j k l m n p1 p2 p3 p4 p5 p6 p7 p8 p9 p10 p11 p12 p13 = rw (p1, p2, p3, p4, p5) refl
+met_by w false false false false false true g i j k l m n p1 p2 p3 p4 p5 p6 p7 p8 p9 p10 p11 p12 p13 = rw (p1, p2, p3, p4, p5, p6) refl
+met_by w false false false false false false true i j k l m n p1 p2 p3 p4 p5 p6 p7 p8 p9 p10 p11 p12 p13 = rw (p1, p2, p3, p4, p5, p6, p7) refl
+met_by w false false false false false false false true j k l m n p1 p2 p3 p4 p5 p6 p7 p8 p9 p10 p11 p12 p13 = rw (p1, p2, p3, p4, p5, p6, p7, p8) refl
+met_by w false false false false false false false false true k l m n p1 p2 p3 p4 p5 p6 p7 p8 p9 p10 p11 p12 p13 = rw (p1, p2, p3, p4, p5, p6, p7, p8, p9) refl
+met_by w false false false false false false false false false true l m n p1 p2 p3 p4 p5 p6 p7 p8 p9 p10 p11 p12 p13 = rw (p1, p2, p3, p4, p5, p6, p7, p8, p9, p10) refl
+met_by w false false false false false false false false false false true m n p1 p2 p3 p4 p5 p6 p7 p8 p9 p10 p11 p12 p13 = rw (p1, p2, p3, p4, p5, p6, p7, p8, p9, p10, p11) refl
+met_by w false false false false false false false false false false false true n p1 p2 p3 p4 p5 p6 p7 p8 p9 p10 p11 p12 p13 = rw (p1, p2, p3, p4, p5, p6, p7, p8, p9, p10, p11, p12) refl
+met_by w false false false false false false false false false false false false true p1 p2 p3 p4 p5 p6 p7 p8 p9 p10 p11 p12 p13 = rw (p1, p2, p3, p4, p5, p6, p7, p8, p9, p10, p11, p12, p13) refl
+met_by w false false false false false false false false false false false false false p1 p2 p3 p4 p5 p6 p7 p8 p9 p10 p11 p12 p13 = rw (p1, p2, p3, p4, p5, p6, p7, p8, p9, p10, p11, p12, p13) refl
 
-fits_row : (name w : Text) (rest : List Text) → Plain w → ArePlain rest → (a b c d e f g i j k l m : Bool) → bytes_eq (codes "scratch") w ≡ a → bytes_eq (codes "init") w ≡ b → bytes_eq (codes "run") w ≡ c → bytes_eq (codes "commit") w ≡ d → bytes_eq (codes "load") w ≡ e → bytes_eq (codes "query") w ≡ f → bytes_eq (codes "gen") w ≡ g → bytes_eq (codes "log") w ≡ i → bytes_eq (codes "verify") w ≡ j → bytes_eq (codes "at") w ≡ k → bytes_eq (codes "archive") w ≡ l → bytes_eq (codes "uses") w ≡ m
-    → Fits (if a then scratch_of rest else if b then init_of rest else if c then run_of rest else if d then commit_of rest else if e then load_of rest else if f then query_of rest else if g then generate_of rest else if i then log_of rest else if j then verify_of rest else if k then at_of rest else if l then archive_of rest else if m then uses_of rest else None) name (w ∷ rest)
-fits_row name w rest p ps true b c d e f g i j k l m p1 p2 p3 p4 p5 p6 p7 p8 p9 p10 p11 p12 = scratch_fits name w rest ps (met_by w true b c d e f g i j k l m p1 p2 p3 p4 p5 p6 p7 p8 p9 p10 p11 p12)
-fits_row name w rest p ps false true c d e f g i j k l m p1 p2 p3 p4 p5 p6 p7 p8 p9 p10 p11 p12 = init_fits name w rest ps (met_by w false true c d e f g i j k l m p1 p2 p3 p4 p5 p6 p7 p8 p9 p10 p11 p12)
-fits_row name w rest p ps false false true d e f g i j k l m p1 p2 p3 p4 p5 p6 p7 p8 p9 p10 p11 p12 = run_fits name w rest ps (met_by w false false true d e f g i j k l m p1 p2 p3 p4 p5 p6 p7 p8 p9 p10 p11 p12)
-fits_row name w rest p ps false false false true e f g i j k l m p1 p2 p3 p4 p5 p6 p7 p8 p9 p10 p11 p12 = commit_fits name w rest ps (met_by w false false false true e f g i j k l m p1 p2 p3 p4 p5 p6 p7 p8 p9 p10 p11 p12)
-fits_row name w rest p ps false false false false true f g i j k l m p1 p2 p3 p4 p5 p6 p7 p8 p9 p10 p11 p12 = load_fits name w rest ps (met_by w false false false false true f g i j k l m p1 p2 p3 p4 p5 p6 p7 p8 p9 p10 p11 p12)
-fits_row name w rest p ps false false false false false true g i j k l m p1 p2 p3 p4 p5 p6 p7 p8 p9 p10 p11 p12 = query_fits name w rest ps (met_by w false false false false false true g i j k l m p1 p2 p3 p4 p5 p6 p7 p8 p9 p10 p11 p12)
-fits_row name w rest p ps false false false false false false true i j k l m p1 p2 p3 p4 p5 p6 p7 p8 p9 p10 p11 p12 = generate_fits name w rest ps (met_by w false false false false false false true i j k l m p1 p2 p3 p4 p5 p6 p7 p8 p9 p10 p11 p12)
-fits_row name w rest p ps false false false false false false false true j k l m p1 p2 p3 p4 p5 p6 p7 p8 p9 p10 p11 p12 = log_fits name w rest ps (met_by w false false false false false false false true j k l m p1 p2 p3 p4 p5 p6 p7 p8 p9 p10 p11 p12)
-fits_row name w rest p ps false false false false false false false false true k l m p1 p2 p3 p4 p5 p6 p7 p8 p9 p10 p11 p12 = verify_fits name w rest ps (met_by w false false false false false false false false true k l m p1 p2 p3 p4 p5 p6 p7 p8 p9 p10 p11 p12)
-fits_row name w rest p ps false false false false false false false false false true l m p1 p2 p3 p4 p5 p6 p7 p8 p9 p10 p11 p12 = at_fits name w rest ps (met_by w false false false false false false false false false true l m p1 p2 p3 p4 p5 p6 p7 p8 p9 p10 p11 p12)
-fits_row name w rest p ps false false false false false false false false false false true m p1 p2 p3 p4 p5 p6 p7 p8 p9 p10 p11 p12 = archive_fits name w rest ps (met_by w false false false false false false false false false false true m p1 p2 p3 p4 p5 p6 p7 p8 p9 p10 p11 p12)
-fits_row name w rest p ps false false false false false false false false false false false true p1 p2 p3 p4 p5 p6 p7 p8 p9 p10 p11 p12 = uses_fits name w rest ps (met_by w false false false false false false false false false false false true p1 p2 p3 p4 p5 p6 p7 p8 p9 p10 p11 p12)
-fits_row name w rest p ps false false false false false false false false false false false false p1 p2 p3 p4 p5 p6 p7 p8 p9 p10 p11 p12 = stray_word name w rest p (met_by w false false false false false false false false false false false false p1 p2 p3 p4 p5 p6 p7 p8 p9 p10 p11 p12)
+fits_row : (name w : Text) (rest : List Text) → Plain w → ArePlain rest → (a b c d e f g i j k l m n : Bool) → bytes_eq (codes "scratch") w ≡ a → bytes_eq (codes "init") w ≡ b → bytes_eq (codes "run") w ≡ c → bytes_eq (codes "commit") w ≡ d → bytes_eq (codes "load") w ≡ e → bytes_eq (codes "query") w ≡ f → bytes_eq (codes "gen") w ≡ g → bytes_eq (codes "log") w ≡ i → bytes_eq (codes "verify") w ≡ j → bytes_eq (codes "at") w ≡ k → bytes_eq (codes "archive") w ≡ l → bytes_eq (codes "share") w ≡ m → bytes_eq (codes "uses") w ≡ n
+    → Fits (if a then scratch_of rest else if b then init_of rest else if c then run_of rest else if d then commit_of rest else if e then load_of rest else if f then query_of rest else if g then generate_of rest else if i then log_of rest else if j then verify_of rest else if k then at_of rest else if l then archive_of rest else if m then share_of rest else if n then uses_of rest else None) name (w ∷ rest)
+fits_row name w rest p ps true b c d e f g i j k l m n p1 p2 p3 p4 p5 p6 p7 p8 p9 p10 p11 p12 p13 = scratch_fits name w rest ps (met_by w true b c d e f g i j k l m n p1 p2 p3 p4 p5 p6 p7 p8 p9 p10 p11 p12 p13)
+fits_row name w rest p ps false true c d e f g i j k l m n p1 p2 p3 p4 p5 p6 p7 p8 p9 p10 p11 p12 p13 = init_fits name w rest ps (met_by w false true c d e f g i j k l m n p1 p2 p3 p4 p5 p6 p7 p8 p9 p10 p11 p12 p13)
+fits_row name w rest p ps false false true d e f g i j k l m n p1 p2 p3 p4 p5 p6 p7 p8 p9 p10 p11 p12 p13 = run_fits name w rest ps (met_by w false false true d e f g i j k l m n p1 p2 p3 p4 p5 p6 p7 p8 p9 p10 p11 p12 p13)
+fits_row name w rest p ps false false false true e f g i j k l m n p1 p2 p3 p4 p5 p6 p7 p8 p9 p10 p11 p12 p13 = commit_fits name w rest ps (met_by w false false false true e f g i j k l m n p1 p2 p3 p4 p5 p6 p7 p8 p9 p10 p11 p12 p13)
+fits_row name w rest p ps false false false false true f g i j k l m n p1 p2 p3 p4 p5 p6 p7 p8 p9 p10 p11 p12 p13 = load_fits name w rest ps (met_by w false false false false true f g i j k l m n p1 p2 p3 p4 p5 p6 p7 p8 p9 p10 p11 p12 p13)
+fits_row name w rest p ps false false false false false true g i j k l m n p1 p2 p3 p4 p5 p6 p7 p8 p9 p10 p11 p12 p13 = query_fits name w rest ps (met_by w false false false false false true g i j k l m n p1 p2 p3 p4 p5 p6 p7 p8 p9 p10 p11 p12 p13)
+fits_row name w rest p ps false false false false false false true i j k l m n p1 p2 p3 p4 p5 p6 p7 p8 p9 p10 p11 p12 p13 = generate_fits name w rest ps (met_by w false false false false false false true i j k l m n p1 p2 p3 p4 p5 p6 p7 p8 p9 p10 p11 p12 p13)
+fits_row name w rest p ps false false false false false false false true j k l m n p1 p2 p3 p4 p5 p6 p7 p8 p9 p10 p11 p12 p13 = log_fits name w rest ps (met_by w false false false false false false false true j k l m n p1 p2 p3 p4 p5 p6 p7 p8 p9 p10 p11 p12 p13)
+fits_row name w rest p ps false false false false false false false false true k l m n p1 p2 p3 p4 p5 p6 p7 p8 p9 p10 p11 p12 p13 = verify_fits name w rest ps (met_by w false false false false false false false false true k l m n p1 p2 p3 p4 p5 p6 p7 p8 p9 p10 p11 p12 p13)
+fits_row name w rest p ps false false false false false false false false false true l m n p1 p2 p3 p4 p5 p6 p7 p8 p9 p10 p11 p12 p13 = at_fits name w rest ps (met_by w false false false false false false false false false true l m n p1 p2 p3 p4 p5 p6 p7 p8 p9 p10 p11 p12 p13)
+fits_row name w rest p ps false false false false false false false false false false true m n p1 p2 p3 p4 p5 p6 p7 p8 p9 p10 p11 p12 p13 = archive_fits name w rest ps (met_by w false false false false false false false false false false true m n p1 p2 p3 p4 p5 p6 p7 p8 p9 p10 p11 p12 p13)
+fits_row name w rest p ps false false false false false false false false false false false true n p1 p2 p3 p4 p5 p6 p7 p8 p9 p10 p11 p12 p13 = share_fits name w rest ps (met_by w false false false false false false false false false false false true n p1 p2 p3 p4 p5 p6 p7 p8 p9 p10 p11 p12 p13)
+fits_row name w rest p ps false false false false false false false false false false false false true p1 p2 p3 p4 p5 p6 p7 p8 p9 p10 p11 p12 p13 = uses_fits name w rest ps (met_by w false false false false false false false false false false false false true p1 p2 p3 p4 p5 p6 p7 p8 p9 p10 p11 p12 p13)
+fits_row name w rest p ps false false false false false false false false false false false false false p1 p2 p3 p4 p5 p6 p7 p8 p9 p10 p11 p12 p13 = stray_word name w rest p (met_by w false false false false false false false false false false false false false p1 p2 p3 p4 p5 p6 p7 p8 p9 p10 p11 p12 p13)
 
 pub fits : (name : Text) (ws : List Text) → list_all is_operand ws ≡ true → Fits (row_of ws) name ws
 fits name [] h = missing command_from MissingSubcommand [] (fault_of whole (name ∷ [])) (subcommand_of whole (name ∷ [])) (no_subcommand name)
 fits name (w ∷ rest) h =
     let p = are_plain (w ∷ rest) h in
-    fits_row name w rest p.0 p.1 (bytes_eq (codes "scratch") w) (bytes_eq (codes "init") w) (bytes_eq (codes "run") w) (bytes_eq (codes "commit") w) (bytes_eq (codes "load") w) (bytes_eq (codes "query") w) (bytes_eq (codes "gen") w) (bytes_eq (codes "log") w) (bytes_eq (codes "verify") w) (bytes_eq (codes "at") w) (bytes_eq (codes "archive") w) (bytes_eq (codes "uses") w)
-    refl refl refl refl refl refl refl refl refl refl refl refl
+    fits_row name w rest p.0 p.1 (bytes_eq (codes "scratch") w) (bytes_eq (codes "init") w) (bytes_eq (codes "run") w) (bytes_eq (codes "commit") w) (bytes_eq (codes "load") w) (bytes_eq (codes "query") w) (bytes_eq (codes "gen") w) (bytes_eq (codes "log") w) (bytes_eq (codes "verify") w) (bytes_eq (codes "at") w) (bytes_eq (codes "archive") w) (bytes_eq (codes "share") w) (bytes_eq (codes "uses") w)
+    refl refl refl refl refl refl refl refl refl refl refl refl refl
 
 -- ---- the words of a call
 

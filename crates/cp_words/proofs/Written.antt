@@ -11,7 +11,7 @@ use Rattle.cp_lang.specs.declared.syntax_tree.Stmt.{Stmt}
 use Rattle.cp_lang.specs.declared.syntax_tree.Stmt.TheVariants as stmt
 use Rattle.cp_lang.specs.declared.syntax_tree.StmtFault.{StmtFault}
 use Rattle.cp_words.specs.Operands.{is_operand, kind_named, curator_by, form_by, number_of, count_in, count_of, place_of}
-use Rattle.cp_words.specs.Commands.{start_by, load_by, generate_by, asked_in, asked_where_read, is_of_target, where_of_target, asked_of_version, version_where_read, asked_by, scratch_of, init_of, run_of, commit_of, load_of, query_of, generate_of, log_of, verify_of, at_of, archive_of, uses_of, row_of, command_of, IsWrittenCommand}
+use Rattle.cp_words.specs.Commands.{start_by, load_by, generate_by, asked_in, asked_where_read, is_of_target, where_of_target, asked_of_version, version_where_read, asked_by, scratch_of, init_of, run_of, commit_of, load_of, query_of, generate_of, log_of, verify_of, at_of, archive_of, share_of, uses_of, row_of, command_of, IsWrittenCommand}
 use Rattle.cp_words.specs.declared.limits.TheConstants.{COUNT_MAX}
 use Rattle.cp_words.specs.declared.command.Asked.{Asked}
 use Rattle.cp_words.specs.declared.command.Asked.TheVariants as of_version
@@ -167,6 +167,11 @@ archive_written [] = tt
 archive_written (a ∷ []) = tt
 archive_written (a ∷ b ∷ ws) = tt
 
+share_written : (ws : List (List ℕ)) → AreWritten (share_of ws)
+share_written [] = tt
+share_written (a ∷ []) = tt
+share_written (a ∷ b ∷ ws) = tt
+
 uses_written : (ws : List (List ℕ)) → AreWritten (uses_of ws)
 uses_written [] = tt
 uses_written (a ∷ []) = tt
@@ -182,7 +187,7 @@ row_written (w ∷ ws) =
     (either (bytes_eq (codes "gen") w) _ _ (generate_written ws) (either (bytes_eq (codes "log") w) _ _ (log_written ws)
     (either (bytes_eq (codes "verify") w) _ _ (verify_written ws)
     (either (bytes_eq (codes "at") w) _ _ (at_written ws) (either (bytes_eq (codes "archive") w) _ _ (archive_written ws)
-    (either (bytes_eq (codes "uses") w) _ _ (uses_written ws) tt)))))))))))
+    (either (bytes_eq (codes "share") w) _ _ (share_written ws) (either (bytes_eq (codes "uses") w) _ _ (uses_written ws) tt))))))))))))
 
 pub command_written : (ws : List (List ℕ)) → AreWritten (command_of ws)
 command_written [] = tt

@@ -17,7 +17,7 @@ use Rattle.cp_words.specs.declared.command.Asked.TheVariants as of_version
 use Rattle.cp_words.specs.declared.command.Start.{Start}
 use Rattle.cp_words.specs.declared.command.Start.TheVariants.{Alone, TreeIn}
 use Rattle.cp_words.specs.declared.command.Command.{Command}
-use Rattle.cp_words.specs.declared.command.Command.TheVariants.{Scratch, Init, Run, Commit, Load, Ask, Show, Generate, Log, Verify, At, Archive, Uses}
+use Rattle.cp_words.specs.declared.command.Command.TheVariants.{Scratch, Init, Run, Commit, Load, Ask, Show, Generate, Log, Verify, At, Archive, Share, Uses}
 
 -- ---- what the operands of a command ask for
 
@@ -171,6 +171,11 @@ abbrev pub archive_of : List (List ℕ) → Option Command
 archive_of (store ∷ []) = Some Archive
 archive_of operands = None
 
+-- `share STORE`
+abbrev pub share_of : List (List ℕ) → Option Command
+share_of (store ∷ []) = Some Share
+share_of operands = None
+
 -- `uses STORE PLACE`
 abbrev pub uses_of : List (List ℕ) → Option Command
 uses_of (store ∷ place ∷ []) = uses_by place
@@ -191,6 +196,7 @@ row_of (command ∷ operands) =
     else if bytes_eq (codes "verify") command then verify_of operands
     else if bytes_eq (codes "at") command then at_of operands
     else if bytes_eq (codes "archive") command then archive_of operands
+    else if bytes_eq (codes "share") command then share_of operands
     else if bytes_eq (codes "uses") command then uses_of operands
     else None
 

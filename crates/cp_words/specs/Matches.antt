@@ -4,7 +4,7 @@ use Rattle.std.specs.Str.{bytes_eq}
 use Rattle.clap.specs.Words.{Row, Text, first_of}
 use Rattle.cp_words.specs.Commands.{scratch_by, init_by, run_by, commit_by, load_by, query_by, generate_by, at_by, uses_by}
 use Rattle.cp_words.specs.declared.command.Command.{Command}
-use Rattle.cp_words.specs.declared.command.Command.TheVariants.{Log, Verify, Archive}
+use Rattle.cp_words.specs.declared.command.Command.TheVariants.{Log, Verify, Archive, Share}
 
 -- goes on with an operand, where it was found
 abbrev pub with_operand : Text → List Row → (Text → Option Command) → Option Command
@@ -57,6 +57,10 @@ at_from rows = with_operand (codes "TID") rows (λ tid. with_operand (codes "STA
 abbrev pub archive_from : List Row → Option Command
 archive_from rows = Some Archive
 
+-- `share` needs none
+abbrev pub share_from : List Row → Option Command
+share_from rows = Some Share
+
 -- the operands of `uses`
 abbrev pub uses_from : List Row → Option Command
 uses_from rows = with_operand (codes "PLACE") rows uses_by
@@ -76,5 +80,6 @@ command_from (Some p) =
     else if bytes_eq p.0 (codes "verify") then verify_from p.1
     else if bytes_eq p.0 (codes "at") then at_from p.1
     else if bytes_eq p.0 (codes "archive") then archive_from p.1
+    else if bytes_eq p.0 (codes "share") then share_from p.1
     else if bytes_eq p.0 (codes "uses") then uses_from p.1
     else None

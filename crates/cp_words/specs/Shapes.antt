@@ -58,6 +58,10 @@ at_app = with_wanted (codes "STATEMENT") (with_wanted (codes "TID") (with_wanted
 abbrev pub archive_app : App
 archive_app = with_wanted (codes "STORE") (new_app (codes "archive"))
 
+-- `share STORE`
+abbrev pub share_app : App
+share_app = with_wanted (codes "STORE") (new_app (codes "share"))
+
 -- `uses STORE PLACE`
 abbrev pub uses_app : App
 uses_app = with_wanted (codes "PLACE") (with_wanted (codes "STORE") (new_app (codes "uses")))
@@ -90,7 +94,7 @@ with_sessions a = with_command (with_command (with_command (with_command a scrat
 
 -- a program with the other commands
 abbrev pub with_others : App → App
-with_others a = with_command (with_command (with_command (with_command (with_command (with_command (with_command (with_command a load_app) query_app) generate_app) log_app) verify_app) at_app) archive_app) uses_app
+with_others a = with_command (with_command (with_command (with_command (with_command (with_command (with_command (with_command (with_command a load_app) query_app) generate_app) log_app) verify_app) at_app) archive_app) share_app) uses_app
 
 -- the program with all commands
 abbrev pub whole : App

@@ -47,6 +47,8 @@ pub enum Command {
     At { tid: u64, asked: Asked },
     /// How many versions the store has, and how many ranges of them in which a path is there with one content.
     Archive,
+    /// A session of several curators on the store.
+    Share,
     /// The places of the store that use this one.
     Uses(Loc),
 }

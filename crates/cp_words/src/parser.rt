@@ -19,7 +19,7 @@ struct Row<'a> {
 }
 
 /// All commands.
-static ROWS: [Row<'static>; 12] = [
+static ROWS: [Row<'static>; 13] = [
     Row {
         name: "scratch",
         operands: &[("KIND", true), ("JSON", false)],
@@ -68,6 +68,10 @@ static ROWS: [Row<'static>; 12] = [
     },
     Row {
         name: "archive",
+        operands: &[("STORE", true)],
+    },
+    Row {
+        name: "share",
         operands: &[("STORE", true)],
     },
     Row {

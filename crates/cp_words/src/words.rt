@@ -134,6 +134,7 @@ fn command_in(alloc: Global, matches: &ArgMatches<'_>) -> Result<Option<Command>
         "verify" => Ok(Some(Command::Verify)),
         "at" => at(alloc, operands),
         "archive" => Ok(Some(Command::Archive)),
+        "share" => Ok(Some(Command::Share)),
         "uses" => uses(alloc, operands),
         _ => Ok(None),
     }

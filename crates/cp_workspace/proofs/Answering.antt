@@ -1,5 +1,5 @@
 -- What is shown, and what is answered.
-use Rattle.std.specs.Prelude.{ℕ, ◌≡◌, ◌+◌, Bool, true, false, List, map, refl, Result, Ok, Err, IfOk, if◌then◌else◌}
+use Rattle.std.specs.Prelude.{ℕ, ◌≡◌, ◌+◌, Bool, true, false, List, map, refl, is_some, if◌then◌else◌}
 use Rattle.std.proofs.Common.{sym, ap, subst, ◌∙◌}
 use Rattle.std.specs.declared.option.Option.{Option}
 use Rattle.std.specs.declared.option.Option.TheVariants.{None, Some}
@@ -27,17 +27,18 @@ use Rattle.cp_engine.specs.declared.txn.Txn.{Txn}
 use Rattle.cp_engine.specs.declared.state.TxnState.{TxnState}
 use Rattle.cp_engine.specs.declared.state.TxnState.TheVariants as state
 use Rattle.cp_db.specs.Databases.{HasCome, HoldsSame, IsSameFile}
+use Rattle.cp_curators.specs.declared.curators.Curators.{Curators}
 use Rattle.cp_db.specs.declared.database.Db.{Db}
-use Rattle.cp_db.proofs.Keeping.{stands-same}
 use Rattle.cp_workspace.specs.Texts.{Terms, setting}
-use Rattle.cp_workspace.specs.Workspaces.{Stands, Opens, EndsAt, IsBegun, IsWorkspace, Turned, shown_tree, shown_reply}
+use Rattle.cp_workspace.specs.Seats.{Seats}
+use Rattle.cp_workspace.specs.Workspaces.{Stands, Opens, EndsAt, IsBegun, AreBegun, IsWorkspace, Turned, of_nobody, shown_tree, shown_or_refused}
 use Rattle.cp_workspace.specs.declared.workspace.Workspace.{Workspace}
 use Rattle.cp_workspace.proofs.Turning.{turned-stands}
 
 -- ---- the tree that is shown
 
 -- accepted operations lead to the tree after them
-working_tree : (k : Kind) (t : State) (n : ℕ) (ops : List Op) → AllAccepted t.sources (tree_of t.tree) ops → (stage_after k t.sources (tree_of t.tree) n ops).tree ≡ outcome_tree t (step (tree_of t.tree) t.sources ops)
+pub working_tree : (k : Kind) (t : State) (n : ℕ) (ops : List Op) → AllAccepted t.sources (tree_of t.tree) ops → (stage_after k t.sources (tree_of t.tree) n ops).tree ≡ outcome_tree t (step (tree_of t.tree) t.sources ops)
 working_tree k t n ops a =
     let x = accepted-step k t.sources (tree_of t.tree) n ops a in
     sym (ap (outcome_tree t) x.1 ∙ x.2)
@@ -86,31 +87,20 @@ module _ {R S : Type 0} (view : R → Tree) (source_view : S → Tree) (terms : 
 
 -- ---- show
 
-module _ {R S : Type 0} (view : R → Tree) (source_view : S → Tree) (terms : Terms) (d : Workspace R S) (s : Session) (z : Stands view source_view terms d s) where
-  shows : (q : Loc) (r : Option Reply) → Turned view source_view terms (show_at s q (shown_tree z.db.state s.opened q)) d r → Turned view source_view terms (turn_of (setting terms) s (says (stmt.Show q))) d r
-  shows q r h = turned-stands view source_view terms d d s z (stmt.Show q) r h
+-- what the tree of a place's database has at and below the place is shown, or it is told that there is none
+pub turned-shown : {R S : Type 0} (view : R → Tree) (source_view : S → Tree) (terms : Terms) (d : Workspace R S) (s : Session) (z : Stands view source_view terms d s) (q : Loc) (r : Reply)
+    → r ≡ shown_or_refused q (shown_tree z.db.state (current_tree z.db.state s.opened) q) → Turned view source_view terms (turn_of (setting terms) s (says (stmt.Show q))) d (of_nobody r)
+turned-shown view source_view terms d s z q r e =
+    turned-stands view source_view terms d d s z (stmt.Show q) (of_nobody r)
+    (subst (λ x. Turned view source_view terms (show_at s q (shown_tree z.db.state (current_tree z.db.state s.opened) q)) d (of_nobody x)) (sym e) (by (shown_tree z.db.state (current_tree z.db.state s.opened) q)))
+  where
+    shows : (u : Tree) (b : Bool) → Turned view source_view terms (if b then replies (reply.Show q (map row_of (below q.path u))) s else refuses (why.NoPlace q) s) d (of_nobody (if b then reply.Show q (map row_of (below q.path u)) else reply.Refused of.Statement (why.NoPlace q)))
+    shows u true = (refl, z)
+    shows u false = (refl, z)
 
-  -- there is no such database
-  pub turned-no_source : (q : Loc) → shown_tree z.db.state s.opened q ≡ None → Turned view source_view terms (turn_of (setting terms) s (says (stmt.Show q))) d (Some (reply.Refused of.Statement (why.NoSource q.db)))
-  turned-no_source q e =
-      let r = Some (reply.Refused of.Statement (why.NoSource q.db)) in
-      shows q r (subst (λ o. Turned view source_view terms (show_at s q o) d r) (sym e) (refl, z))
-
-  -- what the tree has at and below a place is shown
-  pub turned-shown : (q : Loc) (u : Tree) → shown_tree z.db.state s.opened q ≡ Some u → Turned view source_view terms (turn_of (setting terms) s (says (stmt.Show q))) d (Some (shown_reply q u))
-  turned-shown q u e = shows q (Some (shown_reply q u)) (subst (λ o. Turned view source_view terms (show_at s q o) d (Some (shown_reply q u))) (sym e) (by (is_there u q.path)))
-    where
-      by : (b : Bool) → Turned view source_view terms (if b then replies (reply.Show q (map row_of (below q.path u))) s else refuses (why.NoPlace q) s) d (Some (if b then reply.Show q (map row_of (below q.path u)) else reply.Refused of.Statement (why.NoPlace q)))
-      by true = (refl, z)
-      by false = (refl, z)
-
--- what the tree of a place's database has at and below the place is shown, if memory is enough
-pub told-shown : {R S E : Type 0} (view : R → Tree) (source_view : S → Tree) (d : Workspace R S) (q : Loc) (u : Tree) (r : Result Reply E) →
-    ((terms : Terms) (s : Session) (z : Stands view source_view terms d s) → shown_tree z.db.state s.opened q ≡ Some u) → IfOk r (λ x. x ≡ shown_reply q u) →
-    IfOk r (λ x. (terms : Terms) (s : Session) → Stands view source_view terms d s → Turned view source_view terms (turn_of (setting terms) s (says (stmt.Show q))) d (Some x))
-told-shown view source_view d q u (Ok x) e h =
-    λ terms s z. subst (λ y. Turned view source_view terms (turn_of (setting terms) s (says (stmt.Show q))) d (Some y)) (sym h) (turned-shown view source_view terms d s z q u (e terms s z))
-told-shown view source_view d q u (Err y) e h = tt
+    by : (o : Option Tree) → Turned view source_view terms (show_at s q o) d (of_nobody (shown_or_refused q o))
+    by None = (refl, z)
+    by (Some u) = shows u (is_there u q.path)
 
 -- ---- queries
 
@@ -132,34 +122,42 @@ module _ {R S : Type 0} (view : R → Tree) (source_view : S → Tree) (d new : 
   begun_kept None h = tt
   begun_kept (Some x) h = (h.0, come-kept x h.0 h.1)
 
+  -- and curators stand over it
+  desks_kept : (c : Option (Curators R)) (x : Option (Txn R)) → AreBegun view source_view d c x → AreBegun view source_view new c x
+  desks_kept None x h = tt
+  desks_kept (Some c) x h = (h.0, λ t w. h.1 t ((same.states t).1 w))
+
 -- a workspace is one whose database holds the same after a query
-pub workspace-asked : {R S : Type 0} (view : R → Tree) (source_view : S → Tree) (d m : Workspace R S) → IsSameFile d.db m.db → HoldsSame view source_view d.db m.db → m.transaction ≡ d.transaction
+pub workspace-asked : {R S : Type 0} (view : R → Tree) (source_view : S → Tree) (d m : Workspace R S) → IsSameFile d.db m.db → HoldsSame view source_view d.db m.db → m.transaction ≡ d.transaction → m.curators ≡ d.curators
     → IsWorkspace view source_view d → IsWorkspace view source_view m
-workspace-asked view source_view d m file same there w = record {
+workspace-asked view source_view d m file same there desks w = record {
   stands = (w.stands.0, (same.states w.stands.0).0 w.stands.1);
   usable = file.2 ∙ w.usable;
   begun = subst (IsBegun view source_view m.db) (sym there) (begun_kept view source_view d.db m.db same d.transaction w.begun);
+  desks = subst (λ x. AreBegun view source_view m.db m.curators x) (sym there) (subst (λ c. AreBegun view source_view m.db c d.transaction) (sym desks) (desks_kept view source_view d.db m.db same d.curators d.transaction w.desks));
 }
 
-module _ {R S : Type 0} (view : R → Tree) (source_view : S → Tree) (terms : Terms) (d m : Workspace R S) (s : Session) (z : Stands view source_view terms d s) (file : IsSameFile d.db m.db) (same : HoldsSame view source_view d.db m.db) (curator : m.curator ≡ d.curator) (there : m.transaction ≡ d.transaction) where
+module _ {R S : Type 0} (view : R → Tree) (source_view : S → Tree) (terms : Terms) (d m : Workspace R S) (s : Session) (z : Stands view source_view terms d s) (file : IsSameFile d.db m.db) (same : HoldsSame view source_view d.db m.db) (curator : m.curator ≡ d.curator) (there : m.transaction ≡ d.transaction) (desks : m.curators ≡ d.curators) where
   -- it stands for the same session after a query
   pub stands-asked : Stands view source_view terms m s
   stands-asked = record {
-    db = stands-same view source_view d.db m.db same true s.history z.db;
+    db = record { state = z.db.state; led = z.db.led; holds = (same.states z.db.state).0 z.db.holds; rows = λ asked. same.rows z.db.state (z.db.rows asked) };
     ends = subst (λ j. EndsAt terms.ends s.history j.next) (sym file.0) z.ends;
     curator = curator ∙ z.curator;
     opened = subst (λ x. Opens view source_view m.db x s.opened) (sym there) (opens-kept view source_view d.db m.db same d.transaction s.opened z.opened);
+    shared = ap is_some desks ∙ z.shared;
+    desks = subst (λ c. Seats view s.history z.db.state c s.desks) (sym desks) z.desks;
   }
 
-module _ {R S : Type 0} (view : R → Tree) (source_view : S → Tree) (terms : Terms) (d m : Workspace R S) (s : Session) (z : Stands view source_view terms d s) (file : IsSameFile d.db m.db) (same : HoldsSame view source_view d.db m.db) (curator : m.curator ≡ d.curator) (there : m.transaction ≡ d.transaction) where
+module _ {R S : Type 0} (view : R → Tree) (source_view : S → Tree) (terms : Terms) (d m : Workspace R S) (s : Session) (z : Stands view source_view terms d s) (file : IsSameFile d.db m.db) (same : HoldsSame view source_view d.db m.db) (curator : m.curator ≡ d.curator) (there : m.transaction ≡ d.transaction) (desks : m.curators ≡ d.curators) where
   -- an answer is replied
-  pub turned-answered : (q : Query) (a : Answer) → answer_to z.db.state q ≡ Some a → Turned view source_view terms (turn_of (setting terms) s (says (stmt.Ask q))) m (Some (reply.Answered q a))
+  pub turned-answered : (q : Query) (a : Answer) → answer_to z.db.state q ≡ Some a → Turned view source_view terms (turn_of (setting terms) s (says (stmt.Ask q))) m (of_nobody (reply.Answered q a))
   turned-answered q a e =
-      let r = Some (reply.Answered q a) in
-      turned-stands view source_view terms d m s z (stmt.Ask q) r (subst (λ o. Turned view source_view terms (answer_or_refuse s q o) m r) (sym e) (refl, stands-asked view source_view terms d m s z file same curator there))
+      let r = of_nobody (reply.Answered q a) in
+      turned-stands view source_view terms d m s z (stmt.Ask q) r (subst (λ o. Turned view source_view terms (answer_or_refuse s q o) m r) (sym e) (refl, stands-asked view source_view terms d m s z file same curator there desks))
 
   -- a query without one is refused
-  pub turned-unanswered : (q : Query) → answer_to z.db.state q ≡ None → Turned view source_view terms (turn_of (setting terms) s (says (stmt.Ask q))) m (Some (reply.Refused of.Statement (no_place_of q)))
+  pub turned-unanswered : (q : Query) → answer_to z.db.state q ≡ None → Turned view source_view terms (turn_of (setting terms) s (says (stmt.Ask q))) m (of_nobody (reply.Refused of.Statement (no_place_of q)))
   turned-unanswered q e =
-      let r = Some (reply.Refused of.Statement (no_place_of q)) in
-      turned-stands view source_view terms d m s z (stmt.Ask q) r (subst (λ o. Turned view source_view terms (answer_or_refuse s q o) m r) (sym e) (refl, stands-asked view source_view terms d m s z file same curator there))
+      let r = of_nobody (reply.Refused of.Statement (no_place_of q)) in
+      turned-stands view source_view terms d m s z (stmt.Ask q) r (subst (λ o. Turned view source_view terms (answer_or_refuse s q o) m r) (sym e) (refl, stands-asked view source_view terms d m s z file same curator there desks))

@@ -5,7 +5,13 @@ mod Committing
 mod Answering
 mod Loading
 mod Fetched
+mod Owning
+mod Desking
+mod Seating
+mod Sharing
+mod SharedEntries
 pub mod Readings
+mod Written
 pub mod ReadCounts
 pub mod Spent
 pub mod Supplied

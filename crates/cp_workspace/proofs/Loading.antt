@@ -31,7 +31,7 @@ use Rattle.cp_db.specs.declared.fault.LoadFault.TheVariants as fault
 use Rattle.cp_workspace.specs.Fetching.{fetch}
 use Rattle.cp_workspace.specs.Texts.{Terms, setting}
 use Rattle.cp_workspace.specs.Loads.{why_not_loaded, load_reads, reads_unless}
-use Rattle.cp_workspace.specs.Workspaces.{expected, workspace_at, Stands, Opens, HoldsFile, MayLoad, TurnsAs}
+use Rattle.cp_workspace.specs.Workspaces.{expected, workspace_at, Stands, Opens, HoldsFile, MayLoad, TurnsAs, of_nobody}
 use Rattle.cp_workspace.specs.declared.fault.WorkspaceFault.{WorkspaceFault}
 use Rattle.cp_workspace.specs.declared.workspace.Workspace.{Workspace}
 use Rattle.cp_workspace.proofs.Supplied.{one_table}
@@ -117,7 +117,7 @@ module _ {R S : Type 0} (view : R → Tree) (source_view : S → Tree) (d : Work
 pub none-in-the-way : {R S : Type 0} (view : R → Tree) (source_view : S → Tree) (d : Workspace R S) (name : List ℕ) → MayLoad view source_view d name → (s : State) → HoldsState view source_view d.db s → in_the_way s name ≡ None
 none-in-the-way view source_view d name may s z = let few = may.few s z in rw (may.fresh s z, not_all_taken (length s.sources) (λ h. omega (arith, few, h))) refl
 
-module _ {R S D : Type 0} (view : R → Tree) (source_view : S → Tree) (g : disk.Ghosts D) (terms : Terms) (d m : Workspace R S) (s : Session) (z : Stands view source_view terms d s) (k l : D) (name : List ℕ) (u : Tree) (none : d.transaction ≡ None) where
+module _ {R S D : Type 0} (view : R → Tree) (source_view : S → Tree) (g : disk.Ghosts D) (terms : Terms) (d m : Workspace R S) (s : Session) (z : Stands view source_view terms d s) (k l : D) (name : List ℕ) (u : Tree) (none : d.transaction ≡ None) (before : d.curators ≡ None) (alone : m.curators ≡ None) where
   abbrev c : Setting
   c = setting terms
 
@@ -146,13 +146,13 @@ module _ {R S D : Type 0} (view : R → Tree) (source_view : S → Tree) (g : di
   pub turns-loaded : (loaded : List ℕ) (nodes : ℕ) → loaded ≡ name → nodes ≡ len u → m.curator ≡ d.curator → m.transaction ≡ d.transaction → HasLoaded view source_view d.db z.db.state name u m.db (Ok tt)
       → (IsTrue v.known → IsKept true d.db s.history v.view → IsKept true m.db (s.history ++ load name u ∷ []) w.view)
       → (IsTrue v.known → IsKept true d.db s.history v.view → ViewKeeps (StandsForEither s.history (s.history ++ load name u ∷ [])) v.view w.view)
-      → TurnsAs view source_view (λ r. Some r) (expected terms the_turn s s.supply) (workspace_at d v) (workspace_at m w) (Ok (reply.Loaded loaded nodes))
+      → TurnsAs view source_view of_nobody (expected terms the_turn s s.supply) (workspace_at d v) (workspace_at m w) (Ok (reply.Loaded loaded nodes))
   turns-loaded loaded nodes named counted signed same is kept crash =
-      subst (λ (t : Turn). TurnsAs view source_view (λ r. Some r) (expected terms t s s.supply) (workspace_at d v) (workspace_at m w) (Ok (reply.Loaded loaded nodes))) (sym (turn_if true is.1)) (record {
+      subst (λ (t : Turn). TurnsAs view source_view of_nobody (expected terms t s s.supply) (workspace_at d v) (workspace_at m w) (Ok (reply.Loaded loaded nodes))) (sym (turn_if true is.1)) (record {
         turned = (
-          ap (λ (n : List ℕ). Some (reply.Loaded n nodes)) named ∙ ap (λ (i : ℕ). Some (reply.Loaded name i)) counted,
+          ap (λ (n : List ℕ). of_nobody (reply.Loaded n nodes)) named ∙ ap (λ (i : ℕ). of_nobody (reply.Loaded name i)) counted,
           stands-added view source_view terms d m s z (load name u) (after_load z.db.state name u) (load_size name u) s.opened s.supply is.2 refl signed
-              (subst (λ y. Opens view source_view m.db y s.opened) (sym (same ∙ none)) opens_none),
+              before alone (subst (λ y. Opens view source_view m.db y s.opened) (sym (same ∙ none)) opens_none),
         );
         taken = refl;
         kept = kept;
@@ -161,26 +161,26 @@ module _ {R S D : Type 0} (view : R → Tree) (source_view : S → Tree) (g : di
 
   -- there is no room for it
   pub turns-no_room : l ≡ k → m ≡ d → has_room (end_in d.db) (load_size name u) ≡ false
-      → TurnsAs view source_view (λ r. Some r) (expected terms the_turn s s.supply) (workspace_at d v) (workspace_at m w) (Ok (reply.Refused of.Load why.StoreTooLarge))
+      → TurnsAs view source_view of_nobody (expected terms the_turn s s.supply) (workspace_at d v) (workspace_at m w) (Ok (reply.Refused of.Load why.StoreTooLarge))
   turns-no_room y same no_room =
-      subst (λ (t : Turn). TurnsAs view source_view (λ r. Some r) (expected terms t s s.supply) (workspace_at d v) (workspace_at m w) (Ok (reply.Refused of.Load why.StoreTooLarge))) (sym (turn_if false no_room))
-      (subst (λ (i : D). TurnsAs view source_view (λ r. Some r) (expected terms full s s.supply) (workspace_at d v) (workspace_at m (g.known i)) (Ok (reply.Refused of.Load why.StoreTooLarge))) (sym y)
-      (subst (λ (b : Workspace R S). TurnsAs view source_view (λ r. Some r) (expected terms full s s.supply) (workspace_at d v) (workspace_at b v) (Ok (reply.Refused of.Load why.StoreTooLarge))) (sym same)
-      (turns-still view source_view (λ r. Some r) terms full s s.supply d d v (Ok (reply.Refused of.Load why.StoreTooLarge)) refl refl refl (refl, z))))
+      subst (λ (t : Turn). TurnsAs view source_view of_nobody (expected terms t s s.supply) (workspace_at d v) (workspace_at m w) (Ok (reply.Refused of.Load why.StoreTooLarge))) (sym (turn_if false no_room))
+      (subst (λ (i : D). TurnsAs view source_view of_nobody (expected terms full s s.supply) (workspace_at d v) (workspace_at m (g.known i)) (Ok (reply.Refused of.Load why.StoreTooLarge))) (sym y)
+      (subst (λ (b : Workspace R S). TurnsAs view source_view of_nobody (expected terms full s s.supply) (workspace_at d v) (workspace_at b v) (Ok (reply.Refused of.Load why.StoreTooLarge))) (sym same)
+      (turns-still view source_view of_nobody terms full s s.supply d d v (Ok (reply.Refused of.Load why.StoreTooLarge)) refl refl refl (refl, z))))
 
   leaves_by : (b : Bool) → has_room (end_in d.db) (load_size name u) ≡ b → (b ≡ false → l ≡ k) → HoldsFile d s.history v → ViewKeeps (StandsForEither s.history (s.history ++ load name u ∷ [])) v.view w.view → ViewKeeps (StandsForEither s.history the_turn.next.history) v.view w.view
   leaves_by true e still held crash = subst (λ (t : Turn). ViewKeeps (StandsForEither s.history t.next.history) v.view w.view) (sym (turn_if true e)) crash
   leaves_by false e still held crash =
       subst (λ (t : Turn). ViewKeeps (StandsForEither s.history t.next.history) v.view w.view) (sym (turn_if false e))
-      (subst (λ (i : D). ViewKeeps (StandsForEither s.history s.history) v.view (g.known i).view) (sym (still refl)) (leaves-still view source_view (λ (r : Reply). Some r) terms full s s.supply d m v s.history held))
+      (subst (λ (i : D). ViewKeeps (StandsForEither s.history s.history) v.view (g.known i).view) (sym (still refl)) (leaves-still view source_view of_nobody terms full s s.supply d m v s.history held))
 
   -- the disk failed, or memory ran out
   pub turns-unloaded : (result : Result Reply WorkspaceFault) → (y : WorkspaceFault) × (result ≡ Err y)
       → (IsTrue v.known → IsKept true d.db s.history v.view → ViewKeeps (StandsForEither s.history (s.history ++ load name u ∷ [])) v.view w.view)
       → (has_room (end_in d.db) (load_size name u) ≡ false → l ≡ k)
-      → TurnsAs view source_view (λ r. Some r) (expected terms the_turn s s.supply) (workspace_at d v) (workspace_at m w) result
+      → TurnsAs view source_view of_nobody (expected terms the_turn s s.supply) (workspace_at d v) (workspace_at m w) result
   turns-unloaded result p crash room =
-      turns-failed view source_view (λ r. Some r) terms the_turn s s.supply d m v w result p (λ known held. leaves_by (has_room (end_in d.db) (load_size name u)) refl room held (crash known held))
+      turns-failed view source_view of_nobody terms the_turn s s.supply d m v w result p (λ known held. leaves_by (has_room (end_in d.db) (load_size name u)) refl room held (crash known held))
 
 -- ---- what a load spends
 
@@ -237,15 +237,15 @@ module _ {R S : Type 0} (view : R → Tree) (source_view : S → Tree) (terms : 
 
   -- a load is refused, which changes nothing
   turns_refused : (w : Why) (v : KnownDisk) (x rest : Supply) → x ≡ rest → of_load ≡ refused_load w (record { history = s.history; opened = s.opened; desks = s.desks; supply = x })
-      → TurnsAs view source_view (λ r. Some r) (expected terms of_load s rest) (workspace_at d v) (workspace_at d v) (Ok (reply.Refused of.Load w))
+      → TurnsAs view source_view of_nobody (expected terms of_load s rest) (workspace_at d v) (workspace_at d v) (Ok (reply.Refused of.Load w))
   turns_refused w v x rest taken is =
       let full : Turn = refused_load w (record { history = s.history; opened = s.opened; desks = s.desks; supply = x }) in
-      subst (λ (t : Turn). TurnsAs view source_view (λ r. Some r) (expected terms t s rest) (workspace_at d v) (workspace_at d v) (Ok (reply.Refused of.Load w))) (sym is)
-      (turns-still view source_view (λ r. Some r) terms full s rest d d v (Ok (reply.Refused of.Load w)) refl refl taken (refl, stands-told view source_view terms d d s z x))
+      subst (λ (t : Turn). TurnsAs view source_view of_nobody (expected terms t s rest) (workspace_at d v) (workspace_at d v) (Ok (reply.Refused of.Load w))) (sym is)
+      (turns-still view source_view of_nobody terms full s rest d d v (Ok (reply.Refused of.Load w)) refl refl taken (refl, stands-told view source_view terms d d s z x))
 
   -- what is in the way is the refusal
   pub turns-not_loaded : (w : Why) (v : KnownDisk) (rest : Supply) → Some w ≡ why_not_loaded z.db.state s.opened l.name → s.supply ≡ rest
-      → TurnsAs view source_view (λ r. Some r) (expected terms of_load s rest) (workspace_at d v) (workspace_at d v) (Ok (reply.Refused of.Load w))
+      → TurnsAs view source_view of_nobody (expected terms of_load s rest) (workspace_at d v) (workspace_at d v) (Ok (reply.Refused of.Load w))
   turns-not_loaded w v rest e supply = turns_refused w v s.supply rest supply (way_is (Some w) e)
 
   module _ (files : FileTable) (rest : Supply) (e : None ≡ why_not_loaded z.db.state s.opened l.name) (supply : s.supply ≡ followed_by (one_table files) rest) where
@@ -258,14 +258,14 @@ module _ {R S : Type 0} (view : R → Tree) (source_view : S → Tree) (terms : 
     given = way_is None e ∙ ap (λ (y : Supply). load_fetched (setting terms) (after_read s) l.name (fetch (next_table y.tables) l)) supply
 
     -- why the file gives no tree is the refusal
-    pub turns-withheld : (w : Why) (v : KnownDisk) → fetch files l ≡ withholds w → TurnsAs view source_view (λ r. Some r) (expected terms of_load s rest) (workspace_at d v) (workspace_at d v) (Ok (reply.Refused of.Load w))
+    pub turns-withheld : (w : Why) (v : KnownDisk) → fetch files l ≡ withholds w → TurnsAs view source_view of_nobody (expected terms of_load s rest) (workspace_at d v) (workspace_at d v) (Ok (reply.Refused of.Load w))
     turns-withheld w v found = turns_refused w v (after_read s).supply rest taken (given ∙ ap (load_fetched (setting terms) (after_read s) l.name) found)
 
     -- the tree that the file gives is loaded
     pub turns-given : (m : Workspace R S) (v w : KnownDisk) (u : Tree) (result : Result Reply WorkspaceFault) → fetch files l ≡ gives u
-        → TurnsAs view source_view (λ r. Some r) (expected terms (load_fetched (setting terms) (after_read s) l.name (gives u)) (after_read s) (after_read s).supply) (workspace_at d v) (workspace_at m w) result → TurnsAs view source_view (λ r. Some r) (expected terms of_load s rest) (workspace_at d v) (workspace_at m w) result
+        → TurnsAs view source_view of_nobody (expected terms (load_fetched (setting terms) (after_read s) l.name (gives u)) (after_read s) (after_read s).supply) (workspace_at d v) (workspace_at m w) result → TurnsAs view source_view of_nobody (expected terms of_load s rest) (workspace_at d v) (workspace_at m w) result
     turns-given m v w u result found y =
-        let t : TurnsAs view source_view (λ r. Some r) (expected terms (load_fetched (setting terms) (after_read s) l.name (gives u)) s (after_read s).supply) (workspace_at d v) (workspace_at m w) result =
+        let t : TurnsAs view source_view of_nobody (expected terms (load_fetched (setting terms) (after_read s) l.name (gives u)) s (after_read s).supply) (workspace_at d v) (workspace_at m w) result =
         record { turned = y.turned; taken = y.taken; kept = y.kept; leaves = y.leaves } in
-        subst (λ (x : Turn). TurnsAs view source_view (λ r. Some r) (expected terms x s rest) (workspace_at d v) (workspace_at m w) result) (sym (given ∙ ap (load_fetched (setting terms) (after_read s) l.name) found))
-        (subst (λ x. TurnsAs view source_view (λ r. Some r) (expected terms (load_fetched (setting terms) (after_read s) l.name (gives u)) s x) (workspace_at d v) (workspace_at m w) result) taken t)
+        subst (λ (x : Turn). TurnsAs view source_view of_nobody (expected terms x s rest) (workspace_at d v) (workspace_at m w) result) (sym (given ∙ ap (load_fetched (setting terms) (after_read s) l.name) found))
+        (subst (λ x. TurnsAs view source_view of_nobody (expected terms (load_fetched (setting terms) (after_read s) l.name (gives u)) s x) (workspace_at d v) (workspace_at m w) result) taken t)

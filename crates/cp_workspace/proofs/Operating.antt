@@ -2,6 +2,7 @@
 use Rattle.cp_model.specs.declared.limits.TheConstants.{OPS_MAX}
 use Rattle.std.specs.Prelude.{ℕ, ◌≡◌, ◌==◌, ◌+◌, List, [], ◌∷◌, ◌++◌, length, refl, Result, Ok, Err, ⊤, if◌then◌else◌}
 use Rattle.std.proofs.Common.{sym, ap, subst, ◌∙◌, arith, length-append}
+use Rattle.std.specs.declared.option.Option.{Option}
 use Rattle.std.specs.declared.option.Option.TheVariants.{None, Some}
 use Rattle.cp_model.specs.Tree.{Tree, Source, refusal}
 use Rattle.cp_model.specs.Step.{step}
@@ -16,6 +17,7 @@ use Rattle.cp_lang.specs.declared.syntax_tree.Stmt.TheVariants as stmt
 use Rattle.cp_reply.specs.declared.reply.Of.TheVariants as of
 use Rattle.cp_reply.specs.declared.reply.Why.{Why}
 use Rattle.cp_reply.specs.declared.reply.Why.TheVariants as why
+use Rattle.cp_reply.specs.declared.reply.Reply.{Reply}
 use Rattle.cp_reply.specs.declared.reply.Reply.TheVariants as reply
 use Rattle.cp_reply.specs.Session.{Session, OpenTransaction, closed, going, failed, with_opened, says, turn_of, refusal_on, refusal_after, decide_op, on_operation, why_refused, not_read, fail_unread}
 use Rattle.cp_operation.specs.Passed.{stage_after, refusal_behind, AllAccepted}
@@ -26,10 +28,12 @@ use Rattle.cp_engine.specs.declared.fault.ApplyFault.{ApplyFault}
 use Rattle.cp_engine.specs.declared.fault.ApplyFault.TheVariants as denied
 use Rattle.cp_db.specs.Databases.{HasCome, HoldsState}
 use Rattle.cp_db.specs.declared.database.Db.{Db}
+use Rattle.cp_workspace.specs.Seats.{progress_of}
 use Rattle.cp_workspace.specs.Texts.{Terms, setting}
-use Rattle.cp_workspace.specs.Workspaces.{Stands, Opens, IsBegun, IsWorkspace, IsOpened, Turned, progress_of}
+use Rattle.cp_workspace.specs.Workspaces.{Stands, Opens, IsBegun, IsWorkspace, IsOpened, IsReplyTo, Turned, of_nobody, any_of_nobody}
 use Rattle.cp_workspace.specs.declared.workspace.Workspace.{Workspace}
-use Rattle.cp_workspace.proofs.Turning.{turned-stands, stands-opened}
+use Rattle.cp_workspace.proofs.Standing.{stands-with}
+use Rattle.cp_workspace.proofs.Turning.{turned-stands}
 
 -- behind accepted operations, the refusal on their step is the one by the tree to which they lead
 refusal_on_step : (k : Kind) (t : State) (n : ℕ) (ops : List Op) (op : Op) → AllAccepted t.sources (tree_of t.tree) ops →
@@ -99,10 +103,10 @@ module _ {R S : Type 0} (view : R → Tree) (source_view : S → Tree) (d : Db R
   begun-applied op (Err (denied.Refused r)) (txn.failed i c) a = (txn.failed i c, λ t w. absurd (a t w))
   begun-applied op (Err denied.Memory) (txn.failed i c) a = (txn.failed i c, λ t w. absurd (a t w))
 
-module _ {R S : Type 0} (view : R → Tree) (source_view : S → Tree) (terms : Terms) (d m : Workspace R S) (s : Session) (z : Stands view source_view terms d s) (x : Txn R) (same : m.db ≡ d.db) (curator : m.curator ≡ d.curator) (there : m.transaction ≡ Some x) where
+module _ {R S : Type 0} (view : R → Tree) (source_view : S → Tree) (terms : Terms) (d m : Workspace R S) (s : Session) (z : Stands view source_view terms d s) (x : Txn R) (same : m.db ≡ d.db) (curator : m.curator ≡ d.curator) (desks : m.curators ≡ d.curators) (there : m.transaction ≡ Some x) where
   -- the transaction is put back
   puts_back : (o : OpenTransaction) → Opens view source_view d.db (Some x) o → Stands view source_view terms m (with_opened s o)
-  puts_back o h = stands-opened view source_view terms d m s z o same curator (subst (λ y. Opens view source_view d.db y o) (sym there) h)
+  puts_back o h = stands-with view source_view terms d m s z o same curator desks (subst (λ y. Opens view source_view d.db y o) (sym there) h)
 
   -- ---- texts that can't be read
 
@@ -129,10 +133,10 @@ module _ {R S : Type 0} (view : R → Tree) (source_view : S → Tree) (terms : 
         (refl, puts_back (going (ops ++ op ∷ [])) ((λ t w. (a t w).1), omega (arith, len)))
 
     denies : (r : Refusal) (ops : List Op) → HasCome view source_view d.db y (txn.going ops) → AppliesTo view source_view d.db x (txn.going ops) op (Err (denied.Refused r)) →
-        Turned view source_view terms (decide_op s ops op (refusal_after t ops op)) m (Some (reply.Refused of.Statement (why_refused op r)))
+        Turned view source_view terms (decide_op s ops op (refusal_after t ops op)) m (of_nobody (reply.Refused of.Statement (why_refused op r)))
     denies r ops i a =
         let at = i z.db.state z.db.holds in
-        subst (λ q. Turned view source_view terms (decide_op s ops op q) m (Some (reply.Refused of.Statement (why_refused op r)))) (sym (refusal-is t.kind t (t.now + 1) ops op at.accepted ∙ (a z.db.state z.db.holds).0))
+        subst (λ q. Turned view source_view terms (decide_op s ops op q) m (of_nobody (reply.Refused of.Statement (why_refused op r)))) (sym (refusal-is t.kind t (t.now + 1) ops op at.accepted ∙ (a z.db.state z.db.holds).0))
         (refl, puts_back (failed (length ops + 1) (Refused r)) (λ t w. (a t w).1))
 
     accepted : (o : OpenTransaction) → HasCome view source_view d.db y (progress_of o) → AppliesTo view source_view d.db x (progress_of o) op (Ok tt) → Turned view source_view terms (on_operation s t op o) m None
@@ -141,28 +145,35 @@ module _ {R S : Type 0} (view : R → Tree) (source_view : S → Tree) (terms : 
     accepted (failed k c) i a = absurd (a z.db.state z.db.holds)
 
     refused : (r : Refusal) (o : OpenTransaction) → HasCome view source_view d.db y (progress_of o) → AppliesTo view source_view d.db x (progress_of o) op (Err (denied.Refused r)) →
-        Turned view source_view terms (on_operation s t op o) m (Some (reply.Refused of.Statement (why_refused op r)))
+        Turned view source_view terms (on_operation s t op o) m (of_nobody (reply.Refused of.Statement (why_refused op r)))
     refused r closed i a = denies r [] i a
     refused r (going ops) i a = denies r ops i a
     refused r (failed k c) i a = absurd (a z.db.state z.db.holds)
 
-    failed_before : (j : ℕ) (o : OpenTransaction) → s.opened ≡ o → AppliesTo view source_view d.db x (progress_of o) op (Err (denied.Failed j)) → Turned view source_view terms (on_operation s t op o) m (Some (reply.Refused of.Statement (why.FailedAt j)))
+    failed_before : (j : ℕ) (o : OpenTransaction) → s.opened ≡ o → AppliesTo view source_view d.db x (progress_of o) op (Err (denied.Failed j)) → Turned view source_view terms (on_operation s t op o) m (of_nobody (reply.Refused of.Statement (why.FailedAt j)))
     failed_before j closed e a = absurd (a z.db.state z.db.holds)
     failed_before j (going ops) e a = absurd (a z.db.state z.db.holds)
     failed_before j (failed k c) e a = (
-      ap (λ i. Some (reply.Refused of.Statement (why.FailedAt i))) (a z.db.state z.db.holds).0,
+      ap (λ i. of_nobody (reply.Refused of.Statement (why.FailedAt i))) (a z.db.state z.db.holds).0,
       subst (λ o. Stands view source_view terms m (with_opened s o)) (sym e) (puts_back (failed k c) (λ t w. (a t w).1)),
     )
 
     -- an operation that the transaction holds is silent
-    pub turned-accepted : HasCome view source_view d.db y (progress_of s.opened) → AppliesTo view source_view d.db x (progress_of s.opened) op (Ok tt) → Turned view source_view terms (turn_of (setting terms) s (says (stmt.Op op))) m None
+    turned-accepted : HasCome view source_view d.db y (progress_of s.opened) → AppliesTo view source_view d.db x (progress_of s.opened) op (Ok tt) → Turned view source_view terms (turn_of (setting terms) s (says (stmt.Op op))) m None
     turned-accepted i a = turned-stands view source_view terms d m s z (stmt.Op op) None (accepted s.opened i a)
 
     -- one that it refuses is refused
-    pub turned-refused : (r : Refusal) → HasCome view source_view d.db y (progress_of s.opened) → AppliesTo view source_view d.db x (progress_of s.opened) op (Err (denied.Refused r)) →
-        Turned view source_view terms (turn_of (setting terms) s (says (stmt.Op op))) m (Some (reply.Refused of.Statement (why_refused op r)))
+    turned-refused : (r : Refusal) → HasCome view source_view d.db y (progress_of s.opened) → AppliesTo view source_view d.db x (progress_of s.opened) op (Err (denied.Refused r)) →
+        Turned view source_view terms (turn_of (setting terms) s (says (stmt.Op op))) m (of_nobody (reply.Refused of.Statement (why_refused op r)))
     turned-refused r i a = turned-stands view source_view terms d m s z (stmt.Op op) _ (refused r s.opened i a)
 
     -- and so is one behind another that was refused
-    pub turned-failed_before : (j : ℕ) → AppliesTo view source_view d.db x (progress_of s.opened) op (Err (denied.Failed j)) → Turned view source_view terms (turn_of (setting terms) s (says (stmt.Op op))) m (Some (reply.Refused of.Statement (why.FailedAt j)))
+    turned-failed_before : (j : ℕ) → AppliesTo view source_view d.db x (progress_of s.opened) op (Err (denied.Failed j)) → Turned view source_view terms (turn_of (setting terms) s (says (stmt.Op op))) m (of_nobody (reply.Refused of.Statement (why.FailedAt j)))
     turned-failed_before j a = turned-stands view source_view terms d m s z (stmt.Op op) _ (failed_before j s.opened refl a)
+
+    -- the reply is that to what became of it
+    pub turned-outcome : (r : Result ⊤ ApplyFault) (p : Option Reply) → HasCome view source_view d.db y (progress_of s.opened) → AppliesTo view source_view d.db x (progress_of s.opened) op r → IsReplyTo op r p → Turned view source_view terms (turn_of (setting terms) s (says (stmt.Op op))) m (any_of_nobody p)
+    turned-outcome (Ok u) p i a e = subst (λ q. Turned view source_view terms (turn_of (setting terms) s (says (stmt.Op op))) m (any_of_nobody q)) (sym e) (turned-accepted i a)
+    turned-outcome (Err (denied.Failed j)) p i a e = subst (λ q. Turned view source_view terms (turn_of (setting terms) s (says (stmt.Op op))) m (any_of_nobody q)) (sym e) (turned-failed_before j a)
+    turned-outcome (Err (denied.Refused w)) p i a e = subst (λ q. Turned view source_view terms (turn_of (setting terms) s (says (stmt.Op op))) m (any_of_nobody q)) (sym e) (turned-refused w i a)
+    turned-outcome (Err denied.Memory) p i a e = absurd e

@@ -7,4 +7,5 @@ pub mod Supplies
 pub mod Loads
 pub mod Commits
 pub mod Spending
+pub mod Seats
 pub mod Workspaces

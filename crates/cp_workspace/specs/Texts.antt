@@ -1,5 +1,5 @@
 -- What a text says, and what a session is run with.
-use Rattle.std.specs.Prelude.{ℕ, ◌≡◌, false, List, Result, Ok, Err, length}
+use Rattle.std.specs.Prelude.{ℕ, ◌≡◌, Bool, List, Result, Ok, Err, length}
 use Rattle.cp_model.specs.Place.{Label}
 use Rattle.cp_lang.specs.Grammar.{bytes_reading}
 use Rattle.cp_lang.specs.declared.syntax_tree.Stmt.{Stmt}
@@ -25,10 +25,12 @@ reading text = read_as text (bytes_reading text)
 
 -- ---- sessions
 
--- what a session is run on: the file, of which is known where its frames end after some entries, and the curator of its commits
+-- what a session is run on: the file, of which is known where its frames end after some entries, the curator of its commits, and
+-- whether the input is that of several curators, each of whom makes his own
 pub record Terms : Type 0 where
   pub ends : FrameEnd
   pub curator : Label
+  pub shared : Bool
 
 -- the whole language is read, sources are loaded from files, and an entry is added that the file has room for
 abbrev pub setting : Terms → Setting
@@ -39,7 +41,7 @@ setting terms = record {
       (stamped_size stamp ops records);
   has_room = λ history n t. has_room (end_of terms.ends history) (load_size n t);
   curator = terms.curator;
-  shared = false;
+  shared = terms.shared;
 }
 
 -- What the code made of a text: a statement, or why it is refused.

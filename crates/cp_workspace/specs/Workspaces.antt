@@ -1,25 +1,34 @@
--- What a workspace keeps of a session: the database with its history, and the open transaction.
-use Rattle.std.specs.Prelude.{ℕ, ◌≡◌, ◌+◌, ◌≤◌, ◌++◌, true, false, IsTrue, List, [], length, map, is_some, if◌then◌else◌, Result, IfOk, OnOk, ⊤}
+-- What a workspace keeps of a session: the database with its history, and the open transaction or those of several curators.
+use Rattle.std.specs.Prelude.{ℕ, ◌≡◌, ◌⊎◌, ◌+◌, ◌≤◌, ◌<◌, ◌++◌, true, false, IsTrue, List, [], length, map, is_some, if◌then◌else◌, Result, Ok, Err, IfOk, OnOk, ⊤}
 use Rattle.std.specs.declared.option.Option.{Option}
 use Rattle.std.specs.declared.option.Option.TheVariants.{None, Some}
+use Rattle.std.specs.Option.{option_map}
 use Rattle.cp_path.specs.declared.loc.Loc.{Loc}
 use Rattle.cp_model.specs.Place.{in_target}
 use Rattle.cp_model.specs.declared.limits.TheConstants.{SOURCES_MAX}
 use Rattle.cp_model.specs.Tree.{Tree, source}
 use Rattle.cp_model.specs.Subtrees.{is_there, below}
+use Rattle.cp_model.specs.Past.{tree_of}
 use Rattle.cp_model.specs.History.{Entry, State}
+use Rattle.cp_model.specs.declared.op.Op.{Op}
 use Rattle.cp_disk.specs.Views.{KnownDisk, ViewKeeps}
 use Rattle.cp_reply.specs.declared.reply.Reply.{Reply}
 use Rattle.cp_reply.specs.declared.reply.Of.TheVariants as of
 use Rattle.cp_reply.specs.declared.reply.Why.TheVariants as why
 use Rattle.cp_reply.specs.declared.reply.Reply.TheVariants as reply
-use Rattle.cp_reply.specs.Session.{Supply, followed_by, Session, OpenTransaction, closed, going, failed, Turn, current_tree, row_of}
+use Rattle.cp_reply.specs.declared.said.Said.{Said}
+use Rattle.cp_reply.specs.Session.{Supply, followed_by, Session, OpenTransaction, closed, going, failed, Turn, said_to, said_in, row_of, why_refused}
 use Rattle.cp_engine.specs.Transactions as txn
 use Rattle.cp_engine.specs.declared.txn.Txn.{Txn}
+use Rattle.cp_engine.specs.declared.fault.ApplyFault.{ApplyFault}
+use Rattle.cp_engine.specs.declared.fault.ApplyFault.TheVariants as denied
+use Rattle.cp_curators.specs.Curators.{StandsOver}
+use Rattle.cp_curators.specs.declared.curators.Curators.{Curators}
 use Rattle.cp_frame.specs.Sizes.{FrameEnd, end_of}
 use Rattle.cp_db.specs.Databases as database
 use Rattle.cp_db.specs.Databases.{HoldsState, IsDatabase, IsReady, IsKept, HasCome, IsSameFile, end_in, is_spent, version_in}
 use Rattle.cp_db.specs.declared.database.Db.{Db}
+use Rattle.cp_workspace.specs.Seats.{Seats, progress_of}
 use Rattle.cp_workspace.specs.Texts.{Terms}
 use Rattle.cp_workspace.specs.declared.fault.WorkspaceFault.{WorkspaceFault}
 use Rattle.cp_workspace.specs.declared.workspace.Workspace.{Workspace}
@@ -45,17 +54,23 @@ pub record EndsAt (f : FrameEnd) (h : List Entry) (at : ℕ) : Type 0 where
   pub begun : h ≡ f.entries ++ later
   pub is_end : at ≡ end_of f h
 
--- the database stands for the session's history, and the transaction is the session's
+-- the database stands for the session's history, and the open transactions are the session's
 pub record Stands {R S : Type 0} (view : R → Tree) (source_view : S → Tree) (terms : Terms)
     (d : Workspace R S) (s : Session) : Type 0 where
   pub db : database.Stands view source_view true d.db s.history
   pub ends : EndsAt terms.ends s.history (end_in d.db)
   pub curator : d.curator ≡ terms.curator
   pub opened : Opens view source_view d.db d.transaction s.opened
+  pub shared : is_some d.curators ≡ terms.shared
+  pub desks : Seats view s.history db.state d.curators s.desks
 
 -- its database
 abbrev pub db_in : {R S : Type 0} → Workspace R S → Db R S
 db_in d = d.db
+
+-- its input is that of one curator
+abbrev pub IsOfOne : {R S : Type 0} → Workspace R S → Type 0
+IsOfOne d = d.curators ≡ None
 
 -- its file is of version 2, in which commits have stamps
 abbrev pub HasStamps : {R S : Type 0} → Workspace R S → Type 0
@@ -68,12 +83,21 @@ abbrev pub IsBegun : {R S : Type 0} → (R → Tree) → (S → Tree) → Db R S
 IsBegun view source_view d None = ⊤
 IsBegun view source_view d (Some x) = (p : txn.Progress) × HasCome view source_view d x p
 
+-- Where there are several curators, theirs alone are open; and whatever state the database holds, they stand over it.
+abbrev pub AreBegun : {R S : Type 0} → (R → Tree) → (S → Tree) → Db R S → Option (Curators R)
+    → Option (Txn R) → Type 0
+AreBegun view source_view d None x = ⊤
+AreBegun view source_view d (Some c) x =
+    (x ≡ None) × ((s : State) → HoldsState view source_view d s
+    → StandsOver view s.sources (tree_of s.tree) s.kind s.now c)
+
 -- its database holds some state, and may be written
 pub record IsWorkspace {R S : Type 0} (view : R → Tree) (source_view : S → Tree)
     (d : Workspace R S) : Type 0 where
   pub stands : IsDatabase view source_view d.db
   pub usable : is_spent d.db ≡ false
   pub begun : IsBegun view source_view d.db d.transaction
+  pub desks : AreBegun view source_view d.db d.curators d.transaction
 
 -- and the disk, where it is known what that holds, is one on which it may be
 pub record IsUsable {R S : Type 0} (view : R → Tree) (source_view : S → Tree) (v : KnownDisk)
@@ -90,6 +114,22 @@ abbrev pub KeepsFile : {R S : Type 0} → Workspace R S → Workspace R S → Ty
 KeepsFile old new = IsSameFile old.db new.db
 
 -- ---- turns
+
+-- a reply to nobody by name
+abbrev pub of_nobody : Reply → Option Said
+of_nobody r = Some (said_to None r)
+
+-- a reply to nobody by name, if there is one
+abbrev pub any_of_nobody : Option Reply → Option Said
+any_of_nobody = option_map (said_to None)
+
+-- a reply to the name
+abbrev pub to_name : List ℕ → Reply → Option Said
+to_name n r = Some (said_to (Some n) r)
+
+-- a reply to the name, if there is one
+abbrev pub any_to_name : List ℕ → Option Reply → Option Said
+any_to_name n = option_map (said_to (Some n))
 
 -- a workspace at one moment, and its disk
 pub record WorkspaceMoment (R S : Type 0) : Type 1 where
@@ -113,13 +153,13 @@ expected terms t s rest = record { terms = terms; turn = t; session = s; rest = 
 
 -- the reply is the turn's, and what is kept stands for its next state
 abbrev pub Turned : {R S : Type 0} → (R → Tree) → (S → Tree) → Terms → Turn → Workspace R S
-    → Option Reply → Type 0
-Turned view source_view terms t new r = (r ≡ t.reply) × Stands view source_view terms new t.next
+    → Option Said → Type 0
+Turned view source_view terms t new r = (r ≡ said_in t) × Stands view source_view terms new t.next
 
 -- The turn was made, unless something failed: its reply was given, the rest is still told after it, and the disk holds its history.
 -- In any case each file that a crash leaves stands for the history before the turn or for the one after it.
 pub record TurnsAs {R S A : Type 0} (view : R → Tree) (source_view : S → Tree)
-    (given : A → Option Reply) (x : ExpectedTurn) (before now : WorkspaceMoment R S)
+    (given : A → Option Said) (x : ExpectedTurn) (before now : WorkspaceMoment R S)
     (result : Result A WorkspaceFault) : Type 0 where
   pub turned : IfOk result (λ r. Turned view source_view x.terms x.turn now.workspace (given r))
   pub taken : OnOk result (x.turn.next.supply ≡ x.rest)
@@ -131,7 +171,7 @@ pub record TurnsAs {R S A : Type 0} (view : R → Tree) (source_view : S → Tre
 
 -- Something was told, of which this is so; and whatever is told after that, the turn was made.
 pub record HasTurned {R S A : Type 0} (view : R → Tree) (source_view : S → Tree)
-    (given : A → Option Reply) (turning : Terms → Session → Turn) (WasTold : Supply → Type 0)
+    (given : A → Option Said) (turning : Terms → Session → Turn) (WasTold : Supply → Type 0)
     (before now : WorkspaceMoment R S) (result : Result A WorkspaceFault) : Type 0 where
   pub supply : Supply
   pub supplied : WasTold supply
@@ -143,11 +183,28 @@ pub record HasTurned {R S A : Type 0} (view : R → Tree) (source_view : S → T
 abbrev pub holding : {R S : Type 0} → Workspace R S → Txn R → Workspace R S
 holding d x = record d { transaction = Some x }
 
+-- several curators have these transactions open
+abbrev pub shared_by : {R S : Type 0} → Workspace R S → Curators R → Workspace R S
+shared_by d c = record d { curators = Some c }
+
+-- the one state comes of the other by a commit, or is the same but for its past and rows
+pub record IsLater (s z : State) : Type 0 where
+  pub sources : z.sources ≡ s.sources
+  pub kind : z.kind ≡ s.kind
+  pub either : (s.now < z.now) ⊎ ((tree_of z.tree ≡ tree_of s.tree) × (z.now ≡ s.now))
+
 -- ---- parts
 
--- the tree that is shown of the place's database, if there is such a database
-abbrev pub shown_tree : State → OpenTransaction → Loc → Option Tree
-shown_tree t o q = if in_target q then Some (current_tree t o) else source t.sources q.db
+-- what is replied to an operation, by what became of it: nothing where it is held; where memory ran out there is no reply
+abbrev pub IsReplyTo : Op → Result ⊤ ApplyFault → Option Reply → Type 0
+IsReplyTo op (Ok x) r = r ≡ None
+IsReplyTo op (Err (denied.Failed n)) r = r ≡ Some (reply.Refused of.Statement (why.FailedAt n))
+IsReplyTo op (Err (denied.Refused w)) r = r ≡ Some (reply.Refused of.Statement (why_refused op w))
+IsReplyTo op (Err denied.Memory) r = ⊥
+
+-- the tree of the place's database, if there is such a database, while T has the tree u
+abbrev pub shown_tree : State → Tree → Loc → Option Tree
+shown_tree t u q = if in_target q then Some u else source t.sources q.db
 
 -- the rows at and below a place of a tree, or that nothing stands there
 abbrev pub shown_reply : Loc → Tree → Reply
@@ -155,11 +212,10 @@ shown_reply q t =
     if is_there t q.path then reply.Show q (map row_of (below q.path t))
     else reply.Refused of.Statement (why.NoPlace q)
 
--- how far the transaction has come once one is open: where none was, it holds no operation
-abbrev pub progress_of : OpenTransaction → txn.Progress
-progress_of closed = txn.going []
-progress_of (going ops) = txn.going ops
-progress_of (failed n c) = txn.failed n c
+-- the rows, or that there is no such database
+abbrev pub shown_or_refused : Loc → Option Tree → Reply
+shown_or_refused q None = reply.Refused of.Statement (why.NoSource q.db)
+shown_or_refused q (Some u) = shown_reply q u
 
 -- the transaction is the session's, if one is open, or one that begins on the committed tree
 abbrev pub IsOpened : {R S : Type 0} → (R → Tree) → (S → Tree) → Workspace R S → Txn R → Type 0

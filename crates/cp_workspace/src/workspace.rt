@@ -12,7 +12,7 @@ ghost use Rattle.cp_workspace.specs.Clocks.{known_clock};
 ghost use Rattle.cp_workspace.specs.Commits.{statement_asks};
 ghost use Rattle.cp_workspace.specs.Files.{known_files, UsesFiles};
 ghost use Rattle.cp_workspace.specs.Spending.{Spends};
-ghost use Rattle.cp_workspace.specs.Workspaces.{Stands, IsWorkspace, IsUsable, HasStamps, HasTurned, IsWrittenStmt, db_in, end_now, opened_session, workspace_at};
+ghost use Rattle.cp_workspace.specs.Workspaces.{Stands, IsOfOne, IsWorkspace, IsUsable, HasStamps, HasTurned, IsWrittenStmt, any_of_nobody, db_in, end_now, opened_session, workspace_at};
 ghost use Rattle.cp_workspace.specs.Supplies.{IsSupplied};
 
 mod answer;
@@ -21,10 +21,12 @@ mod load;
 mod operate;
 mod refusal;
 mod reply;
+mod shared;
 mod show;
 
 use crate::fault::WorkspaceFault;
 pub use answer::unanswered;
+use cp_curators::Curators;
 use cp_db::Db;
 use cp_disk::Disk;
 use cp_engine::Txn;
@@ -36,8 +38,8 @@ use cp_tree::TreeRep;
 pub use show::shown;
 use std::alloc::Global;
 
-/// A database in a file, the open transaction, and the curator of its commits. A tree of a source may have another form
-/// than those that are changed.
+/// A database in a file, the open transaction, and the curator of its commits; or the transactions that several curators
+/// have open, each of whom makes his own commits. A tree of a source may have another form than those that are changed.
 ///
 /// Each call takes the disk on which the database was opened or made. After an error the file is opened again.
 #[derive(Drop)]
@@ -45,28 +47,53 @@ pub struct Workspace<R: TreeRep, S: TreeRep> {
     db: Db<R, S>,
     transaction: Option<Txn<R>>,
     curator: Label,
+    curators: Option<Curators<R>>,
 }
 
 impl<R: TreeRep, S: TreeRep> Workspace<R, S> {
-    /// A workspace on this database, without a transaction.
+    /// A workspace on this database for the statements of one curator, without a transaction.
     pub fn new(db: Db<R, S>, curator: Label) -> Workspace<R, S>
         requires stands { IsDatabase R.contents S.contents db }
         requires usable { is_spent db ≡ false }
         ensures workspace { IsWorkspace R.contents S.contents result }
+        ensures alone { IsOfOne result }
         ensures same { db_in result ≡ db }
         ensures stands { (h : List Entry) (supply : Supply)
             → database.Stands R.contents S.contents true db h
-            → Stands R.contents S.contents (record { ends = end_now h db; curator = curator })
+            → Stands R.contents S.contents
+            (record { ends = end_now h db; curator = curator; shared = false })
             result (opened_session h supply) }
     {
         Workspace {
             db,
             transaction: None,
             curator,
+            curators: None,
         }
     }
 
-    /// Gives out the database. The open transaction is dropped.
+    /// A workspace on this database for the statements of several curators, of whom none has a transaction. Each makes his
+    /// own commits, so that this one makes none.
+    pub fn shared(alloc: Global, db: Db<R, S>, curator: Label) -> Workspace<R, S>
+        requires stands { IsDatabase R.contents S.contents db }
+        requires usable { is_spent db ≡ false }
+        ensures workspace { IsWorkspace R.contents S.contents result }
+        ensures same { db_in result ≡ db }
+        ensures stands { (h : List Entry) (supply : Supply)
+            → database.Stands R.contents S.contents true db h
+            → Stands R.contents S.contents
+            (record { ends = end_now h db; curator = curator; shared = true })
+            result (opened_session h supply) }
+    {
+        Workspace {
+            db,
+            transaction: None,
+            curator,
+            curators: Some(Curators::new(alloc)),
+        }
+    }
+
+    /// Gives out the database. Each open transaction is dropped.
     pub fn into_db(self) -> Db<R, S>
         ensures { result ≡ db_in self }
     {
@@ -74,13 +101,15 @@ impl<R: TreeRep, S: TreeRep> Workspace<R, S> {
             db,
             transaction,
             curator,
+            curators,
         } = self;
         drop(transaction);
         drop(curator);
+        drop(curators);
         db
     }
 
-    /// Lets the workspace go, with its database and the open transaction. The file stays as it is.
+    /// Lets the workspace go, with its database and each open transaction. The file stays as it is.
     pub fn discard(self) {
         self.into_db().discard();
     }
@@ -101,9 +130,10 @@ impl<R: TreeRep, S: TreeRep> Workspace<R, S> {
         clock: &mut K,
     ) -> Result<Option<Reply>, WorkspaceFault>
         requires usable { IsUsable R.contents S.contents (D.known disk.old) self.old }
+        requires alone { IsOfOne self.old }
         requires written { IsWrittenStmt statement }
         requires stamps { statement ≡ Stmt.Commit → HasStamps self.old }
-        ensures turned { HasTurned R.contents S.contents (λ r. r)
+        ensures turned { HasTurned R.contents S.contents any_of_nobody
             (λ terms s. turn_of (setting terms) s (says statement))
             (IsSupplied (known_files F.Files files.old) (known_clock K.Clock clock.old)
             (known_clock K.Clock clock.new))

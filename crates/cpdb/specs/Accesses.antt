@@ -20,6 +20,7 @@ access_of words.Log = Reads
 access_of words.Verify = Reads
 access_of (words.At tid asked) = Reads
 access_of words.Archive = Reads
+access_of words.Share = Writes
 access_of (words.Uses q) = Reads
 
 -- What words may do with a store; those that fit no row make no call on a disk.

@@ -35,9 +35,11 @@ fn access_of(command: &Command) -> Access
     ensures { result ≡ by_command.access_of command.now }
 {
     match command {
-        Command::Init { .. } | Command::Run { .. } | Command::Commit { .. } | Command::Load(_) => {
-            Access::Writes
-        }
+        Command::Init { .. }
+        | Command::Run { .. }
+        | Command::Commit { .. }
+        | Command::Load(_)
+        | Command::Share => Access::Writes,
         Command::Ask(_)
         | Command::Show(_)
         | Command::Log

@@ -1,8 +1,8 @@
 ghost use Rattle.std.specs.Prelude.{◌≡◌, IfOk, OnOk};
-ghost use Rattle.std.specs.declared.option.Option.TheVariants.{Some};
+ghost use Rattle.cp_db.specs.Databases.{HoldsSame};
 ghost use Rattle.cp_reply.specs.Session.{Session, says, turn_of, no_place_of};
 ghost use Rattle.cp_workspace.specs.Texts.{Terms, setting};
-ghost use Rattle.cp_workspace.specs.Workspaces.{Stands, IsWorkspace, KeepsFile, Turned};
+ghost use Rattle.cp_workspace.specs.Workspaces.{Stands, IsWorkspace, KeepsFile, Turned, db_in, of_nobody};
 
 use crate::workspace::Workspace;
 use crate::workspace::refusal::refused;
@@ -47,8 +47,10 @@ impl<R: TreeRep, S: TreeRep> Workspace<R, S> {
         ensures turned { IfOk result (λ r. (terms : Terms) (s : Session)
             → Stands R.contents S.contents terms self.old s
             → Turned R.contents S.contents terms (turn_of (setting terms) s (says (Stmt.Ask query)))
-            self.new (Some r)) }
+            self.new (of_nobody r)) }
         ensures stays { OnOk result (IsWorkspace R.contents S.contents self.new) }
+        ensures kept { self.new.transaction ≡ self.old.transaction }
+        ensures same { HoldsSame R.contents S.contents (db_in self.old) (db_in self.new) }
         ensures file { KeepsFile self.old self.new }
     {
         match self.db.query(alloc, &query) {

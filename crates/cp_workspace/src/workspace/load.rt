@@ -1,7 +1,7 @@
 ghost use Rattle.std.specs.Prelude.{◌≡◌, ◌<◌, false, IfOk, OnOk, IsErrOf};
 ghost use Rattle.cp_disk.specs.Views.{Keeps};
 ghost use Rattle.cp_disk.specs.Counts.{UsesDisk};
-ghost use Rattle.std.specs.declared.option.Option.TheVariants.{None, Some};
+ghost use Rattle.std.specs.declared.option.Option.TheVariants.{None};
 ghost use Rattle.cp_model.specs.Place.{label_eq, target};
 ghost use Rattle.cp_db.specs.Databases.{version_in};
 ghost use Rattle.cp_db.specs.FileVersions.{KeepsVersion};
@@ -12,7 +12,7 @@ ghost use Rattle.cp_workspace.specs.Loads.{why_not_loaded, statement_reads};
 ghost use Rattle.cp_workspace.specs.Clocks.{KnownClock};
 ghost use Rattle.cp_workspace.specs.Files.{known_files, UsesFiles};
 ghost use Rattle.cp_workspace.specs.Spending.{Spends};
-ghost use Rattle.cp_workspace.specs.Workspaces.{Stands, IsWorkspace, IsUsable, MayLoad, HasTurned, TurnsAs, db_in, workspace_at, expected};
+ghost use Rattle.cp_workspace.specs.Workspaces.{Stands, IsOfOne, IsWorkspace, IsUsable, MayLoad, HasTurned, TurnsAs, db_in, of_nobody, workspace_at, expected};
 ghost use Rattle.cp_workspace.specs.Supplies.{IsSupplied};
 
 use crate::fault::WorkspaceFault;
@@ -39,17 +39,19 @@ impl<R: TreeRep, S: TreeRep> Workspace<R, S> {
         disk: &mut D,
     ) -> Result<Reply, WorkspaceFault>
         requires usable { IsUsable R.contents S.contents (D.known disk.old) self.old }
+        requires alone { IsOfOne self.old }
         requires may { MayLoad R.contents S.contents self.old name }
         requires other { label_eq name target ≡ false }
         requires fits { FitsUnder name (S.contents tree) }
         ensures turned { (terms : Terms) (s : Session)
             → Stands R.contents S.contents terms self.old s
-            → TurnsAs R.contents S.contents (λ r. Some r)
+            → TurnsAs R.contents S.contents of_nobody
             (expected terms
             (load_fetched (setting terms) s name (gives (S.contents tree))) s s.supply)
             (workspace_at self.old (D.known disk.old))
             (workspace_at self.new (D.known disk.new)) result }
         ensures stays { OnOk result (IsUsable R.contents S.contents (D.known disk.new) self.new) }
+        ensures kept { self.new.transaction ≡ self.old.transaction }
         ensures version { version_in (db_in self.new) ≡ version_in (db_in self.old) }
         ensures file { KeepsVersion (D.known disk.old) (D.known disk.new) }
         ensures disk { UsesDisk (λ e. e ≡ WorkspaceFault.Disk) (D.known disk.old)
@@ -108,13 +110,15 @@ impl<R: TreeRep, S: TreeRep> Workspace<R, S> {
         files: &mut F,
     ) -> Result<Reply, WorkspaceFault>
         requires usable { IsUsable R.contents S.contents (D.known disk.old) self.old }
+        requires alone { IsOfOne self.old }
         requires other { label_eq load.name target ≡ false }
-        ensures turned { (k : KnownClock) → HasTurned R.contents S.contents (λ r. Some r)
+        ensures turned { (k : KnownClock) → HasTurned R.contents S.contents of_nobody
             (λ terms s. turn_of (setting terms) s (says (Stmt.Load load)))
             (IsSupplied (known_files F.Files files.old) k k)
             (workspace_at self.old (D.known disk.old))
             (workspace_at self.new (D.known disk.new)) result }
         ensures stays { OnOk result (IsUsable R.contents S.contents (D.known disk.new) self.new) }
+        ensures kept { self.new.transaction ≡ self.old.transaction }
         ensures version { version_in (db_in self.new) ≡ version_in (db_in self.old) }
         ensures file { KeepsVersion (D.known disk.old) (D.known disk.new) }
         ensures spent { (terms : Terms) (s : Session)

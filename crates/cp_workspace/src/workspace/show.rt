@@ -1,8 +1,9 @@
 ghost use Rattle.std.specs.Prelude.{◌≡◌, IfOk};
-ghost use Rattle.std.specs.declared.option.Option.TheVariants.{Some};
+ghost use Rattle.cp_model.specs.History.{State};
 ghost use Rattle.cp_reply.specs.Session.{Session, says, turn_of, current_tree};
+ghost use Rattle.cp_db.specs.Databases.{HoldsState};
 ghost use Rattle.cp_workspace.specs.Texts.{Terms, setting};
-ghost use Rattle.cp_workspace.specs.Workspaces.{Stands, Turned, shown_reply};
+ghost use Rattle.cp_workspace.specs.Workspaces.{Stands, Turned, of_nobody, shown_reply, shown_tree, shown_or_refused};
 
 use crate::workspace::Workspace;
 use crate::workspace::refusal::refused;
@@ -38,19 +39,27 @@ impl<R: TreeRep, S: TreeRep> Workspace<R, S> {
         self.db.tree()
     }
 
-    /// What stands at and below a place of T or of a source. Costs the rows' bytes.
-    pub fn show(&self, alloc: Global, place: Loc) -> Result<Reply, AllocError>
-        ensures { IfOk result (λ r. (terms : Terms) (s : Session)
-            → Stands R.contents S.contents terms self.now s
-            → Turned R.contents S.contents terms
-            (turn_of (setting terms) s (says (Stmt.Show place))) self.now (Some r)) }
+    /// What stands at and below a place of T, while that has this tree, or of a source. Costs the rows' bytes.
+    pub(super) fn show_of(&self, alloc: Global, tree: &R, place: Loc) -> Result<Reply, AllocError>
+        ensures { IfOk result (λ r. (t : State) → HoldsState R.contents S.contents self.now.db t
+            → r ≡ shown_or_refused place (shown_tree t (R.contents tree.now) place)) }
     {
         if place.db.is_target() {
-            return shown(alloc, self.current_tree(), place);
+            return shown(alloc, tree, place);
         }
         match self.db.sources().get(&place.db) {
             Some(tree) => shown(alloc, tree, place),
             None => Ok(refused(Why::NoSource(place.db))),
         }
+    }
+
+    /// What stands at and below a place of T or of a source. Costs the rows' bytes.
+    pub fn show(&self, alloc: Global, place: Loc) -> Result<Reply, AllocError>
+        ensures { IfOk result (λ r. (terms : Terms) (s : Session)
+            → Stands R.contents S.contents terms self.now s
+            → Turned R.contents S.contents terms
+            (turn_of (setting terms) s (says (Stmt.Show place))) self.now (of_nobody r)) }
+    {
+        self.show_of(alloc, self.current_tree(), place)
     }
 }

@@ -7,7 +7,7 @@ use Rattle.cp_workspace.specs.Files.{known_files}
 use Rattle.cp_interpreter.specs.Outside.{known_clock, known_output}
 use Rattle.cp_interpreter.specs.Begins.{BegunOn}
 use Rattle.cp_interpreter.specs.Scripts.{Committed}
-use Rattle.cp_interpreter.specs.Story.{HasCauses, DiskCauses, result_of}
+use Rattle.cp_interpreter.specs.Story.{one_curator, HasCauses, DiskCauses, result_of}
 use Rattle.cp_interpreter.specs.Turns.{RanScript, end_of_stop, session_at}
 use Rattle.cp_interpreter.specs.declared.end.End.TheVariants as how
 use Rattle.cp_interpreter.proofs.Runs.{parts, world}
@@ -56,7 +56,7 @@ returns-in-Ok-begin-clause-ran g c = λ i.
     let m = g.D.Disk.known c.begin.new.disk in
     let w = g.D.Disk.known c.play_file-end.new.disk in
     committed-ran view source_view c.args.file c.args.curator c.in-Ok-begin.session c.play_file-end.new.session i f fa k ka o oa v m w c.play_file-end.result
-    c.in-Ok-begin.ensures.goes_on.1 (still c.in-Ok-begin.ensures.cause.same) (λ known. subst (BegunOn view source_view c.args.curator v m) c.in-Ok-begin.is (c.begin.ensures.begun known)) c.begin.ensures.leaves
+    c.in-Ok-begin.ensures.goes_on.1 (still c.in-Ok-begin.ensures.cause.same) (λ known. subst (BegunOn view source_view (one_curator c.args.curator) v m) c.in-Ok-begin.is (c.begin.ensures.begun known)) c.begin.ensures.leaves
     (subst (λ n. RanScript view source_view n (session_at c.in-Ok-begin.session m (world f k o)) (session_at c.play_file-end.new.session w (world fa ka oa)) c.play_file-end.result) c.as_str.ensures c.play_file-end.ensures.ran)
 
 pub returns-in-Ok-begin-clause-causes : goal.returns-in-Ok-begin-clause-causes
@@ -84,9 +84,9 @@ returns-clause-ran g c = λ i.
     let stop = c.in-Err.stop in
     let kind = c.in-Err.ensures.kinds in
     let early = stop-early o p stop kind c.stopped.ensures.wrote in
-    let begun : IsTrue v.known → BegunOn view source_view c.args.curator v m (Err stop) = λ known. subst (BegunOn view source_view c.args.curator v m) c.in-Err.is (c.begin.ensures.begun known) in
+    let begun : IsTrue v.known → BegunOn view source_view (one_curator c.args.curator) v m (Err stop) = λ known. subst (BegunOn view source_view (one_curator c.args.curator) v m) c.in-Err.is (c.begin.ensures.begun known) in
     subst (λ e. Committed c.args.file c.args.curator (parts i f k o) (parts i f k p) v m e) (sym c.stopped.ensures.end)
-    (committed-early c.args.file c.args.curator i f k o p v m (end_of_stop stop) early.0 early.1 (λ known at h. none-stopped view source_view c.args.curator v m stop kind at h (begun known)) (λ known never. never-stopped view source_view c.args.curator v m stop kind never (begun known)) c.begin.ensures.leaves)
+    (committed-early c.args.file c.args.curator i f k o p v m (end_of_stop stop) early.0 early.1 (λ known at h. none-stopped view source_view (one_curator c.args.curator) v m stop kind at h (begun known)) (λ known never. never-stopped view source_view (one_curator c.args.curator) v m stop kind never (begun known)) c.begin.ensures.leaves)
 
 pub returns-clause-causes : goal.returns-clause-causes
 returns-clause-causes g c = λ i.

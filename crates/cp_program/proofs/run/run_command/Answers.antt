@@ -33,6 +33,9 @@ returns-in-Init-clause-causes g c = c.init.ensures.causes (known_input g.I.Sourc
 pub returns-in-Run-clause-short : goal.returns-in-Run-clause-short
 returns-in-Run-clause-short g c = too-long (g.I.Source.given c.args.input.now) (g.I.Source.given c.run.new.input) c.run.ensures.ran.taken c.run.result c.run.ensures.ran.counted c.run.ensures.ran.too_much
 
+pub returns-in-Share-clause-short : goal.returns-in-Share-clause-short
+returns-in-Share-clause-short g c = too-long (g.I.Source.given c.args.input.now) (g.I.Source.given c.share.new.input) c.share.ensures.ran.taken c.share.result c.share.ensures.ran.counted c.share.ensures.ran.too_much
+
 pub returns-in-Commit-clause-ran : goal.returns-in-Commit-clause-ran
 returns-in-Commit-clause-ran g c =
     let before = known_outside g.F.Files g.K.Clock g.I.Source g.O.Sink c.args.files.now c.args.clock.now c.args.input.now c.args.output.now in
@@ -149,6 +152,14 @@ returns-in-Run-clause-file g c = λ known.
     let v = g.D.Disk.known c.args.disk.now in
     let w = g.D.Disk.known c.run.new.disk in
     subst (λ (a : Command). LeavesVersion a before now v w c.run.result) (sym c.in-Run.is) (c.run.ensures.file known)
+
+pub returns-in-Share-clause-file : goal.returns-in-Share-clause-file
+returns-in-Share-clause-file g c = λ known.
+    let before = known_outside g.F.Files g.K.Clock g.I.Source g.O.Sink c.args.files.now c.args.clock.now c.args.input.now c.args.output.now in
+    let now = known_outside g.F.Files g.K.Clock g.I.Source g.O.Sink c.share.new.files c.share.new.clock c.share.new.input c.share.new.output in
+    let v = g.D.Disk.known c.args.disk.now in
+    let w = g.D.Disk.known c.share.new.disk in
+    subst (λ (a : Command). LeavesVersion a before now v w c.share.result) (sym c.in-Share.is) (c.share.ensures.file known)
 
 pub returns-in-Commit-clause-file : goal.returns-in-Commit-clause-file
 returns-in-Commit-clause-file g c = λ known.

@@ -6,7 +6,7 @@ use Rattle.cp_outside.specs.Causes.{Accounts}
 use Rattle.cp_workspace.specs.Files.{known_files}
 use Rattle.cp_interpreter.specs.Outside.{Outside, known_input, known_clock, known_output, known_outside}
 use Rattle.cp_interpreter.specs.Begins.{BegunOn}
-use Rattle.cp_interpreter.specs.Story.{RanOn, HasCauses, DiskCauses, result_of}
+use Rattle.cp_interpreter.specs.Story.{Committers, RanOn, HasCauses, DiskCauses, result_of}
 use Rattle.cp_interpreter.specs.Turns.{end_of_stop}
 use Rattle.cp_interpreter.specs.declared.end.End.TheVariants as how
 use Rattle.cp_interpreter.proofs.Opened.{same-rests, rests-leave, stop-early, causes-early-end, stop-disk, none-stopped, never-stopped, ran-early-on, ran-on, out-disk}
@@ -26,8 +26,9 @@ returns-in_default-clause-ran g c =
     let v = g.D.Disk.known c.args.disk.now in
     let b : Outside = record { input = i; files = f; clock = k; output = o } in
     let a : Outside = record { input = i; files = f; clock = k; output = p } in
-    subst (λ e. RanOn c.args.curator b a v v e) (sym c.out_of_memory.ensures.end)
-    (ran-early-on c.args.curator i f k o p v v how.Memory (inr (inr refl)) c.out_of_memory.ensures.wrote (λ known at h. absurd (cc)) (λ known never. same-rests v.view) (λ known h store. rests-leave h v v store (same-rests v.view)))
+    let who : Committers = record { curator = c.args.curator; shared = c.args.shared } in
+    subst (λ e. RanOn who b a v v e) (sym c.out_of_memory.ensures.end)
+    (ran-early-on who i f k o p v v how.Memory (inr (inr refl)) c.out_of_memory.ensures.wrote (λ known at h. absurd (cc)) (λ known never. same-rests v.view) (λ known h store. rests-leave h v v store (same-rests v.view)))
 
 pub returns-in_default-clause-causes : goal.returns-in_default-clause-causes
 returns-in_default-clause-causes g c =
@@ -52,10 +53,11 @@ returns-in-Ok-begin-clause-ran g c =
     let v = g.D.Disk.known c.args.disk.now in
     let m = g.D.Disk.known c.begin.new.disk in
     let w = g.D.Disk.known c.turns-end.new.disk in
-    ran-on view source_view c.args.curator c.in-Ok-begin.session
+    let who : Committers = record { curator = c.args.curator; shared = c.args.shared } in
+    ran-on view source_view who c.in-Ok-begin.session
     (known_outside g.F.Files g.K.Clock g.I.Source g.O.Sink c.args.files.now c.args.clock.now c.args.input.now c.args.output.now)
     (known_outside g.F.Files g.K.Clock g.I.Source g.O.Sink c.turns-end.new.files c.turns-end.new.clock c.turns-end.new.input c.turns-end.new.output) v m w c.turns-end.result
-    c.in-Ok-begin.ensures.goes_on.1 (still c.in-Ok-begin.ensures.cause.same) (λ known. subst (BegunOn view source_view c.args.curator v m) c.in-Ok-begin.is (c.begin.ensures.begun known)) c.begin.ensures.leaves c.turns-end.ensures.ran
+    c.in-Ok-begin.ensures.goes_on.1 (still c.in-Ok-begin.ensures.cause.same) (λ known. subst (BegunOn view source_view who v m) c.in-Ok-begin.is (c.begin.ensures.begun known)) c.begin.ensures.leaves c.turns-end.ensures.ran
 
 pub returns-in-Ok-begin-clause-disk : goal.returns-in-Ok-begin-clause-disk
 returns-in-Ok-begin-clause-disk g c =
@@ -78,11 +80,12 @@ returns-clause-ran g c =
     let stop = c.in-Err.stop in
     let kind = c.in-Err.ensures.kinds in
     let early = stop-early o p stop kind c.stopped.ensures.wrote in
-    let begun : IsTrue v.known → BegunOn view source_view c.args.curator v m (Err stop) = λ known. subst (BegunOn view source_view c.args.curator v m) c.in-Err.is (c.begin.ensures.begun known) in
+    let who : Committers = record { curator = c.args.curator; shared = c.args.shared } in
+    let begun : IsTrue v.known → BegunOn view source_view who v m (Err stop) = λ known. subst (BegunOn view source_view who v m) c.in-Err.is (c.begin.ensures.begun known) in
     let b : Outside = record { input = i; files = f; clock = k; output = o } in
     let a : Outside = record { input = i; files = f; clock = k; output = p } in
-    subst (λ e. RanOn c.args.curator b a v m e) (sym c.stopped.ensures.end)
-    (ran-early-on c.args.curator i f k o p v m (end_of_stop stop) early.0 early.1 (λ known at h. none-stopped view source_view c.args.curator v m stop kind at h (begun known)) (λ known never. never-stopped view source_view c.args.curator v m stop kind never (begun known)) c.begin.ensures.leaves)
+    subst (λ e. RanOn who b a v m e) (sym c.stopped.ensures.end)
+    (ran-early-on who i f k o p v m (end_of_stop stop) early.0 early.1 (λ known at h. none-stopped view source_view who v m stop kind at h (begun known)) (λ known never. never-stopped view source_view who v m stop kind never (begun known)) c.begin.ensures.leaves)
 
 pub returns-clause-causes : goal.returns-clause-causes
 returns-clause-causes g c =

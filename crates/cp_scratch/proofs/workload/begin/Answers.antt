@@ -17,10 +17,12 @@ returns-clause-stands g c =
     let same = sym c.new.ensures.same in
     let z = c.new.ensures.stands h no_supply (c.in_ok-db.ensures.stands true) in
     record {
-      db = subst (λ d. database.Stands view source_view true d h) same (c.in_ok-db.ensures.stands true);
+      db = z.db;
       ends = subst (λ d. EndsAt (workload_terms c.args.kind).ends h (database.end_in d)) same c.in_ok-db.ensures.ends;
       curator = z.curator ∙ c.in_ok-curator.ensures;
       opened = z.opened;
+      shared = z.shared;
+      desks = z.desks;
     }
 
 pub returns-clause-usable : goal.returns-clause-usable

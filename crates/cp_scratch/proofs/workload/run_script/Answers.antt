@@ -8,6 +8,7 @@ pub loop-script-init : goal.loop-script-init
 loop-script-init g c = record {
   usable = c.requires.usable;
   stamps = c.requires.stamps;
+  alone = c.requires.alone;
   silent = c.requires.silent;
   way = λ terms s z e. way-begins g.R.TreeRep.contents g.S.TreeRep.contents terms s c.args.script c.args.workspace.now z e;
 }
@@ -17,6 +18,9 @@ run_statement-requires-clause-usable g c = c.loop-script.invariant.usable
 
 pub run_statement-requires-clause-stamps : goal.run_statement-requires-clause-stamps
 run_statement-requires-clause-stamps g c = c.loop-script.invariant.stamps
+
+pub run_statement-requires-clause-alone : goal.run_statement-requires-clause-alone
+run_statement-requires-clause-alone g c = c.loop-script.invariant.alone
 
 pub run_statement-requires-clause-silent : goal.run_statement-requires-clause-silent
 run_statement-requires-clause-silent g c = c.loop-script.invariant.silent
@@ -28,6 +32,7 @@ pub loop-script-preserved : goal.loop-script-preserved
 loop-script-preserved g c = record {
   usable = c.in_ok-run_statement.ensures.stays;
   stamps = c.in_ok-run_statement.ensures.stamps;
+  alone = c.run_statement.ensures.alone;
   silent = c.in_ok-run_statement.ensures.silent;
   way = λ terms s z e.
       way-next g.R.TreeRep.contents g.S.TreeRep.contents terms s c.args.script c.loop-script.script c.next.new.self c.in-Some.statement c.loop-script.workspace c.run_statement.new.workspace

@@ -9,6 +9,6 @@ returns-clause-turned g c = λ terms s z.
     let view = g.R.TreeRep.contents in
     let source_view = g.S.TreeRep.contents in
     elim c.match-take.branch [
-      | in-Some w ↦ turned-aborted view source_view terms c.args.self.now _ s z refl refl c.take.ensures.after w.in-Some.transaction (sym c.take.ensures.value ∙ w.in-Some.is) (setting terms) c.match-take.count (λ k ss t n p h. w.count-is ∙ w.abort-count.ensures k ss t n p h)
-      | in-None w ↦ turned-aborted-none view source_view terms c.args.self.now _ s z refl refl c.take.ensures.after (setting terms) c.match-take.count w.count-is (sym c.take.ensures.value ∙ w.in-None.is)
+      | in-Some w ↦ turned-aborted view source_view terms c.args.self.now _ s z refl refl refl c.take.ensures.after w.in-Some.transaction (sym c.take.ensures.value ∙ w.in-Some.is) (setting terms) c.match-take.count (λ k ss t n p h. w.count-is ∙ w.abort-count.ensures k ss t n p h)
+      | in-None w ↦ turned-aborted-none view source_view terms c.args.self.now _ s z refl refl refl c.take.ensures.after (setting terms) c.match-take.count w.count-is (sym c.take.ensures.value ∙ w.in-None.is)
     ]

@@ -12,7 +12,7 @@ use Rattle.cp_workspace.specs.Texts.{setting}
 use Rattle.cp_workspace.specs.Files.{known_files}
 use Rattle.cp_workspace.specs.Fetched.{GivesFound}
 use Rattle.cp_workspace.specs.Loads.{load_reads}
-use Rattle.cp_workspace.specs.Workspaces.{workspace_at, HasTurned}
+use Rattle.cp_workspace.specs.Workspaces.{workspace_at, HasTurned, of_nobody}
 use Rattle.cp_workspace.proofs.Fetched.{given-tree, given-why}
 use Rattle.cp_workspace.proofs.Loading.{turns-not_loaded, turns-withheld, turns-given, reads-unless}
 use Rattle.cp_workspace.proofs.Spent.{spends-nothing, spends-file, spends-failed, spends-unread}
@@ -24,7 +24,7 @@ use Rattle.cp_workspace.proofs.workspace.Workspace.load.Goals as goal
 pub returns-in_err-why-clause-turned : goal.returns-in_err-why-clause-turned
 returns-in_err-why-clause-turned g c = λ k.
     let p = err_from_is_err_and c.from_residual.result c.from_residual.ensures.1 in
-    turned-failed g.R.TreeRep.contents g.S.TreeRep.contents (λ terms s. turn_of (setting terms) s (says (stmt.Load c.args.load))) c.args.self.now c.args.self.now (g.D.Disk.known c.args.disk.now) (λ r. Some r) (known_files g.F.Files c.args.files.now) k c.from_residual.result p.0 p.1
+    turned-failed g.R.TreeRep.contents g.S.TreeRep.contents (λ terms s. turn_of (setting terms) s (says (stmt.Load c.args.load))) c.args.self.now c.args.self.now (g.D.Disk.known c.args.disk.now) of_nobody (known_files g.F.Files c.args.files.now) k c.from_residual.result p.0 p.1
 
 pub returns-in_err-why-clause-spent : goal.returns-in_err-why-clause-spent
 returns-in_err-why-clause-spent g c = λ terms s z k.
@@ -37,7 +37,7 @@ returns-in-Some-clause-turned g c = λ k.
     let old = c.args.self.now in
     let b = known_files g.F.Files c.args.files.now in
     let v = g.D.Disk.known c.args.disk.now in
-    let T : Load → Type 0 = λ x. HasTurned view source_view (λ r. Some r) (λ terms s. turn_of (setting terms) s (says (stmt.Load x))) (IsSupplied b k k) (workspace_at old v) (workspace_at old v) (Ok (reply.Refused of.Load c.in-Some.why)) in
+    let T : Load → Type 0 = λ x. HasTurned view source_view of_nobody (λ terms s. turn_of (setting terms) s (says (stmt.Load x))) (IsSupplied b k k) (workspace_at old v) (workspace_at old v) (Ok (reply.Refused of.Load c.in-Some.why)) in
     rw (c.refused_load.ensures)
     (subst T c.load.view_is (record {
       supply = no_supply;
@@ -53,7 +53,7 @@ returns-in-Some-clause-spent g c = λ terms s z k.
 pub returns-in_err-tree-clause-turned : goal.returns-in_err-tree-clause-turned
 returns-in_err-tree-clause-turned g c = λ k.
     let p = err_from_is_err_and c.from_residual-in_err-tree.result c.from_residual-in_err-tree.ensures.1 in
-    turned-failed g.R.TreeRep.contents g.S.TreeRep.contents (λ terms s. turn_of (setting terms) s (says (stmt.Load c.args.load))) c.args.self.now c.args.self.now (g.D.Disk.known c.args.disk.now) (λ r. Some r) (known_files g.F.Files c.args.files.now) k c.from_residual-in_err-tree.result p.0 p.1
+    turned-failed g.R.TreeRep.contents g.S.TreeRep.contents (λ terms s. turn_of (setting terms) s (says (stmt.Load c.args.load))) c.args.self.now c.args.self.now (g.D.Disk.known c.args.disk.now) of_nobody (known_files g.F.Files c.args.files.now) k c.from_residual-in_err-tree.result p.0 p.1
 
 pub returns-in_err-tree-clause-spent : goal.returns-in_err-tree-clause-spent
 returns-in_err-tree-clause-spent g c = λ terms s z k.
@@ -71,7 +71,7 @@ returns-in-Ok-clause-turned g c = λ k.
     let v = g.D.Disk.known c.args.disk.now in
     let w = g.D.Disk.known c.keep_source.new.disk in
     let found = subst (GivesFound source_view b _) c.in-Ok.is c.in_ok-tree.ensures.gives in
-    let T : Load → Type 0 = λ x. HasTurned view source_view (λ r. Some r) (λ terms s. turn_of (setting terms) s (says (stmt.Load x))) (IsSupplied b k k) (workspace_at old v) (workspace_at new w) c.keep_source.result in
+    let T : Load → Type 0 = λ x. HasTurned view source_view of_nobody (λ terms s. turn_of (setting terms) s (says (stmt.Load x))) (IsSupplied b k k) (workspace_at old v) (workspace_at new w) c.keep_source.result in
     subst T c.load.view_is (record {
       supply = one_table found.0;
       supplied = supplied-table b k found.0 found.1;
@@ -95,7 +95,7 @@ returns-in-Err-clause-turned g c = λ k.
     let b = known_files g.F.Files c.args.files.now in
     let v = g.D.Disk.known c.args.disk.now in
     let found = subst (GivesFound source_view b _) c.in-Err.is c.in_ok-tree.ensures.gives in
-    let T : Load → Type 0 = λ x. HasTurned view source_view (λ r. Some r) (λ terms s. turn_of (setting terms) s (says (stmt.Load x))) (IsSupplied b k k) (workspace_at old v) (workspace_at old v) (Ok (reply.Refused of.Load c.in-Err.why)) in
+    let T : Load → Type 0 = λ x. HasTurned view source_view of_nobody (λ terms s. turn_of (setting terms) s (says (stmt.Load x))) (IsSupplied b k k) (workspace_at old v) (workspace_at old v) (Ok (reply.Refused of.Load c.in-Err.why)) in
     rw (c.refused_load-in-Err.ensures)
     (subst T c.load.view_is (record {
       supply = one_table found.0;

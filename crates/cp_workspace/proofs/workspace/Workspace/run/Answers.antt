@@ -13,7 +13,7 @@ use Rattle.cp_workspace.specs.Commits.{statement_asks}
 use Rattle.cp_workspace.specs.Files.{known_files}
 use Rattle.cp_workspace.specs.Loads.{statement_reads}
 use Rattle.cp_workspace.specs.Spending.{HasSpent, Spends}
-use Rattle.cp_workspace.specs.Workspaces.{workspace_at, HasTurned}
+use Rattle.cp_workspace.specs.Workspaces.{workspace_at, HasTurned, of_nobody, any_of_nobody}
 use Rattle.cp_workspace.proofs.Spent.{spent-none, spends-nothing, spends-passed}
 use Rattle.cp_workspace.proofs.Turning.{file-same, usable-kept, quiet-op, quiet-abort, quiet-ask, quiet-show, ran-quiet, turned-failed, turned-given, turned-passed}
 use Rattle.cp_workspace.proofs.workspace.Workspace.run.Goals as goal
@@ -48,7 +48,7 @@ returns-in_err-operate-in-Op-clause-turned g c =
     let b = known_files g.F.Files c.args.files.now in
     let clock = known_clock g.K.Clock c.args.clock.now in
     let p = err_from_is_err_and c.from_residual.result c.from_residual.ensures.1 in
-    turned-failed view source_view (λ terms s. turn_of (setting terms) s (says c.args.statement)) old c.operate.new.self v (λ r. r) b clock c.from_residual.result p.0 p.1
+    turned-failed view source_view (λ terms s. turn_of (setting terms) s (says c.args.statement)) old c.operate.new.self v any_of_nobody b clock c.from_residual.result p.0 p.1
 
 pub returns-in_ok-ask-in-Ask-clause-turned : goal.returns-in_ok-ask-in-Ask-clause-turned
 returns-in_ok-ask-in-Ask-clause-turned g c =
@@ -80,7 +80,7 @@ returns-in_err-ask-in-Ask-clause-turned g c =
     let b = known_files g.F.Files c.args.files.now in
     let clock = known_clock g.K.Clock c.args.clock.now in
     let p = err_from_is_err_and c.from_residual-in_err-ask-in-Ask.result c.from_residual-in_err-ask-in-Ask.ensures.1 in
-    turned-failed view source_view (λ terms s. turn_of (setting terms) s (says c.args.statement)) old c.ask.new.self v (λ r. r) b clock c.from_residual-in_err-ask-in-Ask.result p.0 p.1
+    turned-failed view source_view (λ terms s. turn_of (setting terms) s (says c.args.statement)) old c.ask.new.self v any_of_nobody b clock c.from_residual-in_err-ask-in-Ask.result p.0 p.1
 
 pub returns-in_ok-show-in-Show-clause-turned : goal.returns-in_ok-show-in-Show-clause-turned
 returns-in_ok-show-in-Show-clause-turned g c =
@@ -102,7 +102,7 @@ returns-in_err-show-in-Show-clause-turned g c =
     let b = known_files g.F.Files c.args.files.now in
     let clock = known_clock g.K.Clock c.args.clock.now in
     let p = err_from_is_err_and c.from_residual-in_err-show-in-Show.result c.from_residual-in_err-show-in-Show.ensures.1 in
-    turned-failed view source_view (λ terms s. turn_of (setting terms) s (says c.args.statement)) old c.args.self.now v (λ r. r) b clock c.from_residual-in_err-show-in-Show.result p.0 p.1
+    turned-failed view source_view (λ terms s. turn_of (setting terms) s (says c.args.statement)) old c.args.self.now v any_of_nobody b clock c.from_residual-in_err-show-in-Show.result p.0 p.1
 
 pub returns-in-Abort-clause-turned : goal.returns-in-Abort-clause-turned
 returns-in-Abort-clause-turned g c =
@@ -136,8 +136,8 @@ returns-in_ok-commit-in-Commit-clause-turned g c =
     let before = known_clock g.K.Clock c.args.clock.now in
     let after = known_clock g.K.Clock c.commit.new.clock in
     let r = c.in_ok-commit-in-Commit.field-0 in
-    subst (λ x. HasTurned view source_view (λ r. r) (λ terms s. turn_of (setting terms) s (says x)) (IsSupplied b before after) (workspace_at old v) (workspace_at c.commit.new.self w) (Ok (Some r))) (sym c.in-Commit.is)
-    (turned-given view source_view (λ r. Some r) (λ terms s. turn_of (setting terms) s (says stmt.Commit)) b before after old c.commit.new.self v w (Ok r) (λ r. r) (c.in_ok-commit-in-Commit.ensures.turned b) r (Some r) refl refl)
+    subst (λ x. HasTurned view source_view any_of_nobody (λ terms s. turn_of (setting terms) s (says x)) (IsSupplied b before after) (workspace_at old v) (workspace_at c.commit.new.self w) (Ok (Some r))) (sym c.in-Commit.is)
+    (turned-given view source_view of_nobody (λ terms s. turn_of (setting terms) s (says stmt.Commit)) b before after old c.commit.new.self v w (Ok r) any_of_nobody (c.in_ok-commit-in-Commit.ensures.turned b) r (Some r) refl refl)
 
 pub returns-in_err-commit-in-Commit-clause-turned : goal.returns-in_err-commit-in-Commit-clause-turned
 returns-in_err-commit-in-Commit-clause-turned g c =
@@ -151,8 +151,8 @@ returns-in_err-commit-in-Commit-clause-turned g c =
     let after = known_clock g.K.Clock c.commit.new.clock in
     let r = c.from_residual-in_err-commit-in-Commit.result in
     let p = err_from_is_err_and r c.from_residual-in_err-commit-in-Commit.ensures.1 in
-    subst (λ x. HasTurned view source_view (λ r. r) (λ terms s. turn_of (setting terms) s (says x)) (IsSupplied b before after) (workspace_at old v) (workspace_at c.commit.new.self w) r) (sym c.in-Commit.is)
-    (turned-passed view source_view (λ r. Some r) (λ terms s. turn_of (setting terms) s (says stmt.Commit)) b before after old c.commit.new.self v w _ (λ r. r) (c.in_err-commit-in-Commit.ensures.turned b) r p.0 p.1)
+    subst (λ x. HasTurned view source_view any_of_nobody (λ terms s. turn_of (setting terms) s (says x)) (IsSupplied b before after) (workspace_at old v) (workspace_at c.commit.new.self w) r) (sym c.in-Commit.is)
+    (turned-passed view source_view of_nobody (λ terms s. turn_of (setting terms) s (says stmt.Commit)) b before after old c.commit.new.self v w _ any_of_nobody (c.in_err-commit-in-Commit.ensures.turned b) r p.0 p.1)
 
 pub returns-in_ok-load-in-Load-clause-turned : goal.returns-in_ok-load-in-Load-clause-turned
 returns-in_ok-load-in-Load-clause-turned g c =
@@ -165,8 +165,8 @@ returns-in_ok-load-in-Load-clause-turned g c =
     let clock = known_clock g.K.Clock c.args.clock.now in
     let load = c.in-Load.load in
     let r = c.in_ok-load-in-Load.field-0 in
-    subst (λ x. HasTurned view source_view (λ r. r) (λ terms s. turn_of (setting terms) s (says x)) (IsSupplied b clock clock) (workspace_at old v) (workspace_at c.load.new.self w) (Ok (Some r))) (sym c.in-Load.is)
-    (turned-given view source_view (λ r. Some r) (λ terms s. turn_of (setting terms) s (says (stmt.Load load))) b clock clock old c.load.new.self v w (Ok r) (λ r. r) (c.in_ok-load-in-Load.ensures.turned clock) r (Some r) refl refl)
+    subst (λ x. HasTurned view source_view any_of_nobody (λ terms s. turn_of (setting terms) s (says x)) (IsSupplied b clock clock) (workspace_at old v) (workspace_at c.load.new.self w) (Ok (Some r))) (sym c.in-Load.is)
+    (turned-given view source_view of_nobody (λ terms s. turn_of (setting terms) s (says (stmt.Load load))) b clock clock old c.load.new.self v w (Ok r) any_of_nobody (c.in_ok-load-in-Load.ensures.turned clock) r (Some r) refl refl)
 
 pub returns-in_err-load-in-Load-clause-turned : goal.returns-in_err-load-in-Load-clause-turned
 returns-in_err-load-in-Load-clause-turned g c =
@@ -180,8 +180,8 @@ returns-in_err-load-in-Load-clause-turned g c =
     let load = c.in-Load.load in
     let r = c.from_residual-in_err-load-in-Load.result in
     let p = err_from_is_err_and r c.from_residual-in_err-load-in-Load.ensures.1 in
-    subst (λ x. HasTurned view source_view (λ r. r) (λ terms s. turn_of (setting terms) s (says x)) (IsSupplied b clock clock) (workspace_at old v) (workspace_at c.load.new.self w) r) (sym c.in-Load.is)
-    (turned-passed view source_view (λ r. Some r) (λ terms s. turn_of (setting terms) s (says (stmt.Load load))) b clock clock old c.load.new.self v w _ (λ r. r) (c.in_err-load-in-Load.ensures.turned clock) r p.0 p.1)
+    subst (λ x. HasTurned view source_view any_of_nobody (λ terms s. turn_of (setting terms) s (says x)) (IsSupplied b clock clock) (workspace_at old v) (workspace_at c.load.new.self w) r) (sym c.in-Load.is)
+    (turned-passed view source_view of_nobody (λ terms s. turn_of (setting terms) s (says (stmt.Load load))) b clock clock old c.load.new.self v w _ any_of_nobody (c.in_err-load-in-Load.ensures.turned clock) r p.0 p.1)
 
 pub returns-in_ok-operate-in-Op-clause-spent : goal.returns-in_ok-operate-in-Op-clause-spent
 returns-in_ok-operate-in-Op-clause-spent g c = λ terms s z.
