@@ -24,7 +24,7 @@ _cpdb_options() {
 _cpdb_command() {
     case $COMP_CWORD:${COMP_WORDS[1]-} in
     1:*)
-        words="scratch init run commit load query gen log at archive verify uses help $tools"
+        words="scratch init run share commit load query gen log at archive verify uses help $tools"
         case $word in -*) words='--help --version' ;; esac
         ;;
     2:help) words=$tools ;;
@@ -32,7 +32,7 @@ _cpdb_command() {
     4:load) words='json csv' ;;
     3:query) words='records show stats' ;;
     4:at) words=show ;;
-    [23]:commit | [24]:init | [25]:load | 3:scratch | 2:run | 2:query | 2:log | 2:at | 2:archive | 2:verify | 2:uses) files=-o ;;
+    [23]:commit | [24]:init | [25]:load | 3:scratch | 2:run | 2:share | 2:query | 2:log | 2:at | 2:archive | 2:verify | 2:uses) files=-o ;;
     esac
 }
 

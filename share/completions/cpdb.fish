@@ -36,6 +36,7 @@ complete -c cpdb -f
 complete -c cpdb -n __fish_is_first_token -a scratch -d 'Run statements on a database in memory'
 complete -c cpdb -n __fish_is_first_token -a init -d 'Make a store'
 complete -c cpdb -n __fish_is_first_token -a run -d 'Run statements on a store'
+complete -c cpdb -n __fish_is_first_token -a share -d 'Run statements of several curators on a store'
 complete -c cpdb -n __fish_is_first_token -a commit -d 'Run a file of statements on a store, and commit'
 complete -c cpdb -n __fish_is_first_token -a load -d 'Load a source into a store'
 complete -c cpdb -n __fish_is_first_token -a query -d 'Answer one statement from a store'
@@ -82,7 +83,7 @@ complete -c cpdb -n '__cpdb_at 3 query' -a stats -d 'Numbers of the store'
 
 complete -c cpdb -n '__cpdb_at 2 shell' -a scratch -d 'A session in memory'
 
-complete -c cpdb -n '__cpdb_at 2 init run commit load query log at archive verify uses' -F
+complete -c cpdb -n '__cpdb_at 2 init run share commit load query log at archive verify uses' -F
 complete -c cpdb -n '__cpdb_at 3 scratch commit' -F
 complete -c cpdb -n '__cpdb_at 4 init; or __cpdb_at 5 load' -F
 complete -c cpdb -n '__cpdb_at 2 backup diff find history json ls outdated page prepare rescue revert shell sources stats try update' -F

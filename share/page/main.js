@@ -27,15 +27,19 @@ class Page {
   }
 
   // Addresses: `#T/a/b` a place, `#@commits`, `#@step/7`, `#@versions`, `#@version/7` and `#@version/7/3` with another one beside
-  // it, `#@sources`, `#@source/P`; `#@places` the tree and no place of it.
+  // it, `#@curators`, `#@curator/Ada` and `#@curator/Ada/Ben` with another one beside, `#@sources`, `#@source/P`; `#@places` the
+  // tree and no place of it.
 
   route() {
     const address = location.hash.slice(1);
     const step = /^@step\/(\d+)$/.exec(address);
     const version = /^@version\/(\d+)(?:\/(\d+))?$/.exec(address);
     const source = /^@source\/(\w+)$/.exec(address);
+    const curator = /^@curator\/([^/]*(?:\/[^/]*)?)$/.exec(address);
     if (address === '' || address === '@places') this.showPlace(['T'], false);
     else if (address === '@commits') this.show('commits', commitsView(this.store), 'Commits', false);
+    else if (address === '@curators') this.show('curators', curatorsView(this.store), 'Curators', false);
+    else if (curator) this.showCurator(curatorsIn(curator[1]));
     else if (address === '@sources') this.show('sources', sourcesView(this.store), 'Sources', false);
     else if (step) this.showStep(Number(step[1]));
     else if (address === '@versions') this.showVersion(this.store.tid, null, false);
@@ -103,6 +107,13 @@ class Page {
     this.showVersion(version, beside, true);
   }
 
+  showCurator(names) {
+    const [name, beside = null] = names || [undefined];
+    const turn = (to) => this.go(curatorAddress(name, to), false);
+    this.show('curators', curatorView(this.store, name, beside, turn), name === undefined ? 'No such curator' : curatorText(name), true);
+    return this.list.reveal(this.store.commits.names.indexOf(name));
+  }
+
   showSource(name) {
     const root = this.store.rootNames.get(name);
     if (!root) return this.show('sources', missingView(this.store, [name]), name, true);
@@ -112,7 +123,7 @@ class Page {
   }
 
   backButton() {
-    const names = { tree: 'The tree', commits: 'All commits', versions: 'All versions', sources: 'All sources' };
+    const names = { tree: 'The tree', commits: 'All commits', curators: 'All curators', versions: 'All versions', sources: 'All sources' };
     return element('button', { type: 'button', class: 'back', onclick: () => { document.body.dataset.pane = 'list'; byId('rows').focus(); } }, `\u2039 ${names[this.view]}`);
   }
 
@@ -126,6 +137,7 @@ class Page {
     const words = {
       tree: ['Search labels and values', 'Fold all', 'tree', 'Places'],
       commits: ['Search curators, dates and places', 'Oldest first', 'listbox', 'Commits'],
+      curators: ['Search curators', '', 'listbox', 'Curators'],
       versions: ['Search places, curators and dates', '', 'listbox', 'Versions'],
       sources: ['Search sources', '', 'listbox', 'Sources'],
     }[view];
@@ -137,7 +149,7 @@ class Page {
     box.setAttribute('aria-label', words[3]);
     this.list = this.made(view, box);
     this.tellCount(0);
-    for (const it of ['tree', 'commits', 'versions', 'sources']) {
+    for (const it of ['tree', 'commits', 'curators', 'versions', 'sources']) {
       if (it === view) byId(`tab-${it}`).setAttribute('aria-current', 'page');
       else byId(`tab-${it}`).removeAttribute('aria-current');
     }
@@ -147,6 +159,7 @@ class Page {
   made(view, box) {
     const { store } = this;
     if (view === 'commits') return new CommitList(store, box, (commit, isWalk) => this.go(`#@step/${store.commits.first[commit]}`, isWalk));
+    if (view === 'curators') return new CuratorList(store, box, (at, isWalk) => this.go(curatorAddress(store.commits.names[at], null), isWalk));
     if (view === 'versions') return new VersionList(store, box, (version, isWalk) => this.go(`#@version/${version}`, isWalk));
     if (view === 'sources') return new SourceList(store, box, (root, isWalk) => this.go(`#@source/${store.roots[root].name}`, isWalk));
     const choose = (place, isWalk) => this.go(addressOf(store.path(place)), isWalk);
@@ -168,10 +181,11 @@ class Page {
     const all = {
       tree: () => `${count(roots[0].rows, 'place')} in T${inSources > 0 ? `, ${NUMBERS.format(inSources)} in sources` : ''}`,
       commits: () => count(commits.first.length, 'commit'),
+      curators: () => count(commits.names.length, 'curator'),
       versions: () => (versions.oldest > 0 ? `the newest ${NUMBERS.format(versions.last - versions.oldest + 1)} of ${count(versions.last + 1, 'version')}` : count(versions.last + 1, 'version')),
       sources: () => count(roots.length - 1, 'source'),
     };
-    const names = { tree: 'place', commits: 'commit', versions: 'version', sources: 'source' };
+    const names = { tree: 'place', commits: 'commit', curators: 'curator', versions: 'version', sources: 'source' };
     byId('count').textContent = byId('search').value ? `${count(found, names[this.view])} found` : all[this.view]();
   }
 

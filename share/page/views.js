@@ -316,7 +316,7 @@ function curatorsTable(store) {
     sums[curator].steps += last[at] - first[at] + 1;
     sums[curator].newest = moments[at];
   });
-  const rows = sums.sort((one, other) => other.commits - one.commits).map((it) => element('tr', {}, element('td', {}, curatorNode(it.name)), element('td', { class: 'figure' }, NUMBERS.format(it.commits)),
+  const rows = sums.sort((one, other) => other.commits - one.commits).map((it) => element('tr', {}, element('td', {}, curatorLink(it.name)), element('td', { class: 'figure' }, NUMBERS.format(it.commits)),
     element('td', { class: 'figure' }, NUMBERS.format(it.steps)), element('td', {}, momentNode(it.newest))));
   return section('Who', tableOf(['Curator', 'Commits', 'Steps', 'Last commit'], element('tbody', {}, rows)));
 }

@@ -23,7 +23,7 @@ from .replies import (Archive, Commit, Committed, End, Ended, Origin, Record, Re
                       read_committed, read_origin, read_record, read_records, read_show, read_src, read_stats, read_tids,
                       read_trace, read_uses)
 from .session import Session, statement_of
-from .spelling import (Place, SpellingError, Tree, copy_text, delete_text, insert_text, label_text, quoted, read_label, read_tree, read_value, tree_text,
+from .spelling import (Place, SpellingError, Tree, copy_text, delete_text, insert_text, is_name, label_text, quoted, read_label, read_tree, read_value, tree_text,
                        value_text, walk)
 from .storefile import (CommitEntry, Copy, Delete, Entry, FormatError, Frame, Frames, Header, Insert, Load, Operation, Slot,
                         Start, entries_of, entry, frame_at, frames, header, is_vacant, operation_text, upto)
@@ -31,7 +31,7 @@ from .storefile import (CommitEntry, Copy, Delete, Entry, FormatError, Frame, Fr
 __all__ = ["Archive", "Commit", "CommitEntry", "Committed", "Copy", "Delete", "End", "Ended", "Entry", "FormatError", "Frame", "Frames",
            "Header", "Insert", "Load", "Operation", "Origin", "Place", "Record", "Refused", "Segment", "Session", "Slot",
            "SpellingError", "Start", "Stats", "Trace", "Tree", "archive", "at", "copy_of", "copy_text", "delete_text", "entries_of", "entry",
-           "frame_at", "frames", "header", "init", "insert_text", "is_vacant", "label_text", "log", "operation_text", "program",
+           "frame_at", "frames", "header", "init", "insert_text", "is_name", "is_vacant", "label_text", "log", "operation_text", "program",
            "query", "quoted", "read_archive", "read_commit", "read_committed", "read_label", "read_origin", "read_record", "read_records",
            "read_show", "read_src", "read_stats", "read_tids", "read_trace", "read_tree", "read_uses", "read_value",
            "statement_of", "tree_text", "upto", "uses", "value_text", "verify", "walk"]

@@ -5,6 +5,9 @@ one line, or for `records` those up to the line that counts them. An operation (
 it is refused. So `src T` is sent after each operation: its answer, which no refusal looks like, says that the operation has
 been read. What was sent waits in a queue, and each line belongs to the first that is not answered yet.
 
+In a session of `share` each statement begins with `@` and the name of who speaks, and so does each line of its reply, of
+which a caller sees neither.
+
 Nothing can block for ever: while an answer is waited for, statements are written only as far as the program takes them,
 and lines are read as soon as they come, whichever of the two is possible.
 """
@@ -20,7 +23,7 @@ from typing import Deque, Iterable, Iterator, List, Optional, Set, Type, Union
 from . import replies
 from .calls import Name, program
 from .replies import Committed, Ended, Origin, Record, Refused, Stats, Trace
-from .spelling import Place, SpellingError, Tree, copy_text, delete_text, insert_text, label_text, quoted
+from .spelling import Place, SpellingError, Tree, copy_text, delete_text, insert_text, is_name, label_text, quoted
 
 __all__ = ["Session"]
 
@@ -38,12 +41,15 @@ _AHEAD, _MOST_AHEAD = 65_536, 4_096
 class _Reply:
     """The lines that answer a statement, as they come."""
 
-    def __init__(self, word: str) -> None:
+    def __init__(self, word: str, front: str) -> None:
         self.lines: List[str] = []
-        self.word = word
+        self.word, self.front = word, front
         self.is_done = not word
 
     def take(self, line: str) -> None:
+        """Takes the next line. One without the front is of nobody: a statement that is too long."""
+        if line.startswith(self.front):
+            line = line[len(self.front):]
         if self.word in OPERATIONS and line.startswith(_MARKER_ANSWER):
             self.is_done = True
             return
@@ -66,6 +72,12 @@ def statement_of(text: str) -> str:
     raise SpellingError(f"the quotation mark at {end} isn't closed")
 
 
+def _checked_name(name: str) -> str:
+    if not is_name(name):
+        raise SpellingError(f"{name!r} is no name: a letter and then at most 31 letters, digits or _ are")
+    return name
+
+
 def first_word(text: str) -> str:
     """The first token of a statement, "" where it is blank."""
     found = _FIRST_TOKEN.match(text)
@@ -79,8 +91,9 @@ class Session:
     where a statement is refused.
     """
 
-    def __init__(self, words: List[str]) -> None:
+    def __init__(self, words: List[str], speaker: Optional[str] = None) -> None:
         """Starts a call with these words after `cpdb`, and waits until it answers."""
+        self._speaker = speaker
         self._call = subprocess.Popen([program(), *words], stdin=subprocess.PIPE, stdout=subprocess.PIPE,
                                       start_new_session=True)
         assert self._call.stdin and self._call.stdout
@@ -100,9 +113,25 @@ class Session:
         return cls(["run", os.fspath(store), *([] if curator is None else [curator])])
 
     @classmethod
+    def share(cls, store: Name, name: str) -> "Session":
+        """A session on a store as one of several curators, `cpdb share STORE`: `speaker` is who speaks, first the curator `name`."""
+        return cls(["share", os.fspath(store)], _checked_name(name))
+
+    @classmethod
     def scratch(cls, kind: str, start: Optional[Name] = None) -> "Session":
         """A session in memory, `cpdb scratch KIND [JSON]`."""
         return cls(["scratch", kind, *([] if start is None else [os.fspath(start)])])
+
+    @property
+    def speaker(self) -> Optional[str]:
+        """Whose the next statements are, in a session of `share`; another name may be set. Else None."""
+        return self._speaker
+
+    @speaker.setter
+    def speaker(self, name: str) -> None:
+        if self._speaker is None:
+            raise ValueError("this session has one curator")
+        self._speaker = _checked_name(name)
 
     def __enter__(self) -> "Session":
         return self
@@ -265,9 +294,10 @@ class Session:
             raise Ended(self._last_line, self._call.returncode)
         text = statement_of(statement)
         word = first_word(text)
-        self._unsent += f"{text};{_MARKER if word in OPERATIONS else ''}".encode("utf-8")
-        reply = _Reply(word)
+        front = f"@{self._speaker} " if self._speaker else ""
+        reply = _Reply(word, front)
         if word:
+            self._unsent += f"{front}{text};{front + _MARKER if word in OPERATIONS else ''}".encode("utf-8")
             self._waiting.append(reply)
         return reply
 
@@ -305,7 +335,7 @@ class Session:
         self._last_line = line
         if line.startswith("error: ") or not self._waiting:
             return
-        if line.startswith("loaded "):
+        if self._waiting[0].word == "load":
             self._odd_sources = None
         self._waiting[0].take(line)
         if self._waiting[0].is_done:

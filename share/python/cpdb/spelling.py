@@ -3,7 +3,7 @@ import json
 import re
 from typing import Dict, Iterator, List, NamedTuple, Optional, Tuple, Union
 
-__all__ = ["Place", "SpellingError", "Tree", "copy_text", "delete_text", "insert_text", "label_text", "quoted", "read_label", "read_place_at", "read_tree", "read_value",
+__all__ = ["Place", "SpellingError", "Tree", "copy_text", "delete_text", "insert_text", "is_name", "label_text", "quoted", "read_label", "read_place_at", "read_tree", "read_value",
            "read_written_place", "read_written_tree", "tree_text", "value_text", "walk"]
 
 #: What stands at a place: a value, or a node as a dict from its labels to what stands below them, in order of the labels.
@@ -84,6 +84,11 @@ def _fitting_label(label: str) -> str:
     return label
 
 
+def is_name(text: str) -> bool:
+    """Whether a text is a name, of a database or of a curator who shares a call with others."""
+    return _NAME.fullmatch(text) is not None
+
+
 def label_text(label: str) -> str:
     """The spelling of a label that stands alone."""
     return _with_quotes_where_needed(_escaped(_fitting_label(label)))
@@ -132,7 +137,7 @@ class Place(NamedTuple):
     def read(text: str) -> "Place":
         """The place that is spelled so; SpellingError where none is."""
         name, *labels = _raw_of(text, "place").split("/")
-        if not _NAME.fullmatch(name):
+        if not is_name(name):
             raise SpellingError(f"no place is spelled {text}: {quoted(name)} isn't the name of a database")
         return Place(name, tuple(map(_unescaped, labels))).checked()
 

@@ -10,7 +10,7 @@ from typing import Any, Dict
 
 FOLDER = os.path.join(os.path.dirname(os.path.dirname(os.path.dirname(os.path.realpath(__file__)))), "page")
 SCRIPTS = ("text.js", "store.js", "search.js", "list.js", "walk.js", "tree.js", "commits.js", "past.js", "versions.js", "views.js",
-           "slider.js", "measure.js", "main.js")
+           "curators.js", "slider.js", "measure.js", "main.js")
 #: By this a page is known as one that `cpdb page` has made.
 MARK = '<meta name="generator" content="cpdb page">'
 

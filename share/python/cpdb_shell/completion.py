@@ -2,7 +2,7 @@
 import csv
 import json
 import os
-from typing import Callable, Dict, List, NamedTuple, Optional
+from typing import Callable, Dict, List, NamedTuple, Optional, Sequence
 
 from cpdb import Place, SpellingError, label_text, quoted, tree_text
 from cpdb.spelling import LONGEST_LABEL
@@ -29,13 +29,13 @@ class Choices(NamedTuple):
     choices: List[Choice]
 
 
-def choices(talk: Talk, before: str, after: str) -> Choices:
+def choices(talk: Talk, before: str, after: str, curators: Sequence[str] = ()) -> Choices:
     """What can stand at the end of the text `before`, in a statement that goes on with the text `after`."""
     tokens = tokens_of(before)
     typed = Token("", len(before), len(before))
     if tokens and tokens[-1].end == len(before) and tokens[-1].text not in ("{", "}", ":", ","):
         typed = tokens.pop()
-    found: List[Choice] = []
+    found = [Choice(f"@{it} ", f"@{it}") for it in curators if typed.text[:1] == "@" and not tokens and f"@{it}".startswith(typed.text)]
     for slot in _slots(tokens):
         found += [it for it in _of_slot(talk, slot, tokens, typed.text, after) if it not in found]
     return Choices(len(typed.text), _shortened(typed.text, found))

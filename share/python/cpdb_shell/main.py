@@ -4,16 +4,16 @@ import sys
 from contextlib import ExitStack
 from typing import List, NamedTuple, Optional
 
-from cpdb import Ended, Refused, Session, copy_of
+from cpdb import Ended, Refused, Session, copy_of, is_name
 from cpdb.tool import counted
 
-from .completion import Choices, choices
+from .completion import Choices
 from .reading import Reader
 from .shell import Shell
-from .talk import Sources, Talk
+from .talk import Sources, Talk, Talks
 from .terminal import Lines, Pipe, Terminal, say
 
-USAGE = """usage: cpdb shell [--read] STORE [CURATOR]
+USAGE = """usage: cpdb shell [--read] STORE [CURATOR|NAME]
        cpdb shell scratch KIND [JSON]
 """
 HELP = f"""{USAGE}
@@ -21,6 +21,11 @@ A session at the terminal, over a store or in memory. Type `help` in it.
 
 STORE is open for writing while the shell runs. With --read the shell looks at a copy of it, and changes nothing.
 CURATOR stands in each commit; without it the variable CPDB_CURATOR is taken. KIND is n, t, h or ht.
+
+A NAME is a letter and then at most 31 letters, digits or _. As such a curator the shell speaks through `cpdb share`, and
+others can take their turns in it: `@ben` goes on as ben, `@ben commit` is one statement of ben's. Each has a transaction of
+his own, on T as it was when he began it, and who commits first wins. It is one shell all the same: a second one of the store
+ends with status 5 meanwhile.
 
 Exit status: 0 all was done; 1 something was refused, where the input is no terminal; 2 the words aren't understood;
 3 to 9 as of the program, which ended so; 70 the program isn't there. cpdb-shell(1) tells more.
@@ -78,8 +83,11 @@ def _curator(words: List[str]) -> Optional[str]:
 def _session(words: Words, stack: ExitStack) -> Session:
     if words.store is None:
         return stack.enter_context(Session.scratch(words.kind, words.start))
-    store = stack.enter_context(copy_of(words.store)) if words.is_reading else words.store
-    return stack.enter_context(Session.run(store, words.curator))
+    if words.is_reading:
+        return stack.enter_context(Session.run(stack.enter_context(copy_of(words.store)), words.curator))
+    if words.curator and is_name(words.curator):
+        return stack.enter_context(Session.share(words.store, words.curator))
+    return stack.enter_context(Session.run(words.store, words.curator))
 
 
 def _greet(words: Words, talk: Talk) -> None:
@@ -87,23 +95,24 @@ def _greet(words: Words, talk: Talk) -> None:
     say(f"{words.name}: kind {stats.kind}, {counted(stats.nodes, 'place')}, {counted(stats.transactions, 'commit')}, "
         f"{counted(stats.sources, 'source')}{', for reading alone' if words.is_reading else ''}")
     if words.store and not words.is_reading:
-        say(f"curator {words.curator}" if words.curator else "commits have no curator: CURATOR and CPDB_CURATOR are empty")
+        turns = "; @NAME goes on as another one" if talk.name else ""
+        say(f"curator {words.curator}{turns}" if words.curator else "commits have no curator: CURATOR and CPDB_CURATOR are empty")
     say("help tells what can be typed")
 
 
 def _run(words: Words, stack: ExitStack) -> int:
-    talk = Talk(_session(words, stack), Sources(words.store))
+    talks = Talks(_session(words, stack), Sources(words.store))
     reader = Reader()
     stack.callback(reader.close)
     shell: Optional[Shell] = None
 
     def complete(before: str, after: str) -> Choices:
-        return choices(talk, shell.begun(before) if shell else before, after)
+        return shell.choices(before, after) if shell else Choices(0, [])
 
     lines: Lines = Terminal(complete) if sys.stdin.isatty() else Pipe(sys.stdin.buffer)
-    shell = Shell(words.name, talk, reader, lines, words.is_reading)
+    shell = Shell(words.name, talks, reader, lines, words.is_reading)
     if lines.is_terminal:
-        _greet(words, talk)
+        _greet(words, talks.now)
     shell.run()
     return 1 if shell.has_refused and not lines.is_terminal else 0
 

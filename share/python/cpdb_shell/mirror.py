@@ -66,6 +66,12 @@ class Mirror:
         """The transaction was given up, or has failed: the tree is that of the last commit."""
         self._now = self._committed
 
+    def outdated(self, is_going: bool) -> None:
+        """Somebody else has committed. A transaction that is going goes on from the tree on which it began."""
+        self._committed = _UNASKED
+        if not is_going:
+            self._now = _UNASKED
+
     def _ask(self, place: Place) -> _Known:
         try:
             return self._show(place)

@@ -41,6 +41,8 @@ FORMS = [
     Form("load NAME json FILE", "loads a source; FILE and TEXT are in quotes"),
     Form("load NAME csv FILE", "loads a table, its rows by their numbers"),
     Form("load NAME csv FILE by LABEL", "loads a table, its rows by that column"),
+    Form("@NAME", "goes on as that curator, if yours is a name"),
+    Form("@NAME STATEMENT", "one statement of that curator"),
     Form("help", "this list"),
     Form("help WORD", "the forms that begin with a word"),
     Form("quit", "leaves the shell, as Ctrl-D does"),
@@ -80,7 +82,13 @@ class Word(NamedTuple):
     argument: str
 
 
-Command = Union[Statement, Put, Reason, Word]
+class Turn(NamedTuple):
+    """A curator's name alone: that one speaks from now on."""
+
+    name: str
+
+
+Command = Union[Statement, Put, Reason, Word, Turn]
 
 
 class Mistyped(Exception):

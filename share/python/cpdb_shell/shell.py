@@ -1,15 +1,16 @@
 """The shell itself: it reads lines, has them read by the reader, carries them out, and says what comes of it."""
 import shutil
 import sys
-from typing import List
+from typing import List, Optional, Tuple
 
 from cpdb.tool import counted
 
+from .completion import Choices, choices
 from .layout import answer, marked, visible
-from .own import (FORMS, Command, Mistyped, Put, Reason, Refusal, Statement, Word, forms_of, read_command,
+from .own import (FORMS, Command, Mistyped, Put, Reason, Refusal, Statement, Turn, Word, forms_of, read_command,
                   statement_for_reason, statements_for)
-from .reading import Reader
-from .talk import OPERATIONS, Talk
+from .reading import Fault, Reader
+from .talk import OPERATIONS, Talk, Talks
 from .terminal import Lines, say
 from .text import BLANK, Cutter, Typed, tokens_of
 
@@ -30,9 +31,9 @@ class Quit(Exception):
 class Shell:
     """A shell over a session."""
 
-    def __init__(self, name: str, talk: Talk, reader: Reader, lines: Lines, is_reading: bool) -> None:
+    def __init__(self, name: str, talks: Talks, reader: Reader, lines: Lines, is_reading: bool) -> None:
         self._name = visible(name if len(name) <= _LONGEST_NAME else f"..{name[-_LONGEST_NAME + 2:]}")
-        self._talk, self._reader, self._lines = talk, reader, lines
+        self._talks, self._reader, self._lines = talks, reader, lines
         self._is_reading = is_reading
         self._cutter = Cutter()
         #: Whether something was refused.
@@ -53,9 +54,18 @@ class Shell:
                     break
         self._tell_given_up()
 
-    def begun(self, before: str) -> str:
-        """The beginning of the statement that is typed, up to the cursor, where this stands before it on the line."""
-        return self._cutter.begun(before)
+    def choices(self, before: str, after: str) -> Choices:
+        """What can stand at the cursor, where these texts stand before it and after it on the line."""
+        begun = self._cutter.begun(before)
+        name, rest = self._talks.owned(begun)
+        if name and begun.endswith(name) and not rest.strip(BLANK):
+            # The name itself is being typed.
+            name, rest = None, begun
+        return choices(self._talks.of(name), rest, after, self._talks.names)
+
+    @property
+    def _talk(self) -> Talk:
+        return self._talks.now
 
     # The prompt, and the ways out
 
@@ -66,7 +76,8 @@ class Shell:
             count = f" (failed at {transaction.failed_at})"
         elif transaction.held:
             count = f" ({len(transaction.held)})"
-        prompt = f"{self._name}{count}> "
+        speaker = f" @{self._talk.name}" if self._talk.name else ""
+        prompt = f"{self._name}{speaker}{count}> "
         return f"{'..> ':>{len(prompt)}}" if self._cutter.is_waiting else prompt
 
     def _give_up_typed(self) -> None:
@@ -95,13 +106,13 @@ class Shell:
                 pass
 
     def _tell_given_up(self) -> None:
-        held = len(self._talk.transaction.held)
+        held = self._talks.held
         if held and not self._lines.is_terminal:
             print(f"cpdb shell: {counted(held, 'operation')} given up, not committed", file=sys.stderr)
 
     def _may_leave(self) -> bool:
         """Asks where operations would be given up."""
-        held = len(self._talk.transaction.held)
+        held = self._talks.held
         if not held or not self._lines.is_terminal:
             return True
         try:
@@ -126,26 +137,47 @@ class Shell:
 
     def _run_all(self, typed: List[Typed]) -> None:
         """Reads all statements first, so that none is sent where one is mistyped; then carries them out."""
-        commands: List[Command] = []
+        commands: List[Tuple[Optional[str], Command]] = []
         for it in typed:
             try:
-                commands.append(read_command(self._reader, it.text))
+                commands.append(self._read(it.text))
             except Mistyped as mistyped:
                 self._say_mistyped(it, mistyped, len(typed) > 1)
                 return
-        for number, command in enumerate(commands, 1):
-            is_done = self._run(command)
+        for number, (name, command) in enumerate(commands, 1):
+            is_done = self._run_as(name, command)
             if not is_done and self._lines.is_terminal and number < len(commands):
                 say("what stands behind it on the line was not sent")
                 return
+
+    def _read(self, text: str) -> Tuple[Optional[str], Command]:
+        """A statement, and the curator whose it is where it names one; a name alone is the turn of that one."""
+        name, rest = self._talks.owned(text)
+        if name and not rest.strip(BLANK):
+            return None, Turn(name)
+        return name, read_command(self._reader, rest)
+
+    def _run_as(self, name: Optional[str], command: Command) -> bool:
+        """Carries out a command of a curator; None stands for the one who speaks now, who speaks afterwards too."""
+        if isinstance(command, Turn):
+            self._talks.now = self._talks.of(command.name)
+            return True
+        before, self._talks.now = self._talks.now, self._talks.of(name)
+        try:
+            return self._run(command)
+        finally:
+            self._talks.now = before
 
     def _say_mistyped(self, typed: Typed, mistyped: Mistyped, is_one_of_many: bool) -> None:
         fault = mistyped.fault
         self._refused(fault.line(typed.text))
         if fault.at is not None:
             say(*marked(typed, fault.at, self._width()))
-        for form in forms_of(tokens_of(typed.text)[0].text) if fault.what == "syntax" else []:
+        _, rest = self._talks.owned(typed.text)
+        for form in forms_of(tokens_of(rest)[0].text) if fault.what == "syntax" else []:
             say(f"  {form.words}")
+        if fault.at is not None and _splits_place(rest, fault):
+            say('  a place with a blank or one of ; { } : , in it stands in quotation marks: "T/x y"')
         if is_one_of_many:
             say("nothing of the line was sent")
 
@@ -207,6 +239,10 @@ class Shell:
                 self._refused(line)
             else:
                 say(*answer(line, self._width()))
+        if lines and lines[0].startswith("committed"):
+            self._talks.told_commit(self._talk)
+        if lines and lines[0].startswith("refused commit: stale") and self._lines.is_terminal:
+            say("somebody else has committed since: again begins the transaction anew, on T as it is now")
         return not any(it.startswith("refused") for it in lines)
 
     # What is said
@@ -232,6 +268,13 @@ class Shell:
         if not sys.stdout.isatty():
             return _WIDTH_OF_FILES
         return max(_NARROWEST, shutil.get_terminal_size().columns)
+
+
+def _splits_place(text: str, fault: Fault) -> bool:
+    """Whether a fault may come of a blank in a place: a word, and for a value others after it, follows what isn't in quotation marks."""
+    tokens = [it for it in tokens_of(text) if it.start <= (fault.at or 0)]
+    is_word = len(tokens) > 1 and "/" in tokens[-2].text and tokens[-2].text[0] != '"' and tokens[-1].text[0] not in '"{}:,'
+    return is_word and tokens[-1].start == fault.at and (fault.what == "syntax" or len(tokens_of(text)) > len(tokens))
 
 
 def _changes(command: Command) -> bool:

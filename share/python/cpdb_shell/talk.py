@@ -1,5 +1,6 @@
-"""The session to which statements go, with what is known of its open transaction and of its sources."""
-from typing import List, Optional
+"""The session to which statements go, with what is known of its open transactions and of its sources."""
+import re
+from typing import Dict, List, Optional, Tuple
 
 from cpdb import Place, Session, Stats, Tree, frames, read_label
 
@@ -9,6 +10,7 @@ from .text import Token, tokens_of
 
 OPERATIONS = ("ins", "del", "copy")
 _CHANGES = (*OPERATIONS, "commit", "abort", "load")
+_OWNED = re.compile(r'([ \t\n\r]*@([A-Za-z][A-Za-z0-9_]{0,31}))(?=[\x00-\x20";{}:,]|\Z)')
 
 
 class Transaction:
@@ -42,10 +44,10 @@ class Sources:
 
 
 class Talk:
-    """A session, its open transaction as counted from what was sent and answered, and what stands in its trees."""
+    """What one curator sends: his open transaction as counted from what was sent and answered, and what stands in his trees."""
 
-    def __init__(self, session: Session, sources: Sources) -> None:
-        self.sources = sources
+    def __init__(self, session: Session, sources: Sources, name: Optional[str] = None) -> None:
+        self.sources, self.name = sources, name
         self.mirror = Mirror(self._show)
         self.transaction = Transaction()
         #: The operations of the transaction that was last given up.
@@ -56,7 +58,7 @@ class Talk:
         """Sends one statement, and answers its lines. Ctrl-C meanwhile is told afterwards, and only of a query."""
         tokens = tokens_of(text)
         with uninterrupted() as caught:
-            lines = self._session.send(text)
+            lines = self._speaking().send(text)
             self._note(text, tokens, lines)
         if caught and tokens[0].text not in _CHANGES:
             raise KeyboardInterrupt
@@ -64,7 +66,7 @@ class Talk:
 
     def stats(self) -> Stats:
         with uninterrupted():
-            return self._session.stats()
+            return self._speaking().stats()
 
     def again(self) -> List[str]:
         """Sends once more what the transaction held that has failed or was last given up; the lines of what is refused."""
@@ -76,10 +78,19 @@ class Talk:
 
     def _show(self, place: Place) -> Tree:
         with uninterrupted():
-            return self._session.show(place)
+            return self._speaking().show(place)
+
+    def _speaking(self) -> Session:
+        """The session, with this curator as who speaks."""
+        if self.name:
+            self._session.speaker = self.name
+        return self._session
 
     def _note(self, text: str, tokens: List[Token], lines: List[str]) -> None:
         word = tokens[0].text
+        if self.name and lines == ["refused: statement too long"]:
+            # In a session of several curators such a text is nobody's.
+            return
         if word in OPERATIONS and lines:
             self._note_failure()
         elif word in OPERATIONS:
@@ -114,3 +125,48 @@ class Talk:
             self.given_up = self.transaction.held or self.given_up
             self.mirror.given_up()
         self.transaction = Transaction()
+
+
+class Talks:
+    """The curators of a session: one, or in a session of `share` those who have spoken, of whom one speaks `now`."""
+
+    def __init__(self, session: Session, sources: Sources) -> None:
+        self._session, self._sources = session, sources
+        self.now = Talk(session, sources, session.speaker)
+        self._all: Dict[Optional[str], Talk] = {session.speaker: self.now}
+
+    @property
+    def are_several(self) -> bool:
+        """Whether the session takes several curators."""
+        return self._session.speaker is not None
+
+    @property
+    def names(self) -> List[str]:
+        """Who has spoken, where the session takes several."""
+        return sorted(it for it in self._all if it)
+
+    @property
+    def held(self) -> int:
+        """How many operations the open transactions hold."""
+        return sum(len(it.transaction.held) for it in self._all.values())
+
+    def of(self, name: Optional[str]) -> Talk:
+        """The talk of a curator; None stands for the one who speaks now."""
+        if name is None:
+            return self.now
+        if name not in self._all:
+            self._all[name] = Talk(self._session, self._sources, name)
+        return self._all[name]
+
+    def told_commit(self, committer: Talk) -> None:
+        """A curator has committed: the tree that the others have seen as the committed one is that no more."""
+        for it in self._all.values():
+            if it is not committer:
+                it.mirror.outdated(bool(it.transaction.held) and it.transaction.failed_at is None)
+
+    def owned(self, text: str) -> Tuple[Optional[str], str]:
+        """Whose a text is, and the statement in it, with blanks in the place of its `@NAME`; None where it begins with none."""
+        found = _OWNED.match(text) if self.are_several else None
+        if not found:
+            return None, text
+        return found[2], " " * found.end() + text[found.end():]

@@ -9,6 +9,9 @@ syntax sync minlines=200
 " A word has no white space and none of " ; { } : ,
 syntax iskeyword 33,35-43,45-57,60-122,124,126-255,@
 
+" Whose a statement or the line of a reply is
+syntax match cpdbOwner /\%(\%(^\|;\)\s*\)\@<=@\a\w\{,31}\ze\%([[:space:]";{}:,]\|$\)/
+
 " Statements
 syntax match cpdbVerb /\<ins\>/ nextgroup=cpdbLiteral skipwhite skipnl skipempty
 syntax match cpdbVerb /\<del\>/ nextgroup=cpdbLabelAlone,cpdbQuotedLabelAlone skipwhite skipnl skipempty
@@ -92,15 +95,16 @@ syntax match cpdbByWhom /\<by\>/ contained nextgroup=cpdbCurator,cpdbQuotedCurat
 syntax match cpdbCurator /\k\+/ contained nextgroup=cpdbNumbersAfter
 syntax region cpdbQuotedCurator start=/"/ skip=/\\./ end=/"/ contained contains=cpdbEscape nextgroup=cpdbNumbersAfter
 syntax match cpdbNumbersAfter / at \d.*$/ contained contains=cpdbNumber,cpdbComma
-syntax match cpdbDone /^\s*\%(committed\|aborted\|loaded\|created\|agrees\|archive:\|log:\|gen:\)\>\?\%( .*\)\?$/ contains=cpdbSteps,cpdbNumber
+syntax match cpdbDone /\%(^\s*@\a\w\{,31} \|^\s*\)\@<=\%(committed\|aborted\|loaded\|created\|agrees\|archive:\|log:\|gen:\)\>\?\%( .*\)\?$/ contains=cpdbSteps,cpdbNumber
 syntax match cpdbSteps /\<\d\+\.\.\d\+\>/ contained
-syntax match cpdbRefused /^\s*\%(refused\|error\|differs\)\>.*$/
-syntax match cpdbTid /^\s*\zs\d\+\ze [ICDK] / nextgroup=cpdbRecord skipwhite
+syntax match cpdbRefused /\%(^\s*@\a\w\{,31} \|^\s*\)\@<=\%(refused\|error\|differs\)\>.*$/
+syntax match cpdbTid /\%(^\s*@\a\w\{,31} \|^\s*\)\@<=\d\+\ze [ICDK] / nextgroup=cpdbRecord skipwhite
 syntax match cpdbRecord /\<[ICDK]\>/ contained nextgroup=cpdbRecorded,cpdbQuotedRecorded skipwhite
 syntax match cpdbRecorded /\k\+/ contained nextgroup=cpdbPlace,cpdbQuotedPlace skipwhite
 syntax region cpdbQuotedRecorded start=/"/ skip=/\\./ end=/"/ contained contains=cpdbEscape nextgroup=cpdbPlace,cpdbQuotedPlace skipwhite
 
 highlight default link cpdbVerb Statement
+highlight default link cpdbOwner PreProc
 for s:word in ['Word', 'From', 'Form', 'By', 'At', 'ByWhom']
   execute 'highlight default link cpdb' . s:word . ' Keyword'
 endfor
