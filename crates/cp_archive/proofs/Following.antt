@@ -13,9 +13,8 @@ use Rattle.cp_model.specs.declared.op.Op.{Op}
 use Rattle.cp_model.specs.declared.row.Content.{Content}
 use Rattle.cp_operation.specs.Passed.{AllAccepted, tree_until}
 use Rattle.cp_tree.proofs.ListingLemmas.{entries_in-rows}
-use Rattle.cp_archive.specs.Touching.{AreApart, AreTouched, Covers, places_of, touched_before, with_after, IsToldOf, Leads}
+use Rattle.cp_archive.specs.Touching.{AreApart, Covers, places_of, touched_before, with_after, IsToldOf, Leads}
 use Rattle.cp_archive.specs.declared.touched.Touched.{Touched}
-use Rattle.cp_archive.proofs.Covering.{until-covers}
 
 -- where a place isn't there, nothing stands
 pub gone-none : (t : Tree) (p : Path) → is_there t p ≡ false → keyed.get t p ≡ None
@@ -35,15 +34,15 @@ told_all old new [] = tt
 told_all old new (p ∷ ps) = (record { before = entries_in-rows (below p old); after = entries_in-rows (below p new) }, told_all old new ps)
 
 -- the rows at the touched places before and after accepted operations lead from the one tree to the other
-pub replay-leads : (ss : List Source) (old new last : Tree) (ops : List Op) (ps : List Path) (xs ys : List Touched) → last ≡ old → AllAccepted ss old ops → new ≡ tree_until ss old ops → IsTree new → AreApart ps → AreTouched ops ps
+pub replay-leads : (ss : List Source) (old new last : Tree) (ops : List Op) (ps : List Path) (xs ys : List Touched) → last ≡ old → AllAccepted ss old ops → new ≡ tree_until ss old ops → IsTree new → AreApart ps → ((us : List Source) → AllAccepted us old ops → Covers ps old (tree_until us old ops))
     → xs ≡ map (touched_before old) ps → ys ≡ map (with_after new) xs → Leads ys last new
-replay-leads ss old new last ops ps xs ys l a n t apart touched x y =
+replay-leads ss old new last ops ps xs ys l a n t apart covers x y =
     let told : ys ≡ map (with_after new) (map (touched_before old) ps) = y ∙ ap (map (with_after new)) x in
     let places : places_of ys ≡ ps = ap places_of told ∙ told_places old new ps in
     subst (λ u. Leads ys u new) (sym l) (record {
       apart = subst AreApart (sym places) apart;
       told = subst (AllByRecursion (IsToldOf old new)) (sym told) (told_all old new ps);
-      covers = subst (λ qs. Covers qs old new) (sym places) (λ q c. ap (λ u. keyed.get u q) n ∙ until-covers ss old ops ps a touched q c);
+      covers = subst (λ qs. Covers qs old new) (sym places) (λ q c. ap (λ u. keyed.get u q) n ∙ covers ss a q c);
       tree = t;
     })
 

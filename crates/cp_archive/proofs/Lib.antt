@@ -7,6 +7,7 @@ mod Finding
 mod Following
 mod Forgetting
 pub mod HistoryTrees
+mod Idling
 mod Listing
 mod Making
 mod Noted

@@ -2,7 +2,7 @@
 use Rattle.std.specs.Prelude.{◌≡◌, Bool, true, false, List, [], ◌∷◌, map, length, nat_lt, if◌then◌else◌}
 use Rattle.std.specs.List.{list_any, AllByRecursion}
 use Rattle.cp_path.specs.declared.limits.TheConstants.{LABELS_MAX}
-use Rattle.cp_model.specs.Place.{Label, Path, child, path_eq, starts_with}
+use Rattle.cp_model.specs.Place.{Label, Path, child, in_target, path_eq, starts_with}
 use Rattle.cp_model.specs.declared.op.Op.{Op}
 use Rattle.cp_model.specs.declared.op.Op.TheVariants.{Ins, Del, Copy}
 use Rattle.cp_model.specs.Keyed.{get}
@@ -38,6 +38,12 @@ touched_by (Copy q p) = p.path
 -- the place of each operation lies at or below one of these
 abbrev pub AreTouched : List Op → List Path → Type 0
 AreTouched ops ps = AllByRecursion (λ op. is_covered ps (touched_by op) ≡ true) ops
+
+-- the operation copies what its destination in the tree has already
+abbrev pub IsIdle : Tree → Op → Type 0
+IsIdle t (Ins p a l) = ⊥
+IsIdle t (Del a p) = ⊥
+IsIdle t (Copy q p) = (in_target q ≡ true) × (below q.path t ≡ below p.path t)
 
 -- the place at a label, or the one above it, where a label more would be too many
 abbrev pub child_within : Path → Label → Path

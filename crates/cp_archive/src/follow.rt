@@ -10,7 +10,7 @@ ghost use Rattle.cp_archive.specs.Histories.{trees_alone, trees_of_steps};
 ghost use Rattle.cp_archive.specs.Trees.{newest};
 
 use crate::archive::Archive;
-use crate::places::touched_places;
+use crate::idle::changed_places;
 use crate::touched::Touched;
 use cp_engine::replay;
 use cp_model::{Kind, Op, RowList};
@@ -92,7 +92,8 @@ fn add_rows_after<R: TreeRep>(
 impl Archive {
     /// Applies the operations of a step to the tree of the last version, as long as they are accepted, and adds the version to which
     /// they lead; says whether all were. Costs their checks and changes, the rows at and below the places that they touch, before and
-    /// after, and what `add_step` costs. After an error, and where one isn't accepted, the archive is as it was; what the tree holds
+    /// after, and what `add_step` costs; where all are copies over what the tree knows to be the same, the places that they copy at
+    /// most, without rows. After an error, and where one isn't accepted, the archive is as it was; what the tree holds
     /// after an error isn't said.
     pub fn replay_step<R: TreeRep, S: TreeRep>(
         &mut self,
@@ -110,7 +111,7 @@ impl Archive {
         ensures refused { IfOk result (λ b. b ≡ false → self.new ≡ self.old) }
         ensures err { OnErr result (self.new ≡ self.old) }
     {
-        let places = touched_places(alloc, ops)?;
+        let places = changed_places(alloc, tree, ops)?;
         let mut touched = rows_before(alloc, tree, places.as_slice())?;
         if !replay(alloc, tree, sources, ops)? {
             return Ok(false);

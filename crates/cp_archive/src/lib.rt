@@ -7,6 +7,7 @@
 mod archive;
 mod difference;
 mod follow;
+mod idle;
 mod paths;
 mod phase;
 mod places;

@@ -125,6 +125,11 @@ impl<A: TreeRep, B: TreeRep, C: TreeRep> TreeRep for TripleTree<A, B, C> {
         }
     }
 
+    /// Says what the first form knows: the others may know less, or more.
+    fn are_known_equal(&self, place: &Path, other: &Path) -> bool {
+        self.first.are_known_equal(place, other)
+    }
+
     fn insert_leaf(
         &mut self,
         alloc: Global,

@@ -1,4 +1,4 @@
-ghost use Rattle.std.specs.Prelude.{◌≡◌, ◌≤◌, IfOk, IfSome};
+ghost use Rattle.std.specs.Prelude.{◌≡◌, ◌≤◌, IsTrue, IfOk, IfSome};
 ghost use Rattle.std.specs.declared.option.Option.TheVariants.{Some};
 ghost use Rattle.cp_model.specs.Tree.{text_bytes, is_node, IsNumber};
 ghost use Rattle.cp_model.specs.declared.row.Content.TheVariants.{Leaf};
@@ -90,6 +90,21 @@ impl SharedContent {
         }
     }
 
+    /// Says whether the two are known to be one content. Costs the bytes of a text.
+    pub fn is_known_equal(&self, other: &SharedContent) -> bool
+        ensures { IsTrue result → self.now ≡ other.now }
+    {
+        match (&self.form, &other.form) {
+            (ContentForm::Branch, ContentForm::Branch) => true,
+            (ContentForm::Nil, ContentForm::Nil) => true,
+            (ContentForm::No, ContentForm::No) => true,
+            (ContentForm::Yes, ContentForm::Yes) => true,
+            (ContentForm::Number(number), ContentForm::Number(other)) => number == other,
+            (ContentForm::Other(content), ContentForm::Other(other)) => is_same(content, other),
+            _ => false,
+        }
+    }
+
     /// Says whether it is that of a node.
     pub fn is_node(&self) -> bool
         ensures { result ≡ is_node (Some self.now) }
@@ -156,6 +171,17 @@ fn copy_content(content: &Content) -> Result<Content, AllocError>
     match content {
         Content::Node => Ok(Content::Node),
         Content::Leaf(value) => Ok(Content::Leaf(value.clone()?)),
+    }
+}
+
+/// Says whether two contents are the same. Costs the bytes of the shorter text.
+fn is_same(content: &Content, other: &Content) -> bool
+    ensures { IsTrue result → content.now ≡ other.now }
+{
+    match (content, other) {
+        (Content::Node, Content::Node) => true,
+        (Content::Leaf(value), Content::Leaf(other)) => value.is_same(other),
+        _ => false,
     }
 }
 

@@ -1,5 +1,5 @@
 //! The trait of the representations.
-ghost use Rattle.std.specs.Prelude.{◌≡◌, ◌≤◌, true, false, List, map, length, IfOk, OnOk, OnErr};
+ghost use Rattle.std.specs.Prelude.{◌≡◌, ◌≤◌, true, false, IsTrue, List, map, length, IfOk, OnOk, OnErr};
 ghost use Rattle.std.specs.declared.option.Option.TheVariants.{None, Some};
 ghost use Rattle.cp_model.specs.Place.{child};
 ghost use Rattle.cp_model.specs.Keyed.{get, len};
@@ -51,6 +51,11 @@ pub trait TreeRep: Drop {
     fn reach(&self, place: &Path) -> Reach
         requires there { is_there (contents self.now) place.now ≡ true }
         ensures { result ≡ reach_at (contents self.now) place.now };
+
+    /// Says whether what stands at the two places is known to be the same, as after a copy of one to the other. `false` says
+    /// nothing: a form may leave it at that. Takes no memory, and costs at most the places of one of the two.
+    fn are_known_equal(&self, place: &Path, other: &Path) -> bool
+        ensures { IsTrue result → below place.now (contents self.now) ≡ below other.now (contents self.now) };
 
     /// Adds a place without children below a node.
     fn insert_leaf(

@@ -242,6 +242,11 @@ impl TreeRep for ArenaTree {
         self.node(place.labels()).reach()
     }
 
+    /// Says nothing of any two places, since it keeps no subtree twice.
+    fn are_known_equal(&self, _place: &Path, _other: &Path) -> bool {
+        false
+    }
+
     fn insert_leaf(
         &mut self,
         alloc: Global,

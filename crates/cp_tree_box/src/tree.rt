@@ -122,6 +122,11 @@ impl TreeRep for BoxTree {
         reach_of(self.node(place.labels()))
     }
 
+    /// Says nothing of any two places, since it keeps no subtree twice.
+    fn are_known_equal(&self, _place: &Path, _other: &Path) -> bool {
+        false
+    }
+
     fn insert_leaf(
         &mut self,
         alloc: Global,

@@ -146,6 +146,11 @@ impl TreeRep for RowTree {
         self.part(place.labels()).reach()
     }
 
+    /// Says nothing of any two places, since it keeps no subtree twice.
+    fn are_known_equal(&self, _place: &Path, _other: &Path) -> bool {
+        false
+    }
+
     /// Adds a place without children below a node. Costs the search, and moves the rows after the place.
     fn insert_leaf(
         &mut self,

@@ -1,4 +1,4 @@
-ghost use Rattle.std.specs.Prelude.{◌≡◌, [], ◌∷◌, ◌++◌, map, true, IfOk, OnOk, OnErr, IfSome, IfNone};
+ghost use Rattle.std.specs.Prelude.{◌≡◌, [], ◌∷◌, ◌++◌, map, true, IsTrue, IfOk, OnOk, OnErr, IfSome, IfNone};
 ghost use Rattle.std.specs.declared.option.Option.TheVariants.{Some, None};
 ghost use Rattle.cp_model.specs.Place.{child};
 ghost use Rattle.cp_model.specs.Keyed.{get, entries};
@@ -249,6 +249,15 @@ impl ShareNode {
         Ok(labels)
     }
 
+    /// Says whether the two are known to be the same tree: they are, node by node, and their siblings stand in trees of one shape, as
+    /// those of a node and of what shares it do. Costs the places, up to the first difference.
+    #[cycle(equal)]
+    pub(crate) fn is_known_equal(&self, other: &ShareNode) -> bool
+        ensures { IsTrue result → self.now ≡ other.now }
+    {
+        self.content.is_known_equal(&other.content) && self.children.is_known_equal(&other.children)
+    }
+
     /// Adds the rows of the node, which stands at the place `at`, in order. Costs them and their paths.
     #[cycle(rows)]
     pub(crate) fn rows_into(
@@ -266,6 +275,14 @@ impl ShareNode {
 }
 
 impl Entry {
+    /// Says whether the two are known to be the same.
+    #[cycle(equal)]
+    fn is_known_equal(&self, other: &Entry) -> bool
+        ensures { IsTrue result → self.now ≡ other.now }
+    {
+        self.label.as_str() == other.label.as_str() && self.node.is_known_equal(&other.node)
+    }
+
     /// Makes the entry with a new entry below the node at `place` in it.
     #[cycle(put)]
     fn put(&self, alloc: Global, place: &[Label], new: &Entry) -> Result<Entry, AllocError>
@@ -297,6 +314,23 @@ impl Entry {
 }
 
 impl Forest {
+    /// Says whether the two are known to hold the same siblings.
+    #[cycle(equal)]
+    fn is_known_equal(&self, other: &Forest) -> bool
+        ensures { IsTrue result → self.now.0 ≡ other.now.0 }
+    {
+        match (&self.open, &other.open) {
+            (Open::Tip, Open::Tip) => true,
+            (Open::Full(fork), Open::Full(other)) => {
+                let (fork, other): (&Fork, &Fork) = (fork, other);
+                fork.left.is_known_equal(&other.left)
+                    && fork.entry.is_known_equal(&other.entry)
+                    && fork.right.is_known_equal(&other.right)
+            }
+            _ => false,
+        }
+    }
+
     /// Adds the rows of the siblings, whose parent stands at the place `at`, in order. Costs them and their paths.
     #[cycle(rows)]
     fn rows_into(

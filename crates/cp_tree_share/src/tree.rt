@@ -116,6 +116,17 @@ impl TreeRep for ShareTree {
         self.node(place.labels()).reach()
     }
 
+    /// Compares the two subtrees. Costs the places of one at most, where they are equal or differ late.
+    fn are_known_equal(&self, place: &Path, other: &Path) -> bool {
+        match (
+            self.root.find(place.labels()),
+            self.root.find(other.labels()),
+        ) {
+            (Some(node), Some(other)) => node.is_known_equal(other),
+            _ => false,
+        }
+    }
+
     fn insert_leaf(
         &mut self,
         alloc: Global,

@@ -10,7 +10,7 @@ add_step-requires-clause-step g c = (
   g.R.TreeRep.contents c.replay.new.tree,
   replay-leads (sources_in g.S.TreeRep.contents c.args.sources.now) (g.R.TreeRep.contents c.args.tree.now) (g.R.TreeRep.contents c.replay.new.tree) (newest c.args.self.now) c.args.ops.now c.in_ok-places.places.items
       c.in_ok-touched.touched.items c.as_slice-2.result.now c.requires.newest (c.in_ok-replay.ensures.accepted.0 c.if-not-branch.false) c.in_ok-replay.ensures.stops (g.met.R.TreeRep.is_tree c.replay.new.tree)
-      c.in_ok-places.ensures.apart c.in_ok-places.ensures.touched
+      c.in_ok-places.ensures.apart c.in_ok-places.ensures.covers
       (c.in_ok-touched.ensures ∙ ap (map (touched_before (g.R.TreeRep.contents c.args.tree.now))) c.as_slice.ensures.value)
       (c.as_slice-2.ensures.value ∙ whole-made (with_after (g.R.TreeRep.contents c.replay.new.tree)) c.in_ok-touched.touched.len c.add_rows_after.new.touched c.in_ok-touched.touched.items (search rules) (c.in_ok-add_rows_after.ensures ∙ ap (map (with_after (g.R.TreeRep.contents c.replay.new.tree))) c.as_mut_slice.ensures.value)),
 )
@@ -20,6 +20,6 @@ returns-clause-added g c = λ _.
     c.in_ok-add_step.ensures.ok (g.R.TreeRep.contents c.replay.new.tree)
     (replay-leads (sources_in g.S.TreeRep.contents c.args.sources.now) (g.R.TreeRep.contents c.args.tree.now) (g.R.TreeRep.contents c.replay.new.tree) (newest c.args.self.now) c.args.ops.now c.in_ok-places.places.items
     c.in_ok-touched.touched.items c.as_slice-2.result.now c.requires.newest (c.in_ok-replay.ensures.accepted.0 c.if-not-branch.false) c.in_ok-replay.ensures.stops (g.met.R.TreeRep.is_tree c.replay.new.tree)
-    c.in_ok-places.ensures.apart c.in_ok-places.ensures.touched
+    c.in_ok-places.ensures.apart c.in_ok-places.ensures.covers
     (c.in_ok-touched.ensures ∙ ap (map (touched_before (g.R.TreeRep.contents c.args.tree.now))) c.as_slice.ensures.value)
     (c.as_slice-2.ensures.value ∙ whole-made (with_after (g.R.TreeRep.contents c.replay.new.tree)) c.in_ok-touched.touched.len c.add_rows_after.new.touched c.in_ok-touched.touched.items (search rules) (c.in_ok-add_rows_after.ensures ∙ ap (map (with_after (g.R.TreeRep.contents c.replay.new.tree))) c.as_mut_slice.ensures.value)))
