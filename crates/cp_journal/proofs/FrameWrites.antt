@@ -17,6 +17,11 @@ pub of_success : {T E P Q R : Type 0} (result : Result T E) → (P → Q → R) 
 of_success (Ok v) follows p q = follows p q
 of_success (Err e) follows p q = tt
 
+-- what follows from one
+pub of_ok : {T E P Q : Type 0} (result : Result T E) → (P → Q) → OnOk result P → OnOk result Q
+of_ok (Ok v) follows p = follows p
+of_ok (Err e) follows p = tt
+
 -- a file may have an entry within the limit
 pub lawful_entry : (body : List ℕ) → length body ≤ BODY_MAX → IsLawful (entry body)
 lawful_entry body le = record {

@@ -1,7 +1,9 @@
+pub mod Begun
 pub mod Frames
 pub mod Headers
 pub mod Holding
 pub mod Journals
 pub mod NewStores
+pub mod Slots
 pub mod Upgrading
 pub mod Walks

@@ -38,11 +38,11 @@ fn given_len(tag: u8, len: u64) -> u64
 /// A journal whose call answered `Disk` or `Memory` while it wrote is spent, and is for nothing but `spent`.
 #[derive(Drop)]
 pub struct Journal {
-    frames: Vec<FrameAt>,
-    next: u64,
-    begun: Option<u64>,
-    broken: Option<u64>,
-    spent: bool,
+    pub(crate) frames: Vec<FrameAt>,
+    pub(crate) next: u64,
+    pub(crate) begun: Option<u64>,
+    pub(crate) broken: Option<u64>,
+    pub(crate) spent: bool,
 }
 
 impl Model for Journal {

@@ -15,11 +15,17 @@
 //! A frame is written after its closed gate, with the closed gate of the next one, and synced; then its gate is opened, and
 //! synced. So a crash leaves the frames before, or those and the new one.
 //!
+//! The body of a checkpoint's frame is written in pieces after the closed gate, with zeros before them in the place of the tag
+//! and the length; these are written at the end, before the first sync. A slot that isn't live names the frame then: its gate is
+//! closed, what comes after that is written, and the gate is opened, each with a sync. So a crash leaves the slot that was live,
+//! or the new one.
+//!
 //! A file of version 1 is made one of version 2 by a write of byte 6 alone and a sync: a crash in between leaves it of the one
 //! version or of the other, and changes nothing else of it.
 #![tactic(auto)]
 
 mod calls;
+mod checkpoint;
 mod fault;
 mod frame;
 mod header;
@@ -27,10 +33,14 @@ mod journal;
 mod limits;
 mod new_store;
 mod reading;
+mod slots;
 mod walk;
 
 pub use fault::JournalFault;
 pub use frame::{CHECKPOINT, ENTRY, FrameAt};
 pub use header::{Header, Slot};
 pub use journal::Journal;
-pub use limits::{BODY_MAX, FRAME_HEAD, HEADER_SIZE, VERSION_AT};
+pub use limits::{
+    BODY_MAX, FIRST_SLOT, FRAME_HEAD, HEADER_SIZE, SECOND_SLOT, SLOT_SIZE, VERSION_AT,
+};
+pub use slots::{live_slot, make_live, spare_slot};

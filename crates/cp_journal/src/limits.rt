@@ -9,3 +9,12 @@ pub const HEADER_SIZE: usize = 192;
 
 /// The bytes of a frame before its body: the gate, the tag and the length.
 pub const FRAME_HEAD: u64 = 10;
+
+/// The offset of the first slot, in the header.
+pub const FIRST_SLOT: usize = 64;
+
+/// The offset of the second slot.
+pub const SECOND_SLOT: usize = 128;
+
+/// The bytes of a slot.
+pub const SLOT_SIZE: usize = 64;
