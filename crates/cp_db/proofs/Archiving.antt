@@ -26,7 +26,7 @@ use Rattle.cp_frame.proofs.Standing.{held-one, replayed-items, rows-right}
 use Rattle.cp_db.specs.Archives.{ArchivesAs, AreVersionsOf, HasVersions}
 use Rattle.cp_db.specs.Committed.{IsReplayed, LeadsTo, TidsLieBetween}
 use Rattle.cp_db.specs.Walk.{FindsAs, HasFound}
-use Rattle.cp_db.specs.Work.{BeginsWith, IsAtCommit, IsBegun, IsPassed}
+use Rattle.cp_db.specs.Work.{BeginsWith, Beginning, CommitMoment, IsAtCommit, IsBegun, IsPassed}
 use Rattle.cp_db.specs.declared.archive.Kept.{Kept}
 use Rattle.cp_db.specs.declared.fault.OpenFault.{OpenFault}
 use Rattle.cp_db.specs.declared.fault.OpenFault.TheVariants.{NoStore, Disk, Memory}
@@ -110,7 +110,11 @@ versions-stay kept first items s p place i found stand leads is none =
 
 -- ---- a commit
 
-module _ (old new : Kept) (first : Option State) (place : ℕ → ℕ) (items : List Item) (s : State) (x : WrittenEntry) (c : CommitAt) (kind : Kind) (last : ℕ) (ss : List Source) (t : Tree) (is : IsAtCommit first place items s x c kind last ss t) where
+module _ (old new : Kept) (begun : Beginning) (items : List Item) (s : State) (x : WrittenEntry) (c : CommitAt) (moment : CommitMoment) (is : IsAtCommit begun items s x c moment) where
+  -- the trees that the commit's steps lead to, each after the one before
+  abbrev trees_made : List Tree
+  trees_made = trees_of_steps moment.kind moment.sources moment.tree c.ops
+
   commit_kind : (z : State) → after_item (Some s) (an_entry x) ≡ Some z → z.kind ≡ s.kind
   commit_kind z e =
       let can = (may_when false s x c.ops c.records is.holds is.can).0 in
@@ -118,16 +122,16 @@ module _ (old new : Kept) (first : Option State) (place : ℕ → ℕ) (items : 
       ap (λ (y : State). y.kind) (sym (same_Some (after_commit s c.ops) z made_of)) ∙ (committed-as s c.ops can).1
 
   -- the trees after its steps
-  commit_trees : trees_from s (entry_meant x ∷ []) ≡ trees_of_steps kind ss t c.ops
+  commit_trees : trees_from s (entry_meant x ∷ []) ≡ trees_made
   commit_trees =
       ap (λ (h : History). trees_from s (h ∷ [])) is.means
       ∙ append-nil (trees_of_steps s.kind s.sources (tree_of s.tree) c.ops)
       ∙ ap (λ (k : Kind). trees_of_steps k s.sources (tree_of s.tree) c.ops) is.of_kind
-      ∙ ap (λ (rs : List Source). trees_of_steps kind rs (tree_of s.tree) c.ops) is.sources
-      ∙ ap (λ (u : Tree). trees_of_steps kind ss u c.ops) is.tree
+      ∙ ap (λ (rs : List Source). trees_of_steps moment.kind rs (tree_of s.tree) c.ops) is.sources
+      ∙ ap (λ (u : Tree). trees_of_steps moment.kind moment.sources u c.ops) is.tree
 
   -- a commit adds the versions after its steps
-  pub versions-commit : (first ≡ None → AreVersionsOf items old) → new.kind ≡ old.kind → new.archive ≡ old.archive ++ trees_of_steps kind ss t c.ops → new.rows ≡ old.rows ++ c.records → first ≡ None → AreVersionsOf (items ++ an_entry x ∷ []) new
+  pub versions-commit : (begun.first ≡ None → AreVersionsOf items old) → new.kind ≡ old.kind → new.archive ≡ old.archive ++ trees_made → new.rows ≡ old.rows ++ c.records → begun.first ≡ None → AreVersionsOf (items ++ an_entry x ∷ []) new
   versions-commit found k trees rows none =
       let before = found none in
       let here : fold after_item None items ≡ Some s = ap (λ (o : Option State). fold after_item o items) (sym none) ∙ is.leads in
@@ -135,10 +139,10 @@ module _ (old new : Kept) (first : Option State) (place : ℕ → ℕ) (items : 
         of_kind = kind_more items s here (an_entry x) new.kind (k ∙ before.of_kind s here) commit_kind;
         trees =
             trees
-            ∙ ap (λ (ts : List Tree). ts ++ trees_of_steps kind ss t c.ops) before.trees
+            ∙ ap (λ (ts : List Tree). ts ++ trees_made) before.trees
             ∙ ap (λ (ts : List Tree). trees_of_history (flat_map entries_in items) ++ ts) (sym commit_trees)
-            ∙ sym (trees_item items s x (led-from first items s none is.stand is.leads));
-        rows = rows-commit old.rows new.rows first place items s x c kind last ss t before.rows is rows;
+            ∙ sym (trees_item items s x (led-from begun.first items s none is.stand is.leads));
+        rows = rows-commit old.rows new.rows begun items s x c moment before.rows is rows;
       }
 
 -- after a commit there are no more versions than Tids, and one

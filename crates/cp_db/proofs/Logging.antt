@@ -8,7 +8,6 @@ use Rattle.std.proofs.lemmas.List.Concat.{flat_map-append}
 use Rattle.cp_model.specs.declared.answer.LogLine.{LogLine}
 use Rattle.cp_model.specs.declared.kind.Kind.{Kind}
 use Rattle.cp_model.specs.declared.stamp.Stamp.{Stamp}
-use Rattle.cp_model.specs.Tree.{Tree, Source}
 use Rattle.cp_model.specs.History.{Entry as History, State, start as begun, load as loaded, commit as made, start_state, after_commit, after_load, replay, then_entry, IsLegal, IsLegalFrom, log_of, log_after, log_line}
 use Rattle.cp_engine.proofs.Committed.{committed, commit-accepted}
 use Rattle.cp_frame.specs.Entries.{WrittenEntry, start, load, commit, stamped}
@@ -18,7 +17,7 @@ use Rattle.cp_frame.proofs.Images.{one_history}
 use Rattle.cp_db.specs.Committed.{LeadsTo}
 use Rattle.cp_db.specs.Log.{LogsAs}
 use Rattle.cp_db.specs.Walk.{HasFound}
-use Rattle.cp_db.specs.Work.{BeginsWith, IsAtCommit, IsPassed}
+use Rattle.cp_db.specs.Work.{BeginsWith, Beginning, CommitMoment, IsAtCommit, IsPassed}
 use Rattle.cp_db.specs.declared.log.Logging.{Logging}
 use Rattle.cp_db.specs.declared.work.CommitAt.{CommitAt}
 use Rattle.cp_db.specs.declared.work.Passed.{Passed}
@@ -88,13 +87,13 @@ pub log-stays : (lines : List LogLine) (first : Option State) (items : List Item
 log-stays lines first items s p place i found stand leads is none = log_passed lines items s p place i (found none) (led-from first items s none stand leads) is
 
 -- a commit has one
-pub log-commit : (lines more : List LogLine) (first : Option State) (place : ℕ → ℕ) (items : List Item) (s : State) (x : WrittenEntry) (c : CommitAt) (kind : Kind) (last : ℕ) (ss : List Source) (t : Tree) → (first ≡ None → lines ≡ log_of (flat_map entries_in items))
-    → IsAtCommit first place items s x c kind last ss t → more ≡ lines ++ log_line kind last c.stamp c.ops ∷ [] → first ≡ None → more ≡ log_of (flat_map entries_in (items ++ an_entry x ∷ []))
-log-commit lines more first place items s x c kind last ss t found is added none =
+pub log-commit : (lines more : List LogLine) (from : Beginning) (items : List Item) (s : State) (x : WrittenEntry) (c : CommitAt) (moment : CommitMoment) → (from.first ≡ None → lines ≡ log_of (flat_map entries_in items))
+    → IsAtCommit from items s x c moment → more ≡ lines ++ log_line moment.kind moment.last c.stamp c.ops ∷ [] → from.first ≡ None → more ≡ log_of (flat_map entries_in (items ++ an_entry x ∷ []))
+log-commit lines more from items s x c moment found is added none =
     added
     ∙ (λ j. found none j ++ log_line (sym is.of_kind j) (sym is.after j) c.stamp c.ops ∷ [])
     ∙ ap (λ (e : History). log_of (flat_map entries_in items) ++ log_after s.kind s.now (e ∷ [])) (sym is.means)
-    ∙ sym (log_item items s x (led-from first items s none is.stand is.leads))
+    ∙ sym (log_item items s x (led-from from.first items s none is.stand is.leads))
 
 -- ---- a file
 

@@ -9,7 +9,7 @@ use Rattle.cp_model.specs.declared.kind.Kind.{Kind}
 use Rattle.cp_model.specs.declared.literal.Literal.{Literal}
 use Rattle.cp_model.specs.declared.op.Op.{Op}
 use Rattle.cp_model.specs.declared.record.Record.{Record}
-use Rattle.cp_model.specs.Tree.{Tree, Source, IsTree}
+use Rattle.cp_model.specs.Tree.{Tree, IsTree}
 use Rattle.cp_store.specs.Stores.{KindRows}
 use Rattle.cp_model.specs.History.{State, commit as made, start_state}
 use Rattle.cp_model.proofs.Contents.{tree_of-aged}
@@ -21,8 +21,8 @@ use Rattle.cp_frame.specs.Items.{Item, an_entry, a_checkpoint, CanStand, entry_m
 use Rattle.cp_frame.proofs.Standing.{stand-split}
 use Rattle.cp_db.specs.Committed.{HasTaken, HoldsBatch, IsReplayed, KeepsState, LoadsSource, ReplaysCommit}
 use Rattle.cp_db.specs.Opening.{IsStartOf}
-use Rattle.cp_db.specs.Walk.{CanReach, HasReached, committed_of}
-use Rattle.cp_db.specs.Work.{BeginsWith, IsAtCommit, IsBegun, IsPassed}
+use Rattle.cp_db.specs.Walk.{CanReach, HasReached, RowsDone, RowsFit, committed_of}
+use Rattle.cp_db.specs.Work.{BeginsWith, Beginning, CommitMoment, IsAtCommit, IsBegun, IsPassed}
 use Rattle.cp_db.specs.declared.committed.Committed.{Committed}
 use Rattle.cp_db.specs.declared.limits.TheConstants.{TIDS_MAX}
 use Rattle.cp_db.specs.declared.work.CommitAt.{CommitAt}
@@ -67,9 +67,9 @@ rows-stay rs items i found none =
     found ∙ sym (append-nil (flat_map records_in items)) ∙ ap (λ (x : List Record). flat_map records_in items ++ x) (sym none ∙ sym (append-nil (records_in i))) ∙ sym (flat_map-append records_in items (i ∷ []))
 
 -- a commit has those that are written with it
-pub rows-commit : (rs more : List Record) (first : Option State) (place : ℕ → ℕ) (items : List Item) (s : State) (x : WrittenEntry) (c : CommitAt) (kind : Kind) (last : ℕ) (ss : List Source) (t : Tree) → rs ≡ flat_map records_in items → IsAtCommit first place items s x c kind last ss t
+pub rows-commit : (rs more : List Record) (begun : Beginning) (items : List Item) (s : State) (x : WrittenEntry) (c : CommitAt) (moment : CommitMoment) → rs ≡ flat_map records_in items → IsAtCommit begun items s x c moment
     → more ≡ rs ++ c.records → more ≡ flat_map records_in (items ++ an_entry x ∷ [])
-rows-commit rs more first place items s x c kind last ss t found is added =
+rows-commit rs more begun items s x c moment found is added =
     added
     ∙ ap (λ (l : List Record). l ++ c.records) found
     ∙ ap (λ (l : List Record). flat_map records_in items ++ l) (sym (commit_of x c.ops c.records is.holds).records ∙ sym (append-nil (records_with x)))
@@ -150,7 +150,7 @@ module _ {R S W : Type 0} (view : R → Tree) (source_view : S → Tree) (Fits :
 
   -- a commit that has been passed is the next one
   pub at-commit : (place : ℕ → ℕ) (n : HistoryWalk R S W) (x : WrittenEntry) (c : CommitAt) → HoldsBatch x c.ops c.records → entry_meant x ≡ made c.stamp c.ops → c.at ≡ place (length items) → HasReached view source_view Fits first n (items ++ an_entry x ∷ [])
-      → IsAtCommit first place items state_of x c w.kind w.last (sources_in source_view w.sources) (view w.tree)
+      → IsAtCommit (record { first = first; place = place }) items state_of x c (record { kind = w.kind; last = w.last; sources = sources_in source_view w.sources; tree = view w.tree })
   at-commit place n x c holds means at reached =
       let z = g.taken.keeps in
       record {
@@ -174,14 +174,6 @@ passed-load name l (commit b) at place same is = absurd is
 passed-load name l (stamped r b) at place same is = absurd is
 
 -- ---- an opening
-
--- the rows of an opening go on in this kind, after this Tid
-abbrev pub RowsFit : KindRows → Kind → ℕ → Tree → Type 0
-RowsFit rows kind last tree = (rows.kind ≡ kind) × (rows.rows.upto ≡ last)
-
--- and are the records of the items
-abbrev pub RowsDone : KindRows → Option State → (ℕ → ℕ) → List Item → Type 0
-RowsDone rows first place items = rows.rows.list ≡ flat_map records_in items
 
 module _ {R S : Type 0} (view : R → Tree) (source_view : S → Tree) (first : Option State) (w : HistoryWalk R S KindRows) (items : List Item) (g : HasReached view source_view RowsFit first w items) where
   abbrev opened : Committed R S

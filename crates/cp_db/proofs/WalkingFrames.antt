@@ -5,9 +5,7 @@ use Rattle.std.specs.declared.option.Option.{Option}
 use Rattle.std.specs.declared.option.Option.TheVariants.{None, Some}
 use Rattle.std.proofs.lemmas.List.{take_all}
 use Rattle.cp_format.specs.Formats.{Reads}
-use Rattle.cp_model.specs.Tree.{Tree}
 use Rattle.cp_model.specs.History.{State}
-use Rattle.cp_model.specs.declared.kind.Kind.{Kind}
 use Rattle.cp_journal.specs.Frames.{Frame, frames_of, spelled, spelled_all}
 use Rattle.cp_journal.specs.Headers.{HasHeader, header_in}
 use Rattle.std.specs.Int.{w64, to_be_bytes}
@@ -25,7 +23,8 @@ use Rattle.cp_frame.proofs.Images.{told-opens}
 use Rattle.cp_frame.proofs.Standing.{held-append, replayed-items}
 use Rattle.cp_disk.specs.Views.{View}
 use Rattle.cp_db.specs.Opening.{IsStartOf, OpensAs, StartsAs}
-use Rattle.cp_db.specs.Walk.{FindsAs, GoesOnAs, HasCome, HasReached, PassesFrameAs, TellsPassedAs, frame_place}
+use Rattle.cp_db.specs.Walk.{FindsAs, GoesOnAs, HasCome, HasReached, PassesFrameAs, TellsPassedAs, WalkTerms, begun_at, frame_place}
+use Rattle.cp_db.specs.Work.{Beginning}
 use Rattle.cp_db.specs.declared.start.Start.{Start}
 use Rattle.cp_db.specs.declared.fault.OpenFault.{OpenFault}
 use Rattle.cp_db.specs.declared.fault.OpenFault.TheVariants.{NoStore, Disk, Memory}
@@ -50,43 +49,42 @@ placed_at from (f ∷ fs) (suc n) at is =
 pub listed_place : (from : ℕ) (fs : List Frame) (j : JournalState) (c : List ℕ) → Lists from fs j c → (n : ℕ) (at : FrameAt) → slice_get j.frames n ≡ Some at → at.at ≡ frame_place from fs n
 listed_place from fs j c lists n at is = placed_at from fs n at (ap (λ (l : List FrameAt). slice_get l n) (sym lists.frames) ∙ is)
 
-module _ {R S W : Type 0} (view : R → Tree) (source_view : S → Tree) (Fits : W → Kind → ℕ → Tree → Type 0) (Done : W → Option State → (ℕ → ℕ) → List Item → Type 0) where
-  module _ (first : Option State) (v : ℕ) where
-    -- the entry that a frame spells has been passed
-    pub passed_here : (f : Frame) (place : ℕ → ℕ) (items : List Item) (new : HistoryWalk R S W) (w : WrittenEntry) → f.tag ≡ ENTRY → Reads entry_format f.body w [] → IsOfVersion v w → HasReached view source_view Fits first new (items ++ an_entry w ∷ []) → Done new.work first place (items ++ an_entry w ∷ [])
-        → PassesFrameAs view source_view Fits Done first place v f items new (Ok tt)
-    passed_here f place items new w tag reads allowed reached found = (an_entry w, record { tag = tag; body = reads; allowed = allowed }, record { reached = reached; done = found })
+module _ {R S W : Type 0} (terms : WalkTerms R S W) where
+  -- the entry that a frame spells has been passed
+  pub passed_here : (begun : Beginning) (v : ℕ) (f : Frame) (items : List Item) (new : HistoryWalk R S W) (w : WrittenEntry) → f.tag ≡ ENTRY → Reads entry_format f.body w [] → IsOfVersion v w
+      → HasReached terms.view terms.source_view terms.Fits begun.first new (items ++ an_entry w ∷ []) → terms.Done new.work begun.first begun.place (items ++ an_entry w ∷ []) → PassesFrameAs terms begun v f items new (Ok tt)
+  passed_here begun v f items new w tag reads allowed reached found = (an_entry w, record { tag = tag; body = reads; allowed = allowed }, record { reached = reached; done = found })
 
-    module _ (from : ℕ) (fs : List Frame) where
-      -- one frame more has been passed
-      pub come_on : (n : ℕ) (f : Frame) (old new : HistoryWalk R S W) (g : HasCome view source_view Fits Done first v from fs n old) → slice_get fs n ≡ Some f → PassesFrameAs view source_view Fits Done first (frame_place from fs) v f g.items new (Ok tt) → HasCome view source_view Fits Done first v from fs (n + 1) new
-      come_on n f old new g here (i, held, passed) = record {
-        items = g.items ++ i ∷ [];
-        counted = length-append g.items (i ∷ []) ∙ ap (λ (m : ℕ). m + 1) g.counted;
-        held = subst (λ (l : List Frame). AreHeld v l (g.items ++ i ∷ [])) (sym (taken_more fs n f here)) (held-append v (take n fs) (f ∷ []) g.items (i ∷ []) g.held (held, tt));
-        passed = passed;
-      }
+  module _ (first : Option State) (v from : ℕ) (fs : List Frame) where
+    -- one frame more has been passed
+    pub come_on : (n : ℕ) (f : Frame) (old new : HistoryWalk R S W) (g : HasCome terms first v from fs n old) → slice_get fs n ≡ Some f → PassesFrameAs terms (begun_at first from fs) v f g.items new (Ok tt) → HasCome terms first v from fs (n + 1) new
+    come_on n f old new g here (i, held, passed) = record {
+      items = g.items ++ i ∷ [];
+      counted = length-append g.items (i ∷ []) ∙ ap (λ (m : ℕ). m + 1) g.counted;
+      held = subst (λ (l : List Frame). AreHeld v l (g.items ++ i ∷ [])) (sym (taken_more fs n f here)) (held-append v (take n fs) (f ∷ []) g.items (i ∷ []) g.held (held, tt));
+      passed = passed;
+    }
 
-      -- or a frame holds nothing that may follow
-      pub come_stops : (n : ℕ) (f : Frame) (old new : HistoryWalk R S W) (g : HasCome view source_view Fits Done first v from fs n old) → slice_get fs n ≡ Some f → (e : OpenFault) → PassesFrameAs view source_view Fits Done first (frame_place from fs) v f g.items new (Err e)
-          → GoesOnAs view source_view Fits Done first v from fs new (Err e)
-      come_stops n f old new g here (NoStore at) (refused, place) = record {
-        number = n;
-        frame = f;
-        there = here;
-        items = g.items;
-        held = g.held;
-        stand = g.passed.reached.taken.stand;
-        refused = refused;
-        place = place ∙ ap (frame_place from fs) g.counted;
-      }
-      come_stops n f old new g here Disk none = tt
-      come_stops n f old new g here Memory none = tt
+    -- or a frame holds nothing that may follow
+    pub come_stops : (n : ℕ) (f : Frame) (old new : HistoryWalk R S W) (g : HasCome terms first v from fs n old) → slice_get fs n ≡ Some f → (e : OpenFault) → PassesFrameAs terms (begun_at first from fs) v f g.items new (Err e)
+        → GoesOnAs terms first v from fs new (Err e)
+    come_stops n f old new g here (NoStore at) (refused, place) = record {
+      number = n;
+      frame = f;
+      there = here;
+      items = g.items;
+      held = g.held;
+      stand = g.passed.reached.taken.stand;
+      refused = refused;
+      place = place ∙ ap (frame_place from fs) g.counted;
+    }
+    come_stops n f old new g here Disk none = tt
+    come_stops n f old new g here Memory none = tt
 
   module _ (v from : ℕ) (fs : List Frame) where
     -- the first frame, which holds the start, has been passed
-    pub come_first : (x : Start R) (w : HistoryWalk R S W) → StartsAs view from v fs (Ok x) → ((i : Item) → IsStartOf i x.kind (view x.tree) → HasReached view source_view Fits None w (i ∷ [])) → ((place : ℕ → ℕ) (i : Item) → IsStartOf i x.kind (view x.tree) → Done w.work None place (i ∷ []))
-        → HasCome view source_view Fits Done None v from fs 1 w
+    pub come_first : (x : Start R) (w : HistoryWalk R S W) → StartsAs terms.view from v fs (Ok x) → ((i : Item) → IsStartOf i x.kind (terms.view x.tree) → HasReached terms.view terms.source_view terms.Fits None w (i ∷ [])) → ((place : ℕ → ℕ) (i : Item) → IsStartOf i x.kind (terms.view x.tree) → terms.Done w.work None place (i ∷ []))
+        → HasCome terms None v from fs 1 w
     come_first x w (f, rest, i, are, held, is) reached done = record {
       items = i ∷ [];
       counted = refl;
@@ -95,7 +93,7 @@ module _ {R S W : Type 0} (view : R → Tree) (source_view : S → Tree) (Fits :
     }
 
     -- or there is none, or it holds no start
-    pub first_stops : (e : OpenFault) → StartsAs view from v fs (Err e) → TellsPassedAs view source_view Fits Done v from fs (Err e)
+    pub first_stops : (e : OpenFault) → StartsAs terms.view from v fs (Err e) → TellsPassedAs terms v from fs (Err e)
     first_stops (NoStore at) (place, none) = of fs none
       where
         of : (l : List Frame) → ((f : Frame) (rest : List Frame) → l ≡ f ∷ rest → IsRefused v None f) → ((l ≡ []) × (at ≡ from)) ⊎ StopsAtFrame from v None l at
@@ -114,36 +112,36 @@ module _ {R S W : Type 0} (view : R → Tree) (source_view : S → Tree) (Fits :
     first_stops Memory none = tt
 
     -- all have been passed that come after it, or one stops the walk
-    pub tells_on : (w : HistoryWalk R S W) (e : OpenFault) → GoesOnAs view source_view Fits Done None v from fs w (Err e) → TellsPassedAs view source_view Fits Done v from fs (Err e)
+    pub tells_on : (w : HistoryWalk R S W) (e : OpenFault) → GoesOnAs terms None v from fs w (Err e) → TellsPassedAs terms v from fs (Err e)
     tells_on w (NoStore at) stops = inr stops
     tells_on w Disk none = tt
     tells_on w Memory none = tt
 
   -- the frames of a file hold what has been passed of them all
-  pub held_all : (c : List ℕ) (hd : Header) (w : HistoryWalk R S W) (tells : TellsPassedAs view source_view Fits Done hd.version HEADER_SIZE (frames_of (drop HEADER_SIZE c)).frames (Ok w)) → AreHeld hd.version (frames_of (drop HEADER_SIZE c)).frames tells.1.items
+  pub held_all : (c : List ℕ) (hd : Header) (w : HistoryWalk R S W) (tells : TellsPassedAs terms hd.version HEADER_SIZE (frames_of (drop HEADER_SIZE c)).frames (Ok w)) → AreHeld hd.version (frames_of (drop HEADER_SIZE c)).frames tells.1.items
   held_all c hd w tells =
       let fs = (frames_of (drop HEADER_SIZE c)).frames in
       subst (λ (l : List Frame). AreHeld hd.version l tells.1.items) (take_all (length fs) fs (omega arith)) tells.1.held
 
   module _ (c : List ℕ) (hd : Header) (has : HasHeader c) (said : hd ≡ header_in (take HEADER_SIZE c)) (closed : open_slot hd ≡ None) where
     -- a file of which a frame stops the walk, or that has none, stops there
-    stopped_at : (at : ℕ) → TellsPassedAs view source_view Fits Done hd.version HEADER_SIZE (frames_of (drop HEADER_SIZE c)).frames (Err (NoStore at)) → StopsAt c at
+    stopped_at : (at : ℕ) → TellsPassedAs terms hd.version HEADER_SIZE (frames_of (drop HEADER_SIZE c)).frames (Err (NoStore at)) → StopsAt c at
     stopped_at at none = stops_at_gate c hd has said closed at (stops_in (frames_of (drop HEADER_SIZE c)) hd.version at none)
 
     -- nothing is found of it
-    pub finds_not : (e : OpenFault) → TellsPassedAs view source_view Fits Done hd.version HEADER_SIZE (frames_of (drop HEADER_SIZE c)).frames (Err e) → FindsAs Done c (Err e)
+    pub finds_not : (e : OpenFault) → TellsPassedAs terms hd.version HEADER_SIZE (frames_of (drop HEADER_SIZE c)).frames (Err e) → FindsAs terms.Done c (Err e)
     finds_not (NoStore at) none = whole_not c at (stopped_at at none)
     finds_not Disk none = tt
     finds_not Memory none = tt
 
     -- and it doesn't open
-    pub opens_stopped : (v : View) (e : OpenFault) → TellsPassedAs view source_view Fits Done hd.version HEADER_SIZE (frames_of (drop HEADER_SIZE c)).frames (Err e) → OpensAs view source_view c v (Err e)
+    pub opens_stopped : (v : View) (e : OpenFault) → TellsPassedAs terms hd.version HEADER_SIZE (frames_of (drop HEADER_SIZE c)).frames (Err e) → OpensAs terms.view terms.source_view c v (Err e)
     opens_stopped v (NoStore at) none = opens_not c at (stopped_at at none)
     opens_stopped v Disk none = tt
     opens_stopped v Memory none = tt
 
     module _ (j : JournalState) (w : HistoryWalk R S W) (walked : HasWalked HEADER_SIZE (frames_of (drop HEADER_SIZE c)) j c)
-        (tells : TellsPassedAs view source_view Fits Done hd.version HEADER_SIZE (frames_of (drop HEADER_SIZE c)).frames (Ok w)) where
+        (tells : TellsPassedAs terms hd.version HEADER_SIZE (frames_of (drop HEADER_SIZE c)).frames (Ok w)) where
       -- a file in which a frame is cut short stops there
       broken_at : (at : ℕ) → j.broken ≡ Some at → StopsAt c at
       broken_at at broken = stops_at_gate c hd has said closed at (stops_after c hd.version at j walked broken tells.1.items (held_all c hd w tells) tells.1.passed.reached.taken.stand)
@@ -155,7 +153,7 @@ module _ {R S W : Type 0} (view : R → Tree) (source_view : S → Tree) (Fits :
       opens_broken at broken = opens_not c at (broken_at at broken)
 
       -- what is found of all frames is found of the file
-      pub finds : j.broken ≡ None → FindsAs Done c (Ok w.work)
+      pub finds : j.broken ≡ None → FindsAs terms.Done c (Ok w.work)
       finds whole =
           let fs = (frames_of (drop HEADER_SIZE c)).frames in
           let clean = clean_of (frames_of (drop HEADER_SIZE c)).clean _ j.broken walked.broken whole in

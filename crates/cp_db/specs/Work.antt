@@ -39,15 +39,27 @@ IsPassed (Load at) place (a_checkpoint body) = ⊥
 IsPassed (Checkpoint at) place (an_entry w) = ⊥
 IsPassed (Checkpoint at) place (a_checkpoint body) = at ≡ place
 
--- from the first state on the items lead to a state of this kind, with this last Tid, these sources and this tree; the entry of the commit may follow, and stands in the next place
-pub record IsAtCommit (first : Option State) (place : ℕ → ℕ) (items : List Item) (s : State) (x : WrittenEntry) (c : CommitAt) (kind : Kind) (last : ℕ) (ss : List Source) (t : Tree) : Type 0 where
-  pub stand : AllStand false first items
-  pub leads : fold after_item first items ≡ Some s
-  pub of_kind : s.kind ≡ kind
-  pub after : s.now ≡ last
-  pub sources : s.sources ≡ ss
-  pub tree : tree_of s.tree ≡ t
+-- from where items are passed: after this state, or from the first item on, and the offset of each that comes after
+pub record Beginning : Type 0 where
+  pub first : Option State
+  pub place : ℕ → ℕ
+
+-- the moment at which a commit stands: the kind, the last Tid before it, the sources and the tree
+pub record CommitMoment : Type 0 where
+  pub kind : Kind
+  pub last : ℕ
+  pub sources : List Source
+  pub tree : Tree
+
+-- from the beginning on the items lead to a state of this moment's kind, last Tid, sources and tree; the entry of the commit may follow, and stands in the next place
+pub record IsAtCommit (begun : Beginning) (items : List Item) (s : State) (x : WrittenEntry) (c : CommitAt) (moment : CommitMoment) : Type 0 where
+  pub stand : AllStand false begun.first items
+  pub leads : fold after_item begun.first items ≡ Some s
+  pub of_kind : s.kind ≡ moment.kind
+  pub after : s.now ≡ moment.last
+  pub sources : s.sources ≡ moment.sources
+  pub tree : tree_of s.tree ≡ moment.tree
   pub holds : HoldsBatch x c.ops c.records
   pub means : entry_meant x ≡ commit c.stamp c.ops
-  pub at : c.at ≡ place (length items)
+  pub at : c.at ≡ begun.place (length items)
   pub can : CanStand false (Some s) (an_entry x)

@@ -10,13 +10,14 @@ ghost use Rattle.cp_journal.specs.Journals.{Lists};
 ghost use Rattle.cp_journal.specs.declared.frame.TheConstants.{ENTRY};
 ghost use Rattle.cp_frame.specs.Entries.{WrittenEntry, IsEntry};
 ghost use Rattle.cp_frame.specs.Sound.{IsSoundEntry, IsSoundBatch};
-ghost use Rattle.cp_frame.specs.Items.{Item, an_entry, entry_meant, no_stamp, records_in};
+ghost use Rattle.cp_frame.specs.Items.{Item, an_entry, entry_meant, no_stamp};
 ghost use Rattle.std.specs.declared.option.Option.{Option as OptionValue};
-ghost use Rattle.std.specs.List.{flat_map, slice_get};
+ghost use Rattle.std.specs.List.{slice_get};
 ghost use Rattle.cp_db.specs.Committed.{HasTaken, HoldsBatch, KeepsState};
 ghost use Rattle.cp_db.specs.Opening.{IsOpenDisk, IsStartOf};
 ghost use Rattle.cp_db.specs.declared.limits.TheConstants.{TIDS_MAX};
-ghost use Rattle.cp_db.specs.Walk.{CanReach, FindsAs, GoesOnAs, HasCome, HasPassed, HasReached, PassesFrameAs, TellsPassedAs, frame_place};
+ghost use Rattle.cp_db.specs.Walk.{CanReach, FindsAs, GoesOnAs, HasCome, HasPassed, HasReached, PassesFrameAs, RowsDone, RowsFit, TellsPassedAs, begun_at, walk_terms};
+ghost use Rattle.cp_db.specs.Work.{Beginning};
 
 use crate::committed::{Committed, load_source};
 use crate::fault::OpenFault;
@@ -82,10 +83,11 @@ impl<R: TreeRep, S: TreeRep, W: Work> HistoryWalk<R, S, W> {
         ensures reached { (first : OptionValue State) (items : List Item) (w : WrittenEntry)
             → HasReached R.contents S.contents W.fits first self.old items → IsEntry entry w
             → IfOk result (CanReach R.contents S.contents W.fits first items w self.new) }
-        ensures found { (first : OptionValue State) (place : ℕ → ℕ) (items : List Item) (w : WrittenEntry)
-            → HasPassed R.contents S.contents W.fits W.done first place self.old items → at ≡ place (length items)
-            → IsEntry entry w
-            → IfOk result (λ b. IsTrue b → W.done self.new.work first place (items ++ an_entry w ∷ [])) }
+        ensures found { (begun : Beginning) (items : List Item) (w : WrittenEntry)
+            → HasPassed (walk_terms R.contents S.contents W.fits W.done) begun self.old items
+            → at ≡ begun.place (length items) → IsEntry entry w
+            → IfOk result (λ b. IsTrue b
+            → W.done self.new.work begun.first begun.place (items ++ an_entry w ∷ [])) }
     {
         match entry {
             Entry::Start { tree, .. } => {
@@ -132,10 +134,12 @@ impl<R: TreeRep, S: TreeRep, W: Work> HistoryWalk<R, S, W> {
         ensures reached { (first : OptionValue State) (items : List Item) (w : WrittenEntry)
             → HasReached R.contents S.contents W.fits first self.old items → HoldsBatch w commit.ops commit.records
             → IfOk result (CanReach R.contents S.contents W.fits first items w self.new) }
-        ensures found { (first : OptionValue State) (place : ℕ → ℕ) (items : List Item) (w : WrittenEntry)
-            → HasPassed R.contents S.contents W.fits W.done first place self.old items → commit.at ≡ place (length items)
+        ensures found { (begun : Beginning) (items : List Item) (w : WrittenEntry)
+            → HasPassed (walk_terms R.contents S.contents W.fits W.done) begun self.old items
+            → commit.at ≡ begun.place (length items)
             → HoldsBatch w commit.ops commit.records → entry_meant w ≡ commit_entry commit.stamp commit.ops
-            → IfOk result (λ b. IsTrue b → W.done self.new.work first place (items ++ an_entry w ∷ [])) }
+            → IfOk result (λ b. IsTrue b
+            → W.done self.new.work begun.first begun.place (items ++ an_entry w ∷ [])) }
     {
         let replayed = self.work.commit(
             alloc,
@@ -165,10 +169,11 @@ impl<R: TreeRep, S: TreeRep, W: Work> HistoryWalk<R, S, W> {
         version: u8,
     ) -> Result<(), OpenFault>
         requires reached { (first : OptionValue State) × (items : List Item) × HasReached R.contents S.contents W.fits first self.old items }
-        ensures added { (f : Frame) (first : OptionValue State) (place : ℕ → ℕ) (items : List Item)
+        ensures added { (f : Frame) (begun : Beginning) (items : List Item)
             → f.tag ≡ ENTRY → f.body ≡ body.now
-            → HasPassed R.contents S.contents W.fits W.done first place self.old items → at ≡ place (length items)
-            → PassesFrameAs R.contents S.contents W.fits W.done first place version f items self.new result }
+            → HasPassed (walk_terms R.contents S.contents W.fits W.done) begun self.old items
+            → at ≡ begun.place (length items)
+            → PassesFrameAs (walk_terms R.contents S.contents W.fits W.done) begun version f items self.new result }
         ensures reached { (first : OptionValue State) (items : List Item) → HasReached R.contents S.contents W.fits first self.old items
             → OnOk result ((more : List Item) × HasReached R.contents S.contents W.fits first self.new more) }
         ensures disk { IfErr result (λ e. e ≡ OpenFault.Disk → ⊥) }
@@ -201,8 +206,9 @@ impl<R: TreeRep, S: TreeRep, W: Work> HistoryWalk<R, S, W> {
         ensures added { IfKnown (D.known disk.old) (λ v.
             (from : ℕ) (fs : List Frame) (f : Frame) (first : OptionValue State) (items : List Item)
             → Lists from fs journal.now v.content → slice_get fs n ≡ Some f → length items ≡ n
-            → HasPassed R.contents S.contents W.fits W.done first (frame_place from fs) self.old items
-            → PassesFrameAs R.contents S.contents W.fits W.done first (frame_place from fs) version f items self.new result) }
+            → HasPassed (walk_terms R.contents S.contents W.fits W.done) (begun_at first from fs) self.old items
+            → PassesFrameAs (walk_terms R.contents S.contents W.fits W.done) (begun_at first from fs)
+            version f items self.new result) }
         ensures reached { (first : OptionValue State) (items : List Item) → HasReached R.contents S.contents W.fits first self.old items
             → OnOk result ((more : List Item) × HasReached R.contents S.contents W.fits first self.new more) }
         ensures rests { Rests (D.known disk.old) (D.known disk.new) }
@@ -247,8 +253,8 @@ impl<R: TreeRep, S: TreeRep, W: Work> HistoryWalk<R, S, W> {
         requires reached { (first : OptionValue State) × (items : List Item) × HasReached R.contents S.contents W.fits first self.old items }
         ensures passed { IfKnown (D.known disk.old) (λ v.
             (first : OptionValue State) (from : ℕ) (fs : List Frame) → Lists from fs journal.now v.content
-            → HasCome R.contents S.contents W.fits W.done first version from fs number self.old
-            → GoesOnAs R.contents S.contents W.fits W.done first version from fs self.new result) }
+            → HasCome (walk_terms R.contents S.contents W.fits W.done) first version from fs number self.old
+            → GoesOnAs (walk_terms R.contents S.contents W.fits W.done) first version from fs self.new result) }
         ensures reached { (first : OptionValue State) (items : List Item) → HasReached R.contents S.contents W.fits first self.old items
             → OnOk result ((more : List Item) × HasReached R.contents S.contents W.fits first self.new more) }
         ensures rests { Rests (D.known disk.old) (D.known disk.new) }
@@ -271,7 +277,7 @@ impl<R: TreeRep, S: TreeRep, W: Work> HistoryWalk<R, S, W> {
         requires listed { IfKnown (D.known disk.old) (λ v. (fs : List Frame) × Lists from fs journal.now v.content) }
         ensures passed { IfKnown (D.known disk.old) (λ v. (fs : List Frame)
             → Lists from fs journal.now v.content
-            → TellsPassedAs R.contents S.contents W.fits W.done version from fs result) }
+            → TellsPassedAs (walk_terms R.contents S.contents W.fits W.done) version from fs result) }
         ensures reached { IfOk result (λ w. (items : List Item) × HasReached R.contents S.contents W.fits None w items) }
         ensures rests { Rests (D.known disk.old) (D.known disk.new) }
         ensures cause { UsesDisk IsOpenDisk (D.known disk.old) (D.known disk.new) result }
@@ -288,12 +294,11 @@ impl<R: TreeRep, S: TreeRep> HistoryWalk<R, S, MemoryStore> {
     /// What the walk leads to, with the rows that were kept on the way.
     pub(crate) fn into_committed(self) -> Committed<R, S>
         ensures keeps { (first : OptionValue State) (items : List Item)
-            (g : HasReached R.contents S.contents (λ rows kind last tree. (rows.kind ≡ kind) × (rows.rows.upto ≡ last)) first self items)
+            (g : HasReached R.contents S.contents RowsFit first self items)
             → KeepsState R.contents S.contents result g.taken.state }
-        ensures taken { (first : OptionValue State) (place : ℕ → ℕ) (items : List Item)
-            → HasPassed R.contents S.contents (λ rows kind last tree. (rows.kind ≡ kind) × (rows.rows.upto ≡ last))
-            (λ rows first place items. rows.rows.list ≡ flat_map records_in items) first place self items
-            → HasTaken R.contents S.contents first result items }
+        ensures taken { (begun : Beginning) (items : List Item)
+            → HasPassed (walk_terms R.contents S.contents RowsFit RowsDone) begun self items
+            → HasTaken R.contents S.contents begun.first result items }
     {
         let HistoryWalk {
             tree,

@@ -71,7 +71,12 @@ pub trait Work: Drop {
             fits self.new kind (last + tids) (R.contents tree.new))) }
         ensures done { (first : OptionValue State) (place : ℕ → ℕ) (items : List Item) (s : State) (x : WrittenEntry)
             → done self.old first place items
-            → IsAtCommit first place items s x commit kind last (sources_in S.contents sources.now) (R.contents tree.old)
+            → IsAtCommit (record { first = first; place = place }) items s x commit (record {
+              kind = kind;
+              last = last;
+              sources = sources_in S.contents sources.now;
+              tree = R.contents tree.old;
+            })
             → IfOk result (λ o. IfSome o (λ tids. done self.new first place (items ++ an_entry x ∷ []))) };
 
     /// Goes past an item that is no commit.

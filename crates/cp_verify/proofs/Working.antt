@@ -6,13 +6,11 @@ use Rattle.std.specs.declared.option.Option.{Option}
 use Rattle.std.specs.declared.option.Option.TheVariants.{None, Some}
 use Rattle.std.proofs.lemmas.List.Concat.{flat_map-append}
 use Rattle.std.proofs.Math.Seq.{drop-append_seam}
-use Rattle.cp_model.specs.declared.kind.Kind.{Kind}
 use Rattle.cp_model.specs.declared.op.Op.{Op}
 use Rattle.cp_model.specs.declared.record.Record.{Record}
 use Rattle.cp_model.specs.declared.record.Verdict.{Verdict}
 use Rattle.cp_model.specs.declared.record.Verdict.TheVariants.{Agrees, Differs, TreeDiffers, NumberDiffers}
 use Rattle.cp_model.specs.Past.{tree_of}
-use Rattle.cp_model.specs.Tree.{Tree, Source}
 use Rattle.cp_model.specs.History.{State, after_commit}
 use Rattle.cp_operation.specs.Passed.{records_of}
 use Rattle.cp_engine.proofs.Committed.{committed, commit-accepted}
@@ -20,7 +18,7 @@ use Rattle.cp_frame.specs.Entries.{WrittenEntry, start, load, commit, stamped}
 use Rattle.cp_frame.specs.Items.{Item, an_entry, a_checkpoint, AllStand, CanStand, after_item, entry_meant, records_in}
 use Rattle.cp_frame.proofs.Standing.{replayed-items, stand-append}
 use Rattle.cp_db.specs.Committed.{HoldsBatch}
-use Rattle.cp_db.specs.Work.{BeginsWith, IsAtCommit, IsPassed}
+use Rattle.cp_db.specs.Work.{BeginsWith, Beginning, CommitMoment, IsAtCommit, IsPassed}
 use Rattle.cp_db.specs.declared.work.CommitAt.{CommitAt}
 use Rattle.cp_db.specs.declared.work.Passed.{Passed}
 use Rattle.cp_db.specs.declared.work.Passed.TheVariants.{Load, Checkpoint}
@@ -136,13 +134,13 @@ verdict-stays v first place items s p i found leads can is none =
     verdict-kept place items i v (no-record p (place (length items)) i is) (subst (λ (o : Option State). CanStand true o i) (sym led) (passed-right s p (place (length items)) i is can)) (found none)
 
 -- after the records of a commit it is what they were judged
-pub verdict-commit : (old new : Verdict) (first : Option State) (place : ℕ → ℕ) (items : List Item) (s : State) (x : WrittenEntry) (c : CommitAt) (kind : Kind) (last : ℕ) (ss : List Source) (t : Tree) → (first ≡ None → IsVerdict place items old)
-    → IsAtCommit first place items s x c kind last ss t → Judges c.at c.records (records_of kind ss t (last + 1) c.ops) old new → first ≡ None → IsVerdict place (items ++ an_entry x ∷ []) new
-verdict-commit old new first place items s x c kind last ss t found is judged none =
+pub verdict-commit : (old new : Verdict) (begun : Beginning) (items : List Item) (s : State) (x : WrittenEntry) (c : CommitAt) (moment : CommitMoment) → (begun.first ≡ None → IsVerdict begun.place items old)
+    → IsAtCommit begun items s x c moment → Judges c.at c.records (records_of moment.kind moment.sources moment.tree (moment.last + 1) c.ops) old new → begun.first ≡ None → IsVerdict begun.place (items ++ an_entry x ∷ []) new
+verdict-commit old new begun items s x c moment found is judged none =
     let led : fold after_item None items ≡ Some s = ap (λ (o : Option State). fold after_item o items) (sym none) ∙ is.leads in
     let may = may_when false s x c.ops c.records is.holds is.can in
     let made = committed s c.ops may.0.some (commit-accepted s c.ops may.0) in
-    let expected = records_of kind ss t (last + 1) c.ops in
+    let expected = records_of moment.kind moment.sources moment.tree (moment.last + 1) c.ops in
     let same : records_of s.kind s.sources (tree_of s.tree) (s.now + 1) c.ops ≡ expected = λ j. records_of (is.of_kind j) (is.sources j) (is.tree j) (is.after j + 1) c.ops in
-    verdict-judged place items s x c.ops c.records expected old new is.holds led is.can (made.rows ∙ ap (λ (rs : List Record). s.rows ++ rs) same)
+    verdict-judged begun.place items s x c.ops c.records expected old new is.holds led is.can (made.rows ∙ ap (λ (rs : List Record). s.rows ++ rs) same)
     (subst (λ (k : ℕ). Judges k c.records expected old new) is.at judged) (found none)

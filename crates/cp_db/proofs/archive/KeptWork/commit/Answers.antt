@@ -45,6 +45,6 @@ returns-clause-done g c = λ first place items s x found at.
     let ss = sources_in g.S.TreeRep.contents c.args.sources.now in
     let t = g.R.TreeRep.contents c.args.tree.now in
     let same : c.as_slice-ops.result.now ≡ c.args.commit.ops = c.as_slice-ops.ensures.value ∙ ap (λ (x : CommitAt). x.ops) c.commit.view_is in
-    versions-commit c.args.self.now (record { kind = c.args.self.now.kind; archive = c.replay_commit.new.self; rows = c.append.new.rows }) first place items s x c.args.commit c.args.kind c.args.last ss t at found refl
+    versions-commit c.args.self.now (record { kind = c.args.self.now.kind; archive = c.replay_commit.new.self; rows = c.append.new.rows }) (record { first = first; place = place }) items s x c.args.commit (record { kind = c.args.kind; last = c.args.last; sources = ss; tree = t }) at found refl
     (c.in_ok-replay_commit.ensures.added c.if-not-branch.false ∙ ap (λ os. c.args.self.now.archive ++ trees_of_steps c.args.kind ss t os) same)
     (c.in_ok-append.ensures ∙ ap (λ (x : CommitAt). c.args.self.now.rows ++ x.records) c.commit.view_is)

@@ -4,11 +4,10 @@ use Rattle.cp_disk.proofs.Composing.{still, rests_then}
 use Rattle.cp_journal.specs.Frames.{frames_of}
 use Rattle.cp_journal.specs.declared.limits.TheConstants.{HEADER_SIZE}
 use Rattle.cp_db.specs.Opening.{OpensAs}
-use Rattle.cp_db.specs.Walk.{TellsPassedAs, frame_place}
+use Rattle.cp_db.specs.Walk.{RowsDone, RowsFit, TellsPassedAs, begun_at, walk_terms}
 use Rattle.cp_db.proofs.OpeningItems.{passed}
 use Rattle.cp_db.proofs.OpeningStores.{described_last, has_opened, is_ready, lists_after, opens_not, stops_at_slot, version_kept, walked_first}
 use Rattle.cp_db.proofs.FileVersions.{version-opened}
-use Rattle.cp_db.proofs.Walking.{RowsDone, RowsFit}
 use Rattle.cp_db.proofs.WalkingFrames.{held_all, opens_broken, opens_stopped}
 use Rattle.cp_db.proofs.database.Db.open_on.Goals as goal
 
@@ -32,8 +31,8 @@ returns-in_err-walk-clause-opened g c = λ known.
     let frames = (frames_of (drop HEADER_SIZE u.content)).frames in
     let fault = c.in_err-walk.field-0.0 in
     passed (OpensAs view source_view u.content x) c.from_residual-in_err-walk.result fault (err_from_is_err_and c.from_residual-in_err-walk.result c.from_residual-in_err-walk.ensures.1)
-    (opens_stopped view source_view RowsFit RowsDone u.content c.in_ok-header.header header.0 header.1 (sym c.open_slot.ensures ∙ c.in_default.is) x fault
-    (subst (λ (n : ℕ). TellsPassedAs view source_view RowsFit RowsDone n HEADER_SIZE frames (Err fault)) (version_kept (take HEADER_SIZE u.content) c.in_ok-header.header _ header.1 c.version_of-version.ensures.said)
+    (opens_stopped (walk_terms view source_view RowsFit RowsDone) u.content c.in_ok-header.header header.0 header.1 (sym c.open_slot.ensures ∙ c.in_default.is) x fault
+    (subst (λ (n : ℕ). TellsPassedAs (walk_terms view source_view RowsFit RowsDone) n HEADER_SIZE frames (Err fault)) (version_kept (take HEADER_SIZE u.content) c.in_ok-header.header _ header.1 c.version_of-version.ensures.said)
     (c.in_err-walk.ensures.passed listed frames lists)))
 
 pub returns-in-Some-broken-clause-opened : goal.returns-in-Some-broken-clause-opened
@@ -54,9 +53,9 @@ returns-in-Some-broken-clause-opened g c = λ known.
     let walked = c.in_ok-journal.ensures.walked headed in
     let frames = (frames_of (drop HEADER_SIZE u.content)).frames in
     let same = version_kept (take HEADER_SIZE u.content) c.in_ok-header.header _ header.1 c.version_of-version.ensures.said in
-    let tells = subst (λ (n : ℕ). TellsPassedAs view source_view RowsFit RowsDone n HEADER_SIZE frames (Ok c.in_ok-walk.walk)) same
+    let tells = subst (λ (n : ℕ). TellsPassedAs (walk_terms view source_view RowsFit RowsDone) n HEADER_SIZE frames (Ok c.in_ok-walk.walk)) same
     (c.in_ok-walk.ensures.passed listed frames (lists_after u v w x uv vw wx j walked)) in
-    opens_broken view source_view RowsFit RowsDone u.content c.in_ok-header.header header.0 header.1 (sym c.open_slot.ensures ∙ c.in_default.is) j c.in_ok-walk.walk (walked_first u v w x uv vw wx j walked) tells
+    opens_broken (walk_terms view source_view RowsFit RowsDone) u.content c.in_ok-header.header header.0 header.1 (sym c.open_slot.ensures ∙ c.in_default.is) j c.in_ok-walk.walk (walked_first u v w x uv vw wx j walked) tells
     c.in-Some-broken.at (sym c.broken.ensures ∙ c.in-Some-broken.is)
 
 pub returns-in-Some-broken-clause-rests : goal.returns-in-Some-broken-clause-rests
@@ -85,12 +84,12 @@ returns-clause-opened g c = λ known.
     let same = version_kept (take HEADER_SIZE u.content) c.in_ok-header.header _ header.1 c.version_of-version.ensures.said in
     let whole : j.broken ≡ None = sym c.broken.ensures ∙ c.in_default-broken.is in
     let described = described_last u v w x uv vw wx j walked (c.in_ok-journal.ensures.described headed (c.in_ok-header.ensures.durable headed) whole) in
-    let tells = subst (λ (n : ℕ). TellsPassedAs view source_view RowsFit RowsDone n HEADER_SIZE frames (Ok c.in_ok-walk.walk)) same
+    let tells = subst (λ (n : ℕ). TellsPassedAs (walk_terms view source_view RowsFit RowsDone) n HEADER_SIZE frames (Ok c.in_ok-walk.walk)) same
     (c.in_ok-walk.ensures.passed listed frames (lists_after u v w x uv vw wx j walked)) in
     let come = tells.1 in
-    let held = held_all view source_view RowsFit RowsDone u.content c.in_ok-header.header c.in_ok-walk.walk tells in
+    let held = held_all (walk_terms view source_view RowsFit RowsDone) u.content c.in_ok-header.header c.in_ok-walk.walk tells in
     has_opened view source_view u.content c.in_ok-header.header header.0 header.1 _ x same (sym c.open_slot.ensures ∙ c.in_default.is) whole c.in_ok-journal.ensures.usable c.in_ok-journal.ensures.idle
-    (walked_first u v w x uv vw wx j walked) described tells.0 come.items held (c.into_committed.ensures.taken _ (frame_place HEADER_SIZE frames) come.items come.passed)
+    (walked_first u v w x uv vw wx j walked) described tells.0 come.items held (c.into_committed.ensures.taken (begun_at None HEADER_SIZE frames) come.items come.passed)
 
 pub returns-clause-ready : goal.returns-clause-ready
 returns-clause-ready g c = λ now.

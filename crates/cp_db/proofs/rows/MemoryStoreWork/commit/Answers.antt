@@ -18,5 +18,6 @@ absorb_packed-requires-clause-next g c =
 
 pub returns-in-Ok-clause-done : goal.returns-in-Ok-clause-done
 returns-in-Ok-clause-done g c = λ first place items s x done at.
-    rows-commit c.args.self.now.rows.list c.absorb_packed.new.self.rows.list first place items s x c.args.commit c.args.kind c.args.last (sources_in g.S.TreeRep.contents c.args.sources.now) (g.R.TreeRep.contents c.args.tree.now) done at
+    rows-commit c.args.self.now.rows.list c.absorb_packed.new.self.rows.list (record { first = first; place = place }) items s x c.args.commit
+    (record { kind = c.args.kind; last = c.args.last; sources = sources_in g.S.TreeRep.contents c.args.sources.now; tree = g.R.TreeRep.contents c.args.tree.now }) done at
     (sym (c.in-Ok.ensures.rows c.args.self.now.rows.list refl))

@@ -25,8 +25,8 @@ returns-clause-reached g c = λ first items w reached holds.
     c.requires.sound.1 is refl refl refl refl refl (omega (arith, few)) fits
 
 pub returns-clause-found : goal.returns-clause-found
-returns-clause-found g c = λ first place items w passed at holds means yes.
-    let reached = returns-clause-reached g c first items w passed.reached holds in
-    subst (λ o. IfSome o (λ tids. g.W.Work.done c.commit.new.self first place (items ++ an_entry w ∷ []))) c.in-Some.is
-    (c.in_ok-replayed.ensures.done first place items passed.reached.taken.state w passed.done
-    (at-commit g.R.TreeRep.contents g.S.TreeRep.contents g.W.Work.fits first c.args.self.now items passed.reached place _ w c.args.commit holds means at reached))
+returns-clause-found g c = λ begun items w passed at holds means yes.
+    let reached = returns-clause-reached g c begun.first items w passed.reached holds in
+    subst (λ o. IfSome o (λ tids. g.W.Work.done c.commit.new.self begun.first begun.place (items ++ an_entry w ∷ []))) c.in-Some.is
+    (c.in_ok-replayed.ensures.done begun.first begun.place items passed.reached.taken.state w passed.done
+    (at-commit g.R.TreeRep.contents g.S.TreeRep.contents g.W.Work.fits begun.first c.args.self.now items passed.reached begun.place _ w c.args.commit holds means at reached))

@@ -1,7 +1,7 @@
 use Rattle.std.proofs.Common.{◌≡◌, ◌∙◌, [], refl, sym, ap}
 use Rattle.cp_journal.specs.declared.frame.TheConstants.{ENTRY}
 use Rattle.cp_frame.specs.Items.{a_checkpoint}
-use Rattle.cp_db.specs.Walk.{frame_place}
+use Rattle.cp_db.specs.Walk.{begun_at, frame_place}
 use Rattle.cp_db.proofs.OpeningFrames.{checkpoint_is, entry_read, lawful_at, listed_tag}
 use Rattle.cp_db.proofs.Walking.{checkpoint-reached}
 use Rattle.cp_db.proofs.WalkingFrames.{listed_place}
@@ -33,4 +33,4 @@ returns-clause-added g c = λ known from fs f first items lists here count t.
     let read = entry_read from fs c.args.journal.now _ c.args.n c.in_ok-frame.frame f c.deref.result.now lists c.in_ok-frame.ensures.at here c.if-frame-ne-ENTRY.false
     (c.deref.ensures.value ∙ c.in_ok-frame.ensures.body known from fs f lists here) in
     let at = listed_place from fs c.args.journal.now _ lists c.args.n c.in_ok-frame.frame c.in_ok-frame.ensures.at in
-    c.add_entry.ensures.added f first (frame_place from fs) items read.0 read.1 t (at ∙ ap (frame_place from fs) (sym count))
+    c.add_entry.ensures.added f (begun_at first from fs) items read.0 read.1 t (at ∙ ap (frame_place from fs) (sym count))
