@@ -12,7 +12,8 @@ use Rattle.std.proofs.lemmas.List.Sorted.{Contains-permutation, IsPermutation-ma
 use Rattle.cp_path.specs.Text.{text_cmp, text_eq}
 use Rattle.cp_page.specs.declared.row.PageRow.{PageRow}
 use Rattle.cp_paged.specs.Held.{HasEachOnce}
-use Rattle.cp_paged.specs.Lookups.{IsGreatest, IsBetween, rows_between}
+use Rattle.cp_run.specs.Answers.{IsGreatest, IsBetween}
+use Rattle.cp_page.specs.Ranges.{rows_between}
 use Rattle.cp_store.proofs.RowsTold.{case_of}
 
 -- ---- elements

@@ -17,7 +17,7 @@ use Rattle.cp_page.specs.declared.row.PageRow.{PageRow}
 use Rattle.cp_store.proofs.RowsTold.{case_of}
 use Rattle.cp_paged.specs.Held.{HasEachOnce, PagesHold, loser_row}
 use Rattle.cp_paged.specs.Listing.{survives}
-use Rattle.cp_paged.specs.Lookups.{rows_between}
+use Rattle.cp_page.specs.Ranges.{rows_between}
 use Rattle.cp_paged.proofs.Among.{IsAmong, among, contained, of_filter, distinct-between}
 use Rattle.cp_paged.proofs.ByLoser.{loss-form}
 

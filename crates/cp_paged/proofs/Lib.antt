@@ -3,6 +3,9 @@ mod Among
 mod Nearest
 mod NewestAbove
 mod RowsFound
+mod RunsHeld
+mod RunsRead
+mod RunsTold
 mod Passed
 mod Spending
 mod Listed

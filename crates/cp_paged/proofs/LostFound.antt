@@ -15,7 +15,8 @@ use Rattle.cp_store.specs.Lost.{is_within}
 use Rattle.cp_paged.specs.Held.{PagesHold, loser_row}
 use Rattle.cp_paged.specs.Keyed.{AreTidsAt, IsTidAt}
 use Rattle.cp_paged.specs.Listing.{Lists, survives}
-use Rattle.cp_paged.specs.Lookups.{IsBetween, rows_between}
+use Rattle.cp_run.specs.Answers.{IsBetween}
+use Rattle.cp_page.specs.Ranges.{rows_between}
 use Rattle.cp_paged.proofs.Among.{IsAmong, AreWithin, within-of}
 use Rattle.cp_paged.proofs.ByLoser.{lost-form, lost-listed}
 use Rattle.cp_paged.proofs.Few.{few-lost}

@@ -14,7 +14,7 @@ use Rattle.cp_page.specs.Orders.{by_place, by_step}
 use Rattle.cp_page.specs.declared.row.PageRow.{PageRow}
 use Rattle.cp_store.proofs.RowsTold.{case_of}
 use Rattle.cp_paged.specs.Held.{HasEachOnce, PagesHold}
-use Rattle.cp_paged.specs.Lookups.{IsBetween}
+use Rattle.cp_run.specs.Answers.{IsBetween}
 use Rattle.cp_paged.proofs.Among.{IsAmong, among, contained, within-of}
 use Rattle.cp_paged.proofs.ByStep.{step-rows}
 

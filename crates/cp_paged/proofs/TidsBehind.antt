@@ -13,7 +13,7 @@ use Rattle.cp_page.specs.Orders.{place_tid, by_place}
 use Rattle.cp_page.specs.PlaceKeys.{place_key}
 use Rattle.cp_page.specs.declared.row.PageRow.{PageRow}
 use Rattle.cp_paged.specs.Held.{PagesHold}
-use Rattle.cp_paged.specs.Lookups.{IsGreatest}
+use Rattle.cp_run.specs.Answers.{IsGreatest}
 use Rattle.cp_paged.specs.Newest.{IsNewestRow}
 use Rattle.cp_paged.specs.declared.places.PlaceRow.{PlaceRow}
 use Rattle.cp_paged.proofs.Among.{IsTop, top-of}

@@ -14,6 +14,10 @@ pub record KeepsByKey (has_rows : (ℕ → List PageRow) → Type 0) (k : Kind) 
   pub has : has_rows stored
   pub hold : PagesHold k upto stored rs
 
+-- so they are, of steps up to some one
+abbrev pub HasRecords : ((ℕ → List PageRow) → Type 0) → Kind → List Record → Type 0
+HasRecords has_rows k rs = (upto : ℕ) × KeepsByKey has_rows k upto rs
+
 -- the key isn't that of the place and a Tid
 abbrev pub IsOther : Loc → List ℕ → Type 0
 IsOther q key = (t : ℕ) → t < 2 ^ 64 → key ≡ place_tid q t → ⊥

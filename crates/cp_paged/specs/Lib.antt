@@ -3,7 +3,8 @@ pub mod Calls
 pub mod Held
 pub mod Keyed
 pub mod Listing
-pub mod Lookups
 pub mod Marks
 pub mod Newest
+pub mod OnDisk
 pub mod Paged
+pub mod Stored

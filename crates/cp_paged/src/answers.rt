@@ -14,7 +14,7 @@ ghost use Rattle.cp_paged.specs.Paged.{KeepsMore, both};
 
 use crate::losing::losses_on;
 use crate::newest::newest_change;
-use crate::paged::PagedStore;
+use crate::paged::LaterRows;
 use crate::places::PlaceRows;
 use cp_model::{Change, Record, RecordList, TidList};
 use cp_path::{Label, Loc};
@@ -24,7 +24,7 @@ use std::alloc::{AllocError, Global};
 
 /// The newest change up to `t`: that of the rows after those on pages, and where they have none, that of the pages.
 pub(crate) fn last_change<K: PlaceRows>(
-    store: &mut PagedStore,
+    store: &mut LaterRows,
     rows: &mut K,
     alloc: Global,
     loc: &Loc,
@@ -49,7 +49,7 @@ pub(crate) fn last_change<K: PlaceRows>(
 
 /// The rows of one step: those on pages, or those after them.
 pub(crate) fn rows_of<K: PlaceRows>(
-    store: &mut PagedStore,
+    store: &mut LaterRows,
     rows: &mut K,
     alloc: Global,
     t: u64,
@@ -76,7 +76,7 @@ fn joined(first: TidList, then: TidList) -> Result<TidList, AllocError>
 
 /// The losses after `low` up to `high`: those of the steps on pages, and those of the steps after them.
 pub(crate) fn losses<K: PlaceRows>(
-    store: &mut PagedStore,
+    store: &mut LaterRows,
     rows: &mut K,
     alloc: Global,
     loc: &Loc,
@@ -105,7 +105,7 @@ pub(crate) fn losses<K: PlaceRows>(
 
 /// Whether a row may be of a place below this one. Where there are no pages, the answer is exact; nothing is read for it.
 pub(crate) fn tells_below<K: PlaceRows>(
-    store: &mut PagedStore,
+    store: &mut LaterRows,
     rows: &mut K,
     alloc: Global,
     loc: &Loc,
@@ -124,7 +124,7 @@ pub(crate) fn tells_below<K: PlaceRows>(
 
 /// Keeps the rows of the next steps in memory.
 pub(crate) fn absorb(
-    store: &mut PagedStore,
+    store: &mut LaterRows,
     alloc: Global,
     tids: u64,
     rows: &[Record],
@@ -140,7 +140,7 @@ pub(crate) fn absorb(
 
 /// The same of rows that are packed.
 pub(crate) fn absorb_packed(
-    store: &mut PagedStore,
+    store: &mut LaterRows,
     alloc: Global,
     tids: u64,
     rows: &PackedRecords,

@@ -1,6 +1,4 @@
 //! The rows of places and steps, by way of their keys.
-ghost use Rattle.std.specs.Prelude.{◌≡◌, IfOk};
-
 use crate::keyed::KeyedRows;
 use crate::looking::{lost_tids, newest_row, step_records, step_takes_child};
 use crate::places::{PlaceRow, PlaceRows};
@@ -8,52 +6,33 @@ use crate::room::KeyRoom;
 use cp_model::{Kind, RecordList, TidList};
 use cp_path::Label;
 use cp_store::StoreFault;
-use std::alloc::{AllocError, Global};
+use std::alloc::Global;
 
-/// Rows of this kind, of steps up to `upto`, looked up by their keys. All keys by place are made in one buffer.
+/// Rows of this kind, looked up by their keys. All keys by place are made in a buffer that is borrowed.
 #[derive(Drop)]
-pub struct ByKey<'a, L: KeyedRows> {
-    rows: &'a mut L,
-    kind: Kind,
-    upto: u64,
-    room: KeyRoom,
-}
-
-impl<'a, L: KeyedRows> ByKey<'a, L> {
-    /// These rows, of the kind, of steps up to `upto`.
-    pub fn new(
-        alloc: Global,
-        rows: &'a mut L,
-        kind: Kind,
-        upto: u64,
-    ) -> Result<ByKey<'a, L>, AllocError> {
-        let room = KeyRoom::new(alloc)?;
-        Ok(ByKey {
-            rows,
-            kind,
-            upto,
-            room,
-        })
-    }
+pub(crate) struct ByKey<'a, L: KeyedRows> {
+    pub(crate) rows: L,
+    pub(crate) kind: Kind,
+    pub(crate) room: &'a mut KeyRoom,
 }
 
 impl<'a, L: KeyedRows> PlaceRows for ByKey<'a, L> {
-    ghost use Rattle.std.specs.Prelude.{◌≡◌, ◌∷◌, []};
-    ghost use Rattle.cp_paged.specs.Keyed.{KeepsByKey};
+    ghost use Rattle.std.specs.Prelude.{◌≡◌, ◌∷◌};
+    ghost use Rattle.cp_paged.specs.Keyed.{HasRecords};
 
     ghost kept_kind = { λ p. p.kind };
 
-    ghost last_tid = { λ p. p.upto };
+    ghost last_tid = { λ p. 0 };
 
-    ghost keeps = { λ p rs. KeepsByKey (L.has_rows p.rows.now) p.kind p.upto rs };
+    ghost keeps = { λ p. HasRecords (L.has_rows p.rows) p.kind };
 
-    ghost holds = { λ p. p.rows.ghost_name ∷ [] };
+    ghost holds = { λ p. p.room.ghost_name ∷ L.holds p.rows };
 
-    ghost cost = { λ p. L.cost p.rows.now };
+    ghost cost = { λ p. L.cost p.rows };
 
-    ghost reads = { λ p. L.reads p.rows.now };
+    ghost reads = { λ p. L.reads p.rows };
 
-    ghost faults = { λ p. L.faults p.rows.now };
+    ghost faults = { λ p. L.faults p.rows };
 
     fn kind(&self) -> Kind {
         self.kind
@@ -69,7 +48,7 @@ impl<'a, L: KeyedRows> PlaceRows for ByKey<'a, L> {
         labels: &[Label],
         t: u64,
     ) -> Result<Option<PlaceRow>, StoreFault> {
-        newest_row(self.rows, alloc, &mut self.room, labels, t)
+        newest_row(&mut self.rows, alloc, self.room, labels, t)
     }
 
     fn lost(
@@ -79,14 +58,14 @@ impl<'a, L: KeyedRows> PlaceRows for ByKey<'a, L> {
         low: u64,
         high: u64,
     ) -> Result<TidList, StoreFault> {
-        lost_tids(self.rows, alloc, labels, low, high)
+        lost_tids(&mut self.rows, alloc, labels, low, high)
     }
 
     fn child_gone(&mut self, alloc: Global, labels: &[Label], t: u64) -> Result<bool, StoreFault> {
-        step_takes_child(self.rows, alloc, labels, t)
+        step_takes_child(&mut self.rows, alloc, labels, t)
     }
 
     fn rows_of(&mut self, alloc: Global, t: u64) -> Result<RecordList, StoreFault> {
-        step_records(self.rows, alloc, t)
+        step_records(&mut self.rows, alloc, t)
     }
 }

@@ -1,9 +1,10 @@
 //! What is asked of rows by their keys.
 ghost use Rattle.std.specs.Prelude.{◌≡◌, ◌+◌, ◌≤◌, ℕ, true, List, [], length, IfOk};
+ghost use Rattle.cp_page.specs.Ranges.{rows_between};
 ghost use Rattle.cp_page.specs.declared.row.PageRow.{PageRow};
+ghost use Rattle.cp_run.specs.Answers.{IsBetween, IsGreatest};
 ghost use Rattle.cp_store.specs.Costs.{Cost};
 ghost use Rattle.cp_paged.specs.Asking.{StaysKeyed};
-ghost use Rattle.cp_paged.specs.Lookups.{IsBetween, IsGreatest, rows_between};
 
 use cp_page::PageRow;
 use cp_store::StoreFault;

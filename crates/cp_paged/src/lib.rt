@@ -8,13 +8,15 @@ mod looking;
 mod losing;
 mod marks;
 mod newest;
+mod on_disk;
 mod paged;
 mod places;
 mod room;
+mod run_rows;
 
-pub use by_key::ByKey;
 pub use keyed::KeyedRows;
 pub use losing::losses_on;
 pub use newest::newest_change;
-pub use paged::{Paged, PagedStore};
+pub use paged::{LaterRows, Paged, PagedStore};
 pub use places::{PlaceRow, PlaceRows};
+pub use run_rows::RunRows;

@@ -1,5 +1,6 @@
 pub mod Answers
 pub mod Bad
+pub mod Causes
 pub mod Holding
 pub mod Looks
 pub mod Pages

@@ -5,11 +5,11 @@ ghost use Rattle.std.specs.Option.{option_map};
 ghost use Rattle.std.specs.Map.{keys_of, lookup};
 ghost use Rattle.cp_path.specs.Text.{text_cmp};
 ghost use Rattle.cp_run.specs.Answers.{IsBetween};
-ghost use Rattle.cp_disk.specs.Counts.{UsesDisk};
 ghost use Rattle.cp_disk.specs.Views.{IfKnown, Rests};
 ghost use Rattle.cp_page.specs.Ranges.{rows_between, found_with};
 ghost use Rattle.cp_page.specs.Rows.{rows_of};
 ghost use Rattle.cp_run.specs.Bad.{IsBadPage, IsBadAmong};
+ghost use Rattle.cp_run.specs.Causes.{UsesPages};
 ghost use Rattle.cp_run.specs.Holding.{page_at, rows_after, run_rows, IsRunOfRows};
 ghost use Rattle.cp_run.specs.Looks.{Looks};
 ghost use Rattle.cp_run.specs.Pages.{ArePagesOf, KeepsPages};
@@ -92,7 +92,7 @@ fn add_from<D: Disk>(
     ensures bad { IfKnown (D.known disk.old) (λ v. ArePagesOf v.content cache.old.entries
         → (n : ℕ) → IsErrOf result (RunFault.BadRun n) → IsBadPage v.content run.now n) }
     ensures rests { Rests (D.known disk.old) (D.known disk.new) }
-    ensures cause { UsesDisk (λ e. e ≡ RunFault.Disk) (D.known disk.old) (D.known disk.new) result }
+    ensures cause { UsesPages (D.known disk.old) (D.known disk.new) result }
 {
     let mut number = first;
     while number < run.pages {
@@ -127,7 +127,7 @@ fn add_between<D: Disk>(
     ensures bad { IfKnown (D.known disk.old) (λ v. ArePagesOf v.content cache.old.entries
         → (n : ℕ) → IsErrOf result (RunFault.BadRun n) → IsBadPage v.content run.now n) }
     ensures rests { Rests (D.known disk.old) (D.known disk.new) }
-    ensures cause { UsesDisk (λ e. e ≡ RunFault.Disk) (D.known disk.old) (D.known disk.new) result }
+    ensures cause { UsesPages (D.known disk.old) (D.known disk.new) result }
 {
     let count = pages_before(cache, disk, run, range.low)?;
     let first = count.saturating_sub(1);
@@ -159,7 +159,7 @@ fn add_if<D: Disk>(
     ensures bad { IfKnown (D.known disk.old) (λ v. ArePagesOf v.content cache.old.entries
         → (n : ℕ) → IsErrOf result (RunFault.BadRun n) → IsBadAmong v.content (of_order order (run.now ∷ [])) n) }
     ensures rests { Rests (D.known disk.old) (D.known disk.new) }
-    ensures cause { UsesDisk (λ e. e ≡ RunFault.Disk) (D.known disk.old) (D.known disk.new) result }
+    ensures cause { UsesPages (D.known disk.old) (D.known disk.new) result }
 {
     if run.order != order {
         return Ok(());
@@ -192,7 +192,7 @@ fn add_of<D: Disk>(
     ensures bad { IfKnown (D.known disk.old) (λ v. ArePagesOf v.content cache.old.entries
         → (n : ℕ) → IsErrOf result (RunFault.BadRun n) → IsBadAmong v.content (of_order order runs.now) n) }
     ensures rests { Rests (D.known disk.old) (D.known disk.new) }
-    ensures cause { UsesDisk (λ e. e ≡ RunFault.Disk) (D.known disk.old) (D.known disk.new) result }
+    ensures cause { UsesPages (D.known disk.old) (D.known disk.new) result }
 {
     for run in runs {
         add_if(alloc, cache, disk, run, order, range, found)?;
@@ -232,7 +232,7 @@ pub(crate) fn between_of<D: Disk>(
     ensures bad { IfKnown (D.known disk.old) (λ v. ArePagesOf v.content cache.old.entries
         → (n : ℕ) → IsErrOf result (RunFault.BadRun n) → IsBadAmong v.content (of_order order runs.now) n) }
     ensures rests { Rests (D.known disk.old) (D.known disk.new) }
-    ensures cause { UsesDisk (λ e. e ≡ RunFault.Disk) (D.known disk.old) (D.known disk.new) result }
+    ensures cause { UsesPages (D.known disk.old) (D.known disk.new) result }
 {
     let mut found = Vec::new(alloc);
     add_of(alloc, cache, disk, runs, order, range, &mut found)?;

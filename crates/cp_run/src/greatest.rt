@@ -3,11 +3,11 @@ ghost use Rattle.std.specs.Prelude.{◌≡◌, ◌∷◌, [], ℕ, List, IfOk, I
 ghost use Rattle.std.specs.declared.option.Option.TheVariants.{None, Some};
 ghost use Rattle.std.specs.Option.{option_map};
 ghost use Rattle.std.specs.Map.{keys_of, lookup};
-ghost use Rattle.cp_disk.specs.Counts.{UsesDisk};
 ghost use Rattle.cp_disk.specs.Views.{IfKnown, Rests};
 ghost use Rattle.cp_page.specs.Rows as page;
 ghost use Rattle.cp_run.specs.Answers.{later, IsGreatest};
 ghost use Rattle.cp_run.specs.Bad.{IsBadPage, IsBadAmong};
+ghost use Rattle.cp_run.specs.Causes.{UsesPages};
 ghost use Rattle.cp_run.specs.Holding.{page_at, run_rows, IsRunOfRows};
 ghost use Rattle.cp_run.specs.Looks.{Looks};
 ghost use Rattle.cp_run.specs.Pages.{ArePagesOf, KeepsPages};
@@ -65,7 +65,7 @@ fn greatest_in<D: Disk>(
     ensures bad { IfKnown (D.known disk.old) (λ v. ArePagesOf v.content cache.old.entries
         → (n : ℕ) → IsErrOf result (RunFault.BadRun n) → IsBadPage v.content run.now n) }
     ensures rests { Rests (D.known disk.old) (D.known disk.new) }
-    ensures cause { UsesDisk (λ e. e ≡ RunFault.Disk) (D.known disk.old) (D.known disk.new) result }
+    ensures cause { UsesPages (D.known disk.old) (D.known disk.new) result }
 {
     let count = pages_before(cache, disk, run, key)?;
     if count == 0 {
@@ -97,7 +97,7 @@ fn greatest_if<D: Disk>(
     ensures bad { IfKnown (D.known disk.old) (λ v. ArePagesOf v.content cache.old.entries
         → (n : ℕ) → IsErrOf result (RunFault.BadRun n) → IsBadAmong v.content (of_order order (run.now ∷ [])) n) }
     ensures rests { Rests (D.known disk.old) (D.known disk.new) }
-    ensures cause { UsesDisk (λ e. e ≡ RunFault.Disk) (D.known disk.old) (D.known disk.new) result }
+    ensures cause { UsesPages (D.known disk.old) (D.known disk.new) result }
 {
     if run.order != order {
         return Ok(None);
@@ -143,7 +143,7 @@ pub(crate) fn greatest_of<D: Disk>(
     ensures bad { IfKnown (D.known disk.old) (λ v. ArePagesOf v.content cache.old.entries
         → (n : ℕ) → IsErrOf result (RunFault.BadRun n) → IsBadAmong v.content (of_order order runs.now) n) }
     ensures rests { Rests (D.known disk.old) (D.known disk.new) }
-    ensures cause { UsesDisk (λ e. e ≡ RunFault.Disk) (D.known disk.old) (D.known disk.new) result }
+    ensures cause { UsesPages (D.known disk.old) (D.known disk.new) result }
 {
     let mut best = None;
     for run in runs {

@@ -1,8 +1,8 @@
 //! Pages of a disk, through a cache of those looked at last.
 ghost use Rattle.std.specs.Prelude.{ℕ, length, IsErrOf, ◌≡◌, ◌≤◌, ◌<◌, ◌+◌, ◌^◌, ◌∷◌, [], IfOk, OnOk, is_some, true, nat_eq};
 ghost use Rattle.std.specs.Map.{keys_of, lookup};
-ghost use Rattle.cp_disk.specs.Counts.{UsesDisk};
 ghost use Rattle.cp_disk.specs.Views.{IfKnown, Rests};
+ghost use Rattle.cp_run.specs.Causes.{UsesPages};
 ghost use Rattle.cp_run.specs.Looks.{Looked};
 ghost use Rattle.cp_run.specs.Pages.{IsPageAt, KeepsPages};
 ghost use Rattle.cp_run.specs.Sets.{IsCache};
@@ -22,7 +22,7 @@ fn read_page<D: Disk>(disk: &mut D, at: u64) -> Result<Page, RunFault>
     ensures bad { IfKnown (D.known disk.old) (λ v. (n : ℕ) → IsErrOf result (RunFault.BadRun n)
         → (n ≡ at) × (length v.content < at + PAGE_SIZE)) }
     ensures rests { Rests (D.known disk.old) (D.known disk.new) }
-    ensures cause { UsesDisk (λ e. e ≡ RunFault.Disk) (D.known disk.old) (D.known disk.new) result }
+    ensures cause { UsesPages (D.known disk.old) (D.known disk.new) result }
     ensures reads { (D.known disk.new).counts.reads ≤ (D.known disk.old).counts.reads + 1 }
 {
     if disk.size()? < at + PAGE_SIZE as u64 {
@@ -49,7 +49,7 @@ pub(crate) fn look<D: Disk>(
     ensures bad { IfKnown (D.known disk.old) (λ v. (n : ℕ) → IsErrOf result (RunFault.BadRun n)
         → (n ≡ at) × (length v.content < at + PAGE_SIZE)) }
     ensures rests { Rests (D.known disk.old) (D.known disk.new) }
-    ensures cause { UsesDisk (λ e. e ≡ RunFault.Disk) (D.known disk.old) (D.known disk.new) result }
+    ensures cause { UsesPages (D.known disk.old) (D.known disk.new) result }
 {
     if cache.promote(&at) {
         return Ok(());

@@ -3,10 +3,10 @@ ghost use Rattle.std.specs.Prelude.{◌≡◌, ◌≤◌, ℕ, List, IfOk, IsErr
 ghost use Rattle.std.specs.declared.option.Option.TheVariants.{None, Some};
 ghost use Rattle.std.specs.Option.{option_map};
 ghost use Rattle.std.specs.Map.{keys_of, lookup};
-ghost use Rattle.cp_disk.specs.Counts.{UsesDisk};
 ghost use Rattle.cp_disk.specs.Views.{IfKnown, Rests};
 ghost use Rattle.cp_page.specs.Keys.{first_key};
 ghost use Rattle.cp_run.specs.Bad.{IsBadPage};
+ghost use Rattle.cp_run.specs.Causes.{UsesPages};
 ghost use Rattle.cp_run.specs.Holding.{page_at};
 ghost use Rattle.cp_run.specs.Looks.{Looks};
 ghost use Rattle.cp_run.specs.Pages.{ArePagesOf, KeepsPages};
@@ -68,7 +68,7 @@ pub(crate) fn pages_before<D: Disk>(
     ensures bad { IfKnown (D.known disk.old) (λ v. ArePagesOf v.content cache.old.entries
         → (n : ℕ) → IsErrOf result (RunFault.BadRun n) → IsBadPage v.content run.now n) }
     ensures rests { Rests (D.known disk.old) (D.known disk.new) }
-    ensures cause { UsesDisk (λ e. e ≡ RunFault.Disk) (D.known disk.old) (D.known disk.new) result }
+    ensures cause { UsesPages (D.known disk.old) (D.known disk.new) result }
 {
     let mut low = 0;
     let mut high = run.pages;

@@ -1,9 +1,9 @@
 ghost use Rattle.std.specs.Prelude.{◌≡◌, [], ℕ, IfOk, IsErrOf};
 ghost use Rattle.std.specs.Map.{keys_of};
-ghost use Rattle.cp_disk.specs.Counts.{UsesDisk};
 ghost use Rattle.cp_disk.specs.Views.{IfKnown, Rests};
 ghost use Rattle.cp_run.specs.Answers.{IsGreatest, IsBetween};
 ghost use Rattle.cp_run.specs.Bad.{IsBadAmong};
+ghost use Rattle.cp_run.specs.Causes.{UsesPages};
 ghost use Rattle.cp_run.specs.Looks.{Looks};
 ghost use Rattle.cp_run.specs.Pages.{ArePagesOf, KeepsPages};
 ghost use Rattle.cp_run.specs.Sets.{of_order, runs_rows, AreRunsOfRows, Fit, IsWithinLogs, IsWithinRange, RunSet};
@@ -77,7 +77,7 @@ impl RunSet {
         ensures looks { Looks PAGES_KEPT (IsWithinLogs (of_order order self.old.runs)) (keys_of self.old.pages)
             (keys_of self.new.pages) (D.known disk.old).counts.reads (D.known disk.new).counts.reads result }
         ensures rests { Rests (D.known disk.old) (D.known disk.new) }
-        ensures cause { UsesDisk (λ e. e ≡ RunFault.Disk) (D.known disk.old) (D.known disk.new) result }
+        ensures cause { UsesPages (D.known disk.old) (D.known disk.new) result }
     {
         greatest_of(alloc, &mut self.cache, disk, &self.runs, order, key)
     }
@@ -105,7 +105,7 @@ impl RunSet {
             → IsWithinRange v.content low.now high.now (of_order order self.old.runs) looks)) (keys_of self.old.pages)
             (keys_of self.new.pages) (D.known disk.old).counts.reads (D.known disk.new).counts.reads result }
         ensures rests { Rests (D.known disk.old) (D.known disk.new) }
-        ensures cause { UsesDisk (λ e. e ≡ RunFault.Disk) (D.known disk.old) (D.known disk.new) result }
+        ensures cause { UsesPages (D.known disk.old) (D.known disk.new) result }
     {
         let range = Range { low, high };
         between_of(alloc, &mut self.cache, disk, &self.runs, order, range)
