@@ -1,0 +1,4 @@
+pub mod Directories
+pub mod Laws
+pub mod Rows
+pub mod Stands
