@@ -1,0 +1,5 @@
+pub mod CountedRows
+pub mod Holding
+pub mod Keys
+pub mod Merging
+pub mod Splitting

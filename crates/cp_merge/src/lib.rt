@@ -1,0 +1,6 @@
+//! Runs of rows merged into one.
+#![tactic(auto)]
+
+mod stated;
+
+pub use stated::laws;
