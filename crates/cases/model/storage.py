@@ -475,6 +475,70 @@ def upgrade_lines(data, fails):
     return [f"fail {call}: " + run_line(Disk(data, lambda n: n == call), upgrade) for call in range(fails + 1)]
 
 
+def write_checkpoint(disk, pieces):
+    """A checkpoint after the frames, made live."""
+    at, size = 192, disk.size()
+    while disk.read(at, 1) == b"\1":
+        at += 10 + int.from_bytes(disk.read(at + 1, 9)[1:], "big")
+    disk.write(at + 1, bytes(9))
+    end = at + 10
+    for piece in pieces:
+        disk.write(end, piece)
+        end += len(piece)
+    disk.write(end, b"\0")
+    disk.write(at + 1, b"\x50" + (end - at - 10).to_bytes(8, "big"))
+    disk.sync()
+    disk.write(at, b"\1")
+    disk.sync()
+    disk.sync()
+    disk.size()
+    header = disk.read(0, 192)
+    number, live = live_in(header)
+    slot = 128 if live == 64 else 64
+    if header[slot] == 1:
+        disk.write(slot, b"\0")
+        disk.sync()
+    disk.write(slot + 1, (number + 1).to_bytes(8, "big") + at.to_bytes(8, "big") + bytes(47))
+    disk.sync()
+    disk.write(slot, b"\1")
+    disk.sync()
+
+
+def live_in(data):
+    """The greatest number of an open slot, and where that slot is; two noughts where none is open."""
+    return max([(0, 0)] + [(int.from_bytes(data[at + 1 : at + 9], "big"), at) for at in (64, 128) if data[at] == 1])
+
+
+def live_text(data):
+    number, slot = live_in(data)
+    offset = int.from_bytes(data[slot + 9 : slot + 17], "big")
+    return (f"{number} at {offset} live, " if slot else "none live, ") + frames_text(data)
+
+
+def checkpoint_text(disk):
+    try:
+        write_checkpoint(disk, (b"quay", b"pier"))
+        words = ["done"]
+    except Failed:
+        words = ["the disk failed"]
+    return "; ".join(words + [live_text(image) for image in disk.images()])
+
+
+def checkpoint_lines(data, fails, fuses):
+    failed = [checkpoint_text(Disk(data, lambda n: n == call)) for call in range(fails + 1)]
+    burnt = [checkpoint_text(Disk(data, lambda n: n > passes)) for passes in range(fuses + 1)]
+    return [line for texts in (failed, burnt) for line in ranges(texts, "\n").split("\n")]
+
+
+def with_checkpoints(data, count):
+    """The file after so many checkpoints."""
+    for _ in range(count):
+        disk = Disk(data, lambda n: False)
+        write_checkpoint(disk, (b"mole",))
+        data = disk.data
+    return data
+
+
 # ---- the tables
 
 START = bytes.fromhex("01 00 00 00000000")
@@ -611,6 +675,7 @@ FILES = [
     ("a store with a source and two commits", store(1, [START, LOAD, CLEARED, COPIED])),
     ("the store after a commit in version 1", store(0, [START, COMMIT])),
     ("a store of version 1 with a source and two commits", store(0, [START, LOAD, b"\3" + CLEARED[10:], b"\3" + COPIED[10:]])),
+    ("a store with two checkpoints", with_checkpoints(store(1, [START, FIRST]), 2)),
 ]
 
 SLOT = b"\1" + (5).to_bytes(8, "big") + (300).to_bytes(8, "big") + bytes(47)
@@ -659,6 +724,10 @@ def crashes_table():
     old = FILES[3][1]
     rows += ["", "case a file of version 1 becomes one of version 2"]
     rows += part("upgrade", spelled(old), upgrade_lines(old, 9), "9")
+    for count, calls in ((0, 26), (1, 28), (2, 32), (3, 34)):
+        file = with_checkpoints(FILES[1][1], count)
+        rows += ["", f"case a checkpoint is made live in a file with {count} before it"]
+        rows += part("checkpoint", spelled(file), checkpoint_lines(file, calls, calls), f"{calls} {calls}")
     rows += ["", "case an entry, and one of one byte more than an entry may have"]
     rows += part("large", "", ["1000: added, 1217 bytes", "67108865: too large, 207 bytes"], "1000 67108865")
     rows += ["", "case many entries"] + part("entries", "", ["101 frames, closed at 7206"], "100 60")

@@ -11,7 +11,7 @@ use cp_journal::{HEADER_SIZE, Journal, JournalFault};
 use std::alloc::{AllocError, Global};
 
 /// The images that are looked at.
-const IMAGES: [Crash; 5] = [
+pub(crate) const IMAGES: [Crash; 5] = [
     Crash::Old,
     Crash::New,
     Crash::Fill(0),
@@ -21,7 +21,7 @@ const IMAGES: [Crash; 5] = [
 
 /// Which of the disk's calls fail.
 #[derive(Clone, Copy)]
-enum Plan {
+pub(crate) enum Plan {
     /// The call of this number alone.
     Fail(u64),
     /// All calls after the first so many.

@@ -14,6 +14,7 @@
 //! | `walks` | of each front of the file the number of its frames, and the gate that ends them |
 //! | `sweep FAILS FUSES` | what is left of a new store with three more entries where each of its disk's calls fails |
 //! | `upgrade FAILS` | the same of a file of version 1 that becomes one of version 2 |
+//! | `checkpoint FAILS FUSES` | the same of a file in which a checkpoint is written and made live, with its live slot, for each range of calls that fail and of fuses |
 //! | `large SIZES` | whether entries of these sizes are added to a new store, and the size of its file then |
 //! | `entries COUNT SIZE` | how many frames a new store has after so many entries of this size |
 //! | `record`, `content ROOM`, `operation`, `operation trees` | what stands at the front of the bytes, and where it ends |
@@ -38,6 +39,7 @@
 //! `memory`, or `real`, over a list; `broken` and `full` are real ones over a writer that fails, and over one that takes nothing.
 #![tactic(auto)]
 
+mod checkpoints;
 mod clocks;
 mod crashes;
 mod disks;

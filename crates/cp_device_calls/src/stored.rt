@@ -1,6 +1,6 @@
 //! Calls of entries, files of stores and disks in memory.
 
-use crate::{crashes, disks, entries, files};
+use crate::{checkpoints, crashes, disks, entries, files};
 use cp_cases::{Step, bytes_in};
 use std::alloc::{AllocError, Global};
 
@@ -30,6 +30,7 @@ fn file_lines(alloc: Global, step: &Step, bytes: &[u8]) -> Option<Result<String,
         "calls" => disks::calls(alloc, words, step.text.as_slice()),
         "sweep" => crashes::sweep(alloc, words),
         "upgrade" => crashes::upgrade(alloc, words, bytes),
+        "checkpoint" => checkpoints::checkpoint(alloc, words, bytes),
         "large" => crashes::large(alloc, words),
         "entries" => crashes::entries(alloc, words),
         _ => return None,
