@@ -24,6 +24,9 @@
 //! | `pages` and rows of pages | the bytes of the pages into which they are put |
 //! | `rows ORDER`, `records ORDER` | the rows of records in an order, and the records of rows, as `orders` says |
 //! | `varied ORDER` and a row of a page | for each of its bytes with which bytes in its place it is of a record |
+//! | `runs RUNS`, pages and questions | what is found in the runs, as `runs` says |
+//! | `altered_run KEY` and a page | what is found for the key in a run of this page, and its rows, with each byte as its complement, as 0 and as 1 |
+//! | `paged KIND UPTO TIDS RUNS`, pages, rows and questions | what a store tells whose rows up to a step lie in the runs, as `paged` says |
 //! | `length` and a statement | the bytes of its operation in a commit's entry |
 //! | `copied LEVELS WIDTH` | how many copies of a tree, from every form into every form, are the same as what they are copied from; the tree has so many levels below its root, and so many members are given to each node |
 //! | `wide COUNT` | how many places a tree with so many leaves below its root has in each form |
@@ -42,11 +45,14 @@ mod modified;
 mod next;
 mod orders;
 mod packed;
+mod paged;
 mod pages;
 mod question;
+mod read_disk;
 mod replies;
 mod row;
 mod rows;
+mod runs;
 mod series;
 mod statement;
 mod step;

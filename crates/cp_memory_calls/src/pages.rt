@@ -60,7 +60,7 @@ fn rows_on(alloc: Global, text: &str) -> Result<Vec<PageRow>, AllocError> {
 }
 
 /// The page with these bytes at its front.
-fn page_of(alloc: Global, digits: &str) -> Result<Page, AllocError> {
+pub(crate) fn page_of(alloc: Global, digits: &str) -> Result<Page, AllocError> {
     let bytes = bytes_in(alloc, digits.as_bytes())?;
     let mut page = Page::blank();
     let size = bytes.len().min(PAGE_SIZE);
@@ -71,7 +71,7 @@ fn page_of(alloc: Global, digits: &str) -> Result<Page, AllocError> {
 // ---- What a page has
 
 /// The rows as parts of an answer.
-fn parts_of(alloc: Global, rows: &[PageRow]) -> Result<String, AllocError> {
+pub(crate) fn parts_of(alloc: Global, rows: &[PageRow]) -> Result<String, AllocError> {
     let mut text = String::new(alloc);
     for row in rows {
         let row = row_text(alloc, row)?;

@@ -17,7 +17,7 @@ use cp_model::{Change, Record, What};
 use cp_path::{Label, Loc};
 use cp_reply::record_text;
 use cp_spelling::{place_text, read_label, read_place};
-use cp_store::{MemoryStore, ProvStore};
+use cp_store::ProvStore;
 use std::alloc::{AllocError, Global};
 
 /// The Tid of a change and what it did.
@@ -34,7 +34,7 @@ fn change_text(alloc: Global, change: &Change) -> Result<String, AllocError> {
 }
 
 /// The last change of a place, by `PLACE TID`.
-fn change(alloc: Global, store: &mut MemoryStore, words: &str) -> Result<String, Fault> {
+fn change<P: ProvStore>(alloc: Global, store: &mut P, words: &str) -> Result<String, Fault> {
     let (place, tid) = words.rsplit_once(' ').unwrap_or((words, ""));
     let place = read_place(alloc, place)?;
     let change = store.last_change(alloc, &place, number_of(tid));
@@ -75,7 +75,7 @@ pub(crate) fn rows_text(alloc: Global, rows: &[Record]) -> Result<String, AllocE
 }
 
 /// The rows of a step.
-fn step(alloc: Global, store: &mut MemoryStore, tid: u64) -> Result<String, Fault> {
+fn step<P: ProvStore>(alloc: Global, store: &mut P, tid: u64) -> Result<String, Fault> {
     let rows = store.rows_of(alloc, tid)?;
     let text = rows_text(alloc, rows.items.as_slice());
     drop(rows);
@@ -103,9 +103,9 @@ fn bounds_of(alloc: Global, words: &str) -> Result<(u64, u64), Fault> {
 }
 
 /// The steps that took a child of this place away, by the numbers of `PLACE LOW HIGH`.
-fn losses_at(
+fn losses_at<P: ProvStore>(
     alloc: Global,
-    store: &mut MemoryStore,
+    store: &mut P,
     place: &Loc,
     words: &str,
 ) -> Result<String, Fault> {
@@ -117,7 +117,7 @@ fn losses_at(
 }
 
 /// The steps that took a child of a place away, by `PLACE LOW HIGH`.
-fn losses(alloc: Global, store: &mut MemoryStore, words: &str) -> Result<String, Fault> {
+fn losses<P: ProvStore>(alloc: Global, store: &mut P, words: &str) -> Result<String, Fault> {
     let (place, _) = words.split_once(' ').unwrap_or((words, ""));
     let place = read_place(alloc, place)?;
     let text = losses_at(alloc, store, &place, words);
@@ -126,9 +126,9 @@ fn losses(alloc: Global, store: &mut MemoryStore, words: &str) -> Result<String,
 }
 
 /// Whether a row is of the place at a label below this one, or of one below that.
-fn below_label(
+fn below_label<P: ProvStore>(
     alloc: Global,
-    store: &mut MemoryStore,
+    store: &mut P,
     place: &Loc,
     label: &str,
 ) -> Result<bool, Fault> {
@@ -139,7 +139,7 @@ fn below_label(
 }
 
 /// Whether a row is of a place below one, by `PLACE`, or by `PLACE LABEL`.
-fn below(alloc: Global, store: &mut MemoryStore, words: &str) -> Result<bool, Fault> {
+fn below<P: ProvStore>(alloc: Global, store: &mut P, words: &str) -> Result<bool, Fault> {
     match words.split_once(' ') {
         None => {
             let place = read_place(alloc, words)?;
@@ -163,7 +163,7 @@ fn word_of(alloc: Global, answer: bool) -> Result<String, AllocError> {
 }
 
 /// The answer to a question.
-fn answer(alloc: Global, store: &mut MemoryStore, question: &str) -> Result<String, Fault> {
+fn answer<P: ProvStore>(alloc: Global, store: &mut P, question: &str) -> Result<String, Fault> {
     let (word, rest) = question.split_once(' ').unwrap_or((question, ""));
     match word {
         "step" => step(alloc, store, number_of(rest)),
@@ -174,9 +174,9 @@ fn answer(alloc: Global, store: &mut MemoryStore, question: &str) -> Result<Stri
 }
 
 /// Adds a question and what the store tells.
-pub(crate) fn add_told(
+pub(crate) fn add_told<P: ProvStore>(
     alloc: Global,
-    store: &mut MemoryStore,
+    store: &mut P,
     question: &str,
     lines: &mut String,
 ) -> Result<(), Fault> {

@@ -1,7 +1,9 @@
 //! Calls of rows: what the stores tell of them, and what is made of the rows of a step.
 
 use crate::fault::Fault;
-use crate::{counted, length, modified, packed, pages, row, step as steps, store, uses};
+use crate::{
+    counted, length, modified, packed, paged, pages, row, runs, step as steps, store, uses,
+};
 use cp_cases::{Step, number_of};
 use std::alloc::{AllocError, Global};
 
@@ -20,6 +22,9 @@ fn add_answer(alloc: Global, step: &Step, lines: &mut String) -> Result<bool, Fa
         "expand" => steps::add_expanded(alloc, text, lines),
         "effects" => steps::add_effects(alloc, text, lines),
         "packed" => packed::add_packed(alloc, number_of(words) as usize, text, lines),
+        "runs" => runs::add_runs(alloc, words, text, lines),
+        "altered_run" => runs::add_altered_run(alloc, words, text, lines),
+        "paged" => paged::add_paged(alloc, words, text, lines),
         "length" => length::add_length(alloc, text, lines),
         _ => return pages::add_told(alloc, step, text, lines),
     };

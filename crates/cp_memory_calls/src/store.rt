@@ -70,9 +70,9 @@ pub(crate) fn keep<P: ProvStore>(
 }
 
 /// Adds the answers to the questions of a text.
-fn add_all_told(
+pub(crate) fn add_all_told<P: ProvStore>(
     alloc: Global,
-    store: &mut MemoryStore,
+    store: &mut P,
     text: &str,
     lines: &mut String,
 ) -> Result<(), Fault> {
