@@ -103,8 +103,7 @@ _ARCHIVE = re.compile(r"archive: versions (\d+), ranges (\d+)")
 _COMMITTED = re.compile(r"committed (\d+)(?:\.\.(\d+))?")
 _COMMIT = re.compile(r"commit (\d+)(?:\.\.(\d+))? by (.*) at (\d+), operations (\d+)", re.DOTALL)
 _AT = re.compile(r" at (\d+)$")
-_VERSIONS = re.compile(r"@(\d+)\.\.(\d+)$")
-_VERSIONS_HERE = re.compile(r"@\d+\.\.\d+")
+_SEGMENT = re.compile(r'("(?:[^"\\]|\\.)*"|[^\x00-\x20";{}:,]+)@(\d+)\.\.(\d+) < ', re.DOTALL)
 
 
 def _unread(line: str) -> SpellingError:
@@ -150,17 +149,16 @@ def read_trace(line: str) -> Trace:
     segments: List[Segment] = []
     offset = 0
     while True:
-        text, offset = read_place_at(answer, offset)
-        if text.startswith('"'):
-            versions = _VERSIONS_HERE.match(answer, offset)
-            text, offset = (text + versions.group(), versions.end()) if versions else (text, offset)
-        if offset == len(answer):
-            return Trace(segments, _end(text))
-        found = _VERSIONS.search(text)
-        if not found or answer[offset: offset + 3] != " < ":
-            raise _unread(line)
-        segments.append(Segment(read_written_place(text[: found.start()]), int(found.group(1)), int(found.group(2))))
-        offset += 3
+        found = _SEGMENT.match(answer, offset)
+        if not found:
+            break
+        place, low, high = found.groups()
+        segments.append(Segment(read_written_place(place), int(low), int(high)))
+        offset = found.end()
+    text, end = read_place_at(answer, offset)
+    if end < len(answer):
+        raise _unread(line)
+    return Trace(segments, _end(text))
 
 
 def _end(text: str) -> End:

@@ -41,28 +41,32 @@ _AHEAD, _MOST_AHEAD = 65_536, 4_096
 class _Reply:
     """The lines that answer a statement, as they come."""
 
+    __slots__ = ("lines", "word", "front", "is_operation", "is_done")
+
     def __init__(self, word: str, front: str) -> None:
         self.lines: List[str] = []
         self.word, self.front = word, front
-        self.is_done = not word
+        self.is_operation, self.is_done = word in OPERATIONS, not word
 
     def take(self, line: str) -> None:
         """Takes the next line. One without the front is of nobody: a statement that is too long."""
         if line.startswith(self.front):
             line = line[len(self.front):]
-        if self.word in OPERATIONS and line.startswith(_MARKER_ANSWER):
+        if self.is_operation and line.startswith(_MARKER_ANSWER):
             self.is_done = True
             return
         self.lines.append(line)
         if self.word == "records":
             self.is_done = line.startswith(("records: ", "refused"))
         else:
-            self.is_done = self.word not in OPERATIONS
+            self.is_done = not self.is_operation
 
 
 def statement_of(text: str) -> str:
     """The text of one statement without its end; SpellingError where it is more than one, or a quotation mark isn't closed."""
     text = text.rstrip(_BLANK)
+    if '"' not in text and ";" not in text:
+        return text
     found = _STATEMENT.match(text)
     end = found.end() if found else 0
     if end == len(text) or (text[end] == ";" and end == len(text) - 1):
@@ -297,7 +301,7 @@ class Session:
         front = f"@{self._speaker} " if self._speaker else ""
         reply = _Reply(word, front)
         if word:
-            self._unsent += f"{front}{text};{front + _MARKER if word in OPERATIONS else ''}".encode("utf-8")
+            self._unsent += f"{front}{text};{front + _MARKER if reply.is_operation else ''}".encode("utf-8")
             self._waiting.append(reply)
         return reply
 
@@ -326,19 +330,20 @@ class Session:
         if b"\n" not in piece:
             self._unread.append(piece)
             return
-        *lines, rest = b"".join([*self._unread, piece]).split(b"\n")
+        lines, _, rest = b"".join([*self._unread, piece]).rpartition(b"\n")
         self._unread = [rest] if rest else []
-        for line in lines:
-            self._take(line.decode("utf-8"))
+        for line in lines.decode("utf-8").split("\n"):
+            self._take(line)
 
     def _take(self, line: str) -> None:
         self._last_line = line
         if line.startswith("error: ") or not self._waiting:
             return
-        if self._waiting[0].word == "load":
+        reply = self._waiting[0]
+        if reply.word == "load":
             self._odd_sources = None
-        self._waiting[0].take(line)
-        if self._waiting[0].is_done:
+        reply.take(line)
+        if reply.is_done:
             self._waiting.popleft()
 
     def _leave(self) -> int:

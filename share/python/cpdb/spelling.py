@@ -17,13 +17,12 @@ _TRIGGER = re.compile(r'[\x00-\x20";{}:,]')
 _NAME = re.compile(r"[A-Za-z][A-Za-z0-9_]{0,31}")
 _NUMBER = re.compile(r"0|-?[1-9][0-9]*")
 _BAD_ESCAPE = re.compile(r"~(?![01])")
-_SHORT = {'"': '\\"', "\\": "\\\\", "\b": "\\b", "\f": "\\f", "\n": "\\n", "\r": "\\r", "\t": "\\t"}
-_ESCAPES = {ord(it): _SHORT.get(it, f"\\u{ord(it):04x}") for it in [*map(chr, range(32)), '"', "\\"]}
 _QUOTED_TOKEN = r'"(?:[^"\\]|\\.)*"'
 _WORD = r'[^\x00-\x20";{}:,]+'
 _TOKEN = re.compile(rf"[ \t\n\r]*(?:(?P<mark>[{{}}:,])|(?P<quoted>{_QUOTED_TOKEN})|(?P<word>{_WORD}))", re.DOTALL)
 _LABEL_OR_TEXT = re.compile(rf"({_QUOTED_TOKEN})( : )?|({_WORD}) : ", re.DOTALL)
 _PLACE_TOKEN = re.compile(rf"{_QUOTED_TOKEN}|{_WORD}", re.DOTALL)
+_JSON = json.JSONEncoder(ensure_ascii=False)
 
 
 class SpellingError(ValueError):
@@ -32,10 +31,12 @@ class SpellingError(ValueError):
 
 def quoted(text: str) -> str:
     """The quoted text of a text."""
-    return f'"{_utf8(text).translate(_ESCAPES)}"'
+    return _JSON.encode(_utf8(text))
 
 
 def _utf8(text: str) -> str:
+    if text.isascii():
+        return text
     try:
         text.encode("utf-8")
     except UnicodeEncodeError:
@@ -109,7 +110,10 @@ class Place(NamedTuple):
     labels: Tuple[str, ...] = ()
 
     def __str__(self) -> str:
-        return _with_quotes_where_needed("/".join([self.name, *map(_escaped, self.labels)]))
+        raw = "/".join((self.name, *self.labels))
+        if "~" in raw or raw.count("/") > len(self.labels):
+            raw = "/".join([self.name, *map(_escaped, self.labels)])
+        return _with_quotes_where_needed(raw)
 
     def __truediv__(self, label: str) -> "Place":
         """The place at a label below this one."""
@@ -243,10 +247,12 @@ def _as_json(found: "re.Match[str]") -> str:
 
 def walk(place: Place, tree: Tree) -> Iterator[Tuple[Place, Tree]]:
     """All places of a tree that stands at a place, this one first, each with its subtree, in the order of places."""
-    yield place, tree
-    if isinstance(tree, dict):
-        for label, below in tree.items():
-            yield from walk(place / label, below)
+    waiting = [(place, tree)]
+    while waiting:
+        place, tree = waiting.pop()
+        yield place, tree
+        if isinstance(tree, dict):
+            waiting += [(place / label, below) for label, below in reversed(tree.items())]
 
 
 def _token(text: str, offset: int) -> "re.Match[str]":

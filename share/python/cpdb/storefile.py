@@ -260,6 +260,12 @@ def _past_stamp(body: bytes) -> "_Reader":
     return reader
 
 
+_CONTENTS = {0: "node", 1: "null", 2: "false", 3: "true", 4: "whole", 5: "negative", 6: "text"}
+_CONSTANTS: Dict[str, Tree] = {"null": None, "false": False, "true": True}
+_OPERATIONS = {1: "value", 2: "del", 3: "copy", 4: "tree"}
+_RECORDS = {ord(it): it for it in "ICDK"}
+
+
 class _Reader:
     """Reads one thing after another from bytes."""
 
@@ -302,15 +308,14 @@ class _Reader:
 
     def content(self) -> Tree:
         """What stands at a place, without what is below it: `{}` for a node."""
-        form = self.choice({0: "node", 1: "null", 2: "false", 3: "true", 4: "whole", 5: "negative", 6: "text"}, "a content")
+        form = self.choice(_CONTENTS, "a content")
         if form == "whole":
             return self.number(8)
         if form == "negative":
             return self.number(8) - 2**64
         if form == "text":
             return self.text(self.number(4))
-        constants: Dict[str, Tree] = {"node": {}, "null": None, "false": False, "true": True}
-        return constants[form]
+        return {} if form == "node" else _CONSTANTS[form]
 
     def tree(self) -> Tree:
         root = self.content()
@@ -321,7 +326,7 @@ class _Reader:
         return root
 
     def operation(self) -> Operation:
-        form = self.choice({1: "value", 2: "del", 3: "copy", 4: "tree"}, "an operation")
+        form = self.choice(_OPERATIONS, "an operation")
         if form == "copy":
             source = self.place()
             return Copy(source, self.path())
@@ -332,7 +337,7 @@ class _Reader:
 
     def record(self) -> Record:
         tid = self.number(8)
-        op = self.choice({ord(it): it for it in "ICDK"}, "a record")
+        op = self.choice(_RECORDS, "a record")
         place = self.path()
         return Record(tid, op, place, self.place() if op == "C" else None)
 

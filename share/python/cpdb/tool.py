@@ -7,6 +7,7 @@ be read or isn't one. Other ends of the program are passed on.
 import bisect
 import contextlib
 import datetime
+import gc
 import io
 import os
 import re
@@ -43,6 +44,8 @@ def run(name: str, tool: Callable[[List[str]], int]) -> NoReturn:
     for stream in (sys.stdout, sys.stderr):
         if isinstance(stream, io.TextIOWrapper):
             stream.reconfigure(encoding="utf-8", errors="surrogateescape", newline="\n")
+    # A large tree lives until the tool ends: it isn't to be searched for unused cycles at every seven hundred objects.
+    gc.set_threshold(200_000)
     try:
         status = tool(sys.argv[1:])
         sys.stdout.flush()

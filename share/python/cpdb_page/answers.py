@@ -86,8 +86,9 @@ def collect(store: str) -> Answers:
         commits, loads = tool.Commits(copy), loads_of(copy)
         stats, tree = session.stats(), session.show()
         rows = rows_of(Place("T"), tree)
-        pasts = pasts_of(session, rows, stats.tid)
-        parts = parts_of(session, rows, pasts)
+        spellings = [str(it.place) for it in rows]
+        pasts = pasts_of(session, rows, spellings, stats.tid)
+        parts = parts_of(session, rows, spellings, pasts)
         changes = changes_of(session.send("records")[:-1])
         sources = sources_of(session, loads, rows, pasts, changes)
         versions = versions_in(Course(copy, commits), tree, [it.name for it in sources if it.is_whole])
@@ -131,9 +132,8 @@ def ask(session: cpdb.Session, word: str, spellings: Iterable[str]) -> Iterator[
         yield lines[0]
 
 
-def pasts_of(session: cpdb.Session, rows: List[Row], tid: int) -> List[Optional[Past]]:
+def pasts_of(session: cpdb.Session, rows: List[Row], spellings: List[str], tid: int) -> List[Optional[Past]]:
     """The pasts of all places of T, with `src`, `hist` and `from` compared with what they imply."""
-    spellings = [str(it.place) for it in rows]
     insertions = [cpdb.read_src(it) for it in ask(session, "src", spellings)]
     traces = ask(session, "trace", spellings)
     pasts, expected = [], []
@@ -233,13 +233,13 @@ def steps_of(trace: Trace) -> List[int]:
 # Steps that had a part
 
 
-def parts_of(session: cpdb.Session, rows: List[Row], pasts: List[Optional[Past]]) -> Dict[int, List[int]]:
+def parts_of(session: cpdb.Session, rows: List[Row], spellings: List[str], pasts: List[Optional[Past]]) -> Dict[int, List[int]]:
     """By the numbers of places, the steps of `mod` that neither the trace has nor the `mod` of a child."""
     own = steps_by_place(rows, pasts)
     parts: Dict[int, List[int]] = {}
     unions: List[Set[int]] = [set() for _ in range(cpdb.spelling.DEEPEST_PLACE + 3)]
     backwards = range(len(rows) - 1, -1, -1)
-    lines = ask(session, "mod", (str(rows[it].place) for it in backwards))
+    lines = ask(session, "mod", reversed(spellings))
     for number, line in zip(backwards, lines):
         depth = rows[number].depth
         answered = tids_of(line)
