@@ -13,4 +13,4 @@ mod writing;
 pub use directory::{Head, TreeAt};
 pub use limits::RUNS_MAX;
 pub use stated::laws;
-pub use writing::{put_bytes, write_body};
+pub use writing::write_body;

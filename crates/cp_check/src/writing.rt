@@ -1,5 +1,5 @@
 //! The frame of a checkpoint, written whole and made live.
-ghost use Rattle.std.specs.Prelude.{◌≡◌, ◌≤◌, ◌<◌, ◌+◌, ◌^◌, ◌++◌, ◌⊎◌, ◌↔◌, [], ◌∷◌, false, List, ℕ, IsTrue, IsErrOf, None, Some, length, OnOk, OnErr};
+ghost use Rattle.std.specs.Prelude.{◌≡◌, ◌≤◌, ◌<◌, ◌+◌, ◌^◌, ◌++◌, ◌⊎◌, ◌↔◌, [], ◌∷◌, false, List, ℕ, IsTrue, IsErrOf, None, Some, length, IfOk, OnOk, OnErr};
 ghost use Rattle.cp_disk.specs.Counts.{UsesDisk};
 ghost use Rattle.cp_disk.specs.Views.{IfKnown, IsSettled, ViewKeeps};
 ghost use Rattle.cp_model.specs.History.{Entry as HistoryEntry};
@@ -9,6 +9,7 @@ ghost use Rattle.cp_journal.specs.Holding.{HasFrames, IsAtRest, Continues};
 ghost use Rattle.cp_journal.specs.Journals.{next_byte};
 ghost use Rattle.cp_journal.specs.Slots.{live_slot as live_of, next_slot, number_after};
 ghost use Rattle.cp_journal.specs.Upgrading.{SaysHeader};
+ghost use Rattle.cp_journal.specs.declared.frame.TheConstants.{CHECKPOINT};
 ghost use Rattle.cp_journal.specs.declared.limits.TheConstants.{HEADER_SIZE};
 ghost use Rattle.cp_check.specs.Laws.{EndsAt};
 ghost use Rattle.cp_check.specs.Stands.{end_of, IsRight, IsStore};
@@ -20,11 +21,7 @@ use cp_journal::{Header, Journal, JournalFault, make_live};
 ///
 /// A crash at any moment leaves the frames before. After `TooLarge`, where the file would be over [`DISK_MAX`] bytes, no frame is
 /// begun, and the frames are those before.
-pub fn put_bytes<D: Disk>(
-    disk: &mut D,
-    journal: &mut Journal,
-    bytes: &[u8],
-) -> Result<(), JournalFault>
+fn put_bytes<D: Disk>(disk: &mut D, journal: &mut Journal, bytes: &[u8]) -> Result<(), JournalFault>
     requires usable { journal.old.spent ≡ false }
     requires begun { (len : ℕ) × (journal.old.begun ≡ Some len) }
     requires body { IfKnown (D.known disk.old) (λ v. (body : List ℕ) × HasBegun journal.old body v) }
@@ -77,6 +74,9 @@ pub fn write_body<D: Disk>(
         → IsRight (next_slot header.old journal.old.next) (s.told.frames ++ checkpoint body.now ∷ [])
         (s.told.items ++ a_checkpoint body.now ∷ []) c)
         → ViewKeeps (IsStore h) v (D.known disk.new).view) }
+    ensures at { IfOk result (λ at. at ≡ journal.old.next) }
+    ensures frames { OnOk result (journal.new.frames ≡
+        journal.old.frames ++ record { at = journal.old.next; tag = CHECKPOINT; len = length body.now } ∷ []) }
     ensures live { OnOk result (live_of header.new ≡ Some (next_slot header.old journal.old.next)) }
     ensures says { IfKnown (D.known disk.old) (λ v.
         OnOk result (SaysHeader header.new (D.known disk.new).view.content)) }

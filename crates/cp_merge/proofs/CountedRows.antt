@@ -10,7 +10,7 @@ use Rattle.cp_page.specs.declared.row.PageRow.{PageRow}
 use Rattle.cp_page.proofs.Sizes.{rows_rise}
 use Rattle.cp_run.specs.Holding.{page_at, pages_rows, HasRowsAt, HaveRows}
 use Rattle.cp_merge.specs.Merging.{last_key}
-use Rattle.cp_merge.specs.Counting.{whole, rows_or_none, if_after, counted_at, counted_from, RunsCountWhole, CountedRowsRise}
+use Rattle.cp_merge.specs.Counting.{whole_page, rows_or_none, if_after, counted_at, counted_from, RunsCountWhole, CountedRowsRise}
 
 -- ---- rows that rise
 
@@ -39,7 +39,7 @@ whole_on true bytes = or_none_rise bytes (rows_of bytes) refl
 whole_on false bytes = tt
 
 counted_rise : (content : List ℕ) (before : Option (List ℕ)) (at : ℕ) → RiseAfter before (counted_at content before at)
-counted_rise content before at = if_after_rise before (rows_or_none (whole (page_at content at))) (whole_on (length (page_at content at) == PAGE_SIZE) (page_at content at))
+counted_rise content before at = if_after_rise before (rows_or_none (whole_page (page_at content at))) (whole_on (length (page_at content at) == PAGE_SIZE) (page_at content at))
 
 run_rise : (content : List ℕ) (before : Option (List ℕ)) (at n : ℕ) → RiseAfter before (counted_from content before at n)
 run_rise content before at zero = tt
@@ -61,10 +61,10 @@ whole_if n bytes is = let h : (length bytes == n) ≡ true = grind (arith, is) i
 not_if : (n : ℕ) (bytes : List ℕ) → length bytes < n → (if length bytes == n then Some bytes else None) ≡ None
 not_if n bytes l = let h : (length bytes == n) ≡ false = grind (arith, l) in rw h refl
 
-pub is_whole : (content : List ℕ) (at : ℕ) → at + PAGE_SIZE ≤ length content → whole (page_at content at) ≡ Some (page_at content at)
+pub is_whole : (content : List ℕ) (at : ℕ) → at + PAGE_SIZE ≤ length content → whole_page (page_at content at) ≡ Some (page_at content at)
 is_whole content at l = whole_if PAGE_SIZE (page_at content at) (long_page content at l)
 
-pub not_whole : (content : List ℕ) (at : ℕ) → length content < at + PAGE_SIZE → None ≡ whole (page_at content at)
+pub not_whole : (content : List ℕ) (at : ℕ) → length content < at + PAGE_SIZE → None ≡ whole_page (page_at content at)
 not_whole content at l =
     let d = length-drop at content in
     let short : length (drop at content) < PAGE_SIZE = omega (arith, l, d) in

@@ -12,8 +12,8 @@ use Rattle.cp_run.specs.declared.run.Run.{Run}
 use Rattle.cp_merge.specs.Merging.{last_key}
 
 -- these bytes, if they are a whole page
-abbrev pub whole : List ℕ → Option (List ℕ)
-whole bytes = if length bytes == PAGE_SIZE then Some bytes else None
+abbrev pub whole_page : List ℕ → Option (List ℕ)
+whole_page bytes = if length bytes == PAGE_SIZE then Some bytes else None
 
 -- the rows of a page, none where there is none or it isn't one of rows
 abbrev pub rows_or_none : Option (List ℕ) → List PageRow
@@ -28,7 +28,7 @@ if_after before (r ∷ rows) = if is_after before r.key then r ∷ rows else []
 -- the rows of the page at this offset that count after this key: none where it doesn't lie whole in the file, isn't one of rows,
 -- or doesn't begin above that key
 abbrev pub counted_at : List ℕ → Option (List ℕ) → ℕ → List PageRow
-counted_at content before at = if_after before (rows_or_none (whole (page_at content at)))
+counted_at content before at = if_after before (rows_or_none (whole_page (page_at content at)))
 
 -- the rows that count of so many pages from this offset on, after this key
 abbrev pub counted_from : List ℕ → Option (List ℕ) → ℕ → ℕ → List PageRow
